@@ -1,0 +1,5 @@
+pub mod Reading
+pub mod Arithmetic
+pub mod Machine
+pub mod Runs
+pub mod Program
