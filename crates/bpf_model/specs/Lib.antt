@@ -2,4 +2,5 @@ pub mod Reading
 pub mod Arithmetic
 pub mod Machine
 pub mod Runs
+pub mod Flow
 pub mod Program

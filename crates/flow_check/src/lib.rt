@@ -1,0 +1,157 @@
+// Where the jumps of a program go.
+#![tactic(auto)]
+
+ghost use Rattle.std.specs.Prelude.{◌≡◌, ℕ, ◌+◌, ◌≤◌, ◌<◌, length, slice_get, IfOk, IfErr, IfSome, Some, None};
+ghost use Rattle.bpf_model.specs.Reading.{form_of};
+ghost use Rattle.bpf_model.specs.Flow.{distance_by, distance_of, distance_fault, jump_fault, landing_fault, flow_fault, target, IsAhead, GoesForward};
+ghost use Rattle.flow_check.specs.Faults.{IsShown, numbered};
+
+use bpf_decode::{Code, Inst, Unit};
+use bpf_model::instruction::{Form, JumpFault};
+use bpf_model::machine::shift;
+use std::alloc::Global;
+use std::marker::Model;
+use thiserror::Error;
+
+/// Why a program's jumps are refused: the first unit whose jump is at fault.
+#[derive(Clone, Copy, Debug, PartialEq, Eq, Error)]
+pub enum FlowFault {
+    #[error("unit {0}: a jump backwards")]
+    BackwardJump(u32),
+    #[error("unit {0}: a jump past the last unit")]
+    JumpOut(u32),
+    #[error("unit {0}: a jump into a wide load")]
+    JumpIntoWide(u32),
+    #[error("out of memory")]
+    OutOfMemory,
+}
+
+/// A program each jump of which goes forward to an instruction.
+#[derive(Drop)]
+pub struct Flow {
+    code: Code,
+}
+
+impl Model for Flow {
+    ghost use Rattle.std.specs.Prelude.{List};
+    ghost use Rattle.bpf_model.specs.declared.instruction.Unit.{Unit as ProgramUnit};
+    ghost use Rattle.bpf_model.specs.Flow.{GoesForward};
+
+    ghost Value = { List ProgramUnit };
+
+    ghost view = { λ f. f.code };
+
+    ghost invariant = { λ f. GoesForward f.code };
+}
+
+// The distance of a jump, in units from the one after it.
+fn distance_in(inst: Inst) -> Option<i64>
+    ensures { result ≡ distance_by (form_of inst.opcode) inst }
+{
+    match Form::from_opcode(inst.opcode) {
+        Some(Form::Goto | Form::Branch(_, _, _)) => Some(i64::from(inst.offset)),
+        Some(Form::GotoLong) => Some(i64::from(inst.imm)),
+        _ => None,
+    }
+}
+
+fn distance(unit: Unit) -> Option<i64>
+    ensures { result ≡ distance_of unit }
+{
+    match unit {
+        Unit::First(inst) => distance_in(inst),
+        Unit::Second(_) => None,
+    }
+}
+
+fn fault_of_landing(landing: Option<Unit>) -> Option<JumpFault>
+    ensures { result ≡ landing_fault landing }
+{
+    match landing {
+        None => Some(JumpFault::Out),
+        Some(Unit::First(_)) => None,
+        Some(Unit::Second(_)) => Some(JumpFault::IntoWide),
+    }
+}
+
+// What is wrong with a jump of some distance.
+fn fault_of_distance(units: &[Unit], pc: usize, distance: Option<i64>) -> Option<JumpFault>
+    requires { pc < 512 }
+    ensures { result ≡ distance_fault units.now pc distance }
+{
+    let distance = distance?;
+    if distance < 0 {
+        return Some(JumpFault::Backward);
+    }
+    fault_of_landing(units.get(pc + 1 + distance as usize).copied())
+}
+
+fn fault_of_jump(units: &[Unit], pc: usize) -> Option<JumpFault>
+    requires inside { pc < length units.now }
+    requires small { length units.now ≤ 512 }
+    ensures { result ≡ jump_fault units.now pc }
+{
+    fault_of_distance(units, pc, distance(units[pc]))
+}
+
+// The first unit whose jump is at fault.
+fn first_fault(units: &[Unit]) -> Option<(u32, JumpFault)>
+    requires { length units.now ≤ 512 }
+    ensures { result ≡ flow_fault units.now }
+{
+    for pc in 0..units.len() {
+        if let Some(fault) = fault_of_jump(units, pc) {
+            return Some((pc as u32, fault));
+        }
+    }
+    None
+}
+
+// The unit that the jump at a unit goes to.
+fn target_in(units: &[Unit], pc: u32) -> Option<u32>
+    requires { length units.now ≤ 512 }
+    ensures { result ≡ target units.now pc }
+{
+    let distance = distance(*units.get(pc as usize)?)?;
+    shift(pc + 1, distance, 512)
+}
+
+fn fault_at(fault: JumpFault, pc: u32) -> FlowFault
+    ensures { result ≡ numbered fault pc }
+{
+    match fault {
+        JumpFault::Backward => FlowFault::BackwardJump(pc),
+        JumpFault::Out => FlowFault::JumpOut(pc),
+        JumpFault::IntoWide => FlowFault::JumpIntoWide(pc),
+    }
+}
+
+/// The program, if each of its jumps, reached or not, goes forward to the first unit of an instruction; else the first
+/// unit whose jump doesn't, and why. It takes no memory, so `OutOfMemory` never comes.
+pub fn check_flow(_alloc: Global, code: Code) -> Result<Flow, FlowFault>
+    ensures ok { IfOk result (λ flow. (flow ≡ code) × (flow_fault code ≡ None)) }
+    ensures refused { IfErr result (λ fault. IsShown code fault) }
+{
+    match first_fault(code.units()) {
+        Some((pc, fault)) => Err(fault_at(fault, pc)),
+        None => Ok(Flow { code }),
+    }
+}
+
+impl Flow {
+    /// The program's units, whose jumps all go forward to instructions.
+    pub fn code(&self) -> &Code
+        ensures same { result.now ≡ self.now }
+        ensures forward { GoesForward self.now }
+    {
+        &self.code
+    }
+
+    /// The unit that the jump at a unit goes to; none where no jump begins there.
+    pub fn target(&self, pc: u32) -> Option<u32>
+        ensures same { result ≡ target self.now pc }
+        ensures ahead { IfSome result (λ to. IsAhead self.now pc to) }
+    {
+        target_in(self.code.units(), pc)
+    }
+}
