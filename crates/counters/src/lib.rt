@@ -1,0 +1,102 @@
+// Bounded counters.
+#![tactic(auto)]
+
+ghost use Rattle.std.specs.Prelude.{◌≡◌, ℕ, ◌≤◌, ◌<◌, ◌^◌};
+ghost use Rattle.std.specs.List.{All};
+ghost use Rattle.bpf_model.specs.Machine.{counter};
+ghost use Rattle.bpf_model.specs.Runs.{AreCounters};
+ghost use Rattle.counters.specs.Changes.{can_add, after_add, can_take, after_take};
+
+use std::marker::Model;
+
+/// 32 counters, each with its value and its bound. A value is at most its bound.
+#[derive(Clone, Copy, Debug, PartialEq, Eq, Drop)]
+pub struct Counters {
+    cells: [(u64, u64); 32],
+}
+
+impl Model for Counters {
+    ghost use Rattle.std.specs.Prelude.{List, ℕ};
+    ghost use Rattle.bpf_model.specs.Runs.{AreCounters};
+
+    ghost Value = { List (ℕ × ℕ) };
+
+    ghost view = { λ c. c.cells };
+
+    ghost invariant = { λ c. AreCounters c.cells };
+
+    ghost inverse = { λ cells. record { cells = cells } };
+}
+
+impl Counters {
+    /// Counters of these values and bounds, counter 0 first.
+    pub fn new(cells: [(u64, u64); 32]) -> Counters
+        requires { All (λ c. c.0 ≤ c.1) cells }
+        ensures { result ≡ cells }
+    {
+        prove_small(&cells);
+        Counters { cells }
+    }
+
+    /// The value of a counter from 0 to 31.
+    pub fn get(&self, c: u32) -> u64
+        requires { c < 32 }
+        ensures value { result ≡ (counter self.now c).0 }
+        ensures right { AreCounters self.now }
+    {
+        self.cells[c as usize].0
+    }
+
+    /// The bound of a counter from 0 to 31.
+    pub fn bound(&self, c: u32) -> u64
+        requires { c < 32 }
+        ensures { result ≡ (counter self.now c).1 }
+    {
+        self.cells[c as usize].1
+    }
+
+    /// Adds to a counter from 0 to 31. Where the sum is over the bound the answer is false, and nothing changes.
+    pub fn add(&mut self, c: u32, n: u64) -> bool
+        requires { c < 32 }
+        ensures answer { result ≡ can_add self.old c n }
+        ensures after { self.new ≡ after_add self.old c n }
+    {
+        let (value, bound) = self.cells[c as usize];
+        if n > bound - value {
+            return false;
+        }
+        self.cells[c as usize] = (value + n, bound);
+        true
+    }
+
+    /// Takes from a counter from 0 to 31. Where `n` is over the value the answer is false, and nothing changes.
+    pub fn take(&mut self, c: u32, n: u64) -> bool
+        requires { c < 32 }
+        ensures answer { result ≡ can_take self.old c n }
+        ensures after { self.new ≡ after_take self.old c n }
+    {
+        let (value, bound) = self.cells[c as usize];
+        if n > value {
+            return false;
+        }
+        self.cells[c as usize] = (value - n, bound);
+        true
+    }
+}
+
+// A bound is below 2^64, as its type says.
+fn prove_small(cells: &[(u64, u64); 32])
+    ensures { All (λ c. c.1 < 2 ^ 64) cells.now }
+{
+    for i in 0..32 {
+        let _small = bound_at(cells, i);
+    }
+}
+
+fn bound_at(cells: &[(u64, u64); 32], c: usize) -> u64
+    requires { c < 32 }
+    ensures bound { result ≡ (counter cells.now c).1 }
+    ensures small { result < 2 ^ 64 }
+{
+    cells[c].1
+}

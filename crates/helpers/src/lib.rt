@@ -1,0 +1,120 @@
+// The helpers that programs call.
+#![tactic(auto)]
+
+mod memory;
+
+pub use bpf_model::machine::{PointView, View};
+pub use memory::put;
+
+ghost use Rattle.std.specs.Prelude.{◌≡◌, ◌≤◌, ◌<◌, IsSome};
+ghost use Rattle.bpf_model.specs.Machine.{helper_of, point, price, is_there, record_bytes, no_point, point_or_zero};
+ghost use Rattle.helpers.specs.Calls.{signature, called, kinds, stored, CounterInside, PlaceInside};
+
+use bpf_model::machine::Helper;
+use counters::Counters;
+
+/// What an argument of a helper is: nothing, a number, the number of a declared counter, or a place of the stack.
+#[derive(Clone, Copy, Debug, PartialEq, Eq)]
+pub enum Kind {
+    Nothing,
+    Number,
+    Counter,
+    Place,
+}
+
+fn helper_by(id: i32) -> Option<Helper>
+    ensures { result ≡ helper_of id }
+{
+    match id {
+        1 => Some(Helper::CounterGet),
+        2 => Some(Helper::CounterAdd),
+        3 => Some(Helper::CounterTake),
+        4 => Some(Helper::PointState),
+        5 => Some(Helper::PointRecord),
+        6 => Some(Helper::PriceOf),
+        _ => None,
+    }
+}
+
+fn kinds_of(helper: Helper) -> [Kind; 2]
+    ensures { result ≡ kinds helper }
+{
+    match helper {
+        Helper::CounterGet => [Kind::Counter, Kind::Nothing],
+        Helper::CounterAdd | Helper::CounterTake => [Kind::Counter, Kind::Number],
+        Helper::PointState | Helper::PriceOf => [Kind::Number, Kind::Nothing],
+        Helper::PointRecord => [Kind::Number, Kind::Place],
+    }
+}
+
+/// The kinds of the arguments in R1 and R2, for helpers 1 to 6.
+pub fn arguments(id: i32) -> Option<[Kind; 2]>
+    ensures { result ≡ signature id }
+{
+    let helper = helper_by(id)?;
+    Some(kinds_of(helper))
+}
+
+// The point of this number, of those that are there.
+fn point_of(view: &View, number: u64) -> Option<PointView>
+    ensures { result ≡ point view.now number }
+{
+    if number == 0 {
+        return None;
+    }
+    let place = number - 1;
+    if place < u64::from(view.count) && place < 32 { Some(view.points[place as usize]) } else { None }
+}
+
+fn point_or_none(point: Option<PointView>) -> PointView
+    ensures { result ≡ point_or_zero point }
+{
+    match point {
+        Some(point) => point,
+        None => PointView { state: 0, nozzle: 0, amount: 0 },
+    }
+}
+
+fn price_of(view: &View, number: u64) -> u64
+    ensures { result ≡ price view.now number }
+{
+    if number == 0 || number > 8 {
+        return 0;
+    }
+    u64::from(view.prices[(number - 1) as usize])
+}
+
+// The record of a point, or of no point, is put at a place of the stack.
+fn put_point(point: Option<PointView>, at: u64, stack: &mut [u8; 512]) -> u64
+    requires { at ≤ 496 }
+    ensures answer { result ≡ is_there point }
+    ensures stack { stack.new ≡ stored stack.old at (record_bytes (point_or_zero point)) }
+{
+    let shown = point_or_none(point);
+    put(stack, at as usize, 4, u64::from(shown.state));
+    put(stack, at as usize + 4, 4, u64::from(shown.nozzle));
+    put(stack, at as usize + 8, 8, shown.amount);
+    u64::from(point.is_some())
+}
+
+/// The answer of helper `id` on the numbers in R1 and R2, where a place is counted from the stack's lowest byte.
+pub fn call(id: i32, a: u64, b: u64, view: &View, counters: &mut Counters, stack: &mut [u8; 512]) -> u64
+    requires known { IsSome (helper_of id) }
+    requires counter { CounterInside (helper_of id) a }
+    requires place { PlaceInside (helper_of id) b }
+    ensures answer { result ≡ (called (helper_of id) a b view.now counters.old stack.old).value }
+    ensures counters { counters.new ≡ (called (helper_of id) a b view.now counters.old stack.old).counters }
+    ensures stack { stack.new ≡ (called (helper_of id) a b view.now counters.old stack.old).stack }
+{
+    let Some(helper) = helper_by(id) else {
+        unreachable!();
+    };
+    match helper {
+        Helper::CounterGet => counters.get(a as u32),
+        Helper::CounterAdd => u64::from(counters.add(a as u32, b)),
+        Helper::CounterTake => u64::from(counters.take(a as u32, b)),
+        Helper::PointState => u64::from(point_or_none(point_of(view, a)).state),
+        Helper::PointRecord => put_point(point_of(view, a), b, stack),
+        Helper::PriceOf => price_of(view, a),
+    }
+}

@@ -1,0 +1,4 @@
+pub mod Rules
+pub mod Facts
+pub mod Plain
+pub mod Refusals

@@ -1,0 +1,11 @@
+// The verifier: types of registers, facts, and programs that never get stuck.
+#![tactic(auto)]
+
+mod refusal;
+mod rules;
+mod types;
+mod verifier;
+
+pub use refusal::{Refusal, TypeFault};
+pub use types::{Fact, RegType};
+pub use verifier::{Program, verify};

@@ -1,0 +1,128 @@
+// Why programs are refused.
+
+ghost use Rattle.std.specs.Prelude.{◌≡◌};
+ghost use Rattle.reg_types.specs.Refusals.{located, shown_by, decode_shown, flow_shown, type_shown};
+
+use crate::types::Flaw;
+use bpf_decode::DecodeFault;
+use flow_check::FlowFault;
+use thiserror::Error;
+
+/// What is wrong with an instruction under what is known before it: the unit that it begins at, and the register or
+/// the argument (1 or 2) where there is one.
+#[derive(Clone, Copy, Debug, PartialEq, Eq, Error)]
+pub enum TypeFault {
+    #[error("unit {0}: no unit follows")]
+    FallsOff(u32),
+    #[error("unit {0}: register 10 is written")]
+    WriteR10(u32),
+    #[error("unit {0}: register {1} holds no number")]
+    NotANumber(u32, u32),
+    #[error("unit {0}: no pointer")]
+    NotAPointer(u32),
+    #[error("unit {0}: out of range")]
+    OutOfRange(u32),
+    #[error("unit {0}: bytes that aren't set")]
+    UnsetBytes(u32),
+    #[error("unit {0}: a store to the context")]
+    StoreToContext(u32),
+    #[error("unit {0}: a pointer is stored")]
+    StorePointer(u32),
+    #[error("unit {0}: arithmetic on a pointer")]
+    PointerArithmetic(u32),
+    #[error("unit {0}: no such helper")]
+    NoSuchHelper(u32),
+    #[error("unit {0}: argument {1} is not what the helper takes")]
+    BadArgument(u32, u32),
+    #[error("unit {0}: a counter that isn't declared")]
+    UndeclaredCounter(u32),
+}
+
+/// Why bytes are no program.
+#[derive(Clone, Copy, Debug, PartialEq, Eq, Error)]
+pub enum Refusal {
+    #[error("{0}")]
+    Decode(DecodeFault),
+    #[error("{0}")]
+    Flow(FlowFault),
+    #[error("{0}")]
+    Type(TypeFault),
+    #[error("out of memory")]
+    OutOfMemory,
+}
+
+fn show_decode(fault: DecodeFault) -> Option<(u32, Option<u32>, Option<u32>)>
+    ensures { result ≡ decode_shown fault }
+{
+    match fault {
+        DecodeFault::Length => Some((1, None, None)),
+        DecodeFault::BadOpcode(pc) => Some((2, Some(pc), None)),
+        DecodeFault::BadField(pc) => Some((3, Some(pc), None)),
+        DecodeFault::BadRegister(pc) => Some((4, Some(pc), None)),
+        DecodeFault::HalfWide(pc) => Some((5, Some(pc), None)),
+        DecodeFault::OutOfMemory => None,
+    }
+}
+
+fn show_flow(fault: FlowFault) -> Option<(u32, Option<u32>, Option<u32>)>
+    ensures { result ≡ flow_shown fault }
+{
+    match fault {
+        FlowFault::BackwardJump(pc) => Some((6, Some(pc), None)),
+        FlowFault::JumpOut(pc) => Some((7, Some(pc), None)),
+        FlowFault::JumpIntoWide(pc) => Some((8, Some(pc), None)),
+        FlowFault::OutOfMemory => None,
+    }
+}
+
+fn show_type(fault: TypeFault) -> (u32, Option<u32>, Option<u32>)
+    ensures { result ≡ type_shown fault }
+{
+    match fault {
+        TypeFault::FallsOff(pc) => (9, Some(pc), None),
+        TypeFault::WriteR10(pc) => (10, Some(pc), None),
+        TypeFault::NotANumber(pc, register) => (11, Some(pc), Some(register)),
+        TypeFault::NotAPointer(pc) => (12, Some(pc), None),
+        TypeFault::OutOfRange(pc) => (13, Some(pc), None),
+        TypeFault::UnsetBytes(pc) => (14, Some(pc), None),
+        TypeFault::StoreToContext(pc) => (15, Some(pc), None),
+        TypeFault::StorePointer(pc) => (16, Some(pc), None),
+        TypeFault::PointerArithmetic(pc) => (17, Some(pc), None),
+        TypeFault::NoSuchHelper(pc) => (18, Some(pc), None),
+        TypeFault::BadArgument(pc, argument) => (19, Some(pc), Some(argument)),
+        TypeFault::UndeclaredCounter(pc) => (20, Some(pc), None),
+    }
+}
+
+impl Refusal {
+    /// The number of the V fault, its unit, and its register or argument; none for want of memory.
+    pub fn shown(self) -> Option<(u32, Option<u32>, Option<u32>)>
+        ensures { result ≡ shown_by self }
+    {
+        match self {
+            Refusal::Decode(fault) => show_decode(fault),
+            Refusal::Flow(fault) => show_flow(fault),
+            Refusal::Type(fault) => Some(show_type(fault)),
+            Refusal::OutOfMemory => None,
+        }
+    }
+}
+
+impl Flaw {
+    /// The flaw of the instruction at a unit.
+    pub fn at(self, pc: u32) -> TypeFault
+        ensures { result ≡ located pc self }
+    {
+        match self {
+            Flaw::FallsOff => TypeFault::FallsOff(pc),
+            Flaw::WriteR10 => TypeFault::WriteR10(pc),
+            Flaw::NotANumber(register) => TypeFault::NotANumber(pc, u32::from(register)),
+            Flaw::NotAPointer => TypeFault::NotAPointer(pc),
+            Flaw::OutOfRange => TypeFault::OutOfRange(pc),
+            Flaw::UnsetBytes => TypeFault::UnsetBytes(pc),
+            Flaw::StoreToContext => TypeFault::StoreToContext(pc),
+            Flaw::StorePointer => TypeFault::StorePointer(pc),
+            Flaw::PointerArithmetic => TypeFault::PointerArithmetic(pc),
+        }
+    }
+}
