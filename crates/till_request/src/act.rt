@@ -142,10 +142,7 @@ pub enum LineFault {
 #[derive(Clone, Copy, Debug, PartialEq, Eq, Drop)]
 pub enum Answer {
     /// An entry's number and the site's reply.
-    Entered {
-        number: u32,
-        reply: Reply,
-    },
+    Entered { number: u32, reply: Reply },
     /// S29: the history has all the entries that it can have.
     JournalFull,
     /// S31: memory was refused.

@@ -1,6 +1,22 @@
-//! What tills, dispensers and the owner ask, and what they are answered.
+//! What tills, dispensers and the owner ask, and what they are answered: lines in, answers out,
+//! over any reader and writer.
 #![tactic(auto)]
 
 mod act;
+mod answer;
+mod device;
+pub mod devices;
+mod form;
+mod grammar;
+mod line;
+mod spelling;
+#[cfg(test)]
+mod tests;
+mod write;
 
 pub use act::{Act, Answer, Bytes, LineFault, Reply, Request, Role};
+pub use device::{DeviceFault, LineIn, LineOut};
+pub use grammar::parse_line;
+pub use line::{InputFault, LINE_BYTES, LineReadFault, NextLine, next_line, read_line};
+pub use spelling::{spell_act, spelling_is_read};
+pub use write::{WriteFault, write_all, write_answer};

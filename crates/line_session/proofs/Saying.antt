@@ -1,0 +1,105 @@
+-- Line by line.
+use Rattle.std.proofs.Common.{◌≡◌, ℕ, ◌+◌, List, [], ◌∷◌, ◌++◌, length, take, drop, Option, Some, None, refl, sym, ◌∙◌, ap, arith, append_assoc, append-nil, length-append, rules, ◌⊎◌, inl, inr}
+use Rattle.std.specs.List.{flat_map, AllByRecursion}
+use Rattle.std.specs.Io.KnownBytes.{Consumes, Appends}
+use Rattle.std.proofs.lemmas.List.{take-append-drop}
+use Rattle.till_request.proofs.Taken.{consumes_more, appends_more}
+use Rattle.till_request.specs.declared.act.LineFault.{LineFault}
+use Rattle.till_request.specs.Line.{IsLine}
+use Rattle.till_request.specs.declared.act.Answer.TheVariants.{Line}
+use Rattle.till_request.specs.Answer.{answer_line}
+use Rattle.line_session.specs.Talk.{with_lf, cut_line, Said, Half, Silent, SaysAll, Talks, Breaks}
+
+abbrev same : List ℕ → List ℕ
+same t = t
+
+pub consumes_none : (known : Option (List ℕ)) → Consumes known known []
+consumes_none None = tt
+consumes_none (Some xs) = refl
+
+pub appends_none : (known : Option (List ℕ)) → Appends known known []
+appends_none None = tt
+appends_none (Some xs) = sym (append-nil xs)
+
+pub lines_more : (P : List ℕ → Type 0) (ls : List (List ℕ)) (l : List ℕ) → AllByRecursion P ls → P l → AllByRecursion P (ls ++ l ∷ [])
+lines_more P [] l h p = (p, tt)
+lines_more P (k ∷ ls) l h p = (h.0, lines_more P ls l h.1 p)
+
+pub flat_more : {A : Type 0} (f : A → List ℕ) (xs : List A) (x : A) → flat_map f (xs ++ x ∷ []) ≡ flat_map f xs ++ f x
+flat_more f [] x = append-nil (f x)
+flat_more f (y ∷ xs) x = ap (λ t. f y ++ t) (flat_more f xs x) ∙ sym (append_assoc (f y) (flat_map f xs) (f x))
+
+
+module _ {A B : Type 0} (says : A × B → List ℕ → List ℕ → A × B → Type 0) where
+  says_more : (ls : List (List ℕ)) (l : List ℕ) (s : A × B) (texts : List (List ℕ)) (text : List ℕ) (m s' : A × B)
+      → SaysAll says ls s texts m → says m l text s' → SaysAll says (ls ++ l ∷ []) s (texts ++ text ∷ []) s'
+  says_more [] l s [] text m s' h k = (s', rw (← h) k, refl)
+  says_more [] l s (b ∷ texts) text m s' h k = absurd h
+  says_more (x ∷ ls) l s [] text m s' h k = absurd h
+  says_more (x ∷ ls) l s (b ∷ texts) text m s' h k = (h.0, h.1, says_more ls l h.0 texts text m s' h.2 k)
+
+  pub talks_none : (s : A × B) (i o : Option (List ℕ)) → Talks says s s i i o o 0 [] []
+  talks_none s i o = record { lines = []; texts = []; each = tt; said = refl; taken = consumes_none i; written = appends_none o; counted = refl }
+
+  pub talks_more : (s m s' : A × B) (i j k o p q : Option (List ℕ)) (count : ℕ) (l : List ℕ)
+      → Talks says s m i j o p count [] [] → IsLine l → Consumes j k (l ++ 10 ∷ []) → Said says l m s' p q
+      → Talks says s s' i k o q (count + 1) [] []
+  talks_more s m s' i j k o p q count l t whole taken a = record {
+    lines = t.lines ++ l ∷ [];
+    texts = t.texts ++ a.text ∷ [];
+    each = lines_more IsLine t.lines l t.each whole;
+    said = says_more t.lines l s t.texts a.text m s' t.said a.says_it;
+    taken = rw (append-nil, flat_more with_lf t.lines l) (consumes_more i j k (flat_map with_lf t.lines) (with_lf l) (rw append-nil at t.taken) taken);
+    written = rw (append-nil, flat_more same t.texts a.text) (appends_more o p q (flat_map same t.texts) a.text (rw append-nil at t.written) a.written);
+    counted = omega (arith, length-append t.texts (a.text ∷ []), t.counted);
+  }
+
+  pub breaks_here : (s m : A × B) (i j o p : Option (List ℕ)) (count : ℕ) (k : Option (List ℕ)) (more : List ℕ)
+      → Talks says s m i j o p count [] [] → Consumes j k more → Breaks says s m i k o p
+  breaks_here s m i j o p count k more t taken = record {
+    lines = t.lines;
+    texts = t.texts;
+    each = t.each;
+    said = t.said;
+    rest = more;
+    taken = consumes_more i j k (flat_map with_lf t.lines) more (rw append-nil at t.taken) taken;
+    cut = None;
+    front = flat_map same t.texts;
+    after = [];
+    written = rw append-nil at t.written;
+    begins = refl;
+  }
+
+  pub breaks_line : {O : Type 0} (out : O → Option (List ℕ)) (s m s' : A × B) (i j k : Option (List ℕ)) (o : Option (List ℕ)) (p q : O) (count : ℕ) (l : List ℕ)
+      → Talks says s m i j o (out p) count [] [] → IsLine l → Consumes j k (l ++ 10 ∷ []) → (Silent m.0 m.1 p s'.0 s'.1 q ⊎ Half says l m s' (out p) (out q))
+      → Breaks says s s' i k o (out q)
+  breaks_line out s m s' i j k o p q count l t whole taken (inl a) = rw (a.first, a.second, a.output) (breaks_here s m i j o (out p) count k (l ++ 10 ∷ []) t taken)
+  breaks_line out s m s' i j k o p q count l t whole taken (inr a) = record {
+    lines = t.lines ++ l ∷ [];
+    texts = t.texts ++ a.text ∷ [];
+    each = lines_more IsLine t.lines l t.each whole;
+    said = says_more t.lines l s t.texts a.text m s' t.said a.says_it;
+    rest = [];
+    taken = rw (append-nil, flat_more with_lf t.lines l) (consumes_more i j k (flat_map with_lf t.lines) (with_lf l) (rw append-nil at t.taken) taken);
+    cut = None;
+    front = flat_map same t.texts ++ take a.kept a.text;
+    after = drop a.kept a.text;
+    written = appends_more o (out p) (out q) (flat_map same t.texts) (take a.kept a.text) (rw append-nil at t.written) a.written;
+    begins = rw (append-nil, flat_more same t.texts a.text, append_assoc) (ap (λ x. flat_map same t.texts ++ x) (sym (take-append-drop a.kept a.text)));
+  }
+
+  pub breaks_cut : (s m : A × B) (i j k o p q : Option (List ℕ)) (count : ℕ) (more : List ℕ) (fault : LineFault) (kept : ℕ)
+      → Talks says s m i j o p count [] [] → Consumes j k more → Appends p q (take kept (answer_line (Line fault))) → Breaks says s m i k o q
+  breaks_cut s m i j k o p q count more fault kept t taken w = record {
+    lines = t.lines;
+    texts = t.texts;
+    each = t.each;
+    said = t.said;
+    rest = more;
+    taken = consumes_more i j k (flat_map with_lf t.lines) more (rw append-nil at t.taken) taken;
+    cut = Some fault;
+    front = flat_map same t.texts ++ take kept (answer_line (Line fault));
+    after = drop kept (answer_line (Line fault));
+    written = appends_more o p q (flat_map same t.texts) (take kept (answer_line (Line fault))) (rw append-nil at t.written) w;
+    begins = rw append_assoc (ap (λ x. flat_map same t.texts ++ x) (sym (take-append-drop kept (answer_line (Line fault)))));
+  }

@@ -1,0 +1,49 @@
+use Rattle.std.proofs.Common.{refl, arith, rules, []}
+use Rattle.till_request.proofs.Taken.{on_err_always}
+use Rattle.till_request.proofs.Counts.{rose_more, rose_left}
+use Rattle.till_request.specs.declared.act.LineFault.TheVariants.{TooLong, CutLine}
+use Rattle.line_session.proofs.Saying.{talks_none, talks_more, breaks_here, breaks_line, breaks_cut}
+use Rattle.line_session.proofs.answering.talk_within.Goals as goal
+
+pub turns-init : goal.turns-init
+turns-init g c = record {
+  talks = talks_none _ _ _ _;
+  within = search rules;
+  reads = search rules;
+  read = search rules;
+  write = search rules;
+}
+
+pub returns-in_err-line-clause-broken : goal.returns-in_err-line-clause-broken
+returns-in_err-line-clause-broken g c =
+    on_err_always _ (breaks_here _ _ _ _ _ _ _ c.turns.count _ c.in_err-line.ensures.given.0 c.turns.invariant.talks c.in_err-line.ensures.given.1)
+
+pub returns-in_err-speak-in-Line-clause-broken :
+    goal.returns-in_err-speak-in-Line-clause-broken
+returns-in_err-speak-in-Line-clause-broken g c =
+    let t = rw c.in-Line.is at c.in_ok-line.ensures.taken in
+    on_err_always _ (breaks_line _ g.O.LineOut.written _ _ _ _ _ _ _ _ _ c.turns.count c.in-Line.line.items c.turns.invariant.talks t.1 t.0 (rw c.deref.ensures.value at c.in_err-speak-in-Line.ensures.err))
+
+pub returns-in_err-write_cut-in-TooLong-clause-broken :
+    goal.returns-in_err-write_cut-in-TooLong-clause-broken
+returns-in_err-write_cut-in-TooLong-clause-broken g c =
+    let t = rw c.in-TooLong.is at c.in_ok-line.ensures.taken in
+    let w = c.in_err-write_cut-in-TooLong.ensures.err in
+    on_err_always _ (breaks_cut _ _ _ _ _ _ _ _ _ c.turns.count t.0 TooLong w.0 c.turns.invariant.talks t.1 w.1)
+
+pub returns-in_err-write_cut-in-Cut-clause-broken :
+    goal.returns-in_err-write_cut-in-Cut-clause-broken
+returns-in_err-write_cut-in-Cut-clause-broken g c =
+    let t = rw c.in-Cut.is at c.in_ok-line.ensures.taken in
+    let w = c.in_err-write_cut-in-Cut.ensures.err in
+    on_err_always _ (breaks_cut _ _ _ _ _ _ _ _ _ c.turns.count t.0 CutLine w.0 c.turns.invariant.talks t.1 w.1)
+
+pub turns-preserved : goal.turns-preserved
+turns-preserved g c =
+    let t = rw c.in-Line.is at c.in_ok-line.ensures.taken in record {
+      talks = talks_more _ _ _ _ _ _ _ _ _ _ c.turns.count c.in-Line.line.items c.turns.invariant.talks t.1 t.0 (rw c.deref.ensures.value at c.in_ok-speak-in-Line.ensures.ok);
+      within = omega (arith, c.in_ok-line.ensures.used);
+      reads = rose_left c.args.left.now c.turns.left c.next_line.new.left (omega arith) (omega (arith, c.in_ok-line.ensures.left)) c.turns.invariant.reads c.in_ok-line.ensures.counted;
+      read = rose_more c.turns.invariant.read c.in_ok-line.ensures.failed;
+      write = rose_more c.turns.invariant.write c.in_ok-speak-in-Line.ensures.failed;
+    }

@@ -1,0 +1,25 @@
+-- Definitions: what a desk says to a line (this profile). The act of the line is answered at the moment that the clock
+-- tells for it; a line that stands for no act is answered by its fault, and then neither clock nor desk is asked.
+use Rattle.std.specs.Prelude.{◌≡◌, ℕ, List, Result, Ok, Err}
+use Rattle.till_request.specs.declared.act.Act.{Act}
+use Rattle.till_request.specs.declared.act.Role.{Role}
+use Rattle.till_request.specs.declared.act.LineFault.{LineFault}
+use Rattle.till_request.specs.declared.act.Answer.{Answer}
+use Rattle.till_request.specs.declared.act.Answer.TheVariants.{Line}
+use Rattle.till_request.specs.Grammar.{act_of}
+use Rattle.till_request.specs.Answer.{answer_line}
+
+-- What is answered to an act: what the desk may answer at the moment that the clock may tell. A fault is answered as it is.
+abbrev pub AnswersAct : {C D : Type 0} → (D → Act → ℕ → Answer → D → Type 0) → (C → ℕ → C → Type 0) → Result Act LineFault → C → D → Answer → C → D → Type 0
+AnswersAct step tick (Ok act) c d a c' d' = (moment : ℕ) × tick c moment c' × step d act moment a d'
+AnswersAct step tick (Err fault) c d a c' d' = (a ≡ Line fault) × (c' ≡ c) × (d' ≡ d)
+
+-- the text is the line of such an answer
+pub record SpeaksAt {C D : Type 0} (step : D → Act → ℕ → Answer → D → Type 0) (tick : C → ℕ → C → Type 0) (role : Role) (line text : List ℕ) (c : C) (d : D) (c' : C) (d' : D) : Type 0 where
+  pub answer : Answer
+  pub answers : AnswersAct step tick (act_of role line) c d answer c' d'
+  pub text_is : text ≡ answer_line answer
+
+-- what a clock and a desk say to a line of somebody of this role
+abbrev pub desk_says : {C D : Type 0} → (D → Act → ℕ → Answer → D → Type 0) → (C → ℕ → C → Type 0) → Role → C × D → List ℕ → List ℕ → C × D → Type 0
+desk_says step tick role s line text s' = SpeaksAt step tick role line text s.0 s.1 s'.0 s'.1

@@ -1,0 +1,122 @@
+-- Promises: what somebody says to lines, one after another. The input is cut at LF; to each line in order one text is
+-- said, from the state that the lines before it left; a line that is too long or cut is answered by its fault and is
+-- the last.
+use Rattle.std.specs.Prelude.{◌≡◌, ℕ, ◌<◌, ◌≤◌, List, [], ◌∷◌, ◌++◌, ◌+◌, length, take, Option, Some, None, Result, Ok, Err, Bool, true, false}
+use Rattle.std.specs.Io.KnownBytes.{Appends, Consumes, IsAtEnd}
+use Rattle.std.specs.List.{flat_map, AllByRecursion}
+use Rattle.till_request.specs.Answer.{answer_line}
+use Rattle.till_request.specs.Line.{HasNoLf, IsLine}
+use Rattle.till_request.specs.declared.act.Answer.TheVariants.{Line}
+use Rattle.till_request.specs.declared.act.LineFault.{LineFault}
+use Rattle.till_request.specs.declared.act.LineFault.TheVariants as line
+use Rattle.line_session.specs.declared.speaker.SpeakFault.{SpeakFault}
+use Rattle.line_session.specs.declared.speaker.SpeakFault.TheVariants as speech
+use Rattle.line_session.specs.declared.answering.SessionFault.{SessionFault}
+use Rattle.line_session.specs.declared.answering.SessionFault.TheVariants as session
+
+-- the line was answered, and the answer is out
+pub record Said {S : Type 0} (says : S → List ℕ → List ℕ → S → Type 0) (line : List ℕ) (s s' : S) (out_old out_new : Option (List ℕ)) : Type 0 where
+  pub text : List ℕ
+  pub says_it : says s line text s'
+  pub written : Appends out_old out_new text
+
+-- the line was answered, and a front of the answer is out
+pub record Half {S : Type 0} (says : S → List ℕ → List ℕ → S → Type 0) (line : List ℕ) (s s' : S) (out_old out_new : Option (List ℕ)) : Type 0 where
+  pub text : List ℕ
+  pub says_it : says s line text s'
+  pub kept : ℕ
+  pub written : Appends out_old out_new (take kept text)
+
+-- nothing changed
+pub record Silent {A B O : Type 0} (a : A) (b : B) (o : O) (a' : A) (b' : B) (o' : O) : Type 0 where
+  pub first : a' ≡ a
+  pub second : b' ≡ b
+  pub output : o' ≡ o
+
+-- a line with its LF
+abbrev pub with_lf : List ℕ → List ℕ
+with_lf line = line ++ 10 ∷ []
+
+-- the lines, each with its LF, and the texts, one behind the other
+abbrev pub all_lines : List (List ℕ) → List ℕ
+all_lines lines = flat_map with_lf lines
+
+abbrev pub all_texts : List (List ℕ) → List ℕ
+all_texts texts = flat_map (λ text. text) texts
+
+-- to these lines it says these texts, one after another
+abbrev pub SaysAll : {S : Type 0} → (S → List ℕ → List ℕ → S → Type 0) → List (List ℕ) → S → List (List ℕ) → S → Type 0
+SaysAll says [] s [] s' = s' ≡ s
+SaysAll {S} says (line ∷ lines) s (text ∷ texts) s' = (m : S) × says s line text m × SaysAll says lines m texts s'
+SaysAll says [] s (text ∷ texts) s' = ⊥
+SaysAll says (line ∷ lines) s [] s' = ⊥
+
+-- lines were taken and answered, and behind them something more was taken and written
+pub record Talks {S : Type 0} (says : S → List ℕ → List ℕ → S → Type 0) (s s' : S) (in_old in_new out_old out_new : Option (List ℕ)) (count : ℕ) (rest more : List ℕ) : Type 0 where
+  pub lines : List (List ℕ)
+  pub texts : List (List ℕ)
+  pub each : AllByRecursion IsLine lines
+  pub said : SaysAll says lines s texts s'
+  pub taken : Consumes in_old in_new (all_lines lines ++ rest)
+  pub written : Appends out_old out_new (all_texts texts ++ more)
+  pub counted : count ≡ length texts
+
+-- what was taken behind the last line: nothing at the end, a line that is too long, or one without LF
+abbrev pub IsCut : Option LineFault → Option (List ℕ) → List ℕ → Type 0
+IsCut None in_new rest = (rest ≡ []) × IsAtEnd in_new
+IsCut (Some line.TooLong) in_new rest = HasNoLf rest × (length rest ≡ 8401)
+IsCut (Some line.CutLine) in_new rest = IsLine rest × (0 < length rest) × IsAtEnd in_new
+IsCut (Some line.BadLine) in_new rest = ⊥
+IsCut (Some line.BadNumber) in_new rest = ⊥
+IsCut (Some line.OutOfMemory) in_new rest = ⊥
+
+-- the answer to a cut, and the number of answers to it
+abbrev pub cut_line : Option LineFault → List ℕ
+cut_line None = []
+cut_line (Some fault) = answer_line (Line fault)
+
+abbrev pub cut_count : Option LineFault → ℕ
+cut_count None = 0
+cut_count (Some fault) = 1
+
+-- all of it was said
+pub record Ends {S : Type 0} (says : S → List ℕ → List ℕ → S → Type 0) (s s' : S) (in_old in_new out_old out_new : Option (List ℕ)) (count : ℕ) (cut : Option LineFault) : Type 0 where
+  pub answered : ℕ
+  pub rest : List ℕ
+  pub talks : Talks says s s' in_old in_new out_old out_new answered rest (cut_line cut)
+  pub is_cut : IsCut cut in_new rest
+  pub counted : count ≡ answered + cut_count cut
+
+-- a beginning of what would be said is out
+pub record Breaks {S : Type 0} (says : S → List ℕ → List ℕ → S → Type 0) (s s' : S) (in_old in_new out_old out_new : Option (List ℕ)) : Type 0 where
+  pub lines : List (List ℕ)
+  pub texts : List (List ℕ)
+  pub each : AllByRecursion IsLine lines
+  pub said : SaysAll says lines s texts s'
+  pub rest : List ℕ
+  pub taken : Consumes in_old in_new (all_lines lines ++ rest)
+  pub cut : Option LineFault
+  pub front : List ℕ
+  pub after : List ℕ
+  pub written : Appends out_old out_new front
+  pub begins : all_texts texts ++ cut_line cut ≡ front ++ after
+
+-- the device failed in a read, or in a write
+abbrev pub is_read : {T : Type 0} → Result T SessionFault → Bool
+is_read (Ok x) = false
+is_read (Err session.Read) = true
+is_read (Err session.Write) = false
+is_read (Err session.ReadsSpent) = false
+is_read (Err session.OutOfMemory) = false
+
+abbrev pub is_write : {T : Type 0} → Result T SessionFault → Bool
+is_write (Ok x) = false
+is_write (Err session.Read) = false
+is_write (Err session.Write) = true
+is_write (Err session.ReadsSpent) = false
+is_write (Err session.OutOfMemory) = false
+
+abbrev pub is_write_fault : {T : Type 0} → Result T SpeakFault → Bool
+is_write_fault (Ok x) = false
+is_write_fault (Err speech.Write) = true
+is_write_fault (Err speech.OutOfMemory) = false

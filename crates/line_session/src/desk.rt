@@ -1,0 +1,28 @@
+//! Who answers, and when.
+use till_request::{Act, Answer};
+
+/// Answers acts, one after another.
+pub trait Desk {
+    ghost use Rattle.std.specs.Prelude.{ℕ};
+    ghost use Rattle.till_request.specs.declared.act.Act.{Act};
+    ghost use Rattle.till_request.specs.declared.act.Answer.{Answer};
+
+    /// What it may answer to an act at a moment, and what it goes on to.
+    ghost step: { Self → Act → ℕ → Answer → Self → Type 0 };
+
+    /// The answer to an act that is asked at a moment.
+    fn answer(&mut self, act: Act, moment: u64) -> Answer
+        ensures { step self.old act moment result self.new };
+}
+
+/// Tells moments.
+pub trait Clock {
+    ghost use Rattle.std.specs.Prelude.{ℕ};
+
+    /// What it may tell, and what it goes on to.
+    ghost tick: { Self → ℕ → Self → Type 0 };
+
+    /// The moment of now.
+    fn now(&mut self) -> u64
+        ensures { tick self.old result self.new };
+}

@@ -1,0 +1,34 @@
+//! Sessions at a desk.
+ghost use Rattle.std.specs.Prelude.{◌≡◌, ◌≤◌, ℕ, IfOk, OnErr, Err};
+ghost use Rattle.till_request.specs.Count.{RoseBy, one_if};
+ghost use Rattle.line_session.specs.Talk.{Ends, Breaks, is_read, is_write};
+ghost use Rattle.line_session.specs.Session.{desk_says};
+
+use crate::at_desk::AtDesk;
+use crate::desk::{Clock, Desk};
+use crate::answering::{Ended, SessionFault, talk};
+use std::alloc::Global;
+use till_request::{LineIn, LineOut, Role};
+
+/// Answers the lines that somebody of a role sends, in order and one by one, by a desk at the
+/// moments of a clock.
+///
+/// After a fault a beginning of the answers is out.
+pub fn session<I: LineIn, O: LineOut, C: Clock, D: Desk>(
+    alloc: Global,
+    role: Role,
+    input: &mut I,
+    output: &mut O,
+    clock: &mut C,
+    desk: &mut D,
+) -> Result<Ended, SessionFault>
+    ensures said { IfOk result (λ ended. Ends (desk_says D.step C.tick role) (clock.old, desk.old) (clock.new, desk.new)
+        (I.remaining input.old) (I.remaining input.new) (O.written output.old) (O.written output.new) ended.lines ended.cut) }
+    ensures broken { OnErr result (Breaks (desk_says D.step C.tick role) (clock.old, desk.old) (clock.new, desk.new)
+        (I.remaining input.old) (I.remaining input.new) (O.written output.old) (O.written output.new)) }
+    ensures read_fault { RoseBy (one_if (is_read result)) (I.failures input.old) (I.failures input.new) }
+    ensures write_fault { RoseBy (one_if (is_write result)) (O.failures output.old) (O.failures output.new) }
+    ensures reads { (k : ℕ) × (k ≤ 67108864) × RoseBy k (I.reads input.old) (I.reads input.new) × (result ≡ Err SessionFault.ReadsSpent → k ≡ 67108864) }
+{
+    talk(alloc, input, output, &AtDesk { role }, clock, desk)
+}

@@ -1,0 +1,13 @@
+-- Counters that wrap.
+use Rattle.std.proofs.Common.{◌≡◌, ℕ, ◌+◌, ◌-◌, ◌≤◌, ◌%◌, ◌^◌, arith}
+use Rattle.till_request.specs.Count.{RoseBy}
+
+mod_more : (a b c j k : ℕ) → b % 18446744073709551616 ≡ (a + j) % 18446744073709551616 → c % 18446744073709551616 ≡ (b + k) % 18446744073709551616 → c % 18446744073709551616 ≡ (a + (j + k)) % 18446744073709551616
+mod_more a b c j k h g = omega arith
+
+pub rose_more : {a b c j k : ℕ} → RoseBy j a b → RoseBy k b c → RoseBy (j + k) a c
+rose_more {a} {b} {c} {j} {k} h g = record { same = mod_more a b c j k h.same g.same }
+
+-- what is left falls as the counter rises
+pub rose_left : (p q r : ℕ) {a b c : ℕ} → q ≤ p → r ≤ q → RoseBy (p - q) a b → RoseBy (q - r) b c → RoseBy (p - r) a c
+rose_left p q r h k s t = let e : (p - q) + (q - r) ≡ p - r = omega arith in rw (← e) (rose_more s t)

@@ -1,0 +1,105 @@
+-- A line that stands for no act is a bad line or has a bad number.
+use Rattle.std.proofs.Common.{◌≡◌, ℕ, List, [], ◌∷◌, ◌++◌, Bool, true, false, cond, Option, Some, None, Result, Ok, Err, refl, sym, ◌∙◌, ap, subst, find, nat_lt, ◌&&◌, ◌^◌}
+use Rattle.std.specs.Io.KnownBytes.{Consumes}
+use Rattle.std.specs.Str.Parse.{digits_value}
+use Rattle.hex.specs.Hex.{decode_of}
+use Rattle.hex.specs.declared.error.FromHexError.{FromHexError}
+use Rattle.till_request.specs.declared.act.Act.{Act}
+use Rattle.till_request.specs.declared.act.Role.{Role}
+use Rattle.till_request.specs.declared.act.LineFault.{LineFault}
+use Rattle.till_request.specs.declared.act.LineFault.TheVariants.{TooLong, BadLine, BadNumber, CutLine, OutOfMemory}
+use Rattle.till_request.specs.declared.form.Form.{Form}
+use Rattle.till_request.specs.declared.form.Form.TheVariants as forms
+use Rattle.till_request.specs.declared.form.AmountVerb.{AmountVerb}
+use Rattle.till_request.specs.declared.form.PointVerb.{PointVerb}
+use Rattle.till_request.specs.declared.form.TransactionVerb.{TransactionVerb}
+use Rattle.till_request.specs.declared.form.ReportVerb.{ReportVerb}
+use Rattle.till_request.specs.declared.line.LineReadFault.TheVariants as reading
+use Rattle.till_request.specs.Gives.{Fails}
+use Rattle.till_request.specs.Line.{IsLine, TakesFault}
+use Rattle.till_request.specs.Grammar.{number, is_decimal, bytes_from, ◌>>=◌, amount_of, point_of, transaction_of, report_of, up_of, flow_of, load_of, act_in, act_by, act_of, suits, all_forms, words}
+
+-- no fault but these two
+abbrev pub IsBad : {A : Type 0} → Result A LineFault → Type 0
+IsBad (Ok x) = Unit {0}
+IsBad (Err TooLong) = ⊥
+IsBad (Err BadLine) = Unit {0}
+IsBad (Err BadNumber) = Unit {0}
+IsBad (Err CutLine) = ⊥
+IsBad (Err OutOfMemory) = ⊥
+
+IsBad-bind : {A B : Type 0} (r : Result A LineFault) (f : A → Result B LineFault) → IsBad r → ((x : A) → IsBad (f x)) → IsBad (r >>= f)
+IsBad-bind (Ok x) f h k = k x
+IsBad-bind (Err TooLong) f h k = absurd h
+IsBad-bind (Err BadLine) f h k = tt
+IsBad-bind (Err BadNumber) f h k = tt
+IsBad-bind (Err CutLine) f h k = absurd h
+IsBad-bind (Err OutOfMemory) f h k = absurd h
+
+IsBad-cond : {A : Type 0} (b : Bool) (x : A) → IsBad (cond b (Ok x) (Err BadNumber))
+IsBad-cond true x = tt
+IsBad-cond false x = tt
+
+IsBad-number : (k : ℕ) (w : List ℕ) → IsBad (number k w)
+IsBad-number k w = IsBad-cond (is_decimal w && nat_lt (digits_value 10 w) (2 ^ k)) (digits_value 10 w)
+
+IsBad-bytes_from : (r : Result (List ℕ) FromHexError) → IsBad (bytes_from r)
+IsBad-bytes_from (Ok x) = tt
+IsBad-bytes_from (Err e) = tt
+
+IsBad-amount_of : (verb : AmountVerb) (w v u : List ℕ) → IsBad (amount_of verb w v u)
+unfolding amount_of
+IsBad-amount_of verb w v u = IsBad-bind (number 32 w) _ (IsBad-number 32 w) (λ t. IsBad-bind (number 32 v) _ (IsBad-number 32 v) (λ p. IsBad-bind (number 64 u) _ (IsBad-number 64 u) (λ a. tt)))
+
+IsBad-point_of : (verb : PointVerb) (w v : List ℕ) → IsBad (point_of verb w v)
+unfolding point_of
+IsBad-point_of verb w v = IsBad-bind (number 32 w) _ (IsBad-number 32 w) (λ t. IsBad-bind (number 32 v) _ (IsBad-number 32 v) (λ p. tt))
+
+IsBad-transaction_of : (verb : TransactionVerb) (w v u : List ℕ) → IsBad (transaction_of verb w v u)
+unfolding transaction_of
+IsBad-transaction_of verb w v u = IsBad-bind (number 32 w) _ (IsBad-number 32 w) (λ t. IsBad-bind (number 32 v) _ (IsBad-number 32 v) (λ p. IsBad-bind (number 32 u) _ (IsBad-number 32 u) (λ x. tt)))
+
+IsBad-report_of : (verb : ReportVerb) (w : List ℕ) → IsBad (report_of verb w)
+unfolding report_of
+IsBad-report_of verb w = IsBad-bind (number 32 w) _ (IsBad-number 32 w) (λ p. tt)
+
+IsBad-up_of : (w v : List ℕ) → IsBad (up_of w v)
+unfolding up_of
+IsBad-up_of w v = IsBad-bind (number 32 w) _ (IsBad-number 32 w) (λ p. IsBad-bind (number 32 v) _ (IsBad-number 32 v) (λ n. tt))
+
+IsBad-flow_of : (w v u : List ℕ) → IsBad (flow_of w v u)
+unfolding flow_of
+IsBad-flow_of w v u = IsBad-bind (number 32 w) _ (IsBad-number 32 w) (λ p. IsBad-bind (number 64 v) _ (IsBad-number 64 v) (λ a. IsBad-bind (number 64 u) _ (IsBad-number 64 u) (λ n. tt)))
+
+IsBad-load_of : (w v u : List ℕ) → IsBad (load_of w v u)
+unfolding load_of
+IsBad-load_of w v u = IsBad-bind (number 32 w) _ (IsBad-number 32 w) (λ s. IsBad-bind (number 32 v) _ (IsBad-number 32 v) (λ m. IsBad-bind (bytes_from (decode_of u)) _ (IsBad-bytes_from (decode_of u)) (λ b. tt)))
+
+IsBad-act_in : (form : Form) (ws : List (List ℕ)) → IsBad (act_in form ws)
+IsBad-act_in (forms.Amount verb) (k0 ∷ till ∷ k1 ∷ point ∷ amount ∷ []) = IsBad-amount_of verb till point amount
+IsBad-act_in (forms.Point verb) (k0 ∷ till ∷ k1 ∷ point ∷ []) = IsBad-point_of verb till point
+IsBad-act_in (forms.Transaction verb) (k0 ∷ till ∷ k1 ∷ point ∷ transaction ∷ []) = IsBad-transaction_of verb till point transaction
+IsBad-act_in (forms.Report verb) (k0 ∷ point ∷ k1 ∷ []) = IsBad-report_of verb point
+IsBad-act_in forms.Up (k0 ∷ point ∷ k1 ∷ nozzle ∷ []) = IsBad-up_of point nozzle
+IsBad-act_in forms.Flow (k0 ∷ point ∷ k1 ∷ amount ∷ volume ∷ []) = IsBad-flow_of point amount volume
+IsBad-act_in forms.Load (k0 ∷ slot ∷ mask ∷ hex ∷ []) = IsBad-load_of slot mask hex
+IsBad-act_in form ws = tt
+
+IsBad-act_by : (form : Option Form) (ws : List (List ℕ)) → IsBad (act_by form ws)
+IsBad-act_by None ws = tt
+IsBad-act_by (Some form) ws = IsBad-act_in form ws
+
+pub IsBad-act_of : (role : Role) (line : List ℕ) → IsBad (act_of role line)
+IsBad-act_of role line = IsBad-act_by (find (suits role (words line)) all_forms) (words line)
+
+bad_along : {r s : Result Act LineFault} → r ≡ s → IsBad r → IsBad s
+bad_along e h = subst IsBad e h
+
+-- a line that was taken, with the fault that reading it gave
+pub fault_taken : (fault : LineFault) (old new : Option (List ℕ)) (role : Role) (line : List ℕ) → Consumes old new (line ++ 10 ∷ []) → IsLine line → Fails fault (act_of role line)
+    → TakesFault old new role (reading.Line fault)
+fault_taken TooLong old new role line t l e = absurd (bad_along e (IsBad-act_of role line))
+fault_taken BadLine old new role line t l e = (line, t, l, e)
+fault_taken BadNumber old new role line t l e = (line, t, l, e)
+fault_taken CutLine old new role line t l e = absurd (bad_along e (IsBad-act_of role line))
+fault_taken OutOfMemory old new role line t l e = (line ++ 10 ∷ [], t)

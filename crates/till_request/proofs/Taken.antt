@@ -1,0 +1,30 @@
+-- What is taken piece by piece.
+use Rattle.std.proofs.Common.{◌≡◌, ◌≢◌, ℕ, List, [], ◌∷◌, ◌++◌, Some, None, Option, Result, Ok, Err, OnErr, sym, ◌∙◌, ap, append_assoc, rules, arith}
+use Rattle.std.specs.List.{AllByRecursion}
+use Rattle.std.specs.Io.KnownBytes.{Consumes, Appends}
+use Rattle.std.proofs.lemmas.Grind.{common_steps}
+use Rattle.till_request.specs.Line.{HasNoLf}
+
+pub consumes_more : (a b c : Option (List ℕ)) (xs ys : List ℕ) → Consumes a b xs → Consumes b c ys → Consumes a c (xs ++ ys)
+consumes_more None b c xs ys h k = tt
+consumes_more (Some ps) None c xs ys h k = absurd h
+consumes_more (Some ps) (Some qs) None xs ys h k = absurd k
+consumes_more (Some ps) (Some qs) (Some rs) xs ys h k = h ∙ ap (λ t. xs ++ t) k ∙ sym (append_assoc xs ys rs)
+
+pub appends_more : (a b c : Option (List ℕ)) (xs ys : List ℕ) → Appends a b xs → Appends b c ys → Appends a c (xs ++ ys)
+appends_more None b c xs ys h k = tt
+appends_more (Some ps) None c xs ys h k = absurd h
+appends_more (Some ps) (Some qs) None xs ys h k = absurd k
+appends_more (Some ps) (Some qs) (Some rs) xs ys h k = k ∙ ap (λ t. t ++ ys) h ∙ append_assoc ps xs ys
+
+pub no_lf_more : (xs : List ℕ) (b : ℕ) → HasNoLf xs → b ≢ 10 → HasNoLf (xs ++ b ∷ [])
+no_lf_more [] b h n = (n, tt)
+no_lf_more (x ∷ xs) b h n = (h.0, no_lf_more xs b h.1 n)
+
+pub on_err_always : {T E P : Type 0} (r : Result T E) → P → OnErr r P
+on_err_always (Ok x) p = tt
+on_err_always (Err e) p = p
+
+pub given_so : {T E : Type 0} (r : Result T E) (a c : Option (List ℕ)) (xs : List ℕ) → Consumes a c xs → OnErr r ((bytes : List ℕ) × Consumes a c bytes)
+given_so (Ok x) a c xs h = tt
+given_so (Err e) a c xs h = (xs, h)

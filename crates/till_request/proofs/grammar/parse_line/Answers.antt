@@ -1,0 +1,9 @@
+use Rattle.std.proofs.Common.{ap, subst, ◌∙◌, map, List, ℕ, Bor}
+use Rattle.till_request.specs.Grammar.{act_of_words}
+use Rattle.till_request.specs.Gives.{Gives}
+use Rattle.till_request.proofs.grammar.parse_line.Goals as goal
+
+pub returns : goal.returns
+returns c =
+    let now : List (Bor (List ℕ)) → List (List ℕ) = map (λ w. w.now) in
+    subst (λ ws. Gives c.parse_words.result (act_of_words c.args.role ws)) (ap now c.as_slice.ensures.value ∙ c.in_ok-words.ensures) c.parse_words.ensures

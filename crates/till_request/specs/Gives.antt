@@ -1,0 +1,12 @@
+-- Promises: a function returned what a definition gives, unless memory ran out.
+use Rattle.std.specs.Prelude.{◌≡◌, Result, Ok, Err}
+use Rattle.till_request.specs.declared.act.LineFault.{LineFault}
+use Rattle.till_request.specs.declared.act.LineFault.TheVariants.{OutOfMemory}
+
+abbrev pub Fails : {Y : Type 0} → LineFault → Result Y LineFault → Type 0
+Fails OutOfMemory given = Unit {0}
+Fails fault given = given ≡ Err fault
+
+abbrev pub Gives : {Y : Type 0} → Result Y LineFault → Result Y LineFault → Type 0
+Gives (Ok x) given = given ≡ Ok x
+Gives (Err fault) given = Fails fault given

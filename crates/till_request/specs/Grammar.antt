@@ -1,0 +1,237 @@
+-- Definitions: what a line stands for (this profile). A line is words with one space between them. It has a form,
+-- which is a list of fixed words and of places for values; a line without a form is a bad line, and only then are
+-- the values read, from left to right.
+use Rattle.std.specs.Prelude.{◌≡◌, ◌==◌, ◌&&◌, ◌||◌, not, nat_lt, ℕ, ◌^◌, List, [], ◌∷◌, length, slice_index, codes, Bool, true, false, Option, Some, None, Result, Ok, Err, if◌then◌else◌, find}
+use Rattle.std.specs.List.{slice_split, list_all}
+use Rattle.std.specs.Str.{bytes_eq}
+use Rattle.std.specs.Char.{is_ascii_digit}
+use Rattle.std.specs.Cmp.Lexicographic.{pointwise}
+use Rattle.std.specs.Str.Parse.{digits_value}
+use Rattle.hex.specs.Hex.{decode_of}
+use Rattle.hex.specs.declared.error.FromHexError.{FromHexError}
+use Rattle.fuelling_point.specs.declared.kinds.DispenserEvent.{DispenserEvent}
+use Rattle.fuelling_point.specs.declared.kinds.DispenserEvent.TheVariants as events
+use Rattle.till_request.specs.declared.act.Act.{Act}
+use Rattle.till_request.specs.declared.act.Act.TheVariants as acts
+use Rattle.till_request.specs.declared.act.Request.{Request}
+use Rattle.till_request.specs.declared.act.Request.TheVariants as requests
+use Rattle.till_request.specs.declared.act.Role.{Role}
+use Rattle.till_request.specs.declared.act.Role.TheVariants as roles
+use Rattle.till_request.specs.declared.act.LineFault.{LineFault}
+use Rattle.till_request.specs.declared.act.LineFault.TheVariants.{BadLine, BadNumber}
+use Rattle.till_request.specs.declared.form.AmountVerb.{AmountVerb}
+use Rattle.till_request.specs.declared.form.AmountVerb.TheVariants as amounts
+use Rattle.till_request.specs.declared.form.PointVerb.{PointVerb}
+use Rattle.till_request.specs.declared.form.PointVerb.TheVariants as points
+use Rattle.till_request.specs.declared.form.TransactionVerb.{TransactionVerb}
+use Rattle.till_request.specs.declared.form.TransactionVerb.TheVariants as transactions
+use Rattle.till_request.specs.declared.form.ReportVerb.{ReportVerb}
+use Rattle.till_request.specs.declared.form.ReportVerb.TheVariants as reports
+use Rattle.till_request.specs.declared.form.Keyword.{Keyword}
+use Rattle.till_request.specs.declared.form.Keyword.TheVariants as keywords
+use Rattle.till_request.specs.declared.form.Form.{Form}
+use Rattle.till_request.specs.declared.form.Form.TheVariants as forms
+use Rattle.till_request.specs.declared.form.Part.{Part}
+use Rattle.till_request.specs.declared.form.Part.TheVariants.{Word, Value}
+
+-- the words of a line
+abbrev pub words : List ℕ → List (List ℕ)
+words line = slice_split (λ b. b == 32) line
+
+-- how a fixed word is spelled
+abbrev pub text : Keyword → List ℕ
+text keywords.Till = codes "till"
+text keywords.Disp = codes "disp"
+text keywords.Load = codes "load"
+text keywords.Up = codes "up"
+text keywords.Flow = codes "flow"
+text (keywords.Amount amounts.Release) = codes "release"
+text (keywords.Amount amounts.Preset) = codes "preset"
+text (keywords.Amount amounts.Price) = codes "price"
+text (keywords.Point points.Open) = codes "open"
+text (keywords.Point points.Close) = codes "close"
+text (keywords.Point points.Show) = codes "show"
+text (keywords.Point points.Suspend) = codes "suspend"
+text (keywords.Point points.Resume) = codes "resume"
+text (keywords.Point points.Stop) = codes "stop"
+text (keywords.Transaction transactions.Lock) = codes "lock"
+text (keywords.Transaction transactions.Unlock) = codes "unlock"
+text (keywords.Transaction transactions.Clear) = codes "clear"
+text (keywords.Report reports.Down) = codes "down"
+text (keywords.Report reports.Started) = codes "started"
+text (keywords.Report reports.Fault) = codes "fault"
+text (keywords.Report reports.Repaired) = codes "repaired"
+text (keywords.Report reports.Order) = codes "order"
+
+-- the words of a form: `till T verb P A`, `till T verb P`, `till T verb P X`, `disp P verb`, `disp P up N`, `disp P flow A V` and `load SLOT MASK HEX`
+abbrev pub template : Form → List Part
+template (forms.Amount verb) = Word keywords.Till ∷ Value ∷ Word (keywords.Amount verb) ∷ Value ∷ Value ∷ []
+template (forms.Point verb) = Word keywords.Till ∷ Value ∷ Word (keywords.Point verb) ∷ Value ∷ []
+template (forms.Transaction verb) = Word keywords.Till ∷ Value ∷ Word (keywords.Transaction verb) ∷ Value ∷ Value ∷ []
+template (forms.Report verb) = Word keywords.Disp ∷ Value ∷ Word (keywords.Report verb) ∷ []
+template forms.Up = Word keywords.Disp ∷ Value ∷ Word keywords.Up ∷ Value ∷ []
+template forms.Flow = Word keywords.Disp ∷ Value ∷ Word keywords.Flow ∷ Value ∷ Value ∷ []
+template forms.Load = Word keywords.Load ∷ Value ∷ Value ∷ Value ∷ []
+
+-- the forms
+unfoldable pub all_forms : List Form
+all_forms =
+    forms.Amount amounts.Release ∷ forms.Amount amounts.Preset ∷ forms.Amount amounts.Price
+    ∷ forms.Point points.Open ∷ forms.Point points.Close ∷ forms.Point points.Show
+    ∷ forms.Point points.Suspend ∷ forms.Point points.Resume ∷ forms.Point points.Stop
+    ∷ forms.Transaction transactions.Lock ∷ forms.Transaction transactions.Unlock ∷ forms.Transaction transactions.Clear
+    ∷ forms.Report reports.Down ∷ forms.Report reports.Started ∷ forms.Report reports.Fault ∷ forms.Report reports.Repaired ∷ forms.Report reports.Order
+    ∷ forms.Up ∷ forms.Flow ∷ forms.Load ∷ []
+
+-- who sends lines of this form, beside those who may send all
+abbrev pub sender : Form → Role
+sender (forms.Amount verb) = roles.Till
+sender (forms.Point verb) = roles.Till
+sender (forms.Transaction verb) = roles.Till
+sender (forms.Report verb) = roles.Dispenser
+sender forms.Up = roles.Dispenser
+sender forms.Flow = roles.Dispenser
+sender forms.Load = roles.Owner
+
+abbrev pub allows : Role → Role → Bool
+allows roles.All by = true
+allows roles.Till roles.Till = true
+allows roles.Dispenser roles.Dispenser = true
+allows roles.Owner roles.Owner = true
+allows role by = false
+
+-- there is something
+abbrev pub is_some_word : List ℕ → Bool
+is_some_word [] = false
+is_some_word (b ∷ word) = true
+
+-- the word may stand there: a fixed word as it is spelled, for a value any word that isn't empty
+abbrev pub part_fits : Part → List ℕ → Bool
+part_fits (Word keyword) word = bytes_eq word (text keyword)
+part_fits Value word = is_some_word word
+
+-- word for word
+abbrev pub fits : List Part → List (List ℕ) → Bool
+fits parts ws = pointwise part_fits parts ws
+
+-- the role may send the form, and the words have it
+abbrev pub suits : Role → List (List ℕ) → Form → Bool
+suits role ws form = allows role (sender form) && fits (template form) ws
+
+-- something, and a zero in front only alone
+abbrev pub has_no_leading_zero : List ℕ → Bool
+has_no_leading_zero word = if length word == 1 then true else nat_lt 0 (length word) && not (slice_index word 0 == 48)
+
+-- decimal digits without leading zeros
+abbrev pub is_decimal : List ℕ → Bool
+is_decimal word = list_all is_ascii_digit word && has_no_leading_zero word
+
+-- the number below 2^k that a word spells
+abbrev pub number : ℕ → List ℕ → Result ℕ LineFault
+number k word = if is_decimal word && nat_lt (digits_value 10 word) (2 ^ k) then Ok (digits_value 10 word) else Err BadNumber
+
+-- the bytes that hexadecimal digits of both cases spell
+abbrev pub bytes_from : Result (List ℕ) FromHexError → Result (List ℕ) LineFault
+bytes_from (Ok bytes) = Ok bytes
+bytes_from (Err e) = Err BadNumber
+
+infixl 10 ◌>>=◌
+abbrev pub ◌>>=◌ : {A B : Type 0} → Result A LineFault → (A → Result B LineFault) → Result B LineFault
+(Ok x) >>= f = f x
+(Err e) >>= f = Err e
+
+-- what the verbs ask and report
+abbrev pub amount_request : AmountVerb → ℕ → ℕ → Request
+amount_request amounts.Release point amount = requests.Release point amount
+amount_request amounts.Preset point amount = requests.Preset point amount
+amount_request amounts.Price product price = requests.Price product price
+
+abbrev pub point_request : PointVerb → ℕ → Request
+point_request points.Open point = requests.OpenPoint point
+point_request points.Close point = requests.ClosePoint point
+point_request points.Show point = requests.Show point
+point_request points.Suspend point = requests.Suspend point
+point_request points.Resume point = requests.Resume point
+point_request points.Stop point = requests.Stop point
+
+abbrev pub transaction_request : TransactionVerb → ℕ → ℕ → Request
+transaction_request transactions.Lock point transaction = requests.Lock point transaction
+transaction_request transactions.Unlock point transaction = requests.Unlock point transaction
+transaction_request transactions.Clear point transaction = requests.Clear point transaction
+
+abbrev pub report_event : ReportVerb → DispenserEvent
+report_event reports.Down = events.Down
+report_event reports.Started = events.Started
+report_event reports.Fault = events.Fault
+report_event reports.Repaired = events.Repaired
+report_event reports.Order = events.TakeOrder
+
+-- what the values of each form stand for: amounts, prices and volumes have 64 bits, other numbers 32
+unfoldable pub amount_of : AmountVerb → List ℕ → List ℕ → List ℕ → Result Act LineFault
+amount_of verb till point amount = do
+  till' ← number 32 till
+  point' ← number 32 point
+  amount' ← number 64 amount
+  Ok (acts.Till till' (amount_request verb point' amount'))
+
+unfoldable pub point_of : PointVerb → List ℕ → List ℕ → Result Act LineFault
+point_of verb till point = do
+  till' ← number 32 till
+  point' ← number 32 point
+  Ok (acts.Till till' (point_request verb point'))
+
+unfoldable pub transaction_of : TransactionVerb → List ℕ → List ℕ → List ℕ → Result Act LineFault
+transaction_of verb till point transaction = do
+  till' ← number 32 till
+  point' ← number 32 point
+  transaction' ← number 32 transaction
+  Ok (acts.Till till' (transaction_request verb point' transaction'))
+
+unfoldable pub report_of : ReportVerb → List ℕ → Result Act LineFault
+report_of verb point = do
+  point' ← number 32 point
+  Ok (acts.Dispenser point' (report_event verb))
+
+unfoldable pub up_of : List ℕ → List ℕ → Result Act LineFault
+up_of point nozzle = do
+  point' ← number 32 point
+  nozzle' ← number 32 nozzle
+  Ok (acts.Dispenser point' (events.Up nozzle'))
+
+unfoldable pub flow_of : List ℕ → List ℕ → List ℕ → Result Act LineFault
+flow_of point amount volume = do
+  point' ← number 32 point
+  amount' ← number 64 amount
+  volume' ← number 64 volume
+  Ok (acts.Dispenser point' (events.Flowed amount' volume'))
+
+unfoldable pub load_of : List ℕ → List ℕ → List ℕ → Result Act LineFault
+load_of slot mask hex = do
+  slot' ← number 32 slot
+  mask' ← number 32 mask
+  bytes' ← bytes_from (decode_of hex)
+  Ok (acts.Load slot' mask' bytes')
+
+-- the act of words that have this form
+abbrev pub act_in : Form → List (List ℕ) → Result Act LineFault
+act_in (forms.Amount verb) (k0 ∷ till ∷ k1 ∷ point ∷ amount ∷ []) = amount_of verb till point amount
+act_in (forms.Point verb) (k0 ∷ till ∷ k1 ∷ point ∷ []) = point_of verb till point
+act_in (forms.Transaction verb) (k0 ∷ till ∷ k1 ∷ point ∷ transaction ∷ []) = transaction_of verb till point transaction
+act_in (forms.Report verb) (k0 ∷ point ∷ k1 ∷ []) = report_of verb point
+act_in forms.Up (k0 ∷ point ∷ k1 ∷ nozzle ∷ []) = up_of point nozzle
+act_in forms.Flow (k0 ∷ point ∷ k1 ∷ amount ∷ volume ∷ []) = flow_of point amount volume
+act_in forms.Load (k0 ∷ slot ∷ mask ∷ hex ∷ []) = load_of slot mask hex
+act_in form ws = Err BadLine
+
+-- the act of words, by their form
+abbrev pub act_by : Option Form → List (List ℕ) → Result Act LineFault
+act_by None ws = Err BadLine
+act_by (Some form) ws = act_in form ws
+
+-- the act of words that somebody of this role sends
+abbrev pub act_of_words : Role → List (List ℕ) → Result Act LineFault
+act_of_words role ws = act_by (find (suits role ws) all_forms) ws
+
+-- what a line stands for that somebody of this role sends
+abbrev pub act_of : Role → List ℕ → Result Act LineFault
+act_of role line = act_of_words role (words line)

@@ -1,0 +1,7 @@
+pub mod Answer
+pub mod Count
+pub mod Gives
+pub mod Grammar
+pub mod Line
+pub mod Spelling
+pub mod Write

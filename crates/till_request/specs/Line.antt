@@ -1,0 +1,81 @@
+-- Promises: what is taken from an input line by line. IsLine and Takes are also definitions: a line has no LF and at
+-- most 8,400 bytes; one byte more is too long; an end without LF behind at least one byte is a cut line.
+use Rattle.std.specs.Prelude.{◌≡◌, ◌≢◌, ℕ, ◌<◌, ◌≤◌, List, [], ◌∷◌, ◌++◌, length, Option, Some, None, Result, Ok, Err, Bool, true, false}
+use Rattle.std.specs.List.{AllByRecursion}
+use Rattle.std.specs.Io.KnownBytes.{Consumes, IsAtEnd}
+use Rattle.till_request.specs.Grammar.{act_of}
+use Rattle.till_request.specs.declared.act.Act.{Act}
+use Rattle.till_request.specs.declared.act.Role.{Role}
+use Rattle.till_request.specs.declared.act.LineFault.{LineFault}
+use Rattle.till_request.specs.declared.act.LineFault.TheVariants as line
+use Rattle.till_request.specs.declared.line.NextLine.{NextLine}
+use Rattle.till_request.specs.declared.line.NextLine.TheVariants.{Line, TooLong, Cut, End}
+use Rattle.till_request.specs.declared.line.InputFault.{InputFault}
+use Rattle.till_request.specs.declared.line.InputFault.TheVariants as input
+use Rattle.till_request.specs.declared.line.LineReadFault.{LineReadFault}
+use Rattle.till_request.specs.declared.line.LineReadFault.TheVariants as reading
+
+-- no LF
+abbrev pub HasNoLf : List ℕ → Type 0
+HasNoLf bytes = AllByRecursion (λ b. b ≢ 10) bytes
+
+-- bytes that a line may have before its LF
+abbrev pub IsLine : List ℕ → Type 0
+IsLine bytes = HasNoLf bytes × (length bytes ≤ 8400)
+
+-- a beginning of a line that is too long was taken
+abbrev pub TakesTooLong : Option (List ℕ) → Option (List ℕ) → Type 0
+TakesTooLong old new = (bytes : List ℕ) × Consumes old new bytes × HasNoLf bytes × (length bytes ≡ 8401)
+
+-- a line without LF was taken, and nothing is left
+abbrev pub TakesCut : Option (List ℕ) → Option (List ℕ) → Type 0
+TakesCut old new = (bytes : List ℕ) × Consumes old new bytes × IsLine bytes × (0 < length bytes) × IsAtEnd new
+
+-- some bytes were taken
+abbrev pub TakesSome : Option (List ℕ) → Option (List ℕ) → Type 0
+TakesSome old new = (bytes : List ℕ) × Consumes old new bytes
+
+-- what was taken from the input, by what was found
+abbrev pub Takes : Option (List ℕ) → Option (List ℕ) → NextLine → Type 0
+Takes old new (Line line) = Consumes old new (line.items ++ 10 ∷ []) × IsLine line.items
+Takes old new TooLong = TakesTooLong old new
+Takes old new Cut = TakesCut old new
+Takes old new End = Consumes old new [] × IsAtEnd new
+
+-- a line was taken with its LF, and it stands for this
+abbrev pub TakesLine : Option (List ℕ) → Option (List ℕ) → Role → Result Act LineFault → Type 0
+TakesLine old new role given = (line : List ℕ) × Consumes old new (line ++ 10 ∷ []) × IsLine line × (act_of role line ≡ given)
+
+-- what was taken from the input, by the act that was read
+abbrev pub TakesAct : Option (List ℕ) → Option (List ℕ) → Role → Option Act → Type 0
+TakesAct old new role (Some act) = TakesLine old new role (Ok act)
+TakesAct old new role None = Consumes old new [] × IsAtEnd new
+
+-- what was taken from the input, by the fault
+abbrev pub TakesFault : Option (List ℕ) → Option (List ℕ) → Role → LineReadFault → Type 0
+TakesFault old new role (reading.Line line.TooLong) = TakesTooLong old new
+TakesFault old new role (reading.Line line.BadLine) = TakesLine old new role (Err line.BadLine)
+TakesFault old new role (reading.Line line.BadNumber) = TakesLine old new role (Err line.BadNumber)
+TakesFault old new role (reading.Line line.CutLine) = TakesCut old new
+TakesFault old new role (reading.Line line.OutOfMemory) = TakesSome old new
+TakesFault old new role reading.Read = TakesSome old new
+TakesFault old new role reading.ReadsSpent = TakesSome old new
+
+-- the device failed
+abbrev pub is_input_fault : {T : Type 0} → Result T InputFault → Bool
+is_input_fault (Err input.Read) = true
+is_input_fault (Err input.ReadsSpent) = false
+is_input_fault (Err input.OutOfMemory) = false
+is_input_fault (Ok x) = false
+
+abbrev pub is_read_fault : {T : Type 0} → Result T LineReadFault → Bool
+is_read_fault (Err reading.Read) = true
+is_read_fault (Err reading.ReadsSpent) = false
+is_read_fault (Err (reading.Line fault)) = false
+is_read_fault (Ok x) = false
+
+-- a fault of the input, told of a line
+abbrev pub read_fault : InputFault → LineReadFault
+read_fault input.Read = reading.Read
+read_fault input.ReadsSpent = reading.ReadsSpent
+read_fault input.OutOfMemory = reading.Line line.OutOfMemory

@@ -1,0 +1,44 @@
+//! What lines are read from and answers are written to.
+ghost use Rattle.std.specs.Prelude.{◌<◌, ◌≤◌, ℕ, List, Option, length, IfOk, is_err};
+ghost use Rattle.std.specs.Io.KnownBytes.{ReadConsumes, WriteAppends};
+ghost use Rattle.till_request.specs.Count.{RoseBy, one_if};
+
+/// The device failed.
+#[derive(Clone, Copy, Debug, PartialEq, Eq, Drop)]
+pub struct DeviceFault;
+
+/// A source of bytes.
+pub trait LineIn {
+    /// The bytes that reads will give from here on, where the source tells.
+    ghost remaining: { Self → Option (List ℕ) };
+
+    /// How many reads were made, modulo 2^64.
+    ghost reads: { Self → ℕ };
+
+    /// How many of them failed, modulo 2^64.
+    ghost failures: { Self → ℕ };
+
+    /// Reads into the front of the buffer, and answers how many bytes: 0 at the end.
+    fn read(&mut self, buffer: &mut [u8]) -> Result<usize, DeviceFault>
+        ensures bound { IfOk result (λ n. n ≤ length buffer.new) }
+        ensures bytes { ReadConsumes (remaining self.old) (remaining self.new) result buffer.new }
+        ensures counted { RoseBy 1 (reads self.old) (reads self.new) }
+        ensures failed { RoseBy (one_if (is_err result)) (failures self.old) (failures self.new) };
+}
+
+/// A sink of bytes.
+pub trait LineOut {
+    /// The bytes that it took, where it tells.
+    ghost written: { Self → Option (List ℕ) };
+
+    /// How many writes failed, modulo 2^64.
+    ghost failures: { Self → ℕ };
+
+    /// Takes a front of the piece, and answers how many bytes: at least one of a piece that isn't
+    /// empty.
+    fn write(&mut self, piece: &[u8]) -> Result<usize, DeviceFault>
+        ensures bound { IfOk result (λ n. n ≤ length piece.now) }
+        ensures some { IfOk result (λ n. 0 < length piece.now → 0 < n) }
+        ensures bytes { WriteAppends (written self.old) (written self.new) result piece.now }
+        ensures failed { RoseBy (one_if (is_err result)) (failures self.old) (failures self.new) };
+}

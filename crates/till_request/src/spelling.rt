@@ -1,0 +1,68 @@
+//! Acts written as lines.
+ghost use Rattle.std.specs.Prelude.{◌≡◌, IfOk, string_bytes};
+ghost use Rattle.till_request.specs.Spelling.{ReadsBack, spelling, event_words, spelled_words};
+
+use crate::act::{Act, Request};
+use fuelling_point::DispenserEvent;
+use std::alloc::{AllocError, Global};
+use std::fmt;
+
+/// Each act is read from its spelling, whatever the numbers and the bytes.
+pub fn spelling_is_read()
+    ensures { ReadsBack }
+{}
+
+impl fmt::Display for Request {
+    ghost use Rattle.std.specs.Prelude.{Some};
+    ghost use Rattle.till_request.specs.Spelling.{request_text};
+
+    ghost output = { λ r. Some (request_text r) };
+
+    fn fmt<W: fmt::Write>(&self, f: &mut fmt::Formatter<W>) -> fmt::Result {
+        match self {
+            Request::Release(point, amount) => write!(f, "release {point} {amount}"),
+            Request::Preset(point, amount) => write!(f, "preset {point} {amount}"),
+            Request::Price(product, price) => write!(f, "price {product} {price}"),
+            Request::OpenPoint(point) => write!(f, "open {point}"),
+            Request::ClosePoint(point) => write!(f, "close {point}"),
+            Request::Show(point) => write!(f, "show {point}"),
+            Request::Suspend(point) => write!(f, "suspend {point}"),
+            Request::Resume(point) => write!(f, "resume {point}"),
+            Request::Stop(point) => write!(f, "stop {point}"),
+            Request::Lock(point, number) => write!(f, "lock {point} {number}"),
+            Request::Unlock(point, number) => write!(f, "unlock {point} {number}"),
+            Request::Clear(point, number) => write!(f, "clear {point} {number}"),
+        }
+    }
+}
+
+/// The line of a dispenser's event, without its LF.
+fn spell_event(alloc: Global, point: u32, event: DispenserEvent) -> Result<String, AllocError>
+    ensures { IfOk result (λ text. string_bytes text ≡ spelling (Act.Dispenser point event)) }
+{
+    match event {
+        DispenserEvent::Up(nozzle) => format!(in alloc; "disp {point} up {nozzle}"),
+        DispenserEvent::Down => format!(in alloc; "disp {point} down"),
+        DispenserEvent::Started => format!(in alloc; "disp {point} started"),
+        DispenserEvent::Flowed(amount, volume) => {
+            format!(in alloc; "disp {point} flow {amount} {volume}")
+        }
+        DispenserEvent::Fault => format!(in alloc; "disp {point} fault"),
+        DispenserEvent::Repaired => format!(in alloc; "disp {point} repaired"),
+        DispenserEvent::TakeOrder => format!(in alloc; "disp {point} order"),
+    }
+}
+
+/// The one spelling of an act: its line, without the LF.
+pub fn spell_act(alloc: Global, act: &Act) -> Result<String, AllocError>
+    ensures { IfOk result (λ text. string_bytes text ≡ spelling act.now) }
+{
+    match act {
+        Act::Till { till, request } => format!(in alloc; "till {till} {request}"),
+        Act::Dispenser { point, event } => spell_event(alloc, *point, *event),
+        Act::Load { slot, mask, bytes } => {
+            let hex = hex::encode(alloc, bytes.as_slice())?;
+            format!(in alloc; "load {slot} {mask} {hex}")
+        }
+    }
+}

@@ -1,0 +1,58 @@
+//! Answers written out.
+ghost use Rattle.std.specs.Prelude.{◌≡◌, ◌++◌, ℕ, take, OnOk, IfOk, IfErr, Err, is_err, string_bytes};
+ghost use Rattle.std.specs.Io.KnownBytes.{Appends};
+ghost use Rattle.till_request.specs.Count.{RoseBy, one_if};
+ghost use Rattle.till_request.specs.Write.{is_write_fault};
+ghost use Rattle.till_request.specs.Answer.{answer_line};
+
+use crate::act::Answer;
+use crate::device::{DeviceFault, LineOut};
+use std::alloc::{AllocError, Global};
+
+/// Why an answer was not written.
+#[derive(Clone, Copy, Debug, PartialEq, Eq, Drop)]
+pub enum WriteFault {
+    /// N2: the device failed.
+    Write,
+    OutOfMemory,
+}
+
+/// Writes all the bytes, or a front of them where the device fails.
+pub fn write_all<O: LineOut>(output: &mut O, bytes: &[u8]) -> Result<(), DeviceFault>
+    ensures ok { OnOk result (Appends (O.written output.old) (O.written output.new) bytes.now) }
+    ensures err { IfErr result (λ _. (k : ℕ) × Appends (O.written output.old) (O.written output.new) (take k bytes.now)) }
+    ensures failed { RoseBy (one_if (is_err result)) (O.failures output.old) (O.failures output.new) }
+{
+    let mut at = 0;
+    while at < bytes.len() {
+        at += output.write(&bytes[at..])?;
+    }
+    Ok(())
+}
+
+/// The line of an answer.
+fn line_of(alloc: Global, answer: &Answer) -> Result<String, AllocError>
+    ensures { IfOk result (λ line. string_bytes line ≡ answer_line answer.now) }
+{
+    format!(in alloc; "{answer}\n")
+}
+
+/// Writes an answer with its LF, or a front of that: nothing where memory was refused.
+pub fn write_answer<O: LineOut>(
+    alloc: Global,
+    output: &mut O,
+    answer: &Answer,
+) -> Result<(), WriteFault>
+    ensures ok { OnOk result (Appends (O.written output.old) (O.written output.new) (answer_line answer.now)) }
+    ensures err { IfErr result (λ _. (k : ℕ) × Appends (O.written output.old) (O.written output.new) (take k (answer_line answer.now))) }
+    ensures refused { result ≡ Err WriteFault.OutOfMemory → output.new ≡ output.old }
+    ensures failed { RoseBy (one_if (is_write_fault result)) (O.failures output.old) (O.failures output.new) }
+{
+    let Ok(line) = line_of(alloc, answer) else {
+        return Err(WriteFault::OutOfMemory);
+    };
+    match write_all(output, line.as_bytes()) {
+        Ok(()) => Ok(()),
+        Err(DeviceFault) => Err(WriteFault::Write),
+    }
+}
