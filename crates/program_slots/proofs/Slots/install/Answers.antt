@@ -1,0 +1,20 @@
+use Rattle.std.proofs.Common.{rules, ◌≡◌, ◌≢◌, ℕ, ◌+◌, ◌<◌, length, map, List, [], ◌∷◌, ◌++◌, arith, ap, ◌∙◌, sym}
+use Rattle.std.specs.Arc.{arc_value}
+use Rattle.std.specs.Prelude.{All}
+use Rattle.std.proofs.lemmas.List.{map-append, length-map}
+use Rattle.std.proofs.lemmas.Grind.{common_steps}
+use Rattle.bpf_model.specs.Program.{ProgramText}
+use Rattle.program_slots.specs.Promises.{Installs}
+use Rattle.program_slots.specs.Views.{IsVersion}
+use Rattle.program_slots.proofs.Installs.{installs}
+use Rattle.program_slots.proofs.Slots.install.Goals as goal
+
+pub returns-clause-step : goal.returns-clause-step
+returns-clause-step c =
+    let old = c.self.inside.programs.items in
+    let pushed : c.push.new.self.items ≡ old ++ c.args.program ∷ [] = grind (arith, common_steps) in
+    let programs : map (λ x. arc_value x) c.push.new.self.items ≡ map (λ x. arc_value x) old ++ arc_value c.args.program ∷ [] = rw pushed (map-append (λ x. arc_value x) old (c.args.program ∷ [])) in
+    let count : length (map (λ x. arc_value x) old) ≡ length old = length-map old (λ x. arc_value x) in
+    let number : c.len-number.result ≡ length (map (λ x. arc_value x) old) + 1 = rw count (grind (arith, common_steps)) in
+    let at : c.args.slot < length c.self.inside.installed = grind (arith, common_steps) in
+    rw (← c.self.view_is, programs) (installs c.self.inside.installed (map (λ x. arc_value x) old) c.args.slot (arc_value c.args.program) c.len-number.result number at (rw count c.self.invariant.named))

@@ -1,0 +1,4 @@
+pub mod Value
+pub mod Slots
+pub mod Promises
+pub mod Views

@@ -1,0 +1,22 @@
+-- Promises: what a new version changes, and when each refusal comes.
+use Rattle.std.specs.Prelude.{◌≡◌, ◌≢◌, ℕ, ◌+◌, ◌<◌, ◌≤◌, [], ◌∷◌, ◌++◌, length, slice_set, Some, Result, Ok, Err}
+use Rattle.bpf_model.specs.Program.{ProgramText}
+use Rattle.program_slots.specs.Value.{SlotsValue}
+use Rattle.program_slots.specs.Slots.{version_in}
+use Rattle.program_slots.specs.declared.SlotFault.{SlotFault}
+use Rattle.program_slots.specs.declared.SlotFault.TheVariants.{NoSuchSlot, VersionsFull, OutOfMemory}
+
+-- A new version has the next number; its slot names it, and each other slot keeps its version.
+pub record Installs (old : SlotsValue) (slot : ℕ) (program : ProgramText) (number : ℕ) (new : SlotsValue) : Type 0 where
+  pub number_is : number ≡ length old.programs + 1
+  pub programs_are : new.programs ≡ old.programs ++ program ∷ []
+  pub installed_is : new.installed ≡ slice_set old.installed slot (Some number)
+  pub in_slot : version_in new slot ≡ Some (record { number = number; program = program })
+  pub elsewhere : (other : ℕ) → other ≢ slot → version_in new other ≡ version_in old other
+
+-- when each answer comes: a slot over 15 is told first; want of memory may stand for a version
+abbrev pub Refuses : SlotsValue → ℕ → Result ℕ SlotFault → Type 0
+Refuses old slot (Ok number) = (slot < 16) × (length old.programs < 4096)
+Refuses old slot (Err NoSuchSlot) = 16 ≤ slot
+Refuses old slot (Err VersionsFull) = (slot < 16) × (4096 ≤ length old.programs)
+Refuses old slot (Err OutOfMemory) = (slot < 16) × (length old.programs < 4096)

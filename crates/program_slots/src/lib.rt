@@ -1,0 +1,106 @@
+//! Slots for programs: each load makes a new version, which is never used again, and a slot names its newest.
+#![tactic(auto)]
+
+ghost use Rattle.std.specs.Prelude.{◌≡◌, ◌≢◌, ℕ, ◌+◌, MatchOption, OnErr, IfOk, Some, None};
+ghost use Rattle.std.specs.Arc.{arc_value};
+ghost use Rattle.program_slots.specs.Slots.{no_versions, number_in, program_of};
+ghost use Rattle.program_slots.specs.Promises.{Installs, Refuses};
+
+use reg_types::Program;
+use std::alloc::Global;
+use std::marker::Model;
+use std::sync::Arc;
+
+#[cfg(test)]
+mod tests;
+
+/// How many versions there can be, over all slots.
+pub const VERSIONS: usize = 4096;
+
+/// How many slots there are.
+pub const SLOTS: u32 = 16;
+
+/// Why a program wasn't installed.
+#[derive(Clone, Copy, Debug, PartialEq, Eq, Drop)]
+pub enum SlotFault {
+    /// S32: slots are 0 to 15.
+    NoSuchSlot,
+    /// S30: there are 4,096 versions.
+    VersionsFull,
+    OutOfMemory,
+}
+
+/// 16 slots, and the programs of all versions that were ever installed.
+#[derive(Drop)]
+pub struct Slots {
+    installed: [Option<u32>; 16],
+    programs: Vec<Arc<Program>>,
+}
+
+impl Model for Slots {
+    ghost use Rattle.program_slots.specs.Value.{SlotsValue};
+
+    ghost Value = { SlotsValue };
+
+    ghost use Rattle.program_slots.specs.Views.{slots_view, AreSlots};
+
+    ghost view = { slots_view };
+
+    ghost invariant = { AreSlots };
+}
+
+impl Slots {
+    /// No version, and 16 empty slots. Takes no memory.
+    pub fn new(alloc: Global) -> Self
+        ensures { result ≡ no_versions }
+    {
+        Slots {
+            installed: [None; 16],
+            programs: Vec::new(alloc),
+        }
+    }
+
+    /// Makes a version of the program and names it in the slot. Versions are numbered from 1; every other slot keeps its own.
+    ///
+    /// `NoSuchSlot` for a slot over 15, else `VersionsFull` where there are 4,096 versions, else `OutOfMemory` where a growth was
+    /// refused. After a refusal all is as before; the program is given up.
+    pub fn install(&mut self, slot: u32, program: Arc<Program>) -> Result<u32, SlotFault>
+        ensures step { IfOk result (λ number. Installs self.old slot (arc_value program) number self.new) }
+        ensures refusal { Refuses self.old slot result }
+        ensures unchanged { OnErr result (self.new ≡ self.old) }
+    {
+        if slot >= SLOTS {
+            return Err(SlotFault::NoSuchSlot);
+        }
+        if self.programs.len() >= VERSIONS {
+            return Err(SlotFault::VersionsFull);
+        }
+        if self.programs.push(program).is_err() {
+            return Err(SlotFault::OutOfMemory);
+        }
+        let number = self.programs.len() as u32;
+        self.installed[slot as usize] = Some(number);
+        Ok(number)
+    }
+
+    /// The number of the slot's version, or none for an empty slot and for a slot over 15.
+    pub fn installed(&self, slot: u32) -> Option<u32>
+        ensures { result ≡ number_in self.now slot }
+    {
+        if slot < SLOTS {
+            self.installed[slot as usize]
+        } else {
+            None
+        }
+    }
+
+    /// The program of a version, or none where there is no version of this number.
+    pub fn version(&self, number: u32) -> Option<&Arc<Program>>
+        ensures { MatchOption result (program_of self.now number ≡ None) (λ program. program_of self.now number ≡ Some (arc_value program.now)) }
+    {
+        if number == 0 {
+            return None;
+        }
+        self.programs.get(number as usize - 1)
+    }
+}

@@ -1,0 +1,158 @@
+-- Each release of a legal history is lawful.
+use Rattle.std.proofs.Common.{◌≡◌, ℕ, ◌<◌, Bool, true, false, List, [], ◌∷◌, length, Option, Some, None, Result, Ok, Err, refl, ap, ◌∙◌, sym}
+use Rattle.std.proofs.lemmas.Bool.{ltb-true, eqb-false}
+use Rattle.std.specs.Prelude.{IsTrue, if◌then◌else◌, ◌==◌, nat_lt}
+use Rattle.fuelling_point.specs.Table.{PointState}
+use Rattle.fuelling_point.specs.States.{is_ready}
+use Rattle.decision_journal.specs.declared.entries.Entry.{Entry}
+use Rattle.till_request.specs.declared.act.Request.TheVariants as request
+use Rattle.till_request.specs.declared.act.Act.{Act}
+use Rattle.till_request.specs.declared.act.Act.TheVariants as act
+use Rattle.till_request.specs.declared.act.Reply.{Reply}
+use Rattle.till_request.specs.declared.act.Reply.TheVariants as reply
+use Rattle.bpf_model.specs.Machine.{Counters}
+use Rattle.bpf_model.specs.Runs.{Outcome, Ended, Halted, Running}
+use Rattle.bpf_model.specs.Program.{outcome}
+use Rattle.program_slots.specs.Slots.{Version}
+use Rattle.site_core.specs.declared.question.Kind.TheVariants as kind
+use Rattle.site_core.specs.declared.question.Question.{Question}
+use Rattle.site_core.specs.Limits.{ConfigValue}
+use Rattle.site_core.specs.State.{SiteState, at_number, view_of}
+use Rattle.site_core.specs.Context.{context}
+use Rattle.site_core.specs.History.{in_force}
+use Rattle.site_core.specs.Decide.{Effect, replied, no_such_point, no_such_till, denied, is_till, bad_amount, transactions_full, wrong_state, no_program, is_within, need, slots_of, release_question, decided, verdict, ran, grant, granted_point}
+use Rattle.site_core.specs.Step.{effect}
+use Rattle.site_core.specs.Legal.{Legal, LawfulRelease, LawfulEntry, LawfulReleases}
+use Rattle.site_core.proofs.Points.{release-none, release-some}
+use Rattle.site_core.proofs.Decisions.{decided-refused, decided-none, decided-some}
+
+-- a history leaves one state
+pub legal-unique : (config : ConfigValue) (h : List Entry) (s t : SiteState) → Legal config h s → Legal config h t → s ≡ t
+legal-unique config [] s t l m = l ∙ sym m
+legal-unique config (e ∷ past) s t l m =
+    l.3.leaves ∙ ap (λ b. (effect config past b e.moment e.act).after) (legal-unique config past l.0 m.0 l.1 m.1) ∙ sym m.3.leaves
+
+-- a release that was granted was asked of a ready point with room
+pub record Asks (config : ConfigValue) (s : SiteState) (n amount : ℕ) (q : Question) : Type 0 where
+  pub point : PointState
+  pub is_point : at_number s.points n ≡ Some point
+  pub question : q ≡ record { kind = kind.Release; point = n; product = 0; asked = amount; slot = (slots_of config n).0 }
+  pub ready : IsTrue (is_ready point.state)
+  pub room : length point.unpaid < 2
+
+abbrev Asked : Type 0
+Asked = Result Question Reply
+
+ok-same : (p q : Question) → ◌≡◌ {A = Asked} (Ok p) (Ok q) → q ≡ p
+ok-same p q h = cc
+
+err-ok : (r : Reply) (q : Question) → ◌≡◌ {A = Asked} (Err r) (Ok q) → ⊥
+err-ok r q h = cc
+
+three-ok : (a b c : Bool) (x y z : Reply) (p q : Question) → need a x (need b y (need c z (Ok p))) ≡ Ok q → (a ≡ true) × (b ≡ true) × (c ≡ true) × (q ≡ p)
+three-ok true true true x y z p q h = (refl, refl, refl, ok-same p q h)
+three-ok true true false x y z p q h = absurd (err-ok z q h)
+three-ok true false c x y z p q h = absurd (err-ok y q h)
+three-ok false b c x y z p q h = absurd (err-ok x q h)
+
+asks : (config : ConfigValue) (s : SiteState) (n amount : ℕ) (q : Question) (o : Option PointState) → at_number s.points n ≡ o → release_question config s n amount ≡ Ok q → Asks config s n amount q
+asks config s n amount q None at h = absurd (err-ok no_such_point q (sym (release-none config s n amount at) ∙ h))
+asks config s n amount q (Some p) at h =
+    let asked : Question = record { kind = kind.Release; point = n; product = 0; asked = amount; slot = (slots_of config n).0 } in
+    let all = three-ok (is_within 1 amount 999999999) (is_ready p.state) (nat_lt (length p.unpaid) 2) bad_amount (wrong_state p.state) transactions_full asked q (sym (release-some config s n amount p at) ∙ h) in
+    record { point = p; is_point = at; question = all.3; ready = all.1; room = ltb-true (length p.unpaid) 2 all.2 }
+
+-- is a grant
+abbrev is_grant : Reply → Bool
+is_grant (reply.Granted g v) = true
+is_grant _ = false
+
+abbrev refuses : Result Question Reply → Bool
+refuses (Ok q) = false
+refuses (Err r) = is_grant r
+
+three-no : (a b c : Bool) (x y z : Reply) (p : Question) → is_grant x ≡ false → is_grant y ≡ false → is_grant z ≡ false → refuses (need a x (need b y (need c z (Ok p)))) ≡ false
+three-no true true true x y z p hx hy hz = refl
+three-no true true false x y z p hx hy hz = hz
+three-no true false c x y z p hx hy hz = hy
+three-no false b c x y z p hx hy hz = hx
+
+release-no : (config : ConfigValue) (s : SiteState) (n amount : ℕ) (o : Option PointState) → at_number s.points n ≡ o → refuses (release_question config s n amount) ≡ false
+release-no config s n amount None at = ap refuses (release-none config s n amount at)
+release-no config s n amount (Some p) at =
+    let asked : Question = record { kind = kind.Release; point = n; product = 0; asked = amount; slot = (slots_of config n).0 } in
+    ap refuses (release-some config s n amount p at) ∙ three-no (is_within 1 amount 999999999) (is_ready p.state) (nat_lt (length p.unpaid) 2) bad_amount (wrong_state p.state) transactions_full asked refl refl refl
+
+-- a grant comes of an answer that isn't 0
+verdict-denied : (s : SiteState) (till moment : ℕ) (q : Question) (v : Version) (r : ℕ) (c : Counters) → (r == 0) ≡ true → (verdict s till moment q v r c).reply ≡ denied v.number
+unfolding verdict
+verdict-denied s till moment q v r c zero = rw (zero, verdict)
+
+verdict-granted : (s : SiteState) (till moment : ℕ) (q : Question) (v : Version) (r : ℕ) (c : Counters) → (r == 0) ≡ false → (verdict s till moment q v r c).reply ≡ reply.Granted (grant (record s { counters = c }) till q r).0 v.number
+unfolding verdict
+verdict-granted s till moment q v r c some = rw (some, verdict)
+
+-- the point's grant
+grant-release : (s : SiteState) (till n amount r slot : ℕ) (p : PointState) → at_number s.points n ≡ Some p → (grant s till (record { kind = kind.Release; point = n; product = 0; asked = amount; slot = slot }) r).0 ≡ granted_point kind.Release amount r p.preset
+unfolding grant
+grant-release s till n amount r slot p at = rw (at, grant)
+
+by-answer : (config : ConfigValue) (past : List Entry) (s : SiteState) (till moment n amount g v r : ℕ) (q : Question) (w : Version) (c : Counters) (zero : Bool) → (r == 0) ≡ zero → Asks config s n amount q → in_force q.slot past ≡ Some w → outcome w.program (context s till moment q) (view_of s) s.counters ≡ Ended r c → reply.Granted g v ≡ (verdict s till moment q w r c).reply → LawfulRelease config past s till moment n amount g v
+by-answer config past s till moment n amount g v r q w c true zero a some exit h = absurd (let e = h ∙ verdict-denied s till moment q w r c zero in cc)
+by-answer config past s till moment n amount g v r q w c false zero a some exit h =
+    let e : reply.Granted g v ≡ reply.Granted (grant (record s { counters = c }) till q r).0 w.number = h ∙ verdict-granted s till moment q w r c zero in
+    let number : w.number ≡ v = cc in
+    let given : g ≡ (grant (record s { counters = c }) till q r).0 = cc in
+    let slot : q.slot ≡ (slots_of config n).0 = ap (λ (x : Question). x.slot) a.question in
+    record {
+      point = a.point;
+      is_point = a.is_point;
+      version = w;
+      in_force = sym (ap (λ x. in_force x past) slot) ∙ some;
+      number = number;
+      r = r;
+      counters = c;
+      exits = sym (ap (λ x. outcome w.program (context s till moment x) (view_of s) s.counters) a.question) ∙ exit;
+      allowed = eqb-false r 0 zero;
+      ready = a.ready;
+      room = a.room;
+      grant = given ∙ ap (λ x. (grant (record s { counters = c }) till x r).0) a.question ∙ grant-release (record s { counters = c }) till n amount r (slots_of config n).0 a.point a.is_point;
+    }
+
+by-outcome : (config : ConfigValue) (past : List Entry) (s : SiteState) (till moment n amount g v : ℕ) (q : Question) (w : Version) (o : Outcome) → Asks config s n amount q → in_force q.slot past ≡ Some w → outcome w.program (context s till moment q) (view_of s) s.counters ≡ o → reply.Granted g v ≡ (verdict s till moment q w (ran o s.counters).0 (ran o s.counters).1).reply → LawfulRelease config past s till moment n amount g v
+by-outcome config past s till moment n amount g v q w (Ended r c) a some is h = by-answer config past s till moment n amount g v r q w c (r == 0) refl a some is h
+by-outcome config past s till moment n amount g v q w Halted a some is h = absurd (let e = h ∙ verdict-denied s till moment q w 0 s.counters refl in cc)
+by-outcome config past s till moment n amount g v q w (Running t) a some is h = absurd (let e = h ∙ verdict-denied s till moment q w 0 s.counters refl in cc)
+
+by-version : (config : ConfigValue) (past : List Entry) (s : SiteState) (till moment n amount g v : ℕ) (q : Question) (o : Option Version) → Asks config s n amount q → in_force q.slot past ≡ o → reply.Granted g v ≡ (decided past s till moment (Ok q)).reply → LawfulRelease config past s till moment n amount g v
+by-version config past s till moment n amount g v q None a none h =
+    absurd (let e : reply.Granted g v ≡ no_program q.slot = h ∙ ap (λ (x : Effect). x.reply) (decided-none past s till moment q none) in cc)
+by-version config past s till moment n amount g v q (Some w) a some h =
+    by-outcome config past s till moment n amount g v q w (outcome w.program (context s till moment q) (view_of s) s.counters) a some refl
+    (h ∙ ap (λ (x : Effect). x.reply) (decided-some past s till moment q w some))
+
+by-question : (config : ConfigValue) (past : List Entry) (s : SiteState) (till moment n amount g v : ℕ) (x : Result Question Reply) → release_question config s n amount ≡ x → reply.Granted g v ≡ (decided past s till moment x).reply → LawfulRelease config past s till moment n amount g v
+by-question config past s till moment n amount g v (Ok q) is h = by-version config past s till moment n amount g v q (in_force q.slot past) (asks config s n amount q (at_number s.points n) refl is) refl h
+by-question config past s till moment n amount g v (Err r) is h =
+    let same : reply.Granted g v ≡ r = h ∙ ap (λ (x : Effect). x.reply) (decided-refused past s till moment r) in
+    let no : is_grant r ≡ false = sym (ap refuses is) ∙ release-no config s n amount (at_number s.points n) refl in
+    let yes : true ≡ is_grant r = ap is_grant same in
+    absurd (let e : true ≡ false = yes ∙ no in cc)
+
+by-till : (config : ConfigValue) (past : List Entry) (s : SiteState) (till moment n amount g v : ℕ) (b : Bool) → reply.Granted g v ≡ (if b then decided past s till moment (release_question config s n amount) else replied no_such_till s).reply → LawfulRelease config past s till moment n amount g v
+by-till config past s till moment n amount g v true h = by-question config past s till moment n amount g v (release_question config s n amount) refl h
+by-till config past s till moment n amount g v false h = absurd (let e : reply.Granted g v ≡ no_such_till = h in cc)
+
+lawful-entry : (config : ConfigValue) (past : List Entry) (s : SiteState) (moment : ℕ) (act : Act) (r : Reply) → r ≡ (effect config past s moment act).reply → LawfulEntry config past s moment act r
+lawful-entry config past s moment (act.Till till (request.Release n amount)) (reply.Granted g v) h = by-till config past s till moment n amount g v (is_till config till) h
+lawful-entry config past s moment _ _ h = tt
+
+pub lawful : (config : ConfigValue) (h : List Entry) (s : SiteState) → Legal config h s → LawfulReleases config h
+lawful config [] s legal = tt
+lawful config (e ∷ past) s legal = (
+  λ before l.
+      let same = legal-unique config past before legal.0 l legal.1 in
+      let reply : e.reply ≡ (effect config past before e.moment e.act).reply = ap (λ (x : Entry). x.reply) legal.3.enters ∙ ap (λ b. (effect config past b e.moment e.act).reply) (sym same) in
+      lawful-entry config past before e.moment e.act e.reply reply,
+  lawful config past legal.0 legal.1,
+)

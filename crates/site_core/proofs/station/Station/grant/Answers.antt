@@ -1,0 +1,39 @@
+use Rattle.std.proofs.Common.{◌≡◌, ℕ, ◌-◌, ◌≤◌, length, arith, ap, ◌∙◌, sym, None, slice_set}
+use Rattle.std.proofs.lemmas.Grind.{common_steps}
+use Rattle.fuelling_point.specs.Table.{PointState, command_step}
+use Rattle.fuelling_point.specs.Promises.{Answers}
+use Rattle.site_core.specs.State.{SiteState, at_number}
+use Rattle.site_core.specs.Bounds.{Bounded}
+use Rattle.site_core.specs.Decide.{command_of, granted_point}
+use Rattle.site_core.proofs.Grants.{grant-none, grant-is, bounded-with}
+use Rattle.site_core.proofs.station.Station.grant.Goals as goal
+
+pub returns-then-not-has_point-clause-grant : goal.returns-then-not-has_point-clause-grant
+returns-then-not-has_point-clause-grant c =
+    let none : at_number c.args.self.now.points c.args.question.now.point ≡ None = grind (arith, common_steps) in
+    let q = c.args.question.now in
+    let back : c.args.self.now ≡ record { points = c.self.inside.points.items; prices = c.self.inside.prices; counters = c.self.inside.counters; cleared = c.self.inside.cleared } = sym c.self.view_is in
+    let whole = grant-none c.args.self.now c.args.till c.args.r0 q none in
+    let put : SiteState → ℕ × SiteState = λ s. (q.asked, record s { prices = slice_set s.prices (q.product - 1) q.asked }) in
+    whole ∙ ap put back
+
+pub returns-clause-grant : goal.returns-clause-grant
+returns-clause-grant c =
+    let old : SiteState = record { points = c.self.inside.points.items; prices = c.self.inside.prices; counters = c.self.inside.counters; cleared = c.self.inside.cleared } in
+    let q = c.args.question.now in
+    let p : PointState = c.index_mut-point.result.now in
+    let one : 1 ≤ q.point = grind (arith, common_steps) in
+    let le : q.point ≤ length old.points = grind (arith, common_steps) in
+    let given : c.granted_point-granted.result ≡ granted_point q.kind q.asked c.args.r0 p.preset = rw c.preset.ensures at c.granted_point-granted.ensures in
+    let asked : c.command_of.result ≡ command_of q.kind (granted_point q.kind q.asked c.args.r0 p.preset) = rw given at c.command_of.ensures in
+    let answers : Answers (command_step p c.args.till (command_of q.kind (granted_point q.kind q.asked c.args.r0 p.preset))) p c.on_command.result c.on_command.new.self = rw asked at c.on_command.ensures.answer in
+    rw (← c.self.view_is, given) (grant-is old c.args.till c.args.r0 q p c.on_command.new.self c.on_command.result one le c.index_mut-point.ensures.value answers)
+
+pub returns-clause-bounded : goal.returns-clause-bounded
+returns-clause-bounded c = λ k b.
+    let old : SiteState = record { points = c.self.inside.points.items; prices = c.self.inside.prices; counters = c.self.inside.counters; cleared = c.self.inside.cleared } in
+    let q = c.args.question.now in
+    let one : 1 ≤ q.point = grind (arith, common_steps) in
+    let le : q.point ≤ length old.points = grind (arith, common_steps) in
+    let bound : Bounded k old = rw (← c.self.view_is) at b in
+    bounded-with k old q.point c.index_mut-point.result.now c.on_command.new.self bound le one c.index_mut-point.ensures.value c.on_command.ensures.last

@@ -1,0 +1,29 @@
+-- Definitions: looking back through a history. In these definitions a history stands with its newest entry first.
+use Rattle.std.specs.Prelude.{ℕ, ◌+◌, List, [], ◌∷◌, Option, Some, None, ◌==◌, if◌then◌else◌}
+use Rattle.decision_journal.specs.declared.entries.Entry.{Entry}
+use Rattle.till_request.specs.declared.act.Act.{Act}
+use Rattle.till_request.specs.declared.act.Act.TheVariants as act
+use Rattle.till_request.specs.declared.act.Reply.{Reply}
+use Rattle.till_request.specs.declared.act.Reply.TheVariants as reply
+use Rattle.bpf_model.specs.Program.{ProgramText}
+use Rattle.program_slots.specs.Slots.{Version}
+
+-- A load that was answered with a version: its slot and its program.
+abbrev pub loaded : Act → Reply → Option (ℕ × ProgramText)
+loaded (act.Load slot mask bytes) (reply.Version v) = Some (slot, record { bytes = bytes; declared = mask })
+loaded _ _ = None
+
+-- how many such loads there are
+abbrev pub versions : List Entry → ℕ
+versions [] = 0
+versions (entry ∷ earlier) =
+    elim (loaded entry.act entry.reply) [ Some _ ↦ versions earlier + 1 | None ↦ versions earlier ]
+
+-- the last load into the slot that was answered with a version; its number is that of the loads so answered, up to and with it
+abbrev pub in_force : ℕ → List Entry → Option Version
+in_force slot [] = None
+in_force slot (entry ∷ earlier) =
+    elim (loaded entry.act entry.reply) [
+      | Some l ↦ if l.0 == slot then Some (record { number = versions earlier + 1; program = l.1 }) else in_force slot earlier
+      | None ↦ in_force slot earlier
+    ]

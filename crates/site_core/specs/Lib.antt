@@ -1,0 +1,11 @@
+pub mod Limits
+pub mod State
+pub mod Context
+pub mod History
+pub mod Decide
+pub mod Step
+pub mod Legal
+pub mod Bounds
+pub mod Keeping
+pub mod Site
+pub mod Audit

@@ -1,0 +1,21 @@
+-- Definitions: a site's configuration, and its limits (this profile).
+use Rattle.std.specs.Prelude.{ℕ, ◌≤◌, List, length, All}
+
+-- A point's pair is the slot of its releases and that of its presets; a counter's pair is its value and its bound.
+pub record ConfigValue : Type 0 where
+  pub tills : ℕ
+  pub price_slot : ℕ
+  pub prices : List ℕ
+  pub points : List (ℕ × ℕ)
+  pub counters : List (ℕ × ℕ)
+
+-- all is in its range: 1 to 64 tills, 1 to 32 points, slots 0 to 15, prices in thousandths up to 9,999,999, values at most their bounds
+pub record IsConfig (c : ConfigValue) : Type 0 where
+  pub some_till : 1 ≤ c.tills
+  pub tills : c.tills ≤ 64
+  pub price_slot : c.price_slot ≤ 15
+  pub prices : All (λ price. price ≤ 9999999) c.prices
+  pub some_point : 1 ≤ length c.points
+  pub points : length c.points ≤ 32
+  pub slots : All (λ p. (p.0 ≤ 15) × (p.1 ≤ 15)) c.points
+  pub counters : All (λ p. p.0 ≤ p.1) c.counters

@@ -1,0 +1,51 @@
+-- Definitions: what a site is between two events, and what a program is shown of it.
+use Rattle.std.specs.Prelude.{ℕ, ◌-◌, List, ◌++◌, length, map, replicate, find, count_by, Option, None, option_map, Some, slice_get, slice_set, slice_index, nat_lt, nat_le, if◌then◌else◌}
+use Rattle.fuelling_point.specs.Table.{PointState, fresh_point}
+use Rattle.fuelling_point.specs.declared.kinds.State.{State}
+use Rattle.fuelling_point.specs.States.{is_busy, state_number}
+use Rattle.bpf_model.specs.declared.machine.PointView.{PointView}
+use Rattle.bpf_model.specs.declared.machine.View.{View}
+use Rattle.bpf_model.specs.Machine.{Counters, counter, no_point}
+use Rattle.site_core.specs.Limits.{ConfigValue}
+
+-- Points and products are numbered from 1, counters from 0. Prices are in thousandths, the cleared total is in cents.
+pub record SiteState : Type 0 where
+  pub points : List PointState
+  pub prices : List ℕ
+  pub counters : Counters
+  pub cleared : ℕ
+
+-- the state that a configuration names: each point closed, its prices and counters, and nothing cleared
+abbrev pub opening_state : ConfigValue → SiteState
+opening_state config = record { points = map (λ _. fresh_point) config.points; prices = config.prices; counters = config.counters; cleared = 0 }
+
+-- what stands at a number counted from 1
+abbrev pub at_number : {T : Type 0} → List T → ℕ → Option T
+at_number items n = if nat_le 1 n then slice_get items (n - 1) else None
+
+abbrev pub with_point : SiteState → ℕ → PointState → SiteState
+with_point s n point = record s { points = slice_set s.points (n - 1) point }
+
+-- a product's price, or 0 for none
+abbrev pub price_of : SiteState → ℕ → ℕ
+price_of s product = if nat_le 1 product then slice_index s.prices (product - 1) else 0
+
+-- how many points are in states 5 to 9
+unfoldable pub busy_points : SiteState → ℕ
+busy_points s = count_by (λ (p : PointState). is_busy p.state) s.points
+
+-- the state of the first such point
+unfoldable pub first_busy : SiteState → Option State
+first_busy s = option_map (λ (p : PointState). p.state) (find (λ (p : PointState). is_busy p.state) s.points)
+
+-- a counter's value and bound, for counters 0 to 31
+abbrev pub counter_of : SiteState → ℕ → Option (ℕ × ℕ)
+counter_of s c = if nat_lt c 32 then Some (counter s.counters c) else None
+
+-- what a program sees of a point
+abbrev pub seen : PointState → PointView
+seen p = record { state = state_number p.state; nozzle = p.nozzle; amount = p.amount }
+
+-- what a program can ask of the site: its points, zeros in the places of those that it hasn't, and its prices
+unfoldable pub view_of : SiteState → View
+view_of s = record { count = length s.points; points = map seen s.points ++ replicate (32 - length s.points) no_point; prices = s.prices }

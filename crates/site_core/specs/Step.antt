@@ -1,0 +1,106 @@
+-- Definitions: what each event does at a site (this profile). In these definitions a history stands with its newest entry first.
+use Rattle.std.specs.Prelude.{◌≡◌, ℕ, ◌+◌, nat_lt, nat_le, if◌then◌else◌, List, length, Option, Some, None, unwrap_or, Result, Ok, Err}
+use Rattle.fuelling_point.specs.Table.{PointState, Answer, command_step, event_step}
+use Rattle.fuelling_point.specs.States.{state_number}
+use Rattle.fuelling_point.specs.declared.kinds.Command.{Command}
+use Rattle.fuelling_point.specs.declared.kinds.Command.TheVariants as command
+use Rattle.fuelling_point.specs.declared.kinds.DispenserEvent.{DispenserEvent}
+use Rattle.fuelling_point.specs.declared.kinds.Order.{Order}
+use Rattle.fuelling_point.specs.declared.kinds.PointFault.{PointFault}
+use Rattle.fuelling_point.specs.declared.kinds.PointFault.TheVariants.{WrongState, TransactionsFull, NotYourTransaction, NoSuchTransaction, NoOrder, Unexpected}
+use Rattle.decision_journal.specs.declared.entries.Entry.{Entry}
+use Rattle.till_request.specs.declared.act.Request.{Request}
+use Rattle.till_request.specs.declared.act.Request.TheVariants as request
+use Rattle.till_request.specs.declared.act.Act.{Act}
+use Rattle.till_request.specs.declared.act.Act.TheVariants as act
+use Rattle.till_request.specs.declared.act.Reply.{Reply}
+use Rattle.till_request.specs.declared.act.Reply.TheVariants as reply
+use Rattle.site_core.specs.Limits.{ConfigValue}
+use Rattle.site_core.specs.State.{SiteState, at_number, with_point}
+use Rattle.site_core.specs.History.{versions}
+use Rattle.site_core.specs.Decide.{Effect, replied, refused, wrong_state, no_such_point, no_such_till, is_till, decided, release_question, preset_question, price_question}
+
+-- a point's refusal as a reply
+abbrev pub fault_reply : PointFault → Reply
+fault_reply (WrongState state) = wrong_state state
+fault_reply TransactionsFull = refused 26
+fault_reply NotYourTransaction = refused 27
+fault_reply NoSuchTransaction = refused 28
+fault_reply NoOrder = refused 33
+fault_reply Unexpected = refused 34
+
+-- what a Show tells
+abbrev pub shown : PointState → Reply
+shown p = reply.Point (state_number p.state) p.nozzle p.amount p.volume p.limit p.preset (length p.unpaid)
+
+unfoldable pub show_reply : SiteState → ℕ → Reply
+show_reply s n = elim (at_number s.points n) [ None ↦ no_such_point | Some p ↦ shown p ]
+
+-- what a point answered to a till's command; what a Clear clears joins the total
+abbrev pub command_effect : SiteState → ℕ → Answer (Option ℕ) → Effect
+command_effect s n (Err fault) = replied (fault_reply fault) s
+command_effect s n (Ok (point, cleared)) = replied reply.Done (record (with_point s n point) { cleared = s.cleared + unwrap_or cleared 0 })
+
+-- a till's command that needs no decision
+unfoldable pub commanded : SiteState → ℕ → ℕ → Command → Effect
+commanded s till n command =
+    elim (at_number s.points n) [ None ↦ replied no_such_point s | Some p ↦ command_effect s n (command_step p till command) ]
+
+abbrev pub order_reply : Option Order → Reply
+order_reply None = reply.Done
+order_reply (Some order) = reply.Order order
+
+abbrev pub event_reply : Result (Option Order) PointFault → Reply
+event_reply (Ok order) = order_reply order
+event_reply (Err fault) = fault_reply fault
+
+-- what a point answered to its dispenser
+abbrev pub event_effect : SiteState → ℕ → Answer (Option Order) → Effect
+event_effect s n (Err fault) = replied (fault_reply fault) s
+event_effect s n (Ok (point, order)) = replied (order_reply order) (with_point s n point)
+
+-- what a dispenser reports
+unfoldable pub reported : SiteState → ℕ → DispenserEvent → Effect
+reported s n event =
+    elim (at_number s.points n) [ None ↦ replied no_such_point s | Some p ↦ event_effect s n (event_step p event) ]
+
+-- what a till of the site asks
+abbrev pub asked : ConfigValue → List Entry → SiteState → ℕ → ℕ → Request → Effect
+asked config past s till moment (request.Release n amount) = decided past s till moment (release_question config s n amount)
+asked config past s till moment (request.Preset n amount) = decided past s till moment (preset_question config s n amount)
+asked config past s till moment (request.Price product price) = decided past s till moment (price_question config s product price)
+asked config past s till moment (request.OpenPoint n) = commanded s till n command.OpenPoint
+asked config past s till moment (request.ClosePoint n) = commanded s till n command.ClosePoint
+asked config past s till moment (request.Suspend n) = commanded s till n command.Suspend
+asked config past s till moment (request.Resume n) = commanded s till n command.Resume
+asked config past s till moment (request.Stop n) = commanded s till n command.Stop
+asked config past s till moment (request.Lock n number) = commanded s till n (command.Lock number)
+asked config past s till moment (request.Unlock n number) = commanded s till n (command.Unlock number)
+asked config past s till moment (request.Clear n number) = commanded s till n (command.Clear number)
+asked config past s till moment (request.Show n) = replied (show_reply s n) s
+
+-- NoSuchSlot, VersionsFull, or the next version
+abbrev pub load_reply : ℕ → List Entry → Reply
+load_reply slot past =
+    if nat_le slot 15 then if nat_lt (versions past) 4096 then reply.Version (versions past + 1) else refused 30 else refused 32
+
+-- what an event gives
+abbrev pub effect : ConfigValue → List Entry → SiteState → ℕ → Act → Effect
+effect config past s moment (act.Till till request) =
+    if is_till config till then asked config past s till moment request else replied no_such_till s
+effect config past s moment (act.Dispenser n event) = reported s n event
+effect config past s moment (act.Load slot mask bytes) = replied (load_reply slot past) s
+
+-- the moment that is entered: a till's request has its own, all else has 0
+abbrev pub entered_moment : Act → ℕ → ℕ
+entered_moment (act.Till till request) moment = moment
+entered_moment _ moment = 0
+
+-- the entry of an event
+abbrev pub entry_of : List Entry → ℕ → ℕ → Act → Effect → Entry
+entry_of past pass moment act e = record { number = length past + 1; pass = pass; moment = entered_moment act moment; act = act; reply = e.reply; run = e.run }
+
+-- The site's step: from a configuration, the entries so far and a state, by an event of a pass at a moment, to the next entry and the next state.
+pub record Step (config : ConfigValue) (past : List Entry) (s : SiteState) (pass moment : ℕ) (act : Act) (entry : Entry) (after : SiteState) : Type 0 where
+  pub enters : entry ≡ entry_of past pass moment act (effect config past s moment act)
+  pub leaves : after ≡ (effect config past s moment act).after

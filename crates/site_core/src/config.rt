@@ -1,0 +1,126 @@
+//! The configuration.
+
+ghost use Rattle.std.specs.Prelude.{◌≡◌, ◌↔◌, IfSome, IsTrue, is_some};
+ghost use Rattle.site_core.specs.Limits.{ConfigValue, IsConfig};
+ghost use Rattle.site_core.specs.Decide.{slots_of};
+
+use std::marker::Model;
+
+/// What a site is made from: its number of tills, the slot of price changes, the prices of products 1 to 8 in thousandths, for each
+/// point the slots of its releases and of its presets, and the counters' values and bounds. All of it is in its range.
+#[derive(Drop)]
+pub struct Config {
+    tills: u32,
+    price_slot: u32,
+    prices: [u32; 8],
+    points: Vec<(u32, u32)>,
+    counters: [(u64, u64); 32],
+}
+
+impl Model for Config {
+    ghost use Rattle.site_core.specs.Limits.{ConfigValue, IsConfig};
+
+    ghost Value = { ConfigValue };
+
+    ghost view = { λ c. record { tills = c.tills; price_slot = c.price_slot; prices = c.prices; points = c.points.items; counters = c.counters } };
+
+    ghost invariant = { λ c. IsConfig (record { tills = c.tills; price_slot = c.price_slot; prices = c.prices; points = c.points.items; counters = c.counters }) };
+}
+
+impl Config {
+    /// The configuration, exactly where there are 1 to 64 tills and 1 to 32 points, slots are 0 to 15, prices at most 9,999,999 (0 for
+    /// none), and each counter's value is at most its bound. Takes no memory.
+    pub fn new(
+        tills: u32,
+        price_slot: u32,
+        prices: [u32; 8],
+        points: Vec<(u32, u32)>,
+        counters: [(u64, u64); 32],
+    ) -> Option<Config>
+        ensures value { let value : ConfigValue = record { tills = tills; price_slot = price_slot; prices = prices; points = points.items; counters = counters } in
+            IfSome result (λ config. config ≡ value) }
+        ensures variant { let value : ConfigValue = record { tills = tills; price_slot = price_slot; prices = prices; points = points.items; counters = counters } in
+            IsTrue (is_some result) ↔ IsConfig value }
+    {
+        if tills < 1 || tills > 64 || price_slot > 15 || points.is_empty() || points.len() > 32 {
+            return None;
+        }
+        if !prices.iter().all(|price| *price <= 9_999_999) {
+            return None;
+        }
+        if !points
+            .iter()
+            .all(|(release, preset)| *release <= 15 && *preset <= 15)
+        {
+            return None;
+        }
+        if !counters.iter().all(|(value, bound)| value <= bound) {
+            return None;
+        }
+        Some(Config {
+            tills,
+            price_slot,
+            prices,
+            points,
+            counters,
+        })
+    }
+
+    /// How many tills there are.
+    pub(crate) fn tills(&self) -> u32
+        ensures { result ≡ self.now.tills }
+    {
+        self.tills
+    }
+
+    pub(crate) fn price_slot(&self) -> u32
+        ensures { result ≡ self.now.price_slot }
+    {
+        self.price_slot
+    }
+
+    pub(crate) fn prices(&self) -> [u32; 8]
+        ensures { result ≡ self.now.prices }
+    {
+        self.prices
+    }
+
+    pub(crate) fn counters(&self) -> [(u64, u64); 32]
+        ensures { result ≡ self.now.counters }
+    {
+        self.counters
+    }
+
+    /// The slot of a point's releases, or 0 where there is no such point.
+    pub(crate) fn release_slot(&self, n: u32) -> u32
+        ensures { result ≡ (slots_of self.now n).0 }
+    {
+        self.slots_of(n).0
+    }
+
+    /// The slot of a point's presets, or 0.
+    pub(crate) fn preset_slot(&self, n: u32) -> u32
+        ensures { result ≡ (slots_of self.now n).1 }
+    {
+        self.slots_of(n).1
+    }
+
+    fn slots_of(&self, n: u32) -> (u32, u32)
+        ensures { result ≡ slots_of self.now n }
+    {
+        let at = (n as usize).saturating_sub(1);
+        if at < self.points.len() {
+            self.points[at]
+        } else {
+            (0, 0)
+        }
+    }
+
+    /// The slots of each point's releases and presets.
+    pub(crate) fn points(&self) -> &[(u32, u32)]
+        ensures points { result.now ≡ self.now.points }
+        ensures range { IsConfig self.now }
+    {
+        self.points.as_slice()
+    }
+}

@@ -1,0 +1,120 @@
+//! What a decision asks, grants and counts.
+
+ghost use Rattle.std.specs.Prelude.{◌≡◌, ◌<◌, ◌≤◌, IfOk};
+ghost use Rattle.site_core.specs.Decide.{release_at, preset_at, price_at, granted_point, command_of, counts, count_of};
+
+use crate::question::{Kind, Question};
+use counters::Counters;
+use fuelling_point::{Command, Point, State};
+use till_request::Reply;
+
+/// The question of a release at a point, or its refusal before a program is looked for: S25, S22, S26.
+pub fn release_at(point: &Point, n: u32, amount: u64, slot: u32) -> Result<Question, Reply>
+    ensures question { result ≡ release_at point.now n amount slot }
+    ensures point { IfOk result (λ q. q.point ≡ n) }
+{
+    if amount < 1 || amount > 999_999_999 {
+        return Err(Reply::Refused(25, None));
+    }
+    let state = point.state();
+    if !state.is_ready() {
+        return Err(Reply::Refused(22, Some(state.number())));
+    }
+    if point.unpaid() >= 2 {
+        return Err(Reply::Refused(26, None));
+    }
+    Ok(Question {
+        kind: Kind::Release,
+        point: n,
+        product: 0,
+        asked: amount,
+        slot,
+    })
+}
+
+/// The question of a preset at a point, or its refusal: S25, S22.
+pub fn preset_at(point: &Point, n: u32, amount: u64, slot: u32) -> Result<Question, Reply>
+    ensures question { result ≡ preset_at point.now n amount slot }
+    ensures point { IfOk result (λ q. q.point ≡ n) }
+{
+    if amount < 1 || amount > 999_999_999 {
+        return Err(Reply::Refused(25, None));
+    }
+    let state = point.state();
+    if !state.is_ready() {
+        return Err(Reply::Refused(22, Some(state.number())));
+    }
+    Ok(Question {
+        kind: Kind::Preset,
+        point: n,
+        product: 0,
+        asked: amount,
+        slot,
+    })
+}
+
+/// The question of a price change, or its refusal: S25, or S22 with the state of the first busy point.
+pub fn price_at(busy: Option<State>, product: u32, price: u64, slot: u32) -> Result<Question, Reply>
+    ensures question { result ≡ price_at busy product price slot }
+    ensures fits { IfOk result (λ q. (1 ≤ q.product) × (q.product ≤ 8) × (q.asked ≤ 9999999)) }
+{
+    if product < 1 || product > 8 || price < 1 || price > 9_999_999 {
+        return Err(Reply::Refused(25, None));
+    }
+    match busy {
+        Some(state) => Err(Reply::Refused(22, Some(state.number()))),
+        None => Ok(Question {
+            kind: Kind::Price,
+            point: 0,
+            product,
+            asked: price,
+            slot,
+        }),
+    }
+}
+
+/// What the program's answer grants; the preset is the point's.
+pub fn granted_point(kind: Kind, asked: u64, r0: u64, preset: u64) -> u64
+    ensures { result ≡ granted_point kind asked r0 preset }
+{
+    match kind {
+        Kind::Release if preset == 0 => asked.min(r0),
+        Kind::Release => asked.min(r0).min(preset),
+        Kind::Preset => asked.min(r0),
+        Kind::Price => asked,
+    }
+}
+
+/// The point's command by which a grant is done.
+pub fn command_of(kind: Kind, granted: u64) -> Command
+    ensures { result ≡ command_of kind granted }
+{
+    match kind {
+        Kind::Release => Command::Release(granted),
+        Kind::Preset | Kind::Price => Command::Preset(granted),
+    }
+}
+
+/// A declared counter's value before and after.
+fn count_of(mask: u32, before: &Counters, after: &Counters, c: u32) -> Option<(u64, u64)>
+    requires { c < 32 }
+    ensures { result ≡ count_of mask before.now after.now c }
+{
+    if mask / 2u32.pow(c) % 2 == 1 {
+        Some((before.get(c), after.get(c)))
+    } else {
+        None
+    }
+}
+
+/// The declared counters' values before and after, in the counters' order.
+pub fn counts(mask: u32, before: &Counters, after: &Counters) -> [Option<(u64, u64)>; 32]
+    ensures { result ≡ counts mask before.now after.now }
+{
+    let mut counts = [None; 32];
+    for c in 0..32 {
+        let count = count_of(mask, before, after, c);
+        counts[c as usize] = count;
+    }
+    counts
+}

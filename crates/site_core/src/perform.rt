@@ -1,0 +1,175 @@
+//! What an event does: a load makes a version, a dispenser's event and a till's request change the station.
+
+ghost use Rattle.std.specs.Prelude.{◌≡◌, ℕ, ◌+◌, ◌<◌, IfOk, OnErr, length, List};
+ghost use Rattle.std.specs.Arc.{arc_value};
+ghost use Rattle.decision_journal.specs.declared.entries.Entry.{Entry};
+ghost use Rattle.till_request.specs.declared.act.Act.TheVariants as act;
+ghost use Rattle.site_core.specs.Bounds.{Bounded};
+ghost use Rattle.site_core.specs.Decide.{decided, WellAsked};
+ghost use Rattle.site_core.specs.Keeping.{Agrees, Performs, Loads};
+ghost use Rattle.site_core.specs.Site.{act_of};
+ghost use Rattle.site_core.specs.Step.{effect};
+
+use crate::config::Config;
+use crate::events::What;
+use crate::question::Question;
+use crate::station::Station;
+use decision_journal::Run;
+use fuelling_point::Command;
+use interp::run;
+use program_slots::{SlotFault, Slots};
+use reg_types::Program;
+use std::alloc::{AllocError, Global};
+use std::sync::Arc;
+use till_request::{Act, Bytes, Reply, Request};
+
+/// What an event gave.
+#[derive(Drop)]
+pub struct Performed {
+    pub moment: u64,
+    pub act: Act,
+    pub reply: Reply,
+    pub run: Option<Run>,
+}
+
+/// Does what the event asks. All growth comes before the first change.
+pub fn perform(
+    alloc: Global,
+    config: &Config,
+    station: &mut Station,
+    slots: &mut Slots,
+    moment: u64,
+    what: What,
+) -> Result<Performed, AllocError>
+    requires points { length station.old.points ≡ length config.now.points }
+    requires bounded { Bounded 1048575 station.old }
+    ensures performed { IfOk result (λ p. (past : List Entry) → Agrees slots.old past →
+        Performs config.now past station.old moment (act_of what) p station.new slots.new) }
+    ensures bounded { (k : ℕ) → Bounded k station.old → Bounded (k + 1) station.new }
+    ensures points { length station.new.points ≡ length station.old.points }
+    ensures station { OnErr result (station.new ≡ station.old) }
+    ensures slots { OnErr result (slots.new ≡ slots.old) }
+{
+    match what {
+        What::Till { till, request } => {
+            let (reply, run) = ask(config, station, slots, till, moment, request);
+            Ok(Performed {
+                moment,
+                act: Act::Till { till, request },
+                reply,
+                run,
+            })
+        }
+        What::Dispenser { point, event } => {
+            let reply = station.report(point, event);
+            Ok(Performed {
+                moment: 0,
+                act: Act::Dispenser { point, event },
+                reply,
+                run: None,
+            })
+        }
+        What::Load { slot, program } => {
+            let bytes = Bytes::from_slice(alloc, program.bytes())?;
+            let mask = program.declared();
+            let reply = load(slots, slot, program)?;
+            Ok(Performed {
+                moment: 0,
+                act: Act::Load { slot, mask, bytes },
+                reply,
+                run: None,
+            })
+        }
+    }
+}
+
+/// Makes a version.
+fn load(slots: &mut Slots, slot: u32, program: Arc<Program>) -> Result<Reply, AllocError>
+    ensures reply { IfOk result (λ reply. (past : List Entry) → Agrees slots.old past → Loads slots.old slot (arc_value program) past reply slots.new) }
+    ensures unchanged { OnErr result (slots.new ≡ slots.old) }
+{
+    match slots.install(slot, program) {
+        Ok(number) => Ok(Reply::Version(number)),
+        Err(SlotFault::NoSuchSlot) => Ok(Reply::Refused(32, None)),
+        Err(SlotFault::VersionsFull) => Ok(Reply::Refused(30, None)),
+        Err(SlotFault::OutOfMemory) => Err(AllocError),
+    }
+}
+
+/// Answers a till.
+fn ask(
+    config: &Config,
+    station: &mut Station,
+    slots: &Slots,
+    till: u32,
+    moment: u64,
+    request: Request,
+) -> (Reply, Option<Run>)
+    requires points { length station.old.points ≡ length config.now.points }
+    requires bounded { Bounded 1048575 station.old }
+    ensures effect { (past : List Entry) → Agrees slots.now past →
+        effect config.now past station.old moment (act.Till till request) ≡ record { reply = result.0; run = result.1; after = station.new } }
+    ensures bounded { (k : ℕ) → Bounded k station.old → Bounded (k + 1) station.new }
+    ensures points { length station.new.points ≡ length station.old.points }
+{
+    if till < 1 || till > config.tills() {
+        return (Reply::Refused(21, None), None);
+    }
+    match request {
+        Request::Release(n, amount) => {
+            let question = station.release_question(config, n, amount);
+            decide(station, slots, till, moment, question)
+        }
+        Request::Preset(n, amount) => {
+            let question = station.preset_question(config, n, amount);
+            decide(station, slots, till, moment, question)
+        }
+        Request::Price(product, price) => {
+            let question = station.price_question(config, product, price);
+            decide(station, slots, till, moment, question)
+        }
+        Request::OpenPoint(n) => (station.command(till, n, Command::OpenPoint), None),
+        Request::ClosePoint(n) => (station.command(till, n, Command::ClosePoint), None),
+        Request::Suspend(n) => (station.command(till, n, Command::Suspend), None),
+        Request::Resume(n) => (station.command(till, n, Command::Resume), None),
+        Request::Stop(n) => (station.command(till, n, Command::Stop), None),
+        Request::Lock(n, number) => (station.command(till, n, Command::Lock(number)), None),
+        Request::Unlock(n, number) => (station.command(till, n, Command::Unlock(number)), None),
+        Request::Clear(n, number) => (station.command(till, n, Command::Clear(number)), None),
+        Request::Show(n) => (station.show(n), None),
+    }
+}
+
+/// Runs the program in force, and enters what it answered.
+fn decide(
+    station: &mut Station,
+    slots: &Slots,
+    till: u32,
+    moment: u64,
+    question: Result<Question, Reply>,
+) -> (Reply, Option<Run>)
+    requires bounded { Bounded 1048575 station.old }
+    requires till { 0 < till }
+    requires asked { IfOk question (λ q. WellAsked station.old q) }
+    ensures effect { (past : List Entry) → Agrees slots.now past →
+        decided past station.old till moment question ≡ record { reply = result.0; run = result.1; after = station.new } }
+    ensures bounded { (k : ℕ) → Bounded k station.old → Bounded (k + 1) station.new }
+    ensures points { length station.new.points ≡ length station.old.points }
+{
+    let question = match question {
+        Ok(question) => question,
+        Err(refusal) => return (refusal, None),
+    };
+    let Some(number) = slots.installed(question.slot) else {
+        return (Reply::Refused(23, Some(question.slot)), None);
+    };
+    let Some(program) = slots.version(number) else {
+        return (Reply::Refused(23, Some(question.slot)), None);
+    };
+    let context = station.context(till, moment, &question);
+    let view = station.view();
+    let mut counters = station.counters();
+    let r0 = run(program, &context, &view, &mut counters);
+    let (reply, run) = station.settle(till, moment, &question, number, program, r0, counters);
+    (reply, Some(run))
+}

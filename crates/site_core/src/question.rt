@@ -1,0 +1,20 @@
+//! What a decision is about.
+
+/// What is decided.
+#[derive(Clone, Copy, Debug, PartialEq, Eq, Drop)]
+pub enum Kind {
+    Release,
+    Preset,
+    Price,
+}
+
+/// What is asked, and the slot whose program decides. A price has point 0, all else product 0. `asked` is an amount in cents, or a
+/// price in thousandths.
+#[derive(Clone, Copy, Debug, PartialEq, Eq, Drop)]
+pub struct Question {
+    pub kind: Kind,
+    pub point: u32,
+    pub product: u32,
+    pub asked: u64,
+    pub slot: u32,
+}

@@ -1,0 +1,352 @@
+//! The site's state between two events.
+
+ghost use Rattle.std.specs.Prelude.{option_copied, ◌≡◌, ℕ, ◌+◌, ◌<◌, ◌≤◌, IfOk, length, Some, None};
+ghost use Rattle.std.specs.Bool.{OnTrue, OnFalse};
+ghost use Rattle.site_core.specs.State.{opening_state, at_number, price_of, busy_points, first_busy, view_of, counter_of};
+ghost use Rattle.site_core.specs.Bounds.{Bounded};
+ghost use Rattle.site_core.specs.Context.{context, product_of, told};
+ghost use Rattle.site_core.specs.Decide.{replied, verdict, grant, WellAsked, release_question, preset_question, price_question};
+ghost use Rattle.site_core.specs.Step.{commanded, reported, show_reply};
+ghost use Rattle.program_slots.specs.Slots.{Version};
+ghost use Rattle.fuelling_point.specs.States.{state_number};
+
+use crate::config::Config;
+use crate::context::{kind_number, pack};
+use crate::decision::{command_of, counts, granted_point, preset_at, price_at, release_at};
+use crate::question::{Kind, Question};
+use crate::replies::{event_reply, fault_reply};
+use counters::Counters;
+use decision_journal::Run;
+use fuelling_point::{Command, DispenserEvent, Point, State};
+use helpers::{PointView, View};
+use reg_types::Program;
+use std::alloc::{AllocError, Global};
+use std::marker::Model;
+use till_request::Reply;
+
+/// The points, prices, counters and cleared total.
+#[derive(Drop)]
+pub struct Station {
+    points: Vec<Point>,
+    prices: [u32; 8],
+    counters: Counters,
+    cleared: u64,
+}
+
+impl Model for Station {
+    ghost use Rattle.std.specs.Prelude.{◌≡◌, ◌≤◌, length};
+    ghost use Rattle.site_core.specs.State.{SiteState};
+
+    ghost Value = { SiteState };
+
+    ghost view = { λ s. record { points = s.points.items; prices = s.prices; counters = s.counters; cleared = s.cleared } };
+
+    ghost invariant = { λ s. (length s.points.items ≤ 32) × (length s.prices ≡ 8) };
+}
+
+impl Station {
+    /// The state that the configuration names.
+    pub fn start(alloc: Global, config: &Config) -> Result<Station, AllocError>
+        ensures { IfOk result (λ s. s ≡ opening_state config.now) }
+    {
+        let mut points = Vec::new(alloc);
+        for _point in config.points() {
+            points.push(Point::new())?;
+        }
+        Ok(Station {
+            points,
+            prices: config.prices(),
+            counters: Counters::new(config.counters()),
+            cleared: 0,
+        })
+    }
+
+    /// Whether there is a point of this number.
+    fn has_point(&self, n: u32) -> bool
+        ensures there { OnTrue result ((1 ≤ n) × (n ≤ length self.now.points)) }
+        ensures none { OnFalse result (at_number self.now.points n ≡ None) }
+    {
+        n >= 1 && n as usize <= self.points.len()
+    }
+
+    /// Does what a till asks of a point without a decision.
+    pub fn command(&mut self, till: u32, n: u32, command: Command) -> Reply
+        requires bounded { Bounded 1048575 self.old }
+        requires till { 0 < till }
+        ensures effect { commanded self.old till n command ≡ replied result self.new }
+        ensures bounded { (k : ℕ) → Bounded k self.old → Bounded (k + 1) self.new }
+        ensures points { length self.new.points ≡ length self.old.points }
+    {
+        if !self.has_point(n) {
+            return Reply::Refused(20, None);
+        }
+        match self.points[n as usize - 1].on_command(till, command) {
+            Err(fault) => fault_reply(fault),
+            Ok(None) => Reply::Done,
+            Ok(Some(amount)) => {
+                self.cleared += amount;
+                Reply::Done
+            }
+        }
+    }
+
+    /// Takes what a dispenser reports, or hands out the point's order.
+    pub fn report(&mut self, n: u32, event: DispenserEvent) -> Reply
+        requires { Bounded 1048575 self.old }
+        ensures effect { reported self.old n event ≡ replied result self.new }
+        ensures bounded { (k : ℕ) → Bounded k self.old → Bounded (k + 1) self.new }
+        ensures points { length self.new.points ≡ length self.old.points }
+    {
+        if !self.has_point(n) {
+            return Reply::Refused(20, None);
+        }
+        let outcome = self.points[n as usize - 1].on_event(event);
+        event_reply(outcome)
+    }
+
+    /// What a till is told of a point.
+    pub fn show(&self, n: u32) -> Reply
+        ensures { result ≡ show_reply self.now n }
+    {
+        if !self.has_point(n) {
+            return Reply::Refused(20, None);
+        }
+        let point = &self.points[n as usize - 1];
+        Reply::Point {
+            state: point.state().number(),
+            nozzle: point.nozzle(),
+            amount: point.amount(),
+            volume: point.volume(),
+            limit: point.limit(),
+            preset: point.preset(),
+            unpaid: point.unpaid(),
+        }
+    }
+
+    /// The point of this number.
+    fn point(&self, n: u32) -> Option<&Point>
+        ensures { option_copied result ≡ at_number self.now.points n }
+    {
+        if n == 0 {
+            return None;
+        }
+        self.points.get(n as usize - 1)
+    }
+
+    /// The question that a release asks, or its refusal before a program is looked for.
+    pub fn release_question(&self, config: &Config, n: u32, amount: u64) -> Result<Question, Reply>
+        requires { length self.now.points ≡ length config.now.points }
+        ensures question { result ≡ release_question config.now self.now n amount }
+        ensures asked { IfOk result (λ q. WellAsked self.now q) }
+    {
+        match self.point(n) {
+            None => Err(Reply::Refused(20, None)),
+            Some(point) => release_at(point, n, amount, config.release_slot(n)),
+        }
+    }
+
+    /// The question that a preset asks, or its refusal.
+    pub fn preset_question(&self, config: &Config, n: u32, amount: u64) -> Result<Question, Reply>
+        requires { length self.now.points ≡ length config.now.points }
+        ensures question { result ≡ preset_question config.now self.now n amount }
+        ensures asked { IfOk result (λ q. WellAsked self.now q) }
+    {
+        match self.point(n) {
+            None => Err(Reply::Refused(20, None)),
+            Some(point) => preset_at(point, n, amount, config.preset_slot(n)),
+        }
+    }
+
+    /// The question that a price asks, or its refusal.
+    pub fn price_question(
+        &self,
+        config: &Config,
+        product: u32,
+        price: u64,
+    ) -> Result<Question, Reply>
+        ensures question { result ≡ price_question config.now self.now product price }
+        ensures asked { IfOk result (λ q. WellAsked self.now q) }
+    {
+        price_at(self.first_busy(), product, price, config.price_slot())
+    }
+
+    /// The state of the first point with a delivery authorised or under way.
+    #[tactic(auto, unfolding(crate::specs::State::first_busy))]
+    fn first_busy(&self) -> Option<State>
+        ensures { result ≡ first_busy self.now }
+    {
+        for point in &self.points {
+            let state = point.state();
+            if state.is_busy() {
+                return Some(state);
+            }
+        }
+        None
+    }
+
+    #[tactic(auto, unfolding(crate::specs::State::busy_points))]
+    fn busy_points(&self) -> u32
+        ensures { result ≡ busy_points self.now }
+    {
+        let mut count = 0;
+        for point in &self.points {
+            if point.state().is_busy() {
+                count += 1;
+            }
+        }
+        count
+    }
+
+    fn price_of(&self, product: u32) -> u32
+        ensures { result ≡ price_of self.now product }
+    {
+        if product >= 1 && product <= 8 {
+            self.prices[product as usize - 1]
+        } else {
+            0
+        }
+    }
+
+    /// What a program can ask of the site.
+    pub fn view(&self) -> View
+        ensures { result ≡ view_of self.now }
+    {
+        let mut points = [PointView {
+            state: 0,
+            nozzle: 0,
+            amount: 0,
+        }; 32];
+        for (i, point) in self.points.iter().enumerate() {
+            points[i] = PointView {
+                state: point.state().number(),
+                nozzle: point.nozzle(),
+                amount: point.amount(),
+            };
+        }
+        View {
+            count: self.points.len() as u32,
+            points,
+            prices: self.prices,
+        }
+    }
+
+    /// A counter's value and bound, for counters 0 to 31.
+    pub fn counter(&self, c: u32) -> Option<(u64, u64)>
+        ensures { result ≡ counter_of self.now c }
+    {
+        if c < 32 {
+            Some((self.counters.get(c), self.counters.bound(c)))
+        } else {
+            None
+        }
+    }
+
+    pub fn counters(&self) -> Counters
+        ensures { result ≡ self.now.counters }
+    {
+        self.counters
+    }
+
+    /// The 64 bytes that a program is given.
+    pub fn context(&self, till: u32, moment: u64, question: &Question) -> [u8; 64]
+        ensures { result ≡ context self.now till moment question.now }
+    {
+        let (state, nozzle, unpaid) = self.told_of(question.point);
+        let product = self.product_of(question);
+        let kind = kind_number(question.kind);
+        let price = self.price_of(product);
+        let busy = self.busy_points();
+        pack(
+            till,
+            question.point,
+            kind,
+            state,
+            nozzle,
+            product,
+            question.asked,
+            moment,
+            price,
+            busy,
+            unpaid,
+            question.slot,
+            self.cleared,
+        )
+    }
+
+    /// The nozzle's number, or the product whose price is asked.
+    fn product_of(&self, question: &Question) -> u32
+        ensures { result ≡ product_of self.now question.now }
+    {
+        match question.kind {
+            Kind::Price => question.product,
+            Kind::Release | Kind::Preset => self.told_of(question.point).1,
+        }
+    }
+
+    /// Enters what a version answered.
+    pub fn settle(
+        &mut self,
+        till: u32,
+        moment: u64,
+        question: &Question,
+        version: u32,
+        program: &Program,
+        r0: u64,
+        counters: Counters,
+    ) -> (Reply, Run)
+        requires bounded { Bounded 1048575 self.old }
+        requires till { 0 < till }
+        requires asked { WellAsked self.old question.now }
+        ensures effect { (v : Version) → v.number ≡ version → v.program ≡ program.now →
+            verdict self.old till moment question.now v r0 counters ≡ record { reply = result.0; run = Some result.1; after = self.new } }
+        ensures bounded { (k : ℕ) → Bounded k self.old → Bounded (k + 1) self.new }
+        ensures points { length self.new.points ≡ length self.old.points }
+    {
+        let context = self.context(till, moment, question);
+        let run = Run {
+            slot: question.slot,
+            version,
+            r0,
+            context,
+            counts: counts(program.declared(), &self.counters, &counters),
+        };
+        self.counters = counters;
+        if r0 == 0 {
+            return (Reply::Refused(24, Some(version)), run);
+        }
+        let granted = self.grant(till, question, r0);
+        (Reply::Granted(granted, version), run)
+    }
+
+    /// Grants what is asked, as far as the program's answer goes.
+    fn grant(&mut self, till: u32, question: &Question, r0: u64) -> u64
+        requires bounded { Bounded 1048575 self.old }
+        requires till { 0 < till }
+        requires asked { WellAsked self.old question.now }
+        ensures grant { grant self.old till question.now r0 ≡ (result, self.new) }
+        ensures bounded { (k : ℕ) → Bounded k self.old → Bounded (k + 1) self.new }
+        ensures points { length self.new.points ≡ length self.old.points }
+    {
+        let n = question.point;
+        if !self.has_point(n) {
+            self.prices[question.product as usize - 1] = question.asked as u32;
+            return question.asked;
+        }
+        let point = &mut self.points[n as usize - 1];
+        let granted = granted_point(question.kind, question.asked, r0, point.preset());
+        let _ = point.on_command(till, command_of(question.kind, granted));
+        granted
+    }
+
+    /// The state, the nozzle and the number of transactions of a point, or 0.
+    fn told_of(&self, n: u32) -> (u32, u32, u32)
+        ensures state { result.0 ≡ told (at_number self.now.points n) (λ p. state_number p.state) }
+        ensures nozzle { result.1 ≡ told (at_number self.now.points n) (λ p. p.nozzle) }
+        ensures unpaid { result.2 ≡ told (at_number self.now.points n) (λ p. length p.unpaid) }
+    {
+        match self.point(n) {
+            None => (0, 0, 0),
+            Some(point) => (point.state().number(), point.nozzle(), point.unpaid()),
+        }
+    }
+}
