@@ -1,0 +1,25 @@
+-- Promises: lists of units that are a program, told unit by unit.
+use Rattle.std.specs.Prelude.{◌≡◌, ℕ, ◌<◌, Bool, true, false, not, List, [], ◌∷◌, Option, None, FitsSigned, ⊤}
+use Rattle.std.specs.Int.{w16, w32}
+use Rattle.bpf_model.specs.declared.instruction.Inst.{Inst}
+use Rattle.bpf_model.specs.declared.instruction.Unit.{Unit as ProgramUnit}
+use Rattle.bpf_model.specs.declared.instruction.Unit.TheVariants.{First, Second}
+use Rattle.bpf_model.specs.Reading.{form_of, first_fault, is_wide}
+
+-- an instruction without a fault of its own, whose fields fit their bits
+pub record IsInstruction (i : Inst) : Type 0 where
+  pub opcode : i.opcode < 256
+  pub dst : i.dst < 16
+  pub src : i.src < 16
+  pub offset : FitsSigned w16 i.offset
+  pub imm : FitsSigned w32 i.imm
+  pub sound : first_fault (form_of i.opcode) i false ≡ None
+
+-- instructions one after the other, each wide load with its second unit; `first` says that an instruction begins here
+abbrev pub AreUnits : Bool → List ProgramUnit → Type 0
+AreUnits true [] = ⊤
+AreUnits true (First i ∷ us) = IsInstruction i × AreUnits (not (is_wide (form_of i.opcode))) us
+AreUnits true (Second v ∷ us) = ⊥
+AreUnits false [] = ⊥
+AreUnits false (First i ∷ us) = ⊥
+AreUnits false (Second v ∷ us) = FitsSigned w32 v × AreUnits true us
