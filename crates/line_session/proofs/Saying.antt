@@ -29,7 +29,6 @@ pub flat_more : {A : Type 0} (f : A → List ℕ) (xs : List A) (x : A) → flat
 flat_more f [] x = append-nil (f x)
 flat_more f (y ∷ xs) x = ap (λ t. f y ++ t) (flat_more f xs x) ∙ sym (append_assoc (f y) (flat_map f xs) (f x))
 
-
 module _ {A B : Type 0} (says : A × B → List ℕ → List ℕ → A × B → Type 0) where
   says_more : (ls : List (List ℕ)) (l : List ℕ) (s : A × B) (texts : List (List ℕ)) (text : List ℕ) (m s' : A × B)
       → SaysAll says ls s texts m → says m l text s' → SaysAll says (ls ++ l ∷ []) s (texts ++ text ∷ []) s'

@@ -4,9 +4,9 @@ ghost use Rattle.till_request.specs.Count.{RoseBy, one_if};
 ghost use Rattle.line_session.specs.Talk.{Ends, Breaks, is_read, is_write};
 ghost use Rattle.line_session.specs.Session.{desk_says};
 
+use crate::answering::{Ended, SessionFault, talk};
 use crate::at_desk::AtDesk;
 use crate::desk::{Clock, Desk};
-use crate::answering::{Ended, SessionFault, talk};
 use std::alloc::Global;
 use till_request::{LineIn, LineOut, Role};
 

@@ -1,0 +1,131 @@
+//! Sessions over memory devices, with a desk that numbers what it is asked.
+use crate::{Clock, Desk, Ended, SessionFault, session};
+use std::alloc::Global;
+use std::test::Fail;
+use till_request::devices::{MemoryIn, MemoryOut};
+use till_request::{Act, Answer, LineFault, Reply, Role};
+
+/// Tells 1, 2, 3 and so on.
+#[derive(Drop)]
+struct Ticks {
+    moment: u64,
+}
+
+impl Clock for Ticks {
+    ghost tick = { λ _ _ _. Unit {0} };
+
+    fn now(&mut self) -> u64 {
+        self.moment = self.moment.wrapping_add(1);
+        self.moment
+    }
+}
+
+/// Numbers what it is asked, and grants the moment.
+#[derive(Drop)]
+struct Numbers {
+    entries: u32,
+}
+
+impl Desk for Numbers {
+    ghost step = { λ _ _ _ _ _. Unit {0} };
+
+    fn answer(&mut self, _act: Act, moment: u64) -> Answer {
+        self.entries = self.entries.wrapping_add(1);
+        let number = self.entries;
+        let reply = Reply::Granted(moment, 7);
+        Answer::Entered { number, reply }
+    }
+}
+
+/// What a session over a script ends with and writes.
+fn answers(
+    alloc: Global,
+    script: &[u8],
+    good_reads: Option<u64>,
+    good_writes: Option<u64>,
+) -> Option<(Result<Ended, SessionFault>, Vec<u8>)> {
+    let bytes = Vec::from_slice(alloc, script).ok()?;
+    let sizes = vec![in alloc; 3, 1, 2].ok()?;
+    let mut input = MemoryIn::new(bytes, Vec::new(alloc), good_reads);
+    let mut output = MemoryOut::new(alloc, sizes, good_writes);
+    let mut clock = Ticks { moment: 0 };
+    let mut desk = Numbers { entries: 0 };
+    let ended = session(
+        alloc,
+        Role::Till,
+        &mut input,
+        &mut output,
+        &mut clock,
+        &mut desk,
+    );
+    Some((ended, output.bytes))
+}
+
+const SCRIPT: &[u8] =
+    b"till 1 open 1\ntill 1 sell 1\ntill 1 release 1 08000\nload 0 0 95\n\ntill 1 show 1\ntill 1 show 1";
+
+const TEXT: &[u8] = b"1 granted 1 by 7\nL2\nL3\nL2\nL2\n2 granted 2 by 7\nL4\n";
+
+#[test]
+fn lines_are_answered_in_order(rt: HostRuntime) -> Result<(), Fail> {
+    let ended = Ended {
+        lines: 7,
+        cut: Some(LineFault::CutLine),
+    };
+    match answers(rt.alloc(), SCRIPT, None, None) {
+        Some((Ok(end), text)) => {
+            assert_eq!(rt; end, ended);
+            assert_eq!(rt; text.as_slice(), TEXT);
+        }
+        _ => assert!(rt; false),
+    }
+    match answers(rt.alloc(), b"", None, None) {
+        Some((Ok(end), text)) => assert!(rt;
+            end.lines == 0 && end.cut.is_none() && text.is_empty()
+        ),
+        _ => assert!(rt; false),
+    }
+    Ok(())
+}
+
+#[test]
+fn a_long_line_ends_a_session(rt: HostRuntime) -> Result<(), Fail> {
+    let mut script = vec![in rt.alloc(); b'a'; 8401]?;
+    script.extend_from_slice(b"\ntill 1 open 1\n")?;
+    match answers(rt.alloc(), &script, None, None) {
+        Some((Ok(end), text)) => {
+            assert_eq!(rt;
+                end,
+                Ended {
+                    lines: 1,
+                    cut: Some(LineFault::TooLong)
+                }
+            );
+            assert_eq!(rt; text.as_slice(), b"L1\n".as_slice());
+        }
+        _ => assert!(rt; false),
+    }
+    Ok(())
+}
+
+#[test]
+fn a_failed_call_ends_a_session(rt: HostRuntime) {
+    for good in 0..SCRIPT.len() as u64 {
+        match answers(rt.alloc(), SCRIPT, Some(good), None) {
+            Some((end, text)) => {
+                assert_eq!(rt; end, Err(SessionFault::Read));
+                assert!(rt; TEXT.starts_with(&text));
+            }
+            None => assert!(rt; false),
+        }
+    }
+    for good in 0..10 {
+        match answers(rt.alloc(), SCRIPT, None, Some(good)) {
+            Some((end, text)) => {
+                assert!(rt; end == Err(SessionFault::Write) || good >= 9);
+                assert!(rt; TEXT.starts_with(&text));
+            }
+            None => assert!(rt; false),
+        }
+    }
+}
