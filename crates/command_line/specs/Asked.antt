@@ -1,0 +1,98 @@
+-- Definitions: what words ask for, as `clap` reads them. The first word is the program's name.
+use Rattle.std.specs.Prelude.{◌≡◌, ℕ, List, [], ◌∷◌, codes, Bool, true, false, Option, Some, None, option_and_then, option_map, if◌then◌else◌, string_bytes, pos, ⊤}
+use Rattle.std.specs.Str.{bytes_eq}
+use Rattle.std.specs.Str.Parse.{digits_value, without_leading_plus}
+use Rattle.clap.specs.Words.{App, Row, Rule, Text, new_app, new_rule, with_rule, with_subcommand, first_of, one_of, subcommand_of}
+use Rattle.clap.specs.declared.builder.value_parser.ValueParser.TheVariants as parser
+use Rattle.command_line.specs.declared.job.Job.{Job}
+use Rattle.command_line.specs.declared.job.Job.TheVariants as job
+
+-- ---- the words that the program takes
+
+-- a file that is wanted
+abbrev pub file_rule : Text → Rule
+file_rule name = record (new_rule name) { required = true }
+
+-- --counters MASK, wanted, a number from 0 to 2^32 - 1
+abbrev pub mask_rule : Rule
+mask_rule =
+    record (new_rule (codes "counters")) {
+      long = Some (codes "counters");
+      value_names = 1;
+      parser = Some (parser.Signed (pos 0) (pos 4294967295));
+      required = true;
+    }
+
+abbrev pub of_file : Text → Text → App
+of_file name file = with_rule (new_app name) (file_rule file)
+
+abbrev pub of_files : Text → Text → Text → App
+of_files name first second = with_rule (of_file name first) (file_rule second)
+
+abbrev pub verify_app : App
+verify_app = with_rule (of_file (codes "verify") (codes "file")) mask_rule
+
+abbrev pub top_app : App
+top_app = record (new_app (codes "fc")) { top = record (new_app (codes "fc")).top { has_version = true } }
+
+-- asm FILE, dis FILE, verify --counters MASK FILE, play CONFIG SCRIPT, audit CONFIG JOURNAL, serve CONFIG
+abbrev pub fc_app : App
+fc_app =
+    with_subcommand (with_subcommand (with_subcommand (with_subcommand (with_subcommand (with_subcommand top_app
+    (of_file (codes "asm") (codes "file")).top)
+    (of_file (codes "dis") (codes "file")).top)
+    verify_app.top)
+    (of_files (codes "play") (codes "config") (codes "script")).top)
+    (of_files (codes "audit") (codes "config") (codes "journal")).top)
+    (of_file (codes "serve") (codes "config")).top
+
+-- ---- what they ask for
+
+pub data Asked : Type 0 where
+  nothing : Asked
+  asm : Text → Asked
+  dis : Text → Asked
+  verify : ℕ → Text → Asked
+  play : Text → Text → Asked
+  audit : Text → Text → Asked
+  serve : Text → Asked
+
+abbrev pub file_in : Text → (Text → Asked) → List Row → Option Asked
+file_in id ask rows = option_map ask (first_of id rows)
+
+abbrev pub files_in : Text → Text → (Text → Text → Asked) → List Row → Option Asked
+files_in first second ask rows =
+    option_and_then (λ (a : Text). option_map (ask a) (first_of second rows)) (first_of first rows)
+
+-- the number of a mask
+abbrev pub mask_in : List Row → Option ℕ
+mask_in rows = option_map (λ (t : Text). digits_value 10 (without_leading_plus t)) (one_of (codes "counters") rows)
+
+abbrev pub verify_in : List Row → Option Asked
+verify_in rows = option_and_then (λ (n : ℕ). option_map (verify n) (first_of (codes "file") rows)) (mask_in rows)
+
+-- what a subcommand's name and values ask for
+abbrev pub asked_by : Text → List Row → Option Asked
+asked_by name rows =
+    if bytes_eq name (codes "asm") then file_in (codes "file") asm rows
+    else if bytes_eq name (codes "dis") then file_in (codes "file") dis rows
+    else if bytes_eq name (codes "verify") then verify_in rows
+    else if bytes_eq name (codes "play") then files_in (codes "config") (codes "script") play rows
+    else if bytes_eq name (codes "audit") then files_in (codes "config") (codes "journal") audit rows
+    else if bytes_eq name (codes "serve") then file_in (codes "config") serve rows
+    else None
+
+abbrev pub asked_of : Option (Text × List Row) → Option Asked
+asked_of None = Some nothing
+asked_of (Some p) = asked_by p.0 p.1
+
+-- A job stands for what is asked; a text that is shown stands for no job.
+abbrev pub asked : Job → Option Asked
+asked job.NoWords = Some nothing
+asked (job.Asm file) = Some (asm (string_bytes file))
+asked (job.Dis file) = Some (dis (string_bytes file))
+asked (job.Verify counters file) = Some (verify counters (string_bytes file))
+asked (job.Play config script) = Some (play (string_bytes config) (string_bytes script))
+asked (job.Audit config journal) = Some (audit (string_bytes config) (string_bytes journal))
+asked (job.Serve config) = Some (serve (string_bytes config))
+asked (job.Show text) = None

@@ -1,0 +1,143 @@
+//! The program's words, as they are described to `clap`.
+ghost use Rattle.std.specs.Prelude.{◌≡◌, false, IfOk, codes};
+ghost use Rattle.clap.specs.Words.{app_of, with_rule, new_app, rule_of};
+ghost use Rattle.clap.specs.declared.builder.command.Command.TheViews.{out-Command};
+ghost use Rattle.command_line.specs.Asked.{file_rule, mask_rule, of_file, of_files, verify_app, fc_app};
+
+use clap::{Arg, Command, value_parser};
+use std::alloc::{AllocError, Global};
+
+/// A file that is wanted.
+fn file_arg<'a>(alloc: Global, name: &'a str) -> Arg<'a>
+    ensures rule { rule_of result ≡ file_rule name.entry.now }
+    ensures local { result.global ≡ false }
+{
+    Arg::new(alloc, name).required(true)
+}
+
+/// The counters that a program declares.
+fn mask_arg<'a>(alloc: Global) -> Arg<'a>
+    ensures rule { rule_of result ≡ mask_rule }
+    ensures local { result.global ≡ false }
+{
+    Arg::new(alloc, "counters")
+        .long("counters")
+        .value_name("MASK")
+        .help("the declared counters: bit c of this number for counter c")
+        .required(true)
+        .value_parser(value_parser!(u32))
+}
+
+/// A subcommand that wants a file.
+fn with_file<'a>(
+    alloc: Global,
+    name: &'a str,
+    about: &'a str,
+    example: &'a str,
+    file: &'a str,
+) -> Result<Command<'a>, AllocError>
+    ensures app { IfOk result (λ c. app_of c ≡ of_file name.entry.now file.entry.now) }
+    ensures local { IfOk result (λ c. (out-Command c).has_globals ≡ false) }
+{
+    let told = Command::new(alloc, name).about(about).after_help(example);
+    let command = told.arg(file_arg(alloc, file))?;
+    Ok(command)
+}
+
+/// A subcommand that wants two files.
+fn with_files<'a>(
+    alloc: Global,
+    name: &'a str,
+    about: &'a str,
+    example: &'a str,
+    first: &'a str,
+    second: &'a str,
+) -> Result<Command<'a>, AllocError>
+    ensures app { IfOk result (λ c. app_of c ≡ of_files name.entry.now first.entry.now second.entry.now) }
+    ensures local { IfOk result (λ c. (out-Command c).has_globals ≡ false) }
+{
+    let some = with_file(alloc, name, about, example, first)?;
+    let command = some.arg(file_arg(alloc, second))?;
+    Ok(command)
+}
+
+/// The subcommand that verifies.
+fn verify<'a>(alloc: Global) -> Result<Command<'a>, AllocError>
+    ensures app { IfOk result (λ c. app_of c ≡ verify_app) }
+    ensures local { IfOk result (λ c. (out-Command c).has_globals ≡ false) }
+{
+    let some = with_file(
+        alloc,
+        "verify",
+        "Tells whether a program file is accepted",
+        "Example: fc verify --counters 3 rule.hex",
+        "file",
+    )?;
+    let command = some.arg(mask_arg(alloc))?;
+    Ok(command)
+}
+
+const ABOUT: &str =
+    "Keeps a petrol station's site, where small programs decide each release, preset and price.
+Without words it reads a configuration, a line ---, and a script from standard input.";
+
+const AFTER: &str = "Example: fc play site.toml day.script
+
+Faults: A assembler text, C closing a site, F an entry that is not legal, H hexadecimal, J journal text,
+K configuration, L line, N device, S refusal of the site, V program refused. docs/reference.md names each.
+Status: 0 done, 1 the input is refused, 2 the words are wrong, 3 a device failed or memory ran out.";
+
+/// The program's command.
+pub fn fc<'a>(alloc: Global) -> Result<Command<'a>, AllocError>
+    ensures { IfOk result (λ c. app_of c ≡ fc_app) }
+{
+    let asm = with_file(
+        alloc,
+        "asm",
+        "Prints the units of a rule",
+        "Example: fc asm rule.bpf",
+        "file",
+    )?;
+    let dis = with_file(
+        alloc,
+        "dis",
+        "Prints a program as text",
+        "Example: fc dis rule.hex",
+        "file",
+    )?;
+    let verify = verify(alloc)?;
+    let play = with_files(
+        alloc,
+        "play",
+        "Answers each line of a script",
+        "Example: fc play site.toml day.script",
+        "config",
+        "script",
+    )?;
+    let audit = with_files(
+        alloc,
+        "audit",
+        "Tells whether a journal is a legal history",
+        "Example: fc audit site.toml day.journal",
+        "config",
+        "journal",
+    )?;
+    let serve = with_file(
+        alloc,
+        "serve",
+        "Serves a site on 127.0.0.1, then prints its journal",
+        "Example: fc serve site.toml > day.journal",
+        "config",
+    )?;
+    let top = Command::new(alloc, "fc")
+        .version("0.1.0")
+        .about(ABOUT)
+        .after_help(AFTER);
+    let one = top.subcommand(asm)?;
+    let two = one.subcommand(dis)?;
+    let three = two.subcommand(verify)?;
+    let four = three.subcommand(play)?;
+    let five = four.subcommand(audit)?;
+    let all = five.subcommand(serve)?;
+    Ok(all)
+}

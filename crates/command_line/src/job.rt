@@ -1,0 +1,43 @@
+//! What the words ask for.
+ghost use Rattle.std.specs.Prelude.{◌≡◌};
+
+use std::alloc::AllocError;
+
+/// What the words ask for. Files are named as the words name them.
+#[derive(Debug, Drop)]
+pub enum Job {
+    /// No words: the configuration and the script stand on standard input.
+    NoWords,
+    /// Text of the assembler to units.
+    Asm(String),
+    /// A program file to text of the assembler.
+    Dis(String),
+    /// Whether a program file is accepted; bit c of `counters` declares counter c.
+    Verify { counters: u32, file: String },
+    /// A script's answers.
+    Play { config: String, script: String },
+    /// Whether a journal is a legal history.
+    Audit { config: String, journal: String },
+    /// A site served on loopback.
+    Serve(String),
+    /// The text that help or the version is answered with.
+    Show(String),
+}
+
+/// Why there is no job.
+#[derive(Debug, Drop)]
+pub enum CommandFault {
+    /// The words are no use of the program; the text says how it is used.
+    Usage(String),
+    OutOfMemory,
+}
+
+impl From<AllocError> for CommandFault {
+    ghost use Rattle.command_line.specs.declared.job.CommandFault.TheVariants.{OutOfMemory};
+
+    ghost from_gives = { λ _ e. e ≡ OutOfMemory };
+
+    fn from(_: AllocError) -> Self {
+        CommandFault::OutOfMemory
+    }
+}

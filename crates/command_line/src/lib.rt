@@ -1,0 +1,11 @@
+//! The words of the command line.
+#![tactic(auto)]
+
+mod app;
+mod job;
+#[cfg(test)]
+mod tests;
+mod words;
+
+pub use job::{CommandFault, Job};
+pub use words::command;

@@ -1,0 +1,7 @@
+use Rattle.std.proofs.Common.{◌≡◌, string_bytes}
+use Rattle.program_file.specs.Digits.{lines_below}
+use Rattle.program_file.proofs.unit_lines.Given as goal
+
+-- the lines so far
+abbrev pub invariant-loop-unit : goal.invariant-loop-unit
+invariant-loop-unit l = string_bytes l.text ≡ lines_below l.bytes l.unit

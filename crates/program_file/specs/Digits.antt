@@ -1,0 +1,40 @@
+-- Definitions: the text of a program file (this profile).
+use Rattle.std.specs.Prelude.{◌≡◌, ℕ, zero, suc, ◌*◌, ◌/◌, ◌==◌, ◌||◌, Bool, not, nat_le, if◌then◌else◌, List, [], ◌∷◌, ◌++◌, length, filter, take, drop, Result, Ok, Err, ⊤}
+use Rattle.hex.specs.Hex.{decode_of, encode_lower}
+use Rattle.hex.specs.declared.error.FromHexError.{FromHexError}
+use Rattle.program_file.specs.declared.ProgramFileFault.{ProgramFileFault}
+use Rattle.program_file.specs.declared.ProgramFileFault.TheVariants.{TooLong, BadDigits, OutOfMemory}
+
+-- space, tab, CR, LF
+abbrev pub is_blank : ℕ → Bool
+is_blank b = (b == 32) || (b == 9) || (b == 13) || (b == 10)
+
+abbrev pub bytes_or_fault : Result (List ℕ) FromHexError → Result (List ℕ) ProgramFileFault
+bytes_or_fault (Ok bytes) = Ok bytes
+bytes_or_fault (Err e) = Err BadDigits
+
+-- the bytes that the digits of a text are, blanks skipped
+unfoldable pub program_in : List ℕ → Result (List ℕ) ProgramFileFault
+program_in text =
+    if nat_le (length text) 65536 then bytes_or_fault (decode_of (filter (λ b. not (is_blank b)) text)) else Err TooLong
+
+-- what a function returned, seen by view, is what the definition says, unless memory ran out
+abbrev pub Fails : {B : Type 0} → ProgramFileFault → Result B ProgramFileFault → Type 0
+Fails OutOfMemory said = ⊤
+Fails fault said = said ≡ Err fault
+
+abbrev pub Gives : {A B : Type 0} → (A → B) → Result A ProgramFileFault → Result B ProgramFileFault → Type 0
+Gives view (Ok x) said = said ≡ Ok (view x)
+Gives view (Err fault) said = Fails fault said
+
+-- the line of a unit: 16 digits and an LF
+abbrev pub line_at : List ℕ → ℕ → List ℕ
+line_at bytes unit = encode_lower (take 8 (drop (8 * unit) bytes)) ++ 10 ∷ []
+
+-- the lines of the first n units
+abbrev pub lines_below : List ℕ → ℕ → List ℕ
+lines_below bytes zero = []
+lines_below bytes (suc unit) = lines_below bytes unit ++ line_at bytes unit
+
+abbrev pub unit_lines : List ℕ → List ℕ
+unit_lines bytes = lines_below bytes (length bytes / 8)

@@ -1,0 +1,136 @@
+//! Files of programs: hexadecimal digits with blanks between them.
+#![tactic(auto)]
+
+ghost use Rattle.std.specs.Prelude.{◌≡◌, ◌*◌, ◌+◌, ◌≤◌, length, filter, not, IfOk, OnOk, ◌++◌, string_bytes};
+ghost use Rattle.program_file.specs.Digits.{Gives, program_in, is_blank, line_at, unit_lines};
+
+use hex::FromHexError;
+use std::alloc::{AllocError, Global};
+
+/// The most bytes of a configuration, program or assembler file.
+pub const MOST_BYTES: usize = 65_536;
+
+/// Why a file is no program file.
+#[derive(Clone, Copy, Debug, PartialEq, Eq, Drop)]
+pub enum ProgramFileFault {
+    /// L1: over 65,536 bytes.
+    TooLong,
+    /// H1: another byte than digits and blanks, or an odd count of digits.
+    BadDigits,
+    OutOfMemory,
+}
+
+impl From<AllocError> for ProgramFileFault {
+    ghost use Rattle.program_file.specs.declared.ProgramFileFault.TheVariants.{OutOfMemory};
+
+    ghost from_gives = { λ _ e. e ≡ OutOfMemory };
+
+    fn from(_: AllocError) -> Self {
+        ProgramFileFault::OutOfMemory
+    }
+}
+
+/// A space, tab, CR or LF.
+fn is_a_blank(byte: u8) -> bool
+    ensures { result ≡ is_blank byte }
+{
+    byte == b' ' || byte == b'\t' || byte == b'\r' || byte == b'\n'
+}
+
+/// The bytes that are no blanks.
+fn without_blanks(alloc: Global, text: &[u8]) -> Result<Vec<u8>, AllocError>
+    ensures { IfOk result (λ kept. kept.items ≡ filter (λ b. not (is_blank b)) text.now) }
+{
+    text.iter()
+        .copied()
+        .filter(|byte| !is_a_blank(*byte))
+        .collect(alloc)
+}
+
+/// The bytes of a program file: at most 65,536 bytes of hexadecimal digits in either case; spaces, tabs, CR
+/// and LF are skipped. A file that is too long is refused before its digits are looked at.
+#[tactic(auto, unfolding(crate::specs::Digits::program_in))]
+pub fn read_program(alloc: Global, text: &[u8]) -> Result<Vec<u8>, ProgramFileFault>
+    ensures { Gives (λ bytes. bytes.items) result (program_in text.now) }
+{
+    if text.len() > MOST_BYTES {
+        return Err(ProgramFileFault::TooLong);
+    }
+    let digits = without_blanks(alloc, text)?;
+    match hex::decode(alloc, digits.as_slice()) {
+        Ok(bytes) => Ok(bytes),
+        Err(FromHexError::OutOfMemory) => Err(ProgramFileFault::OutOfMemory),
+        Err(_) => Err(ProgramFileFault::BadDigits),
+    }
+}
+
+/// Adds the line of a unit.
+fn push_line(alloc: Global, text: &mut String, bytes: &[u8], unit: usize) -> Result<(), AllocError>
+    requires { 8 * unit + 8 ≤ length bytes.now }
+    ensures { OnOk result (string_bytes text.new ≡ string_bytes text.old ++ line_at bytes.now unit) }
+{
+    let digits = hex::encode(alloc, &bytes[8 * unit..8 * unit + 8])?;
+    text.push_str(digits.as_str())?;
+    text.push('\n')?;
+    Ok(())
+}
+
+/// The units of a program as lines: of each whole unit of 8 bytes 16 lower case digits and an LF.
+pub fn unit_lines(alloc: Global, bytes: &[u8]) -> Result<String, AllocError>
+    ensures { IfOk result (λ text. string_bytes text ≡ unit_lines bytes.now) }
+{
+    let mut text = String::new(alloc);
+    for unit in 0..bytes.len() / 8 {
+        push_line(alloc, &mut text, bytes, unit)?;
+    }
+    Ok(text)
+}
+
+#[cfg(test)]
+mod tests {
+    use super::*;
+    use std::test::Fail;
+
+    #[test]
+    fn blanks_are_skipped(rt: HostRuntime) -> Result<(), Fail> {
+        let bytes = read_program(rt.alloc(), b"95 00\t0000\r\n00000000\nfF")?;
+        assert_eq!(rt;
+            bytes.as_slice(),
+            [0x95, 0, 0, 0, 0, 0, 0, 0, 0xff].as_slice()
+        );
+        Ok(())
+    }
+
+    #[test]
+    fn other_bytes_and_odd_counts_are_refused(rt: HostRuntime) -> Result<(), Fail> {
+        for text in ["9", "95g0", "0x95", "95\u{0b}00"] {
+            assert!(rt;
+                read_program(rt.alloc(), text.as_bytes()).err()
+                    == Some(ProgramFileFault::BadDigits),
+                "{text}"
+            );
+        }
+        Ok(())
+    }
+
+    #[test]
+    fn units_stand_on_lines(rt: HostRuntime) -> Result<(), Fail> {
+        let bytes = [0x95, 0, 0, 0, 0, 0, 0, 0, 0xb7, 0, 0, 0, 0xff, 0, 0, 1];
+        let text = unit_lines(rt.alloc(), bytes.as_slice())?;
+        assert_eq!(rt; text.as_str(), "9500000000000000\nb7000000ff000001\n");
+        Ok(())
+    }
+
+    #[test]
+    fn too_long_comes_first(rt: HostRuntime) -> Result<(), Fail> {
+        let mut text = vec![in rt.alloc(); b'x'; 65_536]?;
+        assert!(rt;
+            read_program(rt.alloc(), text.as_slice()).err() == Some(ProgramFileFault::BadDigits)
+        );
+        text.push(b'x')?;
+        assert!(rt;
+            read_program(rt.alloc(), text.as_slice()).err() == Some(ProgramFileFault::TooLong)
+        );
+        Ok(())
+    }
+}

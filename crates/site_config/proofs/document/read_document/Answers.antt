@@ -1,0 +1,18 @@
+use Rattle.std.proofs.Common.{◌≡◌, ℕ, List, Bool, true, false, refl, sym, ap}
+use Rattle.std.specs.Str.{IsUtf8, is_utf8}
+use Rattle.std.proofs.lemmas.Str.{is_utf8-from_IsUtf8, IsUtf8-from_is_utf8}
+use Rattle.site_config.specs.Document.{document_of, or_fault}
+use Rattle.site_config.specs.declared.fault.ConfigFault.TheVariants.{K1}
+use Rattle.site_config.proofs.document.read_document.Goals as goal
+
+false_unless : (b : Bool) → (b ≡ true → ⊥) → b ≡ false
+false_unless true n = absurd (n refl)
+false_unless false n = refl
+
+pub returns-in-Ok-table_from_str : goal.returns-in-Ok-table_from_str
+unfolding document_of
+returns-in-Ok-table_from_str c = rw (is_utf8-from_IsUtf8 c.args.bytes.now c.in-Ok.ensures.cases.1) (ap (or_fault K1) (rw c.in-Ok.ensures.cases.0 at c.in-Ok-table_from_str.ensures.ok))
+
+pub returns-in-Err : goal.returns-in-Err
+unfolding document_of
+returns-in-Err c = rw (false_unless (is_utf8 c.args.bytes.now) (λ h. c.in-Err.ensures.cases.0 (IsUtf8-from_is_utf8 c.args.bytes.now h)))

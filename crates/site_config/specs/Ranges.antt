@@ -1,0 +1,111 @@
+-- The ranges, lengths, counts and conditions of settings.
+use Rattle.std.specs.Prelude.{◌≡◌, ◌==◌, ◌&&◌, ◌||◌, ◌-◌, not, nat_le, ℕ, ℤ, pos, negsuc, List, [], ◌∷◌, ◌++◌, length, replicate, Bool, true, false, Option, Some, None, Result, Ok, Err, if◌then◌else◌}
+use Rattle.site_config.specs.declared.fault.ConfigFault.{ConfigFault}
+use Rattle.site_config.specs.declared.fault.ConfigFault.TheVariants.{K1, K2, K3, OutOfMemory}
+use Rattle.site_config.specs.declared.raw.Served.{Served}
+use Rattle.site_config.specs.declared.settings.Serve.{Serve}
+use Rattle.site_config.specs.declared.settings.Settings.{Settings}
+use Rattle.site_core.specs.Limits.{ConfigValue}
+use Rattle.site_config.specs.Document.{◌>>=◌, document_of}
+use Rattle.site_config.specs.Typed.{Typed, typed_of}
+
+-- a number from low to high
+abbrev pub ranged : ℕ → ℕ → ℤ → Result ℕ ConfigFault
+ranged low high (pos n) = if nat_le low n && nat_le n high then Ok n else Err K3
+ranged low high (negsuc n) = Err K3
+
+abbrev pub demand : Bool → Result (Unit {0}) ConfigFault
+demand true = Ok tt
+demand false = Err K3
+
+-- numbers from low to high
+abbrev pub all_ranged : ℕ → ℕ → List ℤ → Result (List ℕ) ConfigFault
+all_ranged low high [] = Ok []
+all_ranged low high (z ∷ zs) = do
+  n ← ranged low high z
+  ns ← all_ranged low high zs
+  Ok (n ∷ ns)
+
+-- a point's two slots
+unfoldable pub point_of : ℤ × ℤ → Result (ℕ × ℕ) ConfigFault
+point_of p = do
+  r ← ranged 0 15 p.0
+  s ← ranged 0 15 p.1
+  Ok (r, s)
+
+-- a counter's value and bound
+unfoldable pub counter_of : ℤ × ℤ → Result (ℕ × ℕ) ConfigFault
+counter_of p = do
+  v ← ranged 0 9223372036854775807 p.0
+  b ← ranged 0 9223372036854775807 p.1
+  fits ← demand (nat_le v b)
+  Ok (v, b)
+
+abbrev pub each_of : (ℤ × ℤ → Result (ℕ × ℕ) ConfigFault) → List (ℤ × ℤ) → Result (List (ℕ × ℕ)) ConfigFault
+each_of one [] = Ok []
+each_of one (p ∷ ps) = do
+  q ← one p
+  qs ← each_of one ps
+  Ok (q ∷ qs)
+
+-- 8 prices
+unfoldable pub prices_of : List ℤ → Result (List ℕ) ConfigFault
+prices_of zs = do
+  eight ← demand (length zs == 8)
+  all_ranged 0 9999999 zs
+
+-- 1 to 32 points
+unfoldable pub points_of : List (ℤ × ℤ) → Result (List (ℕ × ℕ)) ConfigFault
+points_of ps = do
+  some ← demand (nat_le 1 (length ps) && nat_le (length ps) 32)
+  each_of point_of ps
+
+-- at most 32 counters; those not named have 0 and 0
+unfoldable pub counters_of : List (ℤ × ℤ) → Result (List (ℕ × ℕ)) ConfigFault
+counters_of ps = do
+  few ← demand (nat_le (length ps) 32)
+  qs ← each_of counter_of ps
+  Ok (qs ++ replicate (32 - length qs) (0, 0))
+
+-- ports that are all different, workers and connections
+unfoldable pub serve_of : Served → Result Serve ConfigFault
+serve_of s = do
+  t ← ranged 1 65535 s.till_port
+  d ← ranged 1 65535 s.dispenser_port
+  o ← ranged 1 65535 s.owner_port
+  different ← demand (not (t == d) && (not (t == o) && not (d == o)))
+  tw ← ranged 1 64 s.till_workers
+  dw ← ranged 1 31 s.dispenser_workers
+  n ← ranged 1 1000000 s.connections
+  Ok (record { till_port = t; dispenser_port = d; owner_port = o; till_workers = tw; dispenser_workers = dw; connections = n })
+
+abbrev pub serve_from : Option Served → Result (Option Serve) ConfigFault
+serve_from None = Ok None
+serve_from (Some s) = do
+  r ← serve_of s
+  Ok (Some r)
+
+-- what a configuration says, without where it lies in memory
+pub record Told : Type 0 where
+  pub config : ConfigValue
+  pub serve : Option Serve
+
+unfoldable pub told_of : Typed → Result Told ConfigFault
+told_of d = do
+  tills ← ranged 1 64 d.tills
+  slot ← ranged 0 15 d.price_slot
+  prices ← prices_of d.prices
+  points ← points_of d.points
+  counters ← counters_of d.counters
+  serve ← serve_from d.serve
+  Ok (record { config = record { tills = tills; price_slot = slot; prices = prices; points = points; counters = counters }; serve = serve })
+
+abbrev pub told : Settings → Told
+told s = record { config = s.config; serve = s.serve }
+
+-- what a text says: K1 before K2, K2 before K3
+unfoldable pub config_of : List ℕ → Result Told ConfigFault
+config_of bytes = do
+  doc ← document_of bytes
+  typed ← typed_of doc
+  told_of typed

@@ -1,0 +1,15 @@
+//! The configuration of a site, read from its text.
+#![tactic(auto)]
+
+mod document;
+mod fault;
+mod ranges;
+mod raw;
+mod settings;
+#[cfg(test)]
+mod tests;
+mod typed;
+
+pub use fault::ConfigFault;
+pub use ranges::read_config;
+pub use settings::{Serve, Settings};

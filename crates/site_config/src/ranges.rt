@@ -1,0 +1,207 @@
+//! Ranges, lengths, counts and conditions.
+ghost use Rattle.std.specs.Prelude.{◌≡◌, ◌≤◌, ◌-◌, ◌++◌, length, replicate, IfOk, All};
+ghost use Rattle.toml.specs.View.{table_view};
+ghost use Rattle.site_config.specs.Document.{Gives};
+ghost use Rattle.site_config.specs.Typed.{seen};
+ghost use Rattle.site_config.specs.Ranges.{ranged, all_ranged, point_of, counter_of, each_of, prices_of, points_of, counters_of, serve_of, serve_from, told_of, told, config_of};
+
+use crate::document::read_document;
+use crate::fault::ConfigFault;
+use crate::raw::{Raw, Served};
+use crate::settings::{Serve, Settings};
+use crate::typed::read_typed;
+use site_core::Config;
+use std::alloc::Global;
+
+/// The number, if it is from low to high.
+fn in_range(value: i64, low: u32, high: u32) -> Result<u32, ConfigFault>
+    ensures read { Gives (λ x. x) result (ranged low high value) }
+    ensures range { IfOk result (λ n. (low ≤ n) × (n ≤ high)) }
+{
+    match u32::try_from(value) {
+        Ok(number) if low <= number && number <= high => Ok(number),
+        _ => Err(ConfigFault::K3),
+    }
+}
+
+/// The number, if it is not below 0.
+fn not_negative(value: i64) -> Result<u64, ConfigFault>
+    ensures { Gives (λ x. x) result (ranged 0 9223372036854775807 value) }
+{
+    u64::try_from(value).map_err(|_| ConfigFault::K3)
+}
+
+#[tactic(auto, unfolding(crate::specs::Ranges::point_of))]
+fn make_point(pair: (i64, i64)) -> Result<(u32, u32), ConfigFault>
+    ensures read { Gives (λ x. x) result (point_of pair) }
+    ensures range { IfOk result (λ p. (p.0 ≤ 15) × (p.1 ≤ 15)) }
+{
+    let release = in_range(pair.0, 0, 15)?;
+    let preset = in_range(pair.1, 0, 15)?;
+    Ok((release, preset))
+}
+
+#[tactic(auto, unfolding(crate::specs::Ranges::counter_of))]
+fn make_counter(pair: (i64, i64)) -> Result<(u64, u64), ConfigFault>
+    ensures read { Gives (λ x. x) result (counter_of pair) }
+    ensures range { IfOk result (λ p. p.0 ≤ p.1) }
+{
+    let value = not_negative(pair.0)?;
+    let bound = not_negative(pair.1)?;
+    if value > bound {
+        return Err(ConfigFault::K3);
+    }
+    Ok((value, bound))
+}
+
+fn each_price(alloc: Global, values: &[i64]) -> Result<Vec<u32>, ConfigFault>
+    ensures read { Gives (λ v. v.items) result (all_ranged 0 9999999 values.now) }
+    ensures range { IfOk result (λ v. All (λ price. price ≤ 9999999) v.items) }
+{
+    let mut prices = Vec::new(alloc);
+    for value in values {
+        prices.push(in_range(*value, 0, 9_999_999)?)?;
+    }
+    Ok(prices)
+}
+
+/// A list of 8 as an array.
+fn eight_of(list: &[u32]) -> [u32; 8]
+    requires { length list.now ≡ 8 }
+    ensures { result ≡ list.now }
+{
+    let mut array = [0; 8];
+    array.copy_from_slice(list);
+    array
+}
+
+#[tactic(auto, unfolding(crate::specs::Ranges::prices_of), using(crate::proofs::Lengths::lengths))]
+fn make_prices(alloc: Global, values: &[i64]) -> Result<[u32; 8], ConfigFault>
+    ensures read { Gives (λ x. x) result (prices_of values.now) }
+    ensures range { IfOk result (All (λ price. price ≤ 9999999)) }
+{
+    if values.len() != 8 {
+        return Err(ConfigFault::K3);
+    }
+    let prices = each_price(alloc, values)?;
+    Ok(eight_of(prices.as_slice()))
+}
+
+fn each_point(alloc: Global, pairs: &[(i64, i64)]) -> Result<Vec<(u32, u32)>, ConfigFault>
+    ensures read { Gives (λ v. v.items) result (each_of point_of pairs.now) }
+    ensures each { IfOk result (λ v. length v.items ≡ length pairs.now) }
+    ensures range { IfOk result (λ v. All (λ p. (p.0 ≤ 15) × (p.1 ≤ 15)) v.items) }
+{
+    let mut points = Vec::new(alloc);
+    for pair in pairs {
+        points.push(make_point(*pair)?)?;
+    }
+    Ok(points)
+}
+
+#[tactic(auto, unfolding(crate::specs::Ranges::points_of))]
+fn make_points(alloc: Global, pairs: &[(i64, i64)]) -> Result<Vec<(u32, u32)>, ConfigFault>
+    ensures read { Gives (λ v. v.items) result (points_of pairs.now) }
+    ensures count { IfOk result (λ v. (1 ≤ length v.items) × (length v.items ≤ 32)) }
+    ensures range { IfOk result (λ v. All (λ p. (p.0 ≤ 15) × (p.1 ≤ 15)) v.items) }
+{
+    if pairs.is_empty() || pairs.len() > 32 {
+        return Err(ConfigFault::K3);
+    }
+    each_point(alloc, pairs)
+}
+
+#[tactic(auto, unfolding(crate::specs::Ranges::serve_of))]
+fn make_serve(served: &Served) -> Result<Serve, ConfigFault>
+    ensures { Gives (λ x. x) result (serve_of served.now) }
+{
+    let till_port = in_range(served.till_port, 1, 65_535)?;
+    let dispenser_port = in_range(served.dispenser_port, 1, 65_535)?;
+    let owner_port = in_range(served.owner_port, 1, 65_535)?;
+    if till_port == dispenser_port || till_port == owner_port || dispenser_port == owner_port {
+        return Err(ConfigFault::K3);
+    }
+    let till_workers = in_range(served.till_workers, 1, 64)?;
+    let dispenser_workers = in_range(served.dispenser_workers, 1, 31)?;
+    let connections = in_range(served.connections, 1, 1_000_000)?;
+    Ok(Serve {
+        till_port,
+        dispenser_port,
+        owner_port,
+        till_workers,
+        dispenser_workers,
+        connections,
+    })
+}
+
+fn each_counter(alloc: Global, pairs: &[(i64, i64)]) -> Result<Vec<(u64, u64)>, ConfigFault>
+    ensures read { Gives (λ v. v.items) result (each_of counter_of pairs.now) }
+    ensures each { IfOk result (λ v. length v.items ≡ length pairs.now) }
+    ensures range { IfOk result (λ v. All (λ p. p.0 ≤ p.1) v.items) }
+{
+    let mut counters = Vec::new(alloc);
+    for pair in pairs {
+        counters.push(make_counter(*pair)?)?;
+    }
+    Ok(counters)
+}
+
+/// A list of at most 32 as an array, with 0 and 0 behind it.
+fn table_of(list: &[(u64, u64)]) -> [(u64, u64); 32]
+    requires room { length list.now ≤ 32 }
+    requires range { All (λ p. p.0 ≤ p.1) list.now }
+    ensures after { result ≡ list.now ++ replicate (32 - length list.now) (0, 0) }
+    ensures range { All (λ p. p.0 ≤ p.1) result }
+{
+    let mut array = [(0, 0); 32];
+    array[..list.len()].copy_from_slice(list);
+    array
+}
+
+#[tactic(auto, unfolding(crate::specs::Ranges::counters_of))]
+fn make_counters(alloc: Global, pairs: &[(i64, i64)]) -> Result<[(u64, u64); 32], ConfigFault>
+    ensures read { Gives (λ x. x) result (counters_of pairs.now) }
+    ensures range { IfOk result (All (λ p. p.0 ≤ p.1)) }
+{
+    if pairs.len() > 32 {
+        return Err(ConfigFault::K3);
+    }
+    let counters = each_counter(alloc, pairs)?;
+    Ok(table_of(counters.as_slice()))
+}
+
+fn maybe_serve(served: &Option<Served>) -> Result<Option<Serve>, ConfigFault>
+    ensures { Gives (λ x. x) result (serve_from served.now) }
+{
+    match served {
+        Some(served) => Ok(Some(make_serve(served)?)),
+        None => Ok(None),
+    }
+}
+
+/// The settings that these keys say.
+#[tactic(auto, unfolding(crate::specs::Ranges::told_of))]
+fn make_settings(alloc: Global, raw: &Raw) -> Result<Settings, ConfigFault>
+    ensures { Gives told result (told_of (seen raw.now)) }
+{
+    let tills = in_range(raw.tills, 1, 64)?;
+    let price_slot = in_range(raw.price_slot, 0, 15)?;
+    let prices = make_prices(alloc, &raw.prices)?;
+    let points = make_points(alloc, &raw.points)?;
+    let counters = make_counters(alloc, &raw.counters)?;
+    let serve = maybe_serve(&raw.serve)?;
+    match Config::new(tills, price_slot, prices, points, counters) {
+        Some(config) => Ok(Settings { config, serve }),
+        None => unreachable!(),
+    }
+}
+
+/// The settings that a text names.
+#[tactic(auto, unfolding(crate::specs::Ranges::config_of))]
+pub fn read_config(alloc: Global, bytes: &[u8]) -> Result<Settings, ConfigFault>
+    ensures { Gives told result (config_of bytes.now) }
+{
+    let document = read_document(alloc, bytes)?;
+    let raw = read_typed(alloc, &document)?;
+    make_settings(alloc, &raw)
+}

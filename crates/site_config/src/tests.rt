@@ -1,0 +1,156 @@
+//! Configurations as their owner writes them.
+use crate::{ConfigFault, Serve, read_config};
+use std::test::Fail;
+
+const TWO_POINTS: &str = "tills = 2
+price_slot = 2
+prices = [1799, 1849, 0, 0, 0, 0, 0, 0]
+[[point]]
+release = 0
+preset = 1
+[[point]]
+release = 3
+preset = 4
+[[counter]]
+value = 1
+bound = 2
+";
+
+#[test]
+fn what_the_keys_say_is_kept(rt: HostRuntime) -> Result<(), Fail> {
+    let settings = read_config(rt.alloc(), TWO_POINTS.as_bytes())?;
+    let config = &settings.config;
+    assert_eq!(rt; config.tills(), 2);
+    assert_eq!(rt; config.price_slot(), 2);
+    assert_eq!(rt; config.prices(), [1799, 1849, 0, 0, 0, 0, 0, 0]);
+    assert_eq!(rt; config.points(), [(0, 1), (3, 4)].as_slice());
+    assert_eq!(rt; config.counters()[0], (1, 2));
+    assert_eq!(rt; config.counters()[31], (0, 0));
+    assert!(rt; settings.serve.is_none());
+    Ok(())
+}
+
+#[test]
+fn where_to_serve_is_kept(rt: HostRuntime) -> Result<(), Fail> {
+    let text = "tills = 64
+price_slot = 15
+prices = [0, 0, 0, 0, 0, 0, 0, 9999999]
+point = [{ release = 15, preset = 15 }]
+serve = { till_port = 65535, dispenser_port = 1, owner_port = 7003, till_workers = 64, dispenser_workers = 31, connections = 1000000 }
+";
+    let settings = read_config(rt.alloc(), text.as_bytes())?;
+    let serve = Serve {
+        till_port: 65_535,
+        dispenser_port: 1,
+        owner_port: 7003,
+        till_workers: 64,
+        dispenser_workers: 31,
+        connections: 1_000_000,
+    };
+    assert!(rt; settings.serve == Some(serve));
+    Ok(())
+}
+
+#[test]
+fn faults_in_their_order(rt: HostRuntime) -> Result<(), Fail> {
+    let head = "tills = 2\nprice_slot = 2\nprices = [1799, 1849, 0, 0, 0, 0, 0, 0]\n";
+    let point = "[[point]]\nrelease = 0\npreset = 1\n";
+    let serve =
+        "[serve]\ntill_port = 7001\ndispenser_port = 7002\nowner_port = 7003\ntill_workers = 1\ndispenser_workers = 1\n";
+    for (name, parts, want) in [
+        ("no document", ["tills = ", "", ""], ConfigFault::K1),
+        (
+            "a key twice",
+            ["tills = 1\ntills = 1\n", "", ""],
+            ConfigFault::K1,
+        ),
+        ("nothing", ["", "", ""], ConfigFault::K2),
+        ("another key", [head, point, "till = 1\n"], ConfigFault::K2),
+        ("no point", [head, "", ""], ConfigFault::K2),
+        (
+            "a point that is a table",
+            [head, "[point]\nrelease = 0\npreset = 1\n", ""],
+            ConfigFault::K2,
+        ),
+        (
+            "a float",
+            [
+                "tills = 2.0\nprice_slot = 2\nprices = [1799, 1849, 0, 0, 0, 0, 0, 0]\n",
+                point,
+                "",
+            ],
+            ConfigFault::K2,
+        ),
+        (
+            "a key of a point wanting",
+            [head, "[[point]]\nrelease = 0\n", ""],
+            ConfigFault::K2,
+        ),
+        (
+            "a key of serve wanting",
+            [head, point, serve],
+            ConfigFault::K2,
+        ),
+        (
+            "a wrong type behind a wrong range",
+            [
+                "tills = 0\nprice_slot = 2\nprices = [1799, 1849, 0, 0, 0, 0, 0, 0]\n",
+                point,
+                "[[counter]]\nvalue = true\nbound = 1\n",
+            ],
+            ConfigFault::K2,
+        ),
+        (
+            "no till",
+            [
+                "tills = 0\nprice_slot = 2\nprices = [1799, 1849, 0, 0, 0, 0, 0, 0]\n",
+                point,
+                "",
+            ],
+            ConfigFault::K3,
+        ),
+        (
+            "seven prices",
+            [
+                "tills = 2\nprice_slot = 2\nprices = [1799, 1849, 0, 0, 0, 0, 0]\n",
+                point,
+                "",
+            ],
+            ConfigFault::K3,
+        ),
+        (
+            "a price too high",
+            [
+                "tills = 2\nprice_slot = 2\nprices = [10000000, 1849, 0, 0, 0, 0, 0, 0]\n",
+                point,
+                "",
+            ],
+            ConfigFault::K3,
+        ),
+        (
+            "a slot too high",
+            [head, "[[point]]\nrelease = 16\npreset = 1\n", ""],
+            ConfigFault::K3,
+        ),
+        (
+            "a list of no points",
+            [head, "point = []\n", ""],
+            ConfigFault::K3,
+        ),
+        (
+            "a value over its bound",
+            [head, point, "[[counter]]\nvalue = 2\nbound = 1\n"],
+            ConfigFault::K3,
+        ),
+        (
+            "a value below 0",
+            [head, point, "[[counter]]\nvalue = -1\nbound = 1\n"],
+            ConfigFault::K3,
+        ),
+    ] {
+        let text = format!(in rt.alloc(); "{}{}{}", parts[0], parts[1], parts[2])?;
+        let fault = read_config(rt.alloc(), text.as_bytes()).err();
+        assert!(rt; fault == Some(want), "{name}");
+    }
+    Ok(())
+}
