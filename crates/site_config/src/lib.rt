@@ -3,6 +3,7 @@
 
 mod document;
 mod fault;
+mod head;
 mod ranges;
 mod raw;
 mod settings;
@@ -11,5 +12,6 @@ mod tests;
 mod typed;
 
 pub use fault::ConfigFault;
+pub use head::{MOST_BYTES, config_part, read_head};
 pub use ranges::read_config;
 pub use settings::{Serve, Settings};

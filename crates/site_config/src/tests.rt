@@ -1,6 +1,9 @@
 //! Configurations as their owner writes them.
-use crate::{ConfigFault, Serve, read_config};
+use crate::{ConfigFault, Serve, config_part, read_config, read_head};
+use site_core::Site;
 use std::test::Fail;
+use till_request::LineIn;
+use till_request::devices::MemoryIn;
 
 const TWO_POINTS: &str = "tills = 2
 price_slot = 2
@@ -19,14 +22,10 @@ bound = 2
 #[test]
 fn what_the_keys_say_is_kept(rt: HostRuntime) -> Result<(), Fail> {
     let settings = read_config(rt.alloc(), TWO_POINTS.as_bytes())?;
-    let config = &settings.config;
-    assert_eq!(rt; config.tills(), 2);
-    assert_eq!(rt; config.price_slot(), 2);
-    assert_eq!(rt; config.prices(), [1799, 1849, 0, 0, 0, 0, 0, 0]);
-    assert_eq!(rt; config.points(), [(0, 1), (3, 4)].as_slice());
-    assert_eq!(rt; config.counters()[0], (1, 2));
-    assert_eq!(rt; config.counters()[31], (0, 0));
     assert!(rt; settings.serve.is_none());
+    let site = Site::start(rt.alloc(), settings.config)?;
+    assert_eq!(rt; site.counter(0), Some((1, 2)));
+    assert_eq!(rt; site.counter(31), Some((0, 0)));
     Ok(())
 }
 
@@ -151,6 +150,47 @@ fn faults_in_their_order(rt: HostRuntime) -> Result<(), Fail> {
         let text = format!(in rt.alloc(); "{}{}{}", parts[0], parts[1], parts[2])?;
         let fault = read_config(rt.alloc(), text.as_bytes()).err();
         assert!(rt; fault == Some(want), "{name}");
+    }
+    Ok(())
+}
+
+#[test]
+fn a_head_ends_with_its_line(rt: HostRuntime) -> Result<(), Fail> {
+    for (text, want, left) in [
+        ("a = 1\n---\ntill 1 open 1\n", "a = 1\n", "till 1 open 1\n"),
+        ("---\n---\n", "", "---\n"),
+        (
+            "a = 1\n--- \n---\r\n----\n---",
+            "a = 1\n--- \n---\r\n----\n---",
+            "",
+        ),
+        ("", "", ""),
+    ] {
+        let bytes = Vec::from_slice(rt.alloc(), text.as_bytes())?;
+        let mut input = MemoryIn::new(bytes, Vec::new(rt.alloc()), None);
+        let mut reads = 67_108_864;
+        let head = read_head(rt.alloc(), &mut input, &mut reads)?;
+        assert_eq!(rt;
+            config_part(head.as_slice()),
+            Some(want.as_bytes()),
+            "{text}"
+        );
+        let mut rest = [0u8; 64];
+        let count = input.read(&mut rest)?;
+        assert_eq!(rt; &rest[..count], left.as_bytes(), "{text}");
+    }
+    Ok(())
+}
+
+#[test]
+fn a_head_of_too_many_bytes_is_none(rt: HostRuntime) -> Result<(), Fail> {
+    for (count, is_there) in [(65_536, true), (65_537, false), (70_000, false)] {
+        let mut bytes = vec![in rt.alloc(); b'#'; count - 1]?;
+        bytes.extend_from_slice(b"\n---\n")?;
+        let mut input = MemoryIn::new(bytes, Vec::new(rt.alloc()), None);
+        let mut reads = 67_108_864;
+        let head = read_head(rt.alloc(), &mut input, &mut reads)?;
+        assert_eq!(rt; config_part(head.as_slice()).is_some(), is_there, "{count}");
     }
     Ok(())
 }

@@ -1,0 +1,64 @@
+//! A configuration that stands before a script in one stream.
+ghost use Rattle.std.specs.Prelude.{◌≡◌, ◌≤◌, ◌-◌, ℕ, List, IfOk, OnErr, Err, length, option_map};
+ghost use Rattle.std.specs.Io.KnownBytes.{Consumes};
+ghost use Rattle.till_request.specs.Count.{RoseBy, one_if};
+ghost use Rattle.till_request.specs.Line.{TakesSome, is_input_fault};
+ghost use Rattle.site_config.specs.Head.{ends_head, head_part, IsHead};
+
+use std::alloc::Global;
+use till_request::{InputFault, LineIn, next_byte};
+
+/// The most bytes of a configuration.
+pub const MOST_BYTES: usize = 65_536;
+
+/// Whether the bytes end with a line `---`.
+fn is_head_end(bytes: &[u8]) -> bool
+    ensures { result ≡ ends_head bytes.now }
+{
+    let from = bytes.len().saturating_sub(5);
+    bytes == b"---\n".as_slice() || &bytes[from..] == b"\n---\n".as_slice()
+}
+
+/// The bytes up to the first line `---`, with that line, or all bytes where there is none. What follows the line
+/// stays unread. Reading also stops where the bytes are too many for a configuration.
+///
+/// `left` is the number of reads that may still be made, of one byte each.
+pub fn read_head<I: LineIn>(
+    alloc: Global,
+    input: &mut I,
+    left: &mut u32,
+) -> Result<Vec<u8>, InputFault>
+    ensures taken { IfOk result (λ bytes. IsHead (I.remaining input.old) (I.remaining input.new) bytes.items) }
+    ensures given { OnErr result (TakesSome (I.remaining input.old) (I.remaining input.new)) }
+    ensures left { left.new ≤ left.old }
+    ensures spent { result ≡ Err InputFault.ReadsSpent → left.new ≡ 0 }
+    ensures counted { RoseBy (left.old - left.new) (I.reads input.old) (I.reads input.new) }
+    ensures failed { RoseBy (one_if (is_input_fault result)) (I.failures input.old) (I.failures input.new) }
+{
+    let mut bytes = Vec::new(alloc);
+    loop {
+        if is_head_end(&bytes) || bytes.len() > MOST_BYTES + 4 {
+            return Ok(bytes);
+        }
+        match next_byte(input, left)? {
+            None => return Ok(bytes),
+            Some(byte) => bytes.push(byte)?,
+        }
+    }
+}
+
+/// The configuration of such bytes, which is what stands before the line `---`; none where it has over 65,536 bytes.
+pub fn config_part(bytes: &[u8]) -> Option<&[u8]>
+    ensures { option_map (λ part. part.now) result ≡ head_part bytes.now }
+{
+    let part = if is_head_end(bytes) {
+        &bytes[..bytes.len() - 4]
+    } else {
+        bytes
+    };
+    if part.len() > MOST_BYTES {
+        None
+    } else {
+        Some(part)
+    }
+}
