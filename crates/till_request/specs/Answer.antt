@@ -1,6 +1,7 @@
 -- Definitions: the texts of answers (this profile). A number of the entry stands before the reply; a refusal is S, L or V with its number and then what it names.
 use Rattle.std.specs.Prelude.{ℕ, List, [], ◌∷◌, ◌++◌, codes, Option, Some, None}
 use Rattle.std.specs.Fmt.{decimal}
+use Rattle.std.specs.List.{join_with_byte}
 use Rattle.fuelling_point.specs.declared.kinds.Order.{Order}
 use Rattle.fuelling_point.specs.declared.kinds.Order.TheVariants as orders
 use Rattle.till_request.specs.declared.act.LineFault.{LineFault}
@@ -10,27 +11,25 @@ use Rattle.till_request.specs.declared.act.Reply.TheVariants as replies
 use Rattle.till_request.specs.declared.act.Answer.{Answer}
 use Rattle.till_request.specs.declared.act.Answer.TheVariants.{Entered, JournalFull, OutOfMemory, Line, Program}
 
-abbrev pub order_text : Order → List ℕ
-order_text (orders.Authorise amount) = codes "order authorise " ++ decimal amount
-order_text orders.Suspend = codes "order suspend"
-order_text orders.Resume = codes "order resume"
-order_text orders.Stop = codes "order stop"
+-- the words of a reply
+abbrev pub order_words : Order → List (List ℕ)
+order_words (orders.Authorise amount) = codes "authorise" ∷ decimal amount ∷ []
+order_words orders.Suspend = codes "suspend" ∷ []
+order_words orders.Resume = codes "resume" ∷ []
+order_words orders.Stop = codes "stop" ∷ []
 
--- a point's state and delivery, and then its bounds
-abbrev pub delivery_text : ℕ → ℕ → ℕ → ℕ → List ℕ
-delivery_text state nozzle amount volume = codes "point " ++ decimal state ++ codes " " ++ decimal nozzle ++ codes " " ++ decimal amount ++ codes " " ++ decimal volume
+abbrev pub reply_words : Reply → List (List ℕ)
+reply_words replies.Done = codes "done" ∷ []
+reply_words (replies.Granted amount version) = codes "granted" ∷ decimal amount ∷ codes "by" ∷ decimal version ∷ []
+reply_words (replies.Version version) = codes "version" ∷ decimal version ∷ []
+reply_words (replies.Order order) = codes "order" ∷ order_words order
+reply_words (replies.Point state nozzle amount volume limit preset unpaid) = codes "point" ∷ decimal state ∷ decimal nozzle ∷ decimal amount ∷ decimal volume ∷ decimal limit ∷ decimal preset ∷ decimal unpaid ∷ []
+reply_words (replies.Refused number None) = (codes "S" ++ decimal number) ∷ []
+reply_words (replies.Refused number (Some value)) = (codes "S" ++ decimal number) ∷ decimal value ∷ []
 
-abbrev pub bounds_text : ℕ → ℕ → ℕ → List ℕ
-bounds_text limit preset unpaid = codes " " ++ decimal limit ++ codes " " ++ decimal preset ++ codes " " ++ decimal unpaid
-
+-- the words, with a space between them
 abbrev pub reply_text : Reply → List ℕ
-reply_text replies.Done = codes "done"
-reply_text (replies.Granted amount version) = codes "granted " ++ decimal amount ++ codes " by " ++ decimal version
-reply_text (replies.Version version) = codes "version " ++ decimal version
-reply_text (replies.Order order) = order_text order
-reply_text (replies.Point state nozzle amount volume limit preset unpaid) = delivery_text state nozzle amount volume ++ bounds_text limit preset unpaid
-reply_text (replies.Refused number None) = codes "S" ++ decimal number
-reply_text (replies.Refused number (Some value)) = codes "S" ++ decimal number ++ codes " " ++ decimal value
+reply_text reply = join_with_byte 32 (reply_words reply)
 
 abbrev pub fault_text : LineFault → List ℕ
 fault_text faults.TooLong = codes "L1"
@@ -39,15 +38,19 @@ fault_text faults.BadNumber = codes "L3"
 fault_text faults.CutLine = codes "L4"
 fault_text faults.OutOfMemory = codes "S31"
 
+-- a V number, and then each of its parts that is there
+abbrev pub program_words : ℕ → Option ℕ → Option ℕ → List (List ℕ)
+program_words number None None = (codes "V" ++ decimal number) ∷ []
+program_words number None (Some part) = (codes "V" ++ decimal number) ∷ decimal part ∷ []
+program_words number (Some unit) None = (codes "V" ++ decimal number) ∷ decimal unit ∷ []
+program_words number (Some unit) (Some part) = (codes "V" ++ decimal number) ∷ decimal unit ∷ decimal part ∷ []
+
 abbrev pub answer_text : Answer → List ℕ
-answer_text (Entered number reply) = decimal number ++ codes " " ++ reply_text reply
+answer_text (Entered number reply) = join_with_byte 32 (decimal number ∷ reply_text reply ∷ [])
 answer_text JournalFull = codes "S29"
 answer_text OutOfMemory = codes "S31"
 answer_text (Line fault) = fault_text fault
-answer_text (Program number None None) = codes "V" ++ decimal number
-answer_text (Program number None (Some part)) = codes "V" ++ decimal number ++ codes " " ++ decimal part
-answer_text (Program number (Some unit) None) = codes "V" ++ decimal number ++ codes " " ++ decimal unit
-answer_text (Program number (Some unit) (Some part)) = codes "V" ++ decimal number ++ codes " " ++ decimal unit ++ codes " " ++ decimal part
+answer_text (Program number unit part) = join_with_byte 32 (program_words number unit part)
 
 -- the line of an answer
 abbrev pub answer_line : Answer → List ℕ

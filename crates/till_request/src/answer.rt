@@ -27,8 +27,10 @@ impl fmt::Display for Reply {
                 preset,
                 unpaid,
             } => {
-                write!(f, "point {state} {nozzle} {amount} {volume}")?;
-                write!(f, " {limit} {preset} {unpaid}")
+                write!(
+                    f,
+                    "point {state} {nozzle} {amount} {volume} {limit} {preset} {unpaid}"
+                )
             }
             Reply::Refused(number, None) => write!(f, "S{number}"),
             Reply::Refused(number, Some(value)) => write!(f, "S{number} {value}"),
