@@ -1,0 +1,46 @@
+-- Definitions: what the program says of a program file (this profile).
+use Rattle.std.specs.Prelude.{◌≡◌, ◌⊎◌, ℕ, ◌/◌, List, [], ◌∷◌, ◌++◌, length, codes, Option, Some, None, Result, Ok, Err, string_bytes}
+use Rattle.std.specs.Fmt.{decimal}
+use Rattle.bpf_model.specs.Runs.{IsGood}
+use Rattle.program_file.specs.declared.ProgramFileFault.{ProgramFileFault}
+use Rattle.program_file.specs.declared.ProgramFileFault.TheVariants.{TooLong, BadDigits, OutOfMemory}
+use Rattle.program_file.specs.Digits.{program_in}
+use Rattle.till_request.specs.declared.act.Answer.TheVariants.{Program}
+use Rattle.till_request.specs.Answer.{answer_line}
+use Rattle.reg_types.specs.declared.refusal.Refusal.{Refusal}
+use Rattle.reg_types.specs.Refusals.{shown_by}
+use Rattle.reg_types.specs.Facts.{IsRefused}
+use Rattle.job_texts.specs.declared.told.Told.{Told}
+
+-- this text is printed, with this status
+pub record IsSaid (told : Told) (text : List ℕ) (status : ℕ) : Type 0 where
+  pub text_is : string_bytes told.text ≡ text
+  pub status_is : told.status ≡ status
+
+-- the line of a file's fault
+abbrev pub file_fault : ProgramFileFault → List ℕ
+file_fault TooLong = codes "L1\n"
+file_fault BadDigits = codes "H1\n"
+file_fault OutOfMemory = []
+
+-- a program that is accepted is good for the counters that it declares
+abbrev pub Accepted : List ℕ → ℕ → Told → Type 0
+Accepted bytes counters told = IsGood bytes counters × IsSaid told (codes "accepted " ++ decimal (length bytes / 8) ++ codes "\n") 0
+
+-- a refusal is one that the bytes show, and its numbers are printed
+pub record Refused (bytes : List ℕ) (counters : ℕ) (told : Told) : Type 0 where
+  pub refusal : Refusal
+  pub refused : IsRefused bytes refusal
+  pub number : ℕ
+  pub unit : Option ℕ
+  pub part : Option ℕ
+  pub shown : shown_by refusal ≡ Some (number, unit, part)
+  pub said : IsSaid told (answer_line (Program number unit part)) 1
+
+-- what is said of a file whose program declares these counters
+abbrev pub VerifyOf : Result (List ℕ) ProgramFileFault → ℕ → Told → Type 0
+VerifyOf (Ok bytes) counters told = Accepted bytes counters told ⊎ Refused bytes counters told
+VerifyOf (Err fault) counters told = IsSaid told (file_fault fault) 1
+
+abbrev pub VerifyTells : List ℕ → ℕ → Told → Type 0
+VerifyTells file counters told = VerifyOf (program_in file) counters told

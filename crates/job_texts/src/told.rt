@@ -1,0 +1,26 @@
+//! A text and an exit status.
+ghost use Rattle.std.specs.Prelude.{◌≡◌, ◌++◌, ◌∷◌, [], codes, IfOk, string_bytes};
+ghost use Rattle.job_texts.specs.Told.{IsSaid};
+
+use std::alloc::{AllocError, Global};
+
+/// The exit status where the input is refused.
+pub const REFUSED: u8 = 1;
+
+/// What is printed on standard output, and the exit status.
+#[derive(Debug, Drop)]
+pub struct Told {
+    pub text: String,
+    pub status: u8,
+}
+
+/// A refusal's line, with status 1.
+pub fn refused(alloc: Global, line: &str) -> Result<Told, AllocError>
+    ensures { IfOk result (λ told. IsSaid told (line.now ++ 10 ∷ []) 1) }
+{
+    let text = format!(in alloc; "{line}\n")?;
+    Ok(Told {
+        text,
+        status: REFUSED,
+    })
+}
