@@ -4,6 +4,7 @@ ghost use Rattle.std.specs.Prelude.{◌≡◌, ◌<◌, ◌≤◌, IfOk};
 ghost use Rattle.site_core.specs.Decide.{release_at, preset_at, price_at, granted_point, command_of, counts, count_of};
 
 use crate::question::{Kind, Question};
+use crate::replies::{BAD_AMOUNT, TRANSACTIONS_FULL, wrong_state};
 use counters::Counters;
 use fuelling_point::{Command, Point, State};
 use till_request::Reply;
@@ -14,14 +15,14 @@ pub fn release_at(point: &Point, n: u32, amount: u64, slot: u32) -> Result<Quest
     ensures point { IfOk result (λ q. q.point ≡ n) }
 {
     if amount < 1 || amount > 999_999_999 {
-        return Err(Reply::Refused(25, None));
+        return Err(BAD_AMOUNT);
     }
     let state = point.state();
     if !state.is_ready() {
-        return Err(Reply::Refused(22, Some(state.number())));
+        return Err(wrong_state(state));
     }
     if point.unpaid() >= 2 {
-        return Err(Reply::Refused(26, None));
+        return Err(TRANSACTIONS_FULL);
     }
     Ok(Question {
         kind: Kind::Release,
@@ -38,11 +39,11 @@ pub fn preset_at(point: &Point, n: u32, amount: u64, slot: u32) -> Result<Questi
     ensures point { IfOk result (λ q. q.point ≡ n) }
 {
     if amount < 1 || amount > 999_999_999 {
-        return Err(Reply::Refused(25, None));
+        return Err(BAD_AMOUNT);
     }
     let state = point.state();
     if !state.is_ready() {
-        return Err(Reply::Refused(22, Some(state.number())));
+        return Err(wrong_state(state));
     }
     Ok(Question {
         kind: Kind::Preset,
@@ -59,10 +60,10 @@ pub fn price_at(busy: Option<State>, product: u32, price: u64, slot: u32) -> Res
     ensures fits { IfOk result (λ q. (1 ≤ q.product) × (q.product ≤ 8) × (q.asked ≤ 9999999)) }
 {
     if product < 1 || product > 8 || price < 1 || price > 9_999_999 {
-        return Err(Reply::Refused(25, None));
+        return Err(BAD_AMOUNT);
     }
     match busy {
-        Some(state) => Err(Reply::Refused(22, Some(state.number()))),
+        Some(state) => Err(wrong_state(state)),
         None => Ok(Question {
             kind: Kind::Price,
             point: 0,

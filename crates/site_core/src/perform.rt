@@ -13,6 +13,7 @@ ghost use Rattle.site_core.specs.Step.{effect};
 use crate::config::Config;
 use crate::events::What;
 use crate::question::Question;
+use crate::replies::{NO_SUCH_SLOT, NO_SUCH_TILL, VERSIONS_FULL, no_program};
 use crate::station::Station;
 use decision_journal::Run;
 use fuelling_point::Command;
@@ -90,8 +91,8 @@ fn load(slots: &mut Slots, slot: u32, program: Arc<Program>) -> Result<Reply, Al
 {
     match slots.install(slot, program) {
         Ok(number) => Ok(Reply::Version(number)),
-        Err(SlotFault::NoSuchSlot) => Ok(Reply::Refused(32, None)),
-        Err(SlotFault::VersionsFull) => Ok(Reply::Refused(30, None)),
+        Err(SlotFault::NoSuchSlot) => Ok(NO_SUCH_SLOT),
+        Err(SlotFault::VersionsFull) => Ok(VERSIONS_FULL),
         Err(SlotFault::OutOfMemory) => Err(AllocError),
     }
 }
@@ -113,7 +114,7 @@ fn ask(
     ensures points { length station.new.points ≡ length station.old.points }
 {
     if till < 1 || till > config.tills() {
-        return (Reply::Refused(21, None), None);
+        return (NO_SUCH_TILL, None);
     }
     match request {
         Request::Release(n, amount) => {
@@ -161,10 +162,10 @@ fn decide(
         Err(refusal) => return (refusal, None),
     };
     let Some(number) = slots.installed(question.slot) else {
-        return (Reply::Refused(23, Some(question.slot)), None);
+        return (no_program(question.slot), None);
     };
     let Some(program) = slots.version(number) else {
-        return (Reply::Refused(23, Some(question.slot)), None);
+        return (no_program(question.slot), None);
     };
     let context = station.context(till, moment, &question);
     let view = station.view();

@@ -1,10 +1,62 @@
-//! What a point's answers are as replies.
+//! The refusals of a site, and what a point's answers are as replies.
 
 ghost use Rattle.std.specs.Prelude.{◌≡◌};
+ghost use Rattle.site_core.specs.Decide.{wrong_state, no_program, denied};
 ghost use Rattle.site_core.specs.Step.{fault_reply, event_reply};
 
-use fuelling_point::{Order, PointFault};
+use fuelling_point::{Order, PointFault, State};
 use till_request::Reply;
+
+/// S20: there is no point of this number.
+pub const NO_SUCH_POINT: Reply = Reply::Refused(20, None);
+
+/// S21: there is no till of this number.
+pub const NO_SUCH_TILL: Reply = Reply::Refused(21, None);
+
+/// S25: an amount, a price or a product is out of range.
+pub const BAD_AMOUNT: Reply = Reply::Refused(25, None);
+
+/// S26: two transactions are unpaid.
+pub const TRANSACTIONS_FULL: Reply = Reply::Refused(26, None);
+
+/// S27: the transaction isn't the till's.
+const NOT_YOUR_TRANSACTION: Reply = Reply::Refused(27, None);
+
+/// S28: there is no unpaid transaction of this number.
+const NO_SUCH_TRANSACTION: Reply = Reply::Refused(28, None);
+
+/// S30: there are 4,096 versions.
+pub const VERSIONS_FULL: Reply = Reply::Refused(30, None);
+
+/// S32: slots are 0 to 15.
+pub const NO_SUCH_SLOT: Reply = Reply::Refused(32, None);
+
+/// S33: no order is pending.
+const NO_ORDER: Reply = Reply::Refused(33, None);
+
+/// S34: the dispenser's event isn't for this state.
+const UNEXPECTED: Reply = Reply::Refused(34, None);
+
+/// S22: the request isn't for this state.
+pub fn wrong_state(state: State) -> Reply
+    ensures { result ≡ wrong_state state }
+{
+    Reply::Refused(22, Some(state.number()))
+}
+
+/// S23: no program is installed in the slot.
+pub fn no_program(slot: u32) -> Reply
+    ensures { result ≡ no_program slot }
+{
+    Reply::Refused(23, Some(slot))
+}
+
+/// S24: the version denied.
+pub fn denied(version: u32) -> Reply
+    ensures { result ≡ denied version }
+{
+    Reply::Refused(24, Some(version))
+}
 
 /// The reply to a dispenser.
 pub fn event_reply(outcome: Result<Option<Order>, PointFault>) -> Reply
@@ -22,11 +74,11 @@ pub fn fault_reply(fault: PointFault) -> Reply
     ensures { result ≡ fault_reply fault }
 {
     match fault {
-        PointFault::WrongState(state) => Reply::Refused(22, Some(state.number())),
-        PointFault::TransactionsFull => Reply::Refused(26, None),
-        PointFault::NotYourTransaction => Reply::Refused(27, None),
-        PointFault::NoSuchTransaction => Reply::Refused(28, None),
-        PointFault::NoOrder => Reply::Refused(33, None),
-        PointFault::Unexpected => Reply::Refused(34, None),
+        PointFault::WrongState(state) => wrong_state(state),
+        PointFault::TransactionsFull => TRANSACTIONS_FULL,
+        PointFault::NotYourTransaction => NOT_YOUR_TRANSACTION,
+        PointFault::NoSuchTransaction => NO_SUCH_TRANSACTION,
+        PointFault::NoOrder => NO_ORDER,
+        PointFault::Unexpected => UNEXPECTED,
     }
 }

@@ -14,7 +14,7 @@ use crate::config::Config;
 use crate::context::{kind_number, pack};
 use crate::decision::{command_of, counts, granted_point, preset_at, price_at, release_at};
 use crate::question::{Kind, Question};
-use crate::replies::{event_reply, fault_reply};
+use crate::replies::{NO_SUCH_POINT, denied, event_reply, fault_reply};
 use counters::Counters;
 use decision_journal::Run;
 use fuelling_point::{Command, DispenserEvent, Point, State};
@@ -78,7 +78,7 @@ impl Station {
         ensures points { length self.new.points ≡ length self.old.points }
     {
         if !self.has_point(n) {
-            return Reply::Refused(20, None);
+            return NO_SUCH_POINT;
         }
         match self.points[n as usize - 1].on_command(till, command) {
             Err(fault) => fault_reply(fault),
@@ -98,7 +98,7 @@ impl Station {
         ensures points { length self.new.points ≡ length self.old.points }
     {
         if !self.has_point(n) {
-            return Reply::Refused(20, None);
+            return NO_SUCH_POINT;
         }
         let outcome = self.points[n as usize - 1].on_event(event);
         event_reply(outcome)
@@ -109,7 +109,7 @@ impl Station {
         ensures { result ≡ show_reply self.now n }
     {
         if !self.has_point(n) {
-            return Reply::Refused(20, None);
+            return NO_SUCH_POINT;
         }
         let point = &self.points[n as usize - 1];
         Reply::Point {
@@ -140,7 +140,7 @@ impl Station {
         ensures asked { IfOk result (λ q. WellAsked self.now q) }
     {
         match self.point(n) {
-            None => Err(Reply::Refused(20, None)),
+            None => Err(NO_SUCH_POINT),
             Some(point) => release_at(point, n, amount, config.release_slot(n)),
         }
     }
@@ -152,7 +152,7 @@ impl Station {
         ensures asked { IfOk result (λ q. WellAsked self.now q) }
     {
         match self.point(n) {
-            None => Err(Reply::Refused(20, None)),
+            None => Err(NO_SUCH_POINT),
             Some(point) => preset_at(point, n, amount, config.preset_slot(n)),
         }
     }
@@ -312,7 +312,7 @@ impl Station {
         };
         self.counters = counters;
         if r0 == 0 {
-            return (Reply::Refused(24, Some(version)), run);
+            return (denied(version), run);
         }
         let granted = self.grant(till, question, r0);
         (Reply::Granted(granted, version), run)

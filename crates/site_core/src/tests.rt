@@ -3,7 +3,7 @@
 use crate::{AuditFault, Config, Event, Site, What, audit};
 use decision_journal::Entry;
 use fuelling_point::{DispenserEvent, Order};
-use reg_types::verify;
+use reg_types::{Refusal, TypeFault, verify};
 use std::alloc::{AllocError, Global};
 use std::process::Abort;
 use std::sync::Arc;
@@ -390,6 +390,60 @@ fn events_are_run_in_turn(rt: HostRuntime) -> Result<(), Fail> {
     assert_eq!(rt;
         (last.number, last.pass, last.moment, last.reply),
         (2, 2, 7, shown(3, 0, 0))
+    );
+    Ok(())
+}
+
+fn entry(number: u32, moment: u64, act: Act, reply: Reply) -> Entry {
+    Entry {
+        number,
+        pass: 1,
+        moment,
+        act,
+        reply,
+        run: None,
+    }
+}
+
+fn fault(alloc: Global, entries: &[Entry]) -> Result<Option<AuditFault>, Fail> {
+    let config = config(alloc)?.ok_or("no configuration")?;
+    Ok(audit(alloc, config, entries).err())
+}
+
+#[test]
+fn an_audit_names_the_first_fault(rt: HostRuntime) -> Result<(), Fail> {
+    let alloc = rt.alloc();
+    let open = |number, moment| {
+        let act = Act::Till {
+            till: 1,
+            request: Request::OpenPoint(number),
+        };
+        entry(number, moment, act, Reply::Done)
+    };
+    assert_eq!(rt; fault(alloc, &[])?, None);
+    assert_eq!(rt; fault(alloc, &[open(1, 5), open(2, 0)])?, None);
+    assert_eq!(rt;
+        fault(alloc, &[open(1, 0), open(3, 0)])?,
+        Some(AuditFault::BadNumber(2))
+    );
+    for (moment, want) in [(0, None), (5, Some(AuditFault::NotLegal(1)))] {
+        let act = Act::Dispenser {
+            point: 1,
+            event: DispenserEvent::Up(1),
+        };
+        let lifted = entry(1, moment, act, Reply::Done);
+        assert_eq!(rt; fault(alloc, &[lifted])?, want);
+    }
+    let act = Act::Load {
+        slot: 99,
+        mask: 0,
+        bytes: Bytes::from_slice(alloc, &EXIT)?,
+    };
+    let load = entry(1, 0, act, refused(32));
+    let refusal = Refusal::Type(TypeFault::NotANumber(0, 0));
+    assert_eq!(rt;
+        fault(alloc, &[load])?,
+        Some(AuditFault::BadProgram(1, refusal))
     );
     Ok(())
 }

@@ -17,7 +17,7 @@ returns-in_default-clause-effect c = λ past agrees.
     let q = c.in-Ok.question in
     let unnamed : number_in c.args.slots.now q.slot ≡ None = sym c.installed.ensures ∙ c.in_default.is in
     let none : in_force q.slot past ≡ None = agrees.in_force q.slot ∙ version-unnamed c.args.slots.now q.slot unnamed in
-    rw c.in-Ok.is (decided-none past c.args.station.now c.args.till c.args.moment q none)
+    rw (c.in-Ok.is, c.no_program.ensures) (decided-none past c.args.station.now c.args.till c.args.moment q none)
 
 pub returns-in_default-version-clause-effect : goal.returns-in_default-version-clause-effect
 returns-in_default-version-clause-effect c = λ past agrees.
@@ -25,7 +25,7 @@ returns-in_default-version-clause-effect c = λ past agrees.
     let named : number_in c.args.slots.now q.slot ≡ Some c.in-Some.number = sym c.installed.ensures ∙ c.in-Some.is in
     let unheld : program_of c.args.slots.now c.in-Some.number ≡ None = c.in_default-version.ensures in
     let none : in_force q.slot past ≡ None = agrees.in_force q.slot ∙ version-unheld c.args.slots.now q.slot c.in-Some.number named unheld in
-    rw c.in-Ok.is (decided-none past c.args.station.now c.args.till c.args.moment q none)
+    rw (c.in-Ok.is, c.no_program-in_default-version.ensures) (decided-none past c.args.station.now c.args.till c.args.moment q none)
 
 pub returns-clause-effect : goal.returns-clause-effect
 returns-clause-effect c = λ past agrees.

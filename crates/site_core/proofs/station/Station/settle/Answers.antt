@@ -1,4 +1,4 @@
-use Rattle.std.proofs.Common.{◌≡◌, Some, arith, ◌∙◌, sym, eqb, true, false, eq-eqb}
+use Rattle.std.proofs.Common.{ap, ◌≡◌, Some, arith, ◌∙◌, sym, eqb, true, false, eq-eqb}
 use Rattle.std.proofs.lemmas.Bool.Decides.{nat_tests}
 use Rattle.site_core.specs.State.{SiteState}
 use Rattle.site_core.specs.Bounds.{Bounded}
@@ -16,7 +16,7 @@ returns-then-r0-eq0-clause-effect c = λ v number program.
     let zero : eqb c.args.r0 0 ≡ true = eq-eqb c.args.r0 0 c.if-r0-eq0.true in
     verdict-deny s c.args.till c.args.moment c.args.r0 q v c.args.counters zero
     ∙ (λ i. let t : SiteState = sym c.self.view_is i in
-    record { reply = denied (number i); run = Some (record { slot = q.slot; version = number i; r0 = c.args.r0; context = sym c.context-context.ensures i; counts = same i }); after = record t { counters = c.args.counters } })
+    record { reply = (ap denied number ∙ sym c.denied.ensures) i; run = Some (record { slot = q.slot; version = number i; r0 = c.args.r0; context = sym c.context-context.ensures i; counts = same i }); after = record t { counters = c.args.counters } })
 
 pub returns-clause-effect : goal.returns-clause-effect
 returns-clause-effect c = λ v number program.
