@@ -1,0 +1,7 @@
+//! Tests that cross crates: scripts against their answers.
+#![tactic(auto)]
+
+#[cfg(test)]
+mod scripts;
+#[cfg(test)]
+mod tests;
