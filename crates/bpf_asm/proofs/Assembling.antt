@@ -1,0 +1,377 @@
+-- The units of rows without fault are a program.
+use Rattle.std.proofs.Common.{◌≡◌, ℕ, zero, suc, ◌+◌, ◌-◌, ◌^◌, ◌<◌, ◌≤◌, List, [], ◌∷◌, ◌++◌, length, Option, Some, None, Bool, true, false, refl, sym, ap, ◌∙◌, subst, arith, rules, w16, w32, FitsSigned, length-append}
+use Rattle.std.specs.Prelude.{◌%◌, ◌/◌, ◌&&◌, ◌||◌, ◌==◌, not, Ok, nat_le, nat_lt, cond, ℤ, pos, negsuc, neg_ℤ, ⊤, if◌then◌else◌}
+use Rattle.std.specs.Int.{cast_signed}
+use Rattle.std.specs.Str.{bytes_eq}
+use lib.IntN.{◌-ℤ◌}
+use Rattle.std.proofs.lemmas.Bool.Decides.{nat_tests}
+use Rattle.std.proofs.lemmas.Int.{ints}
+use Rattle.std.proofs.Math.Facts.{sfits_to_z, Fits-of_lt}
+use Rattle.bpf_model.specs.declared.instruction.Operator.{Operator}
+use Rattle.bpf_model.specs.declared.instruction.Operator.TheVariants as operator
+use Rattle.bpf_model.specs.declared.instruction.Width.TheVariants.{Narrow, Full}
+use Rattle.bpf_model.specs.declared.instruction.Source.TheVariants as source
+use Rattle.bpf_model.specs.declared.instruction.Source.{Source}
+use Rattle.bpf_model.specs.declared.instruction.Width.{Width}
+use Rattle.bpf_model.specs.declared.instruction.Condition.{Condition}
+use Rattle.bpf_model.specs.declared.instruction.Condition.TheVariants as condition
+use Rattle.bpf_model.specs.declared.instruction.Size.{Size}
+use Rattle.bpf_model.specs.declared.instruction.Size.TheVariants.{Byte, Half, Word, Double}
+use Rattle.bpf_model.specs.declared.instruction.Inst.{Inst}
+use Rattle.bpf_model.specs.declared.instruction.Form.{Form}
+use Rattle.bpf_model.specs.declared.instruction.Form.TheVariants as form
+use Rattle.bpf_model.specs.declared.instruction.Unit.{Unit as ProgramUnit}
+use Rattle.bpf_model.specs.declared.instruction.Unit.TheVariants.{First, Second}
+use Rattle.bpf_model.specs.declared.instruction.UnitFault.{UnitFault}
+use Rattle.bpf_model.specs.declared.instruction.UnitFault.TheVariants.{Opcode, Field, Register as BadRegister, HalfWide}
+use Rattle.bpf_model.specs.Reading.{form_of, first_fault, has_right_fields, has_right_registers, half_wide, is_wide}
+use Rattle.bpf_decode.specs.Making.{IsInstruction, AreUnits}
+use Rattle.bpf_asm.specs.declared.AsmFault.{AsmFault}
+use Rattle.bpf_asm.specs.declared.AsmFault.TheVariants.{BadLine, BadLabel, OutOfRange, Length, OutOfMemory}
+use Rattle.bpf_asm.specs.declared.grammar.Value.{Value}
+use Rattle.bpf_asm.specs.declared.grammar.Fields.{Fields}
+use Rattle.bpf_asm.specs.declared.grammar.Target.{Target}
+use Rattle.bpf_asm.specs.declared.grammar.Target.TheVariants.{Label, Distance}
+use Rattle.bpf_asm.specs.declared.grammar.Statement.{Statement}
+use Rattle.bpf_asm.specs.declared.grammar.Statement.TheVariants.{Plain, Wide, Jump}
+use Rattle.bpf_asm.specs.declared.grammar.Line.{Line}
+use Rattle.bpf_asm.specs.declared.grammar.Line.TheVariants as line
+use Rattle.bpf_asm.specs.Lex.{Text}
+use Rattle.bpf_asm.specs.Program.{Row, row_of, with_row, rows_of, fits_size, fits, target_fits, statement_fits, line_fits, row_fault, or_fault, first_fault as first_line_fault, source_bit, operator_code, condition_code, size_code, arithmetic_class, jump_class, opcode_of, signed, size_or_zero, int_of, inst_of, low_half, high_half, line_len_of, units_in, Definition, defining, labels_from, place_found, place_of, distance_of, jump_inst, statement_units, line_units, units_from, spelled, AreRight, AreWithin, length_fault, label_fault, rows_fault, fault_of, assembled_with, assembled, cut, IsFault}
+use Rattle.bpf_asm.specs.Sound.{IsOf, IsPlain, IsJump, IsSound, AreSound}
+
+-- ---- rows in range
+
+by_fits : (n : ℕ) (r : Row) (rows : List Row) (b : Bool) → line_fits r.says ≡ b → (rest : Option AsmFault) → or_fault (cond b None (Some (OutOfRange n))) rest ≡ None → (rest ≡ None → AreRight rows) → AreRight (r ∷ rows)
+by_fits n r rows true fits rest e more = (fits, more e)
+by_fits n r rows false fits rest e more = absurd (cc)
+
+by_row : (n : ℕ) (o : Option Row) (rows : List Row) (rest : Option AsmFault) → or_fault (row_fault n o) rest ≡ None → (rest ≡ None → AreRight rows) → AreRight (with_row o rows)
+by_row n None rows rest e more = absurd (cc)
+by_row n (Some r) rows rest e more = by_fits n r rows (line_fits r.says) refl rest e more
+
+pub rows_right : (n : ℕ) (lines : List Text) → first_line_fault n lines ≡ None → AreRight (rows_of lines)
+rows_right n [] e = tt
+rows_right n (text ∷ lines) e = by_row n (row_of text) (rows_of lines) (first_line_fault (n + 1) lines) e (rows_right (n + 1) lines)
+
+-- ---- places of labels
+
+found_by : (b : Bool) (place n : ℕ) (o : Option ℕ) → place ≤ n → size_or_zero o ≤ n → size_or_zero (cond b (Some place) o) ≤ n
+found_by true place n o g h = g
+found_by false place n o g h = h
+
+defining_within : (says : Line) (label : Text) (at n : ℕ) (more : List Definition) → at ≤ n → AreWithin n more → AreWithin n (defining says label at more)
+defining_within line.Label label at n more g h = λ name. found_by (bytes_eq label name) at n (place_found more name) g (h name)
+defining_within line.Empty label at n more g h = h
+defining_within (line.Statement s) label at n more g h = h
+
+labels_within : (at n : ℕ) (rows : List Row) → at + units_in rows ≤ n → AreWithin n (labels_from at rows)
+labels_within at n [] h = λ name. omega arith
+labels_within at n (r ∷ rows) h =
+    defining_within r.says r.label at n (labels_from (at + line_len_of r.says) rows) (omega arith) (labels_within (at + line_len_of r.says) n rows (omega arith))
+
+pub places_within : (rows : List Row) → units_in rows ≤ 512 → AreWithin 512 (labels_from 0 rows)
+places_within rows h = labels_within 0 512 rows (omega arith)
+
+-- ---- instructions
+
+operator_small : (op : Operator) → operator_code op ≤ 13
+operator_small operator.Sum = omega arith
+operator_small operator.Difference = omega arith
+operator_small operator.Product = omega arith
+operator_small operator.Quotient = omega arith
+operator_small operator.Or = omega arith
+operator_small operator.And = omega arith
+operator_small operator.ShiftLeft = omega arith
+operator_small operator.ShiftRight = omega arith
+operator_small operator.Negate = omega arith
+operator_small operator.Remainder = omega arith
+operator_small operator.Xor = omega arith
+operator_small operator.Move = omega arith
+operator_small operator.ShiftSigned = omega arith
+operator_small operator.SwapBytes = omega arith
+
+condition_small : (c : Condition) → condition_code c ≤ 13
+condition_small condition.Equal = omega arith
+condition_small condition.Over = omega arith
+condition_small condition.NotBelow = omega arith
+condition_small condition.SharesBit = omega arith
+condition_small condition.Differs = omega arith
+condition_small condition.OverSigned = omega arith
+condition_small condition.NotBelowSigned = omega arith
+condition_small condition.Below = omega arith
+condition_small condition.NotOver = omega arith
+condition_small condition.BelowSigned = omega arith
+condition_small condition.NotOverSigned = omega arith
+
+source_small : (s : Source) → source_bit s ≤ 8
+source_small source.Immediate = omega arith
+source_small source.Register = omega arith
+
+arithmetic_small : (w : Width) → arithmetic_class w ≤ 7
+arithmetic_small Narrow = omega arith
+arithmetic_small Full = omega arith
+
+jump_small : (w : Width) → jump_class w ≤ 7
+jump_small Narrow = omega arith
+jump_small Full = omega arith
+
+size_small : (n : Size) → size_code n ≤ 3
+size_small Byte = omega arith
+size_small Half = omega arith
+size_small Word = omega arith
+size_small Double = omega arith
+
+opcode_small : (f : Form) → opcode_of f < 256
+opcode_small (form.Arithmetic op w s) = let a = operator_small op in let b = source_small s in let d = arithmetic_small w in omega arith
+opcode_small form.Wide = omega arith
+opcode_small (form.Load n) = let a = size_small n in omega arith
+opcode_small (form.LoadSigned n) = let a = size_small n in omega arith
+opcode_small (form.StoreImmediate n) = let a = size_small n in omega arith
+opcode_small (form.StoreRegister n) = let a = size_small n in omega arith
+opcode_small form.Goto = omega arith
+opcode_small form.GotoLong = omega arith
+opcode_small (form.Branch c w s) = let a = condition_small c in let b = source_small s in let d = jump_small w in omega arith
+opcode_small form.Call = omega arith
+opcode_small form.Exit = omega arith
+
+not_half : (f : Form) → half_wide f false ≡ None
+not_half form.Wide = refl
+not_half (form.Arithmetic op w s) = refl
+not_half (form.Load n) = refl
+not_half (form.LoadSigned n) = refl
+not_half (form.StoreImmediate n) = refl
+not_half (form.StoreRegister n) = refl
+not_half form.Goto = refl
+not_half form.GotoLong = refl
+not_half (form.Branch c w s) = refl
+not_half form.Call = refl
+not_half form.Exit = refl
+
+passes : (a b : Bool) (o : Option UnitFault) → a ≡ true → b ≡ true → o ≡ None → cond (not a) (Some Field) (cond (not b) (Some BadRegister) o) ≡ None
+passes true true o e f g = g
+passes true false o e f g = absurd (cc)
+passes false b o e f g = absurd (cc)
+
+register_small : (n : ℕ) → nat_le n 10 ≡ true → n < 16
+register_small n h = let l : n ≤ 10 = grind (arith, nat_tests) in omega arith
+
+is_instruction : (f : Form) (i : Inst) → i.opcode ≡ opcode_of f → IsOf f i.dst i.src → has_right_fields f i ≡ true → has_right_registers f i ≡ true → FitsSigned w16 i.offset → FitsSigned w32 i.imm → IsInstruction i
+is_instruction f i op h fields registers offset imm =
+    record {
+      opcode = subst (λ n. n < 256) (sym op) (opcode_small f);
+      dst = register_small i.dst h.dst;
+      src = register_small i.src h.src;
+      offset = offset;
+      imm = imm;
+      sound = ap (λ o. first_fault (form_of o) i false) op ∙ ap (λ o. first_fault o i false) h.form_is ∙ passes (has_right_fields f i) (has_right_registers f i) (half_wide f false) fields registers (not_half f);
+    }
+
+-- ---- numbers in range
+
+signed16 : (negative : Bool) (size : Option ℕ) → fits_size (2 ^ 15) negative size ≡ true → FitsSigned w16 (signed negative (size_or_zero size))
+signed16 negative None h = absurd (cc)
+signed16 true (Some zero) h = search rules
+signed16 true (Some (suc n)) h = let l : suc n ≤ 32768 = grind (arith, nat_tests) in search rules
+signed16 false (Some n) h = let l : n < 32768 = grind (arith, nat_tests) in search rules
+
+signed32 : (negative : Bool) (size : Option ℕ) → fits_size (2 ^ 31) negative size ≡ true → FitsSigned w32 (signed negative (size_or_zero size))
+signed32 negative None h = absurd (cc)
+signed32 true (Some zero) h = search rules
+signed32 true (Some (suc n)) h = let l : suc n ≤ 2147483648 = grind (arith, nat_tests) in search rules
+signed32 false (Some n) h = let l : n < 2147483648 = grind (arith, nat_tests) in search rules
+
+and_left : (a b : Bool) → (a && b) ≡ true → a ≡ true
+and_left true b h = refl
+and_left false b h = h
+
+and_right : (a b : Bool) → (a && b) ≡ true → b ≡ true
+and_right true b h = h
+and_right false b h = absurd (cc)
+
+apart16 : (p a : ℕ) → p ≤ 512 → a ≤ 512 → FitsSigned w16 (pos p -ℤ pos (a + 1))
+apart16 p a g h = search (rules, ints)
+
+apart32 : (p a : ℕ) → p ≤ 512 → a ≤ 512 → FitsSigned w32 (pos p -ℤ pos (a + 1))
+apart32 p a g h = search (rules, ints)
+
+-- ---- units
+
+plain_units : (f : Form) (p : Fields) (rest : List ProgramUnit) → IsPlain f p → FitsSigned w16 (int_of p.offset) → FitsSigned w32 (int_of p.imm) → AreUnits true rest → AreUnits true (First (inst_of f p.dst p.src (int_of p.offset) (int_of p.imm)) ∷ rest)
+plain_units f p rest h offset imm more = (
+  is_instruction f (inst_of f p.dst p.src (int_of p.offset) (int_of p.imm)) refl h.is_of h.fields h.registers offset imm,
+  subst (λ b. AreUnits (not b) rest) (sym (ap is_wide h.is_of.form_is ∙ h.is_of.narrow)) more,
+)
+
+jump_is : (f : Form) (p : Fields) (z : ℤ) → IsOf f p.dst p.src → IsOf f (jump_inst f p z).dst (jump_inst f p z).src
+jump_is form.GotoLong p z h = h
+jump_is (form.Arithmetic op w s) p z h = h
+jump_is form.Wide p z h = h
+jump_is (form.Load n) p z h = h
+jump_is (form.LoadSigned n) p z h = h
+jump_is (form.StoreImmediate n) p z h = h
+jump_is (form.StoreRegister n) p z h = h
+jump_is form.Goto p z h = h
+jump_is (form.Branch c w s) p z h = h
+jump_is form.Call p z h = h
+jump_is form.Exit p z h = h
+
+jump_units : (f : Form) (p : Fields) (z : ℤ) (rest : List ProgramUnit) → IsJump f p → FitsSigned w16 (jump_inst f p z).offset → FitsSigned w32 (jump_inst f p z).imm → AreUnits true rest → AreUnits true (First (jump_inst f p z) ∷ rest)
+jump_units f p z rest h offset imm more = (
+  is_instruction f (jump_inst f p z) (h.opcode z) (jump_is f p z h.is_of) (h.fields z) (h.registers z) offset imm,
+  subst (λ b. AreUnits (not b) rest) (sym (ap (λ o. is_wide (form_of o)) (h.opcode z) ∙ ap is_wide h.is_of.form_is ∙ h.is_of.narrow)) more,
+)
+
+zero16 : FitsSigned w16 (pos 0)
+zero16 = search rules
+
+-- the fields of a jump fit, whichever of them has the distance
+jump_fits : (f : Form) (p : Fields) (z : ℤ) → FitsSigned w16 z → FitsSigned w32 z → FitsSigned w32 (int_of p.imm) → FitsSigned w16 (jump_inst f p z).offset × FitsSigned w32 (jump_inst f p z).imm
+jump_fits form.GotoLong p z a b d = (zero16, b)
+jump_fits (form.Arithmetic op w s) p z a b d = (a, d)
+jump_fits form.Wide p z a b d = (a, d)
+jump_fits (form.Load n) p z a b d = (a, d)
+jump_fits (form.LoadSigned n) p z a b d = (a, d)
+jump_fits (form.StoreImmediate n) p z a b d = (a, d)
+jump_fits (form.StoreRegister n) p z a b d = (a, d)
+jump_fits form.Goto p z a b d = (a, d)
+jump_fits (form.Branch c w s) p z a b d = (a, d)
+jump_fits form.Call p z a b d = (a, d)
+jump_fits form.Exit p z a b d = (a, d)
+
+short_fits : (v : Value) → fits (2 ^ 15) v ≡ true → FitsSigned w16 (int_of v)
+short_fits v h = signed16 v.negative v.size h
+
+long_fits : (v : Value) → fits (2 ^ 31) v ≡ true → FitsSigned w32 (int_of v)
+long_fits v h = signed32 v.negative v.size h
+
+wider : (z : ℤ) → FitsSigned w16 z → FitsSigned w32 z
+wider z h = search rules
+
+distance_fits : (f : Form) (p : Fields) (v : Value) → target_fits f (Distance v) ≡ true → FitsSigned w32 (int_of p.imm) → FitsSigned w16 (jump_inst f p (int_of v)).offset × FitsSigned w32 (jump_inst f p (int_of v)).imm
+distance_fits form.GotoLong p v h d = (zero16, long_fits v h)
+distance_fits (form.Arithmetic op w s) p v h d = (short_fits v h, d)
+distance_fits form.Wide p v h d = (short_fits v h, d)
+distance_fits (form.Load n) p v h d = (short_fits v h, d)
+distance_fits (form.LoadSigned n) p v h d = (short_fits v h, d)
+distance_fits (form.StoreImmediate n) p v h d = (short_fits v h, d)
+distance_fits (form.StoreRegister n) p v h d = (short_fits v h, d)
+distance_fits form.Goto p v h d = (short_fits v h, d)
+distance_fits (form.Branch c w s) p v h d = (short_fits v h, d)
+distance_fits form.Call p v h d = (short_fits v h, d)
+distance_fits form.Exit p v h d = (short_fits v h, d)
+
+half_fits : (n : ℕ) → FitsSigned w32 (cast_signed w32 (n % 2 ^ 32))
+half_fits n = sfits_to_z {w = w32} (Fits-of_lt {w = w32} (omega arith))
+
+wide_units : (dst n : ℕ) (rest : List ProgramUnit) → nat_le dst 10 ≡ true → AreUnits true rest → AreUnits true (First (inst_of form.Wide dst 0 (pos 0) (low_half n)) ∷ Second (high_half n) ∷ rest)
+wide_units dst n rest d more = (
+  record {
+    opcode = omega arith;
+    dst = register_small dst d;
+    src = omega arith;
+    offset = zero16;
+    imm = half_fits n;
+    sound = passes true (nat_le dst 10 && true) None refl (ap (λ b. b && true) d) refl;
+  },
+  (half_fits (n / 2 ^ 32), more),
+)
+
+module _ (labels : List Definition) (within : AreWithin 512 labels) where
+  statement_is : (at : ℕ) (name : Text) (s : Statement) (rest : List ProgramUnit) → at ≤ 512 → statement_fits s ≡ true → IsSound (line.Statement s) → AreUnits true rest → AreUnits true (statement_units labels at name s ++ rest)
+  statement_is at name (Plain f p) rest l fit h more =
+      plain_units f p rest h (short_fits p.offset (and_left (fits (2 ^ 15) p.offset) (fits (2 ^ 31) p.imm) fit)) (long_fits p.imm (and_right (fits (2 ^ 15) p.offset) (fits (2 ^ 31) p.imm) fit)) more
+  statement_is at name (Wide dst n) rest l fit h more = wide_units dst (size_or_zero n) rest h more
+  statement_is at name (Jump f p Label) rest l fit h more =
+      let z = pos (place_of labels name) -ℤ pos (at + 1) in
+      let r = jump_fits f p z (apart16 (place_of labels name) at (within name) l) (apart32 (place_of labels name) at (within name) l) (long_fits p.imm (and_left (fits (2 ^ 31) p.imm) true fit)) in
+      jump_units f p z rest h r.0 r.1 more
+  statement_is at name (Jump f p (Distance v)) rest l fit h more =
+      let r = distance_fits f p v (and_right (fits (2 ^ 31) p.imm) (target_fits f (Distance v)) fit) (long_fits p.imm (and_left (fits (2 ^ 31) p.imm) (target_fits f (Distance v)) fit)) in
+      jump_units f p (int_of v) rest h r.0 r.1 more
+
+  line_is : (at : ℕ) (name : Text) (says : Line) (rest : List ProgramUnit) → at ≤ 512 → line_fits says ≡ true → IsSound says → AreUnits true rest → AreUnits true (line_units labels at name says ++ rest)
+  line_is at name line.Empty rest l fit h more = more
+  line_is at name line.Label rest l fit h more = more
+  line_is at name (line.Statement s) rest l fit h more = statement_is at name s rest l fit h more
+
+  units_are : (at : ℕ) (rows : List Row) → at + units_in rows ≤ 512 → AreRight rows → AreSound rows → AreUnits true (units_from labels at rows)
+  units_are at [] l fit h = tt
+  units_are at (r ∷ rows) l fit h = line_is at r.label r.says (units_from labels (at + line_len_of r.says) rows) (omega arith) fit.0 h.0 (units_are (at + line_len_of r.says) rows (omega arith) fit.1 h.1)
+
+-- the units of rows without fault are a program's
+pub spelled_units : (rows : List Row) → units_in rows ≤ 512 → AreRight rows → AreSound rows → AreUnits true (spelled rows)
+spelled_units rows l fit h = units_are (labels_from 0 rows) (places_within rows l) 0 rows (omega arith) fit h
+
+statement_length : (labels : List Definition) (at : ℕ) (name : Text) (s : Statement) (rest : List ProgramUnit) → length (line_units labels at name (line.Statement s) ++ rest) ≡ line_len_of (line.Statement s) + length rest
+statement_length labels at name (Plain f p) rest = omega arith
+statement_length labels at name (Wide dst n) rest = omega arith
+statement_length labels at name (Jump f p t) rest = omega arith
+
+line_length : (labels : List Definition) (at : ℕ) (name : Text) (says : Line) (rest : List ProgramUnit) → length (line_units labels at name says ++ rest) ≡ line_len_of says + length rest
+line_length labels at name line.Empty rest = omega arith
+line_length labels at name line.Label rest = omega arith
+line_length labels at name (line.Statement s) rest = statement_length labels at name s rest
+
+pub units_length : (labels : List Definition) (at : ℕ) (rows : List Row) → length (units_from labels at rows) ≡ units_in rows
+units_length labels at [] = refl
+units_length labels at (r ∷ rows) = line_length labels at r.label r.says (units_from labels (at + line_len_of r.says) rows) ∙ ap (λ n. line_len_of r.says + n) (units_length labels (at + line_len_of r.says) rows)
+
+-- ---- faults
+
+pub is_fault : (f : AsmFault) → IsFault (Some f) f
+is_fault (BadLine n) = refl
+is_fault (BadLabel n) = refl
+is_fault (OutOfRange n) = refl
+is_fault Length = refl
+is_fault OutOfMemory = tt
+
+pub fault_is : (o : Option AsmFault) (f : AsmFault) → o ≡ Some f → IsFault o f
+fault_is o f e = subst (λ p. IsFault p f) (sym e) (is_fault f)
+
+-- a line's own fault is the text's
+pub line_refused : (o r : Option AsmFault) (f : AsmFault) → IsFault o f → IsFault (or_fault o r) f
+line_refused o r (BadLine n) h = ap (λ p. or_fault p r) h
+line_refused o r (BadLabel n) h = ap (λ p. or_fault p r) h
+line_refused o r (OutOfRange n) h = ap (λ p. or_fault p r) h
+line_refused o r Length h = ap (λ p. or_fault p r) h
+line_refused o r OutOfMemory h = tt
+
+pub text_refused : (text : Text) (lines : List Text) (f : AsmFault) → lines ≡ cut text → IsFault (first_line_fault 1 lines) f → IsFault (fault_of (cut text)) f
+text_refused text lines f e h = subst (λ l. IsFault (fault_of l) f) e (line_refused (first_line_fault 1 lines) (rows_fault (rows_of lines)) f h)
+
+pub rows_refused : (text : Text) (lines : List Text) (rows : List Row) (f : AsmFault) → lines ≡ cut text → rows ≡ rows_of lines → first_line_fault 1 lines ≡ None → IsFault (rows_fault rows) f → IsFault (fault_of (cut text)) f
+rows_refused text lines rows f e r none h =
+    subst (λ l. IsFault (fault_of l) f) e
+    (subst (λ o. IsFault o f) (sym (ap (λ o. or_fault o (rows_fault (rows_of lines))) none)) (subst (λ x. IsFault (rows_fault x) f) r h))
+
+spelled_lines : (lines : List Text) (rows : List Row) (code : List ProgramUnit) → rows ≡ rows_of lines → first_line_fault 1 lines ≡ None → rows_fault rows ≡ None → code ≡ spelled rows → assembled_with lines (fault_of lines) ≡ Ok code
+spelled_lines lines rows code r none sound is =
+    ap (assembled_with lines) (ap (λ o. or_fault o (rows_fault (rows_of lines))) none ∙ ap rows_fault (sym r) ∙ sound)
+    ∙ ap (λ x. Ok (spelled x)) (sym r) ∙ ap Ok (sym is)
+
+pub text_spells : (text : Text) (lines : List Text) (rows : List Row) (code : List ProgramUnit) → lines ≡ cut text → rows ≡ rows_of lines → first_line_fault 1 lines ≡ None → rows_fault rows ≡ None → code ≡ spelled rows → assembled text ≡ Ok code
+text_spells text lines rows code e r none sound is = subst (λ l. assembled_with l (fault_of l) ≡ Ok code) e (spelled_lines lines rows code r none sound is)
+
+length_by : (rows : List Row) (n : ℕ) (b : Bool) → n ≡ units_in rows → b ≡ (nat_le 1 n && nat_le n 512) → length_fault (units_in rows) ≡ cond b None (Some Length)
+length_by rows n b e f = ap (λ x. cond x None (Some Length)) (ap (λ m. nat_le 1 m && nat_le m 512) (sym e) ∙ sym f)
+
+pub wrong_length : (rows : List Row) (n : ℕ) (b : Bool) → n ≡ units_in rows → b ≡ (nat_le 1 n && nat_le n 512) → b ≡ false → rows_fault rows ≡ Some Length
+wrong_length rows n b e f g = ap (λ o. or_fault o (label_fault (labels_from 0 rows) 1 [] rows)) (length_by rows n b e f ∙ ap (λ x. cond x None (Some Length)) g)
+
+pub label_wrong : (rows : List Row) (n : ℕ) (b : Bool) (labels : List Definition) (found : Option AsmFault) → n ≡ units_in rows → b ≡ (nat_le 1 n && nat_le n 512) → b ≡ true → labels ≡ labels_from 0 rows → found ≡ label_fault labels 1 [] rows → rows_fault rows ≡ found
+label_wrong rows n b labels found e f g l h =
+    ap (λ o. or_fault o (label_fault (labels_from 0 rows) 1 [] rows)) (length_by rows n b e f ∙ ap (λ x. cond x None (Some Length)) g)
+    ∙ ap (λ x. label_fault x 1 [] rows) (sym l) ∙ sym h
+
+pub right_count : (rows : List Row) (n : ℕ) (b : Bool) → n ≡ units_in rows → b ≡ (nat_le 1 n && nat_le n 512) → b ≡ true → (0 < units_in rows) × (units_in rows ≤ 512)
+right_count rows n b e f g =
+    let t : (nat_le 1 n && nat_le n 512) ≡ true = sym f ∙ g in
+    let low : nat_le 1 n ≡ true = and_left (nat_le 1 n) (nat_le n 512) t in
+    let high : nat_le n 512 ≡ true = and_right (nat_le 1 n) (nat_le n 512) t in
+    let a : 1 ≤ n = grind (arith, nat_tests) in
+    let b : n ≤ 512 = grind (arith, nat_tests) in
+    (omega (arith, e), omega (arith, e))
+
+pub spelled_by : (rows : List Row) (labels : List Definition) (us : List ProgramUnit) → labels ≡ labels_from 0 rows → us ≡ units_from labels 0 rows → us ≡ spelled rows
+spelled_by rows labels us l e = e ∙ ap (λ x. units_from x 0 rows) l

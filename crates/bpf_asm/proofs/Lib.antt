@@ -1,0 +1,7 @@
+pub mod Splitting
+mod Rows
+pub mod Again
+pub mod Numbers
+pub mod Lines
+pub mod Sounding
+pub mod Assembling

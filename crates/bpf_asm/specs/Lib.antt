@@ -1,0 +1,7 @@
+pub mod Text
+pub mod Words
+pub mod Lex
+pub mod Grammar
+pub mod Program
+pub mod Tables
+pub mod Sound

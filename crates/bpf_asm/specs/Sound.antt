@@ -1,0 +1,40 @@
+-- Promises: what the grammar gives is an instruction of the profile.
+use Rattle.std.specs.Prelude.{◌≡◌, ℕ, Bool, true, false, not, ◌&&◌, ◌||◌, ◌==◌, nat_le, ℤ, pos, List, [], ◌∷◌, Option, Some, None, ⊤}
+use Rattle.bpf_model.specs.declared.instruction.Form.{Form}
+use Rattle.bpf_model.specs.Reading.{form_of, has_right_fields, has_right_registers, is_wide}
+use Rattle.bpf_asm.specs.declared.grammar.Fields.{Fields}
+use Rattle.bpf_asm.specs.declared.grammar.Statement.{Statement}
+use Rattle.bpf_asm.specs.declared.grammar.Statement.TheVariants.{Plain, Wide, Jump}
+use Rattle.bpf_asm.specs.declared.grammar.Line.{Line}
+use Rattle.bpf_asm.specs.declared.grammar.Line.TheVariants as line
+use Rattle.bpf_asm.specs.Program.{Row, opcode_of, inst_of, int_of, jump_inst}
+
+-- an instruction of this form with these registers
+pub record IsOf (f : Form) (d s : ℕ) : Type 0 where
+  pub form_is : form_of (opcode_of f) ≡ Some f
+  pub narrow : is_wide (Some f) ≡ false
+  pub dst : nat_le d 10 ≡ true
+  pub src : nat_le s 10 ≡ true
+
+pub record IsPlain (f : Form) (p : Fields) : Type 0 where
+  pub is_of : IsOf f p.dst p.src
+  pub fields : has_right_fields f (inst_of f p.dst p.src (int_of p.offset) (int_of p.imm)) ≡ true
+  pub registers : has_right_registers f (inst_of f p.dst p.src (int_of p.offset) (int_of p.imm)) ≡ true
+
+-- a jump is one whatever its distance
+pub record IsJump (f : Form) (p : Fields) : Type 0 where
+  pub is_of : IsOf f p.dst p.src
+  pub fields : (z : ℤ) → has_right_fields f (jump_inst f p z) ≡ true
+  pub registers : (z : ℤ) → has_right_registers f (jump_inst f p z) ≡ true
+  pub opcode : (z : ℤ) → (jump_inst f p z).opcode ≡ opcode_of f
+
+abbrev pub IsSound : Line → Type 0
+IsSound line.Empty = ⊤
+IsSound line.Label = ⊤
+IsSound (line.Statement (Plain f p)) = IsPlain f p
+IsSound (line.Statement (Wide dst n)) = nat_le dst 10 ≡ true
+IsSound (line.Statement (Jump f p t)) = IsJump f p
+
+abbrev pub AreSound : List Row → Type 0
+AreSound [] = ⊤
+AreSound (r ∷ rows) = IsSound r.says × AreSound rows

@@ -1,0 +1,114 @@
+// Programs as assembler text, and back.
+#![tactic(auto)]
+
+ghost use Rattle.std.specs.Prelude.{◌≡◌, ◌++◌, IfOk, IfErr, map, None, ◌&&◌, nat_le, string_bytes};
+ghost use Rattle.bpf_asm.specs.Program as spec;
+ghost use Rattle.bpf_asm.specs.Sound.{AreSound};
+ghost use Rattle.bpf_asm.specs.Text.{canon, high_of};
+
+use bpf_decode::{Code, Unit};
+use grammar::Line;
+use std::alloc::{AllocError, Global};
+use thiserror::Error;
+
+/// Why a text is no program, with the number of the line, from 1.
+#[derive(Clone, Copy, Debug, PartialEq, Eq, Error)]
+pub enum AsmFault {
+    #[error("line {0}: no form of the format")]
+    BadLine(u64),
+    #[error("line {0}: a label defined again, or never")]
+    BadLabel(u64),
+    #[error("line {0}: a number out of range")]
+    OutOfRange(u64),
+    #[error("a program has 1 to 512 units")]
+    Length,
+    #[error("out of memory")]
+    OutOfMemory,
+}
+
+mod grammar;
+mod label;
+mod lex;
+mod line;
+mod text;
+mod token;
+mod units;
+
+fn high(units: &[Unit]) -> i32
+    ensures { result ≡ high_of units.now }
+{
+    match units.first() {
+        Some(Unit::Second(high)) => *high,
+        Some(Unit::First(_)) => 0,
+        None => 0,
+    }
+}
+
+/// The text of a program, one instruction a line.
+pub fn disassemble(alloc: Global, code: &Code) -> Result<String, AllocError>
+    ensures { IfOk result (λ text. string_bytes text ≡ canon code.now) }
+{
+    let mut out = String::new(alloc);
+    let mut rest = code.units();
+    while let Some((unit, after)) = rest.split_first() {
+        if let Unit::First(inst) = unit {
+            text::write_instruction(&mut out, *inst, high(after))?;
+        }
+        rest = after;
+    }
+    Ok(out)
+}
+
+fn is_length(count: u64) -> bool
+    ensures { result ≡ (nat_le 1 count && nat_le count 512) }
+{
+    1 <= count && count <= 512
+}
+
+// The program of rows without a fault of their own.
+fn assemble_rows(alloc: Global, rows: &[(Line, &[u8])]) -> Result<Code, AsmFault>
+    requires fits { spec.AreRight (map (λ p. spec.row p.0 p.1.now) rows.now) }
+    requires sound { AreSound (map (λ p. spec.row p.0 p.1.now) rows.now) }
+    ensures ok { IfOk result (λ code. code ≡ spec.spelled (map (λ p. spec.row p.0 p.1.now) rows.now)) }
+    ensures none { IfOk result (λ code. spec.rows_fault (map (λ p. spec.row p.0 p.1.now) rows.now) ≡ None) }
+    ensures refused { IfErr result (λ fault. spec.IsFault (spec.rows_fault (map (λ p. spec.row p.0 p.1.now) rows.now)) fault) }
+{
+    let count = label::units_in(rows);
+    if !is_length(count) {
+        return Err(AsmFault::Length);
+    }
+    let Ok(labels) = label::labels_of(alloc, rows) else {
+        return Err(AsmFault::OutOfMemory);
+    };
+    let Ok(found) = label::label_fault(alloc, labels.as_slice(), rows) else {
+        return Err(AsmFault::OutOfMemory);
+    };
+    if let Some(fault) = found {
+        return Err(fault);
+    }
+    let Ok(units) = units::units_of(alloc, labels.as_slice(), rows) else {
+        return Err(AsmFault::OutOfMemory);
+    };
+    Ok(Code::from_units(units))
+}
+
+/// The program that a text spells, or the first fault of the text.
+pub fn assemble(alloc: Global, text: &[u8]) -> Result<Code, AsmFault>
+    ensures ok { IfOk result (λ code. spec.Spells text.now code) }
+    ensures refused { IfErr result (λ fault. spec.IsRefused text.now fault) }
+{
+    let Ok(lines) = line::cut(alloc, text) else {
+        return Err(AsmFault::OutOfMemory);
+    };
+    let rows = match line::rows_of(alloc, lines.as_slice()) {
+        Ok(rows) => rows,
+        Err(fault) => return Err(fault),
+    };
+    match assemble_rows(alloc, rows.as_slice()) {
+        Ok(code) => Ok(code),
+        Err(fault) => Err(fault),
+    }
+}
+
+#[cfg(test)]
+mod tests;
