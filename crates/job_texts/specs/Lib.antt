@@ -1,2 +1,3 @@
 pub mod Told
 pub mod AuditTold
+pub mod Assembler

@@ -1,0 +1,105 @@
+//! What is said of assembler texts, and of programs that are read back.
+ghost use Rattle.std.specs.Prelude.{◌≡◌, ◌⊎◌, ℕ, List, IfOk};
+ghost use Rattle.bpf_decode.specs.Faults.{IsRefusedFor};
+ghost use Rattle.bpf_decode.specs.Encoded.{encoded};
+ghost use Rattle.bpf_asm.specs.Text.{canon};
+ghost use Rattle.program_file.specs.Digits.{unit_lines};
+ghost use Rattle.job_texts.specs.Told.{IsSaid};
+ghost use Rattle.job_texts.specs.Assembler.{asm_fault_text, AsmTells, ToldUnits, ToldAsmFault, ToldText, ToldDecodeFault, DisTells};
+
+use crate::told::{REFUSED, Told, refused};
+use bpf_asm::{AsmFault, assemble, disassemble};
+use bpf_decode::{Code, DecodeFault, decode, encode};
+use program_file::{MOST_BYTES, ProgramFileFault, read_program, unit_lines};
+use reg_types::Refusal;
+use std::alloc::{AllocError, Global};
+use till_request::Answer;
+
+/// The lines of a program's units.
+fn told_units(alloc: Global, code: &Code) -> Result<Told, AllocError>
+    ensures { IfOk result (λ told. IsSaid told (unit_lines (encoded code.now)) 0) }
+{
+    let bytes = encode(alloc, code)?;
+    let text = unit_lines(alloc, &bytes)?;
+    Ok(Told { text, status: 0 })
+}
+
+/// The line of a fault of the assembler; none of want of memory.
+fn told_asm_fault(alloc: Global, fault: AsmFault) -> Result<Told, AllocError>
+    ensures { IfOk result (λ told. IsSaid told (asm_fault_text fault) 1) }
+{
+    let text = match fault {
+        AsmFault::BadLine(line) => format!(in alloc; "A1 {line}\n")?,
+        AsmFault::BadLabel(line) => format!(in alloc; "A2 {line}\n")?,
+        AsmFault::OutOfRange(line) => format!(in alloc; "A3 {line}\n")?,
+        AsmFault::Length => format!(in alloc; "A4\n")?,
+        AsmFault::OutOfMemory => return Err(AllocError),
+    };
+    Ok(Told {
+        text,
+        status: REFUSED,
+    })
+}
+
+fn asm_text(alloc: Global, text: &[u8]) -> Result<Told, AllocError>
+    ensures { IfOk result (λ told. ToldUnits text.now told ⊎ ToldAsmFault text.now told) }
+{
+    match assemble(alloc, text) {
+        Ok(code) => told_units(alloc, &code),
+        Err(fault) => told_asm_fault(alloc, fault),
+    }
+}
+
+/// The units that an assembler text spells, one a line of 16 hexadecimal digits, with status 0; or with status 1 `L1` for
+/// a text of over 65,536 bytes, or the text's first fault: `A1 LINE` to `A3 LINE`, or `A4`.
+pub fn asm_file(alloc: Global, text: &[u8]) -> Result<Told, AllocError>
+    ensures { IfOk result (AsmTells text.now) }
+{
+    if text.len() > MOST_BYTES {
+        return refused(alloc, "L1");
+    }
+    asm_text(alloc, text)
+}
+
+fn told_text(alloc: Global, code: &Code) -> Result<Told, AllocError>
+    ensures { IfOk result (λ told. IsSaid told (canon code.now) 0) }
+{
+    let text = disassemble(alloc, code)?;
+    Ok(Told { text, status: 0 })
+}
+
+fn told_decode_fault(alloc: Global, fault: DecodeFault) -> Result<Told, AllocError>
+    ensures { IfOk result (λ told. (bytes : List ℕ) → IsRefusedFor bytes fault → ToldDecodeFault bytes told) }
+{
+    let Some((number, unit, part)) = Refusal::Decode(fault).shown() else {
+        return Err(AllocError);
+    };
+    let answer = Answer::Program(number, unit, part);
+    let text = format!(in alloc; "{answer}\n")?;
+    Ok(Told {
+        text,
+        status: REFUSED,
+    })
+}
+
+fn dis_bytes(alloc: Global, bytes: &[u8]) -> Result<Told, AllocError>
+    ensures { IfOk result (λ told. ToldText bytes.now told ⊎ ToldDecodeFault bytes.now told) }
+{
+    match decode(alloc, bytes) {
+        Ok(code) => told_text(alloc, &code),
+        Err(fault) => told_decode_fault(alloc, fault),
+    }
+}
+
+/// A program file as assembler text, with status 0; or with status 1 `L1` for a file of over 65,536 bytes, `H1` for one of
+/// other bytes than digits and blanks, or the V line of bytes that are no units. Jumps and types aren't judged.
+pub fn dis_file(alloc: Global, file: &[u8]) -> Result<Told, AllocError>
+    ensures { IfOk result (DisTells file.now) }
+{
+    match read_program(alloc, file) {
+        Ok(bytes) => dis_bytes(alloc, &bytes),
+        Err(ProgramFileFault::TooLong) => refused(alloc, "L1"),
+        Err(ProgramFileFault::BadDigits) => refused(alloc, "H1"),
+        Err(ProgramFileFault::OutOfMemory) => Err(AllocError),
+    }
+}
