@@ -1,0 +1,45 @@
+-- Beginnings of texts, and a session that said nothing.
+use Rattle.std.proofs.Common.{◌≡◌, ℕ, List, [], ◌∷◌, ◌++◌, length, take, Option, None, Result, Ok, Err, OnErr, IfOk, refl, sym, ◌∙◌, ap, subst}
+use Rattle.std.specs.Io.KnownBytes.{Appends}
+use Rattle.decision_journal.specs.Writing.{AppendsFront}
+use Rattle.line_session.specs.declared.answering.Ended.{Ended}
+use Rattle.line_session.specs.Talk.{Breaks, Ends}
+use Rattle.site_core.specs.Site.{SiteValue}
+use Rattle.console.specs.Play.{Plays, PlaysOut, PlayBreaks}
+use Rattle.line_session.proofs.Saying.{consumes_none, appends_none}
+
+take_front : (ws rest : List ℕ) → take (length ws) (ws ++ rest) ≡ ws
+take_front [] rest = refl
+take_front (w ∷ ws) rest = ap (λ t. w ∷ t) (take_front ws rest)
+
+pub front_taken : (a b : Option (List ℕ)) (text : List ℕ) → AppendsFront a b text → (k : ℕ) × Appends a b (take k text)
+front_taken a b text h =
+    let P : List ℕ → Type 0 = λ t. Appends a b t in
+    (length h.front, subst P (sym (ap (take (length h.front)) h.begins ∙ take_front h.front h.after)) h.written)
+
+pub breaks_none : {S : Type 0} (says : S → List ℕ → List ℕ → S → Type 0) (s : S) (i o : Option (List ℕ)) → Breaks says s s i i o o
+breaks_none says s i o = record {
+  lines = [];
+  texts = [];
+  each = tt;
+  said = refl;
+  rest = [];
+  taken = consumes_none i;
+  cut = None;
+  front = [];
+  after = [];
+  written = appends_none o;
+  begins = refl;
+}
+
+pub said_from : {E : Type 0} (r : Result Ended E) (a b : SiteValue) (m : ℕ) (left : SiteValue) (i j o p : Option (List ℕ)) → a ≡ b
+    → IfOk r (λ e. Ends Plays (0, a) (m, left) i j o p e.lines e.cut) → IfOk r (λ e. PlaysOut b i j o p e.lines e.cut)
+said_from (Ok e) a b m left i j o p same h =
+    let P : SiteValue → Type 0 = λ s. Ends Plays (0, s) (m, left) i j o p e.lines e.cut in record { moment = m; left = left; ends = subst P same h }
+said_from (Err e) a b m left i j o p same h = tt
+
+pub broken_from : {T E : Type 0} (r : Result T E) (a b : SiteValue) (m : ℕ) (left : SiteValue) (i j o p : Option (List ℕ)) → a ≡ b
+    → OnErr r (Breaks Plays (0, a) (m, left) i j o p) → OnErr r (PlayBreaks b i j o p)
+broken_from (Ok x) a b m left i j o p same h = tt
+broken_from (Err e) a b m left i j o p same h =
+    let P : SiteValue → Type 0 = λ s. Breaks Plays (0, s) (m, left) i j o p in record { moment = m; left = left; breaks = subst P same h }

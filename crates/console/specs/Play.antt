@@ -1,0 +1,99 @@
+-- Definitions: what a script's line is answered (this profile), from the moment last set and the site that the lines before
+-- it left. An act is an event of pass 1 at that moment. A load's bytes are verified first: a refused program is answered by
+-- its V line and is no event. Want of memory is answered `S31`, a full journal `S29`, and both leave the site as it was.
+use Rattle.std.specs.Prelude.{◌≡◌, ◌≢◌, ℕ, List, [], ◌∷◌, ◌++◌, length, codes, Option, Some, None, Result, Ok, Err}
+use Rattle.std.specs.Fmt.{decimal}
+use Rattle.std.specs.List.{join_with_byte}
+use Rattle.bpf_model.specs.Runs.{IsGood}
+use Rattle.reg_types.specs.declared.refusal.Refusal.{Refusal}
+use Rattle.reg_types.specs.Refusals.{shown_by}
+use Rattle.reg_types.specs.Facts.{IsRefused}
+use Rattle.till_request.specs.declared.act.Act.{Act}
+use Rattle.till_request.specs.declared.act.Act.TheVariants as acts
+use Rattle.till_request.specs.declared.act.Answer.{Answer}
+use Rattle.till_request.specs.declared.act.Answer.TheVariants as answers
+use Rattle.till_request.specs.declared.act.LineFault.{LineFault}
+use Rattle.till_request.specs.declared.act.LineFault.TheVariants as faults
+use Rattle.till_request.specs.Answer.{answer_line}
+use Rattle.decision_journal.specs.Text.{journal_text}
+use Rattle.site_core.specs.Site.{SiteValue, Enters}
+use Rattle.site_core.specs.State.{counter_of}
+use Rattle.line_session.specs.Talk.{Ends, Breaks}
+use Rattle.console.specs.declared.script.ScriptLine.{ScriptLine}
+use Rattle.console.specs.declared.script.ScriptLine.TheVariants as lines
+use Rattle.console.specs.Script.{line_of}
+
+-- what an event is answered: its entry's number and reply, or that it isn't entered
+abbrev pub EventAnswered : SiteValue → ℕ → Act → Answer → SiteValue → Type 0
+EventAnswered old moment act (answers.Entered number reply) new = (length old.history ≢ 1048576) × Enters old 1 moment act number reply new
+EventAnswered old moment act answers.JournalFull new = (length old.history ≡ 1048576) × (new ≡ old)
+EventAnswered old moment act answers.OutOfMemory new = new ≡ old
+EventAnswered old moment act (answers.Line fault) new = ⊥
+EventAnswered old moment act (answers.Program number unit part) new = ⊥
+
+-- the verifier's refusal of the bytes shows these numbers, and the site stays as it was
+pub record ProgramRefused (old : SiteValue) (bytes : List ℕ) (mask number : ℕ) (unit part : Option ℕ) (new : SiteValue) : Type 0 where
+  pub refusal : Refusal
+  pub refused : IsRefused bytes refusal
+  pub shown : shown_by refusal ≡ Some (number, unit, part)
+  pub same : new ≡ old
+
+-- what a load is answered: a program that is entered is good
+abbrev pub LoadAnswered : SiteValue → ℕ → ℕ → ℕ → List ℕ → Answer → SiteValue → Type 0
+LoadAnswered old moment slot mask bytes (answers.Entered number reply) new = IsGood bytes mask × EventAnswered old moment (acts.Load slot mask bytes) (answers.Entered number reply) new
+LoadAnswered old moment slot mask bytes answers.JournalFull new = IsGood bytes mask × EventAnswered old moment (acts.Load slot mask bytes) answers.JournalFull new
+LoadAnswered old moment slot mask bytes answers.OutOfMemory new = new ≡ old
+LoadAnswered old moment slot mask bytes (answers.Line fault) new = ⊥
+LoadAnswered old moment slot mask bytes (answers.Program number unit part) new = ProgramRefused old bytes mask number unit part new
+
+abbrev pub ActAnswered : SiteValue → ℕ → Act → Answer → SiteValue → Type 0
+ActAnswered old moment (acts.Till till request) answer new = EventAnswered old moment (acts.Till till request) answer new
+ActAnswered old moment (acts.Dispenser point event) answer new = EventAnswered old moment (acts.Dispenser point event) answer new
+ActAnswered old moment (acts.Load slot mask bytes) answer new = LoadAnswered old moment slot mask bytes answer new
+
+-- the text is the line of such an answer
+pub record ActSaid (old : SiteValue) (moment : ℕ) (act : Act) (text : List ℕ) (new : SiteValue) : Type 0 where
+  pub answer : Answer
+  pub answered : ActAnswered old moment act answer new
+  pub text_is : text ≡ answer_line answer
+
+-- the moment's line, which is the one that sets it
+abbrev pub moment_text : ℕ → List ℕ
+moment_text n = join_with_byte 32 (codes "moment" ∷ decimal n ∷ []) ++ 10 ∷ []
+
+-- a counter's value and bound; a number that no counter has is a bad number
+abbrev pub counter_text : Option (ℕ × ℕ) → List ℕ
+counter_text (Some p) = join_with_byte 32 (codes "counter" ∷ decimal p.0 ∷ decimal p.1 ∷ []) ++ 10 ∷ []
+counter_text None = answer_line (answers.Line faults.BadNumber)
+
+-- what a line is answered that asks this, and what moment and site it leaves
+abbrev pub LineSaid : Result ScriptLine LineFault → ℕ × SiteValue → List ℕ → ℕ × SiteValue → Type 0
+LineSaid (Err fault) s text s' = (text ≡ answer_line (answers.Line fault)) × (s' ≡ s)
+LineSaid (Ok (lines.Act act)) s text s' = ActSaid s.1 s.0 act text s'.1 × (s'.0 ≡ s.0)
+LineSaid (Ok (lines.Moment n)) s text s' = (text ≡ moment_text n) × (s' ≡ (n, s.1))
+LineSaid (Ok (lines.Counter c)) s text s' = (text ≡ counter_text (counter_of s.1.state c)) × (s' ≡ s)
+LineSaid (Ok lines.Journal) s text s' = (text ≡ journal_text s.1.history) × (s' ≡ s)
+
+-- what a line of a script is answered
+abbrev pub Plays : ℕ × SiteValue → List ℕ → List ℕ → ℕ × SiteValue → Type 0
+Plays s line text s' = LineSaid (line_of line) s text s'
+
+-- the line of a refusal, or want of memory
+abbrev pub numbers_answer : Option (ℕ × (Option ℕ) × (Option ℕ)) → Answer
+numbers_answer (Some n) = answers.Program n.0 n.1 n.2
+numbers_answer None = answers.OutOfMemory
+
+abbrev pub refusal_answer : Refusal → Answer
+refusal_answer refusal = numbers_answer (shown_by refusal)
+
+-- a script was answered from moment 0 on, and left some moment and site
+pub record PlaysOut (site : SiteValue) (in_old in_new out_old out_new : Option (List ℕ)) (count : ℕ) (cut : Option LineFault) : Type 0 where
+  pub moment : ℕ
+  pub left : SiteValue
+  pub ends : Ends Plays (0, site) (moment, left) in_old in_new out_old out_new count cut
+
+-- a beginning of what would be said is out
+pub record PlayBreaks (site : SiteValue) (in_old in_new out_old out_new : Option (List ℕ)) : Type 0 where
+  pub moment : ℕ
+  pub left : SiteValue
+  pub breaks : Breaks Plays (0, site) (moment, left) in_old in_new out_old out_new

@@ -1,0 +1,46 @@
+-- Definitions: the lines of a script (this profile). They are those of all roles, and `moment N`, `counter C` and `journal`,
+-- which are read by the same rules: where the words have no form, the line is bad; else its value is read.
+use Rattle.std.specs.Prelude.{ℕ, List, [], ◌∷◌, codes, Bool, ◌&&◌, Result, Ok, Err, if◌then◌else◌}
+use Rattle.std.specs.Str.{bytes_eq}
+use Rattle.till_request.specs.declared.act.Act.{Act}
+use Rattle.till_request.specs.declared.act.LineFault.{LineFault}
+use Rattle.till_request.specs.declared.act.Role.TheVariants.{All}
+use Rattle.till_request.specs.Grammar.{words, number, is_some_word, act_of_words, ◌>>=◌}
+use Rattle.console.specs.declared.script.ScriptLine.{ScriptLine}
+use Rattle.console.specs.declared.script.ScriptLine.TheVariants as lines
+
+-- an act that somebody of any role sends
+abbrev pub act_line : List (List ℕ) → Result ScriptLine LineFault
+act_line ws = do
+  act ← act_of_words All ws
+  Ok (lines.Act act)
+
+abbrev pub line_alone : List ℕ → List (List ℕ) → Result ScriptLine LineFault
+line_alone word ws = if bytes_eq word (codes "journal") then Ok lines.Journal else act_line ws
+
+-- the word is this one, and there is a value
+abbrev pub is_named : List ℕ → List ℕ → List ℕ → Bool
+is_named word name value = bytes_eq word name && is_some_word value
+
+abbrev pub moment_line : List ℕ → Result ScriptLine LineFault
+moment_line value = do
+  n ← number 64 value
+  Ok (lines.Moment n)
+
+abbrev pub counter_line : List ℕ → Result ScriptLine LineFault
+counter_line value = do
+  c ← number 32 value
+  Ok (lines.Counter c)
+
+abbrev pub line_with_value : List ℕ → List ℕ → List (List ℕ) → Result ScriptLine LineFault
+line_with_value word value ws =
+    if is_named word (codes "moment") value then moment_line value else if is_named word (codes "counter") value then counter_line value else act_line ws
+
+abbrev pub line_of_words : List (List ℕ) → Result ScriptLine LineFault
+line_of_words (word ∷ []) = line_alone word (word ∷ [])
+line_of_words (word ∷ value ∷ []) = line_with_value word value (word ∷ value ∷ [])
+line_of_words ws = act_line ws
+
+-- what a line of a script stands for
+abbrev pub line_of : List ℕ → Result ScriptLine LineFault
+line_of line = line_of_words (words line)

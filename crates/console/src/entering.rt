@@ -1,0 +1,75 @@
+//! Acts as events of a site.
+ghost use Rattle.std.specs.Prelude.{◌≡◌};
+ghost use Rattle.site_core.specs.Site.{act_of};
+ghost use Rattle.console.specs.Play.{EventAnswered, LoadAnswered, ActAnswered, refusal_answer};
+
+use reg_types::{Refusal, verify};
+use site_core::{CallFault, Event, Site, What};
+use std::alloc::Global;
+use std::sync::Arc;
+use till_request::{Act, Answer, Bytes};
+
+/// The pass of all that a script asks.
+const PASS: u32 = 1;
+
+/// Enters what happens, and answers it.
+fn enter_event(site: &mut Site, moment: u64, what: What) -> Answer
+    ensures { EventAnswered site.old moment (act_of what) result site.new }
+{
+    let event = Event {
+        pass: PASS,
+        moment,
+        what,
+    };
+    match site.apply(event) {
+        Ok(answered) => Answer::Entered {
+            number: answered.number,
+            reply: answered.reply,
+        },
+        Err(CallFault::JournalFull) => Answer::JournalFull,
+        Err(CallFault::OutOfMemory) => Answer::OutOfMemory,
+    }
+}
+
+/// The answer to bytes that were refused.
+fn answer_refusal(refusal: Refusal) -> Answer
+    ensures { result ≡ refusal_answer refusal }
+{
+    match refusal.shown() {
+        Some((number, unit, part)) => Answer::Program(number, unit, part),
+        None => Answer::OutOfMemory,
+    }
+}
+
+/// Verifies a load's bytes and enters the program, or answers why it is refused.
+fn enter_load(
+    alloc: Global,
+    site: &mut Site,
+    moment: u64,
+    slot: u32,
+    mask: u32,
+    bytes: Bytes,
+) -> Answer
+    ensures { LoadAnswered site.old moment slot mask bytes result site.new }
+{
+    match verify(alloc, bytes.as_slice(), mask) {
+        Ok(program) => match Arc::new(alloc, program) {
+            Ok(program) => enter_event(site, moment, What::Load { slot, program }),
+            Err(_) => Answer::OutOfMemory,
+        },
+        Err(refusal) => answer_refusal(refusal),
+    }
+}
+
+/// Enters an act of the script's pass at a moment, and answers it.
+pub fn enter(alloc: Global, site: &mut Site, moment: u64, act: Act) -> Answer
+    ensures { ActAnswered site.old moment act result site.new }
+{
+    match act {
+        Act::Till { till, request } => enter_event(site, moment, What::Till { till, request }),
+        Act::Dispenser { point, event } => {
+            enter_event(site, moment, What::Dispenser { point, event })
+        }
+        Act::Load { slot, mask, bytes } => enter_load(alloc, site, moment, slot, mask, bytes),
+    }
+}

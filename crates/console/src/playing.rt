@@ -1,0 +1,34 @@
+//! Scripts.
+ghost use Rattle.std.specs.Prelude.{◌≡◌, ◌≤◌, ℕ, IfOk, OnErr, Err};
+ghost use Rattle.till_request.specs.Count.{RoseBy, one_if};
+ghost use Rattle.line_session.specs.Talk.{is_read, is_write};
+ghost use Rattle.site_core.specs.Site.{new_site};
+ghost use Rattle.console.specs.Play.{PlaysOut, PlayBreaks};
+
+use crate::player::Player;
+use line_session::{Ended, SessionFault, talk};
+use site_core::{Config, Site};
+use std::alloc::Global;
+use till_request::{LineIn, LineOut};
+
+/// Answers a script line by line: a session over the configuration's site, from moment 0 on.
+///
+/// After a fault a beginning of the answers is out.
+pub fn play<I: LineIn, O: LineOut>(
+    alloc: Global,
+    config: Config,
+    input: &mut I,
+    output: &mut O,
+) -> Result<Ended, SessionFault>
+    ensures said { IfOk result (λ ended. PlaysOut (new_site config) (I.remaining input.old) (I.remaining input.new) (O.written output.old) (O.written output.new) ended.lines ended.cut) }
+    ensures broken { OnErr result (PlayBreaks (new_site config) (I.remaining input.old) (I.remaining input.new) (O.written output.old) (O.written output.new)) }
+    ensures read_fault { RoseBy (one_if (is_read result)) (I.failures input.old) (I.failures input.new) }
+    ensures write_fault { RoseBy (one_if (is_write result)) (O.failures output.old) (O.failures output.new) }
+    ensures reads { (k : ℕ) × (k ≤ 67108864) × RoseBy k (I.reads input.old) (I.reads input.new) × (result ≡ Err SessionFault.ReadsSpent → k ≡ 67108864) }
+{
+    let Ok(mut site) = Site::start(alloc, config) else {
+        return Err(SessionFault::OutOfMemory);
+    };
+    let mut moment = 0;
+    talk(alloc, input, output, &Player, &mut moment, &mut site)
+}

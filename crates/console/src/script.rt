@@ -1,0 +1,85 @@
+//! The lines of a script: those of all roles, and the script's own.
+ghost use Rattle.std.specs.Prelude.{◌≡◌, map};
+ghost use Rattle.std.specs.Str.{bytes_eq};
+ghost use Rattle.till_request.specs.Gives.{Gives};
+ghost use Rattle.console.specs.Script.{act_line, line_alone, line_with_value, line_of_words, line_of, is_named};
+
+use std::alloc::Global;
+use till_request::{Act, LineFault, Role, number_u32, number_u64, parse_words, split_words};
+
+/// What a line of a script asks.
+#[derive(Debug, Drop)]
+pub enum ScriptLine {
+    Act(Act),
+    /// `moment N`: the moment of later requests.
+    Moment(u64),
+    /// `counter C`: a counter's value and bound.
+    Counter(u32),
+    /// `journal`: all entries.
+    Journal,
+}
+
+/// Whether the word is this one, and the value isn't empty.
+fn is_pair(word: &[u8], name: &[u8], value: &[u8]) -> bool
+    ensures { result ≡ is_named word.now name.now value.now }
+{
+    word == name && !value.is_empty()
+}
+
+/// The act of these words.
+fn read_act(alloc: Global, words: &[&[u8]]) -> Result<ScriptLine, LineFault>
+    ensures { Gives result (act_line (map (λ w. w.now) words.now)) }
+{
+    Ok(ScriptLine::Act(parse_words(alloc, Role::All, words)?))
+}
+
+/// A line of one word.
+fn read_alone(alloc: Global, word: &[u8], words: &[&[u8]]) -> Result<ScriptLine, LineFault>
+    ensures { Gives result (line_alone word.now (map (λ w. w.now) words.now)) }
+{
+    if word == b"journal".as_slice() {
+        Ok(ScriptLine::Journal)
+    } else {
+        read_act(alloc, words)
+    }
+}
+
+/// A line of two words.
+fn read_with_value(
+    alloc: Global,
+    word: &[u8],
+    value: &[u8],
+    words: &[&[u8]],
+) -> Result<ScriptLine, LineFault>
+    ensures { Gives result (line_with_value word.now value.now (map (λ w. w.now) words.now)) }
+{
+    if is_pair(word, b"moment", value) {
+        let moment = number_u64(value)?;
+        return Ok(ScriptLine::Moment(moment));
+    }
+    if is_pair(word, b"counter", value) {
+        let counter = number_u32(value)?;
+        return Ok(ScriptLine::Counter(counter));
+    }
+    read_act(alloc, words)
+}
+
+/// The line of these words.
+fn read_words(alloc: Global, words: &[&[u8]]) -> Result<ScriptLine, LineFault>
+    ensures { Gives result (line_of_words (map (λ w. w.now) words.now)) }
+{
+    match words {
+        [word] => read_alone(alloc, word, words),
+        [word, value] => read_with_value(alloc, word, value, words),
+        _ => read_act(alloc, words),
+    }
+}
+
+/// What a line of a script asks, without its LF: L2 where its words have no form, else L3 where a
+/// value can't be read.
+pub fn parse_script_line(alloc: Global, line: &[u8]) -> Result<ScriptLine, LineFault>
+    ensures { Gives result (line_of line.now) }
+{
+    let words = split_words(alloc, line)?;
+    read_words(alloc, words.as_slice())
+}
