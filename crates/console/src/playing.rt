@@ -1,17 +1,49 @@
 //! Scripts.
-ghost use Rattle.std.specs.Prelude.{◌≡◌, ◌≤◌, ℕ, IfOk, OnErr, Err};
+ghost use Rattle.std.specs.Prelude.{◌≡◌, ◌≤◌, ◌-◌, ℕ, IfOk, OnErr, Err};
 ghost use Rattle.till_request.specs.Count.{RoseBy, one_if};
 ghost use Rattle.line_session.specs.Talk.{is_read, is_write};
 ghost use Rattle.site_core.specs.Site.{new_site};
 ghost use Rattle.console.specs.Play.{PlaysOut, PlayBreaks};
 
 use crate::player::Player;
-use line_session::{Ended, SessionFault, talk};
+use line_session::{Ended, READS, SessionFault, talk_within};
 use site_core::{Config, Site};
 use std::alloc::Global;
 use till_request::{LineIn, LineOut};
 
-/// Answers a script line by line: a session over the configuration's site, from moment 0 on.
+/// Answers a script line by line, as `play`, within so many reads of one byte each.
+pub fn play_within<I: LineIn, O: LineOut>(
+    alloc: Global,
+    config: Config,
+    input: &mut I,
+    output: &mut O,
+    left: &mut u32,
+) -> Result<Ended, SessionFault>
+    requires { left.old ≤ 67108864 }
+    ensures said { IfOk result (λ ended. PlaysOut (new_site config) (I.remaining input.old) (I.remaining input.new) (O.written output.old) (O.written output.new) ended.lines ended.cut) }
+    ensures broken { OnErr result (PlayBreaks (new_site config) (I.remaining input.old) (I.remaining input.new) (O.written output.old) (O.written output.new)) }
+    ensures read_fault { RoseBy (one_if (is_read result)) (I.failures input.old) (I.failures input.new) }
+    ensures write_fault { RoseBy (one_if (is_write result)) (O.failures output.old) (O.failures output.new) }
+    ensures left { left.new ≤ left.old }
+    ensures spent { result ≡ Err SessionFault.ReadsSpent → left.new ≡ 0 }
+    ensures counted { RoseBy (left.old - left.new) (I.reads input.old) (I.reads input.new) }
+{
+    let Ok(mut site) = Site::start(alloc, config) else {
+        return Err(SessionFault::OutOfMemory);
+    };
+    let mut moment = 0;
+    talk_within(
+        alloc,
+        input,
+        output,
+        &Player,
+        &mut moment,
+        &mut site,
+        left,
+    )
+}
+
+/// Answers a script line by line: a session over the configuration's site, from moment 0 on, of at most 67,108,864 reads.
 ///
 /// After a fault a beginning of the answers is out.
 pub fn play<I: LineIn, O: LineOut>(
@@ -26,9 +58,6 @@ pub fn play<I: LineIn, O: LineOut>(
     ensures write_fault { RoseBy (one_if (is_write result)) (O.failures output.old) (O.failures output.new) }
     ensures reads { (k : ℕ) × (k ≤ 67108864) × RoseBy k (I.reads input.old) (I.reads input.new) × (result ≡ Err SessionFault.ReadsSpent → k ≡ 67108864) }
 {
-    let Ok(mut site) = Site::start(alloc, config) else {
-        return Err(SessionFault::OutOfMemory);
-    };
-    let mut moment = 0;
-    talk(alloc, input, output, &Player, &mut moment, &mut site)
+    let mut left = READS;
+    play_within(alloc, config, input, output, &mut left)
 }
