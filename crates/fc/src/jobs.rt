@@ -1,34 +1,36 @@
 //! What the program does for its words.
 use crate::files::{Text, read_file};
 use console::{
-    Config, ConfigFault, Ended, Job, READS, SessionFault, Settings, Told, asm_file, audit_journal,
-    config_part, dis_file, play_within, read_config, read_head, verify_file,
+    ConfigFault, Ended, Job, MOST_BYTES, READS, SessionFault, Settings, Told, asm_file,
+    audit_entries, config_part, dis_file, journal_fault_line, play, play_within, read_config,
+    read_head, verify_file,
 };
+use decision_journal::read_entries;
 use std::alloc::AllocError;
 use std::fs::File;
-use std::io::{self, BufReader, Read};
-use till_request::LineIn;
+use std::io::{self, BufReader};
 use till_request::devices::{StreamIn, StreamOut};
 
+/// All was done. A refusal inside a play is an answer.
 pub const DONE: u8 = 0;
+/// The input is refused.
 pub const REFUSED: u8 = 1;
+/// The words are no use of the program.
 pub const USAGE: u8 = 2;
+/// A device failed, the reads ran out, or memory was refused.
 pub const FAILED: u8 = 3;
-
-/// The most bytes of a configuration, program or assembler file.
-const MOST_BYTES: usize = 65_536;
 
 /// Does a job, and answers the exit status. What goes wrong with a file or a device is said on standard error.
 pub fn do_job(rt: &HostRuntime, job: Job) -> u8 {
     let done = match job {
         Job::NoWords => play_input(rt),
-        Job::Show(text) => show(rt, &text),
-        Job::Verify { counters, file } => verify(rt, &file, counters),
+        Job::Show(text) => say(rt, text, DONE),
+        Job::Asm(file) => tell_of(rt, &file, Tell::Asm),
+        Job::Dis(file) => tell_of(rt, &file, Tell::Dis),
+        Job::Verify { counters, file } => tell_of(rt, &file, Tell::Verify(counters)),
         Job::Play { config, script } => play_files(rt, &config, &script),
-        Job::Asm(file) => asm(rt, &file),
-        Job::Dis(file) => dis(rt, &file),
-        Job::Audit { config, journal } => audit(rt, &config, &journal),
-        Job::Serve(_) => missing(rt),
+        Job::Audit { config, journal } => audit_files(rt, &config, &journal),
+        Job::Serve(_) => not_there(rt),
     };
     match done {
         Ok(status) => status,
@@ -36,5 +38,167 @@ pub fn do_job(rt: &HostRuntime, job: Job) -> u8 {
             let _ = eprintln!(rt; "fc: {error}");
             FAILED
         }
+    }
+}
+
+/// Prints a text, and answers the status.
+fn say(rt: &HostRuntime, text: String, status: u8) -> io::Result<u8> {
+    print!(rt; "{text}")?;
+    Ok(status)
+}
+
+fn not_there(rt: &HostRuntime) -> io::Result<u8> {
+    eprintln!(rt; "fc: this program does not serve yet")?;
+    Ok(USAGE)
+}
+
+/// What is told of one file.
+enum Tell {
+    Asm,
+    Dis,
+    Verify(u32),
+}
+
+fn tell_of(rt: &HostRuntime, path: &str, tell: Tell) -> io::Result<u8> {
+    let text = match read_file(rt, path, MOST_BYTES) {
+        Ok(Text::Bytes(bytes)) => bytes,
+        Ok(Text::TooLong) => return refuse(rt, "L1"),
+        Err(error) => return cannot_read(rt, path, error),
+    };
+    let told = match tell {
+        Tell::Asm => asm_file(rt.alloc(), &text)?,
+        Tell::Dis => dis_file(rt.alloc(), &text)?,
+        Tell::Verify(counters) => verify_file(rt.alloc(), &text, counters)?,
+    };
+    say(rt, told.text, told.status)
+}
+
+fn refuse(rt: &HostRuntime, fault: &str) -> io::Result<u8> {
+    println!(rt; "{fault}")?;
+    Ok(REFUSED)
+}
+
+fn cannot_read(rt: &HostRuntime, path: &str, error: io::Error) -> io::Result<u8> {
+    eprintln!(rt; "fc: {path}: {error}")?;
+    Ok(FAILED)
+}
+
+fn refuse_config(rt: &HostRuntime, fault: ConfigFault) -> io::Result<u8> {
+    match fault {
+        ConfigFault::K1 => refuse(rt, "K1"),
+        ConfigFault::K2 => refuse(rt, "K2"),
+        ConfigFault::K3 => refuse(rt, "K3"),
+        ConfigFault::OutOfMemory => Ok(FAILED),
+    }
+}
+
+/// The status of a play that ended so; what a device did is said on standard error.
+fn status_of(rt: &HostRuntime, ended: Result<Ended, SessionFault>) -> io::Result<u8> {
+    let fault = match ended {
+        Ok(Ended { lines: _, cut: None }) => return Ok(DONE),
+        Ok(Ended { lines: _, cut: Some(_) }) => return Ok(REFUSED),
+        Err(SessionFault::Read) => "a read failed (N1)",
+        Err(SessionFault::Write) => "a write failed (N2)",
+        Err(SessionFault::ReadsSpent) => "the reads ran out (N3)",
+        Err(SessionFault::OutOfMemory) => "out of memory",
+    };
+    eprintln!(rt; "fc: {fault}")?;
+    Ok(FAILED)
+}
+
+/// The configuration and the script of standard input.
+fn play_input(rt: &HostRuntime) -> io::Result<u8> {
+    let mut input = StreamIn {
+        reader: BufReader::new(rt.alloc(), rt.reader())?,
+        reads: 0,
+        failures: 0,
+    };
+    let mut left = READS;
+    let head = match read_head(rt.alloc(), &mut input, &mut left) {
+        Ok(head) => head,
+        Err(fault) => return status_of(rt, Err(SessionFault::from(fault))),
+    };
+    let Some(text) = config_part(&head) else {
+        return refuse(rt, "L1");
+    };
+    let settings = match read_config(rt.alloc(), text) {
+        Ok(settings) => settings,
+        Err(fault) => return refuse_config(rt, fault),
+    };
+    let mut output = StreamOut {
+        writer: io::writer(rt),
+        failures: 0,
+    };
+    let ended = play_within(
+        rt.alloc(),
+        settings.config,
+        &mut input,
+        &mut output,
+        &mut left,
+    );
+    status_of(rt, ended)
+}
+
+/// A configuration file's settings, or the status where there are none.
+fn settings_of(rt: &HostRuntime, path: &str) -> io::Result<Result<Settings, u8>> {
+    let text = match read_file(rt, path, MOST_BYTES) {
+        Ok(Text::Bytes(bytes)) => bytes,
+        Ok(Text::TooLong) => return Ok(Err(refuse(rt, "L1")?)),
+        Err(error) => return Ok(Err(cannot_read(rt, path, error)?)),
+    };
+    match read_config(rt.alloc(), &text) {
+        Ok(settings) => Ok(Ok(settings)),
+        Err(fault) => Ok(Err(refuse_config(rt, fault)?)),
+    }
+}
+
+fn play_files(rt: &HostRuntime, config: &str, script: &str) -> io::Result<u8> {
+    let settings = match settings_of(rt, config)? {
+        Ok(settings) => settings,
+        Err(status) => return Ok(status),
+    };
+    let file = match File::open(rt, script) {
+        Ok(file) => file,
+        Err(error) => return cannot_read(rt, script, error),
+    };
+    let mut input = StreamIn {
+        reader: BufReader::new(rt.alloc(), file)?,
+        reads: 0,
+        failures: 0,
+    };
+    let mut output = StreamOut {
+        writer: io::writer(rt),
+        failures: 0,
+    };
+    let ended = play(rt.alloc(), settings.config, &mut input, &mut output);
+    status_of(rt, ended)
+}
+
+fn audit_files(rt: &HostRuntime, config: &str, journal: &str) -> io::Result<u8> {
+    let settings = match settings_of(rt, config)? {
+        Ok(settings) => settings,
+        Err(status) => return Ok(status),
+    };
+    let file = match File::open(rt, journal) {
+        Ok(file) => file,
+        Err(error) => return cannot_read(rt, journal, error),
+    };
+    let mut input = StreamIn {
+        reader: file,
+        reads: 0,
+        failures: 0,
+    };
+    match read_entries(rt.alloc(), &mut input) {
+        Ok(entries) => {
+            let told = audit_entries(rt.alloc(), settings.config, &entries)?;
+            say(rt, told.text, told.status)
+        }
+        Err(fault) => match journal_fault_line(rt.alloc(), fault)? {
+            Some(told) => say(rt, told.text, told.status),
+            None => {
+                eprintln!(rt; "fc: {journal}: {fault}")?;
+                Ok(FAILED)
+            }
+        },
     }
 }
