@@ -7,7 +7,7 @@ use Rattle.std.specs.List.{join_with_byte}
 use Rattle.bpf_model.specs.Runs.{IsGood}
 use Rattle.reg_types.specs.declared.refusal.Refusal.{Refusal}
 use Rattle.reg_types.specs.Refusals.{shown_by}
-use Rattle.reg_types.specs.Facts.{IsRefused}
+use Rattle.reg_types.specs.Shown.{IsRefused}
 use Rattle.till_request.specs.declared.act.Act.{Act}
 use Rattle.till_request.specs.declared.act.Act.TheVariants as acts
 use Rattle.till_request.specs.declared.act.Answer.{Answer}
@@ -34,7 +34,7 @@ EventAnswered old moment act (answers.Program number unit part) new = ⊥
 -- the verifier's refusal of the bytes shows these numbers, and the site stays as it was
 pub record ProgramRefused (old : SiteValue) (bytes : List ℕ) (mask number : ℕ) (unit part : Option ℕ) (new : SiteValue) : Type 0 where
   pub refusal : Refusal
-  pub refused : IsRefused bytes refusal
+  pub refused : IsRefused bytes mask refusal
   pub shown : shown_by refusal ≡ Some (number, unit, part)
   pub same : new ≡ old
 

@@ -9,7 +9,7 @@ use Rattle.till_request.specs.declared.act.Answer.TheVariants.{Program}
 use Rattle.till_request.specs.Answer.{answer_line}
 use Rattle.reg_types.specs.declared.refusal.Refusal.{Refusal}
 use Rattle.reg_types.specs.Refusals.{shown_by}
-use Rattle.reg_types.specs.Facts.{IsRefused}
+use Rattle.reg_types.specs.Shown.{IsRefused}
 use Rattle.job_texts.specs.declared.told.Told.{Told}
 
 -- this text is printed, with this status
@@ -30,7 +30,7 @@ Accepted bytes counters told = IsGood bytes counters × IsSaid told (codes "acce
 -- a refusal is one that the bytes show, and its numbers are printed
 pub record Refused (bytes : List ℕ) (counters : ℕ) (told : Told) : Type 0 where
   pub refusal : Refusal
-  pub refused : IsRefused bytes refusal
+  pub refused : IsRefused bytes counters refusal
   pub number : ℕ
   pub unit : Option ℕ
   pub part : Option ℕ

@@ -2,7 +2,7 @@
 ghost use Rattle.std.specs.Prelude.{◌≡◌, ◌/◌, ◌++◌, ◌⊎◌, ℕ, List, codes, length, IfOk};
 ghost use Rattle.std.specs.Fmt.{decimal};
 ghost use Rattle.bpf_model.specs.Runs.{IsGood};
-ghost use Rattle.reg_types.specs.Facts.{IsRefused};
+ghost use Rattle.reg_types.specs.Shown.{IsRefused};
 ghost use Rattle.job_texts.specs.Told.{IsSaid, Accepted, Refused, VerifyTells};
 
 use crate::told::{REFUSED, Told, refused};
@@ -22,7 +22,7 @@ fn told_accepted(alloc: Global, program: &Program) -> Result<Told, AllocError>
 
 /// The line of a refusal.
 fn told_refusal(alloc: Global, refusal: Refusal) -> Result<Told, AllocError>
-    ensures { IfOk result (λ told. (bytes : List ℕ) (counters : ℕ) → IsRefused bytes refusal → Refused bytes counters told) }
+    ensures { IfOk result (λ told. (bytes : List ℕ) (counters : ℕ) → IsRefused bytes counters refusal → Refused bytes counters told) }
 {
     let Some((number, unit, part)) = refusal.shown() else {
         return Err(AllocError);
