@@ -78,14 +78,6 @@ LineSaid (Ok lines.Journal) s text s' = (text ≡ journal_text s.1.history) × (
 abbrev pub Plays : ℕ × SiteValue → List ℕ → List ℕ → ℕ × SiteValue → Type 0
 Plays s line text s' = LineSaid (line_of line) s text s'
 
--- the line of a refusal, or want of memory
-abbrev pub numbers_answer : Option (ℕ × (Option ℕ) × (Option ℕ)) → Answer
-numbers_answer (Some n) = answers.Program n.0 n.1 n.2
-numbers_answer None = answers.OutOfMemory
-
-abbrev pub refusal_answer : Refusal → Answer
-refusal_answer refusal = numbers_answer (shown_by refusal)
-
 -- a script was answered from moment 0 on, and left some moment and site
 pub record PlaysOut (site : SiteValue) (in_old in_new out_old out_new : Option (List ℕ)) (count : ℕ) (cut : Option LineFault) : Type 0 where
   pub moment : ℕ
