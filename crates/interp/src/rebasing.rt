@@ -14,7 +14,15 @@ use reg_types::Program;
 /// A run and its answer depend on the declared counters alone: where the program answered on the counters `before` and
 /// left those of `after`, it gives the same answer on `now`, whose declared counters are those of `before`. The declared
 /// counters of `now` become those of `after`, and the others stay, as that run would leave them.
-pub fn rebase(program: &Program, context: &[u8; 64], view: &View, before: &Counters, answer: u64, after: &Counters, now: &mut Counters)
+pub fn rebase(
+    program: &Program,
+    context: &[u8; 64],
+    view: &View,
+    before: &Counters,
+    answer: u64,
+    after: &Counters,
+    now: &mut Counters,
+)
     requires ran { outcome program.now context.now view.now before.now ≡ Ended answer after.now }
     requires agree { Agrees program.now.declared before.now now.old }
     ensures ran { outcome program.now context.now view.now now.old ≡ Ended answer now.new }
