@@ -1,9 +1,12 @@
 //! What the program does for its words.
 use crate::files::{Text, read_file};
 use console::{
-    ConfigFault, Ended, Job, MOST_BYTES, READS, SessionFault, Settings, asm_file,
-    config_part, dis_file, play, play_within, read_config, read_head, verify_file,
+    ConfigFault, Ended, Job, MOST_BYTES, READS, SessionFault, Settings, Told, asm_file,
+    audit_entries, config_part, dis_file, journal_fault_line, play, play_within, read_config,
+    read_head, verify_file,
 };
+use decision_journal::read_entries;
+use std::alloc::AllocError;
 use std::fs::File;
 use std::io::{self, BufReader};
 use till_request::devices::{StreamIn, StreamOut};
@@ -26,11 +29,8 @@ pub fn do_job(rt: &HostRuntime, job: Job) -> u8 {
         Job::Dis(file) => tell_of(rt, &file, Tell::Dis),
         Job::Verify { counters, file } => tell_of(rt, &file, Tell::Verify(counters)),
         Job::Play { config, script } => play_files(rt, &config, &script),
-        Job::Audit {
-            config: _config,
-            journal: _journal,
-        } => not_there(rt),
-        Job::Serve(_config) => not_there(rt),
+        Job::Audit { config, journal } => audit_files(rt, &config, &journal),
+        Job::Serve(_) => not_there(rt),
     };
     match done {
         Ok(status) => status,
@@ -48,7 +48,7 @@ fn say(rt: &HostRuntime, text: String, status: u8) -> io::Result<u8> {
 }
 
 fn not_there(rt: &HostRuntime) -> io::Result<u8> {
-    eprintln!(rt; "fc: this word is not there yet")?;
+    eprintln!(rt; "fc: this program does not serve yet")?;
     Ok(USAGE)
 }
 
@@ -173,4 +173,33 @@ fn play_files(rt: &HostRuntime, config: &str, script: &str) -> io::Result<u8> {
     };
     let ended = play(rt.alloc(), settings.config, &mut input, &mut output);
     status_of(rt, ended)
+}
+
+fn audit_files(rt: &HostRuntime, config: &str, journal: &str) -> io::Result<u8> {
+    let settings = match settings_of(rt, config)? {
+        Ok(settings) => settings,
+        Err(status) => return Ok(status),
+    };
+    let file = match File::open(rt, journal) {
+        Ok(file) => file,
+        Err(error) => return cannot_read(rt, journal, error),
+    };
+    let mut input = StreamIn {
+        reader: file,
+        reads: 0,
+        failures: 0,
+    };
+    match read_entries(rt.alloc(), &mut input) {
+        Ok(entries) => {
+            let told = audit_entries(rt.alloc(), settings.config, &entries)?;
+            say(rt, told.text, told.status)
+        }
+        Err(fault) => match journal_fault_line(rt.alloc(), fault)? {
+            Some(told) => say(rt, told.text, told.status),
+            None => {
+                eprintln!(rt; "fc: {journal}: {fault}")?;
+                Ok(FAILED)
+            }
+        },
+    }
 }

@@ -3,15 +3,14 @@
 
 mod memory;
 
-pub use bpf_model::machine::{PointView, View};
-pub use memory::put;
-
 ghost use Rattle.std.specs.Prelude.{◌≡◌, ◌≤◌, ◌<◌, IsSome};
 ghost use Rattle.bpf_model.specs.Machine.{helper_of, point, price, is_there, record_bytes, no_point, point_or_zero};
 ghost use Rattle.helpers.specs.Calls.{signature, called, kinds, stored, CounterInside, PlaceInside};
 
 use bpf_model::machine::Helper;
+pub use bpf_model::machine::{PointView, View};
 use counters::Counters;
+pub use memory::put;
 
 /// What an argument of a helper is: nothing, a number, the number of a declared counter, or a place of the stack.
 #[derive(Clone, Copy, Debug, PartialEq, Eq)]
@@ -63,7 +62,11 @@ fn point_of(view: &View, number: u64) -> Option<PointView>
         return None;
     }
     let place = number - 1;
-    if place < u64::from(view.count) && place < 32 { Some(view.points[place as usize]) } else { None }
+    if place < u64::from(view.count) && place < 32 {
+        Some(view.points[place as usize])
+    } else {
+        None
+    }
 }
 
 fn point_or_none(point: Option<PointView>) -> PointView
@@ -71,7 +74,11 @@ fn point_or_none(point: Option<PointView>) -> PointView
 {
     match point {
         Some(point) => point,
-        None => PointView { state: 0, nozzle: 0, amount: 0 },
+        None => PointView {
+            state: 0,
+            nozzle: 0,
+            amount: 0,
+        },
     }
 }
 
@@ -98,7 +105,14 @@ fn put_point(point: Option<PointView>, at: u64, stack: &mut [u8; 512]) -> u64
 }
 
 /// The answer of helper `id` on the numbers in R1 and R2, where a place is counted from the stack's lowest byte.
-pub fn call(id: i32, a: u64, b: u64, view: &View, counters: &mut Counters, stack: &mut [u8; 512]) -> u64
+pub fn call(
+    id: i32,
+    a: u64,
+    b: u64,
+    view: &View,
+    counters: &mut Counters,
+    stack: &mut [u8; 512],
+) -> u64
     requires known { IsSome (helper_of id) }
     requires counter { CounterInside (helper_of id) a }
     requires place { PlaceInside (helper_of id) b }
@@ -116,5 +130,68 @@ pub fn call(id: i32, a: u64, b: u64, view: &View, counters: &mut Counters, stack
         Helper::PointState => u64::from(point_or_none(point_of(view, a)).state),
         Helper::PointRecord => put_point(point_of(view, a), b, stack),
         Helper::PriceOf => price_of(view, a),
+    }
+}
+
+#[cfg(test)]
+mod tests {
+    use super::*;
+
+    fn world() -> View {
+        let mut points = [PointView {
+            state: 0,
+            nozzle: 0,
+            amount: 0,
+        }; 32];
+        points[1] = PointView {
+            state: 8,
+            nozzle: 2,
+            amount: 513,
+        };
+        View {
+            count: 2,
+            points,
+            prices: [1799, 0, 0, 0, 0, 0, 0, 5],
+        }
+    }
+
+    #[test]
+    fn helpers_answer(rt: HostRuntime) {
+        let mut counters = Counters::new([(1, 2); 32]);
+        let mut stack = [7; 512];
+        for (id, a, b, want) in [
+            (1, 31, 0, 1),
+            (2, 0, 1, 1),
+            (2, 0, 1, 0),
+            (3, 0, 3, 0),
+            (3, 0, 2, 1),
+            (4, 2, 0, 8),
+            (4, 3, 0, 0),
+            (4, 4294967298, 0, 0),
+            (5, 2, 496, 1),
+            (5, 0, 0, 0),
+            (6, 1, 0, 1799),
+            (6, 8, 0, 5),
+            (6, 9, 0, 0),
+        ] {
+            assert_eq!(rt;
+                call(id, a, b, &world(), &mut counters, &mut stack),
+                want,
+                "helper {id}"
+            );
+        }
+        assert_eq!(rt; counters.get(0), 0);
+        assert!(rt; stack[496..] == [8, 0, 0, 0, 2, 0, 0, 0, 1, 2, 0, 0, 0, 0, 0, 0]);
+        assert!(rt; stack[..17] == [0, 0, 0, 0, 0, 0, 0, 0, 0, 0, 0, 0, 0, 0, 0, 0, 7]);
+    }
+
+    #[test]
+    fn helpers_take_arguments(rt: HostRuntime) {
+        assert_eq!(rt; arguments(2), Some([Kind::Counter, Kind::Number]));
+        assert_eq!(rt; arguments(5), Some([Kind::Number, Kind::Place]));
+        assert!(rt; arguments(0).is_none() && arguments(7).is_none() && arguments(-1).is_none());
+        let mut memory = [0; 512];
+        put(&mut memory, 510, 2, 0x10203);
+        assert!(rt; memory[509..] == [0, 3, 2]);
     }
 }

@@ -93,12 +93,15 @@ Accepted r = (e : Effect) × (r ≡ ok_of e) × ArePlain e.types
 -- a number is put into R0
 set_first : (types : List RegType) (o : Typed) → 2 ≤ length types → type_at types 1 ≡ Ctx 0 → GivesNumber o → Accepted (set_type types 0 o)
 set_first types (Err e) l b g = absurd g
-set_first types (Ok t) l b g =
-    (unmarked (slice_set types 0 t), refl, record {
-      long = let e = length-set types 0 t in omega (arith, e);
-      base = get_or-set_other types 0 1 t Unset (omega arith) ∙ b;
-      number = ap is_numeric (get_or-set_same types 0 t Unset (omega arith)) ∙ g;
-    })
+set_first types (Ok t) l b g = (
+  unmarked (slice_set types 0 t),
+  refl,
+  record {
+    long = let e = length-set types 0 t in omega (arith, e);
+    base = get_or-set_other types 0 1 t Unset (omega arith) ∙ b;
+    number = ap is_numeric (get_or-set_same types 0 t Unset (omega arith)) ∙ g;
+  },
+)
 
 set_dst : (types : List RegType) (dst : ℕ) (o : Typed) → dst ≡ 0 → 2 ≤ length types → type_at types 1 ≡ Ctx 0 → GivesNumber o → Accepted (set_type types dst o)
 set_dst types dst o z l b g = subst (λ d. Accepted (set_type types d o)) (sym z) (set_first types o l b g)
@@ -265,10 +268,10 @@ plain_there pc to facts (Some g) l e p = p to g l e
 pub plain_merged : (facts : List (Option Fact)) (pc to : ℕ) (f : Fact) (d : Option Fact) → pc < to → to < length facts → (PlainOption (slice_index_or facts to d) → ArePlain f.types) → PlainAbove pc (table facts) → PlainAbove pc (table (slice_set facts to (Some f)))
 plain_merged facts pc to f d l inside merged p q fact after h =
     elim (cases_eq q to) [
-      inl at ↦ let e : Some f ≡ Some fact = sym (table_same facts to f inside) ∙ subst (λ k. table (slice_set facts to (Some f)) k ≡ Some fact) at h in
-      let t : f ≡ fact = cc in
-      subst (λ x. ArePlain x.types) t (merged (plain_there pc to facts (slice_index_or facts to d) l (get_or_default facts to None d inside) p))
-    | inr other ↦ p q fact after (sym (table_other facts to q f other) ∙ h)
+      | inl at ↦ let e : Some f ≡ Some fact = sym (table_same facts to f inside) ∙ subst (λ k. table (slice_set facts to (Some f)) k ≡ Some fact) at h in
+          let t : f ≡ fact = cc in
+          subst (λ x. ArePlain x.types) t (merged (plain_there pc to facts (slice_index_or facts to d) l (get_or_default facts to None d inside) p))
+      | inr other ↦ p q fact after (sym (table_other facts to q f other) ∙ h)
     ]
 
 -- ---- the pass
@@ -288,11 +291,11 @@ here_from us declared pc facts a p i fact at h = a.each pc i fact at (p pc fact 
 pub begins_plain : (facts : List (Option Fact)) (f : Fact) → ((q : ℕ) → table facts q ≡ None) → 0 < length facts → f.types ≡ entry_types → PlainFrom 0 (table (slice_set facts 0 (Some f)))
 begins_plain facts f is l e q fact after h =
     elim (cases_eq q 0) [
-      inl at ↦ let x : Some f ≡ Some fact = sym (table_same facts 0 f l) ∙ subst (λ k. table (slice_set facts 0 (Some f)) k ≡ Some fact) at h in
-      let t : f ≡ fact = cc in
-      inl (at, ap (λ y. y.types) (sym t) ∙ e)
-    | inr other ↦
-      let gone : table facts q ≡ None = is q in
-      let never : None ≡ Some fact = sym gone ∙ sym (table_other facts 0 q f other) ∙ h in
-      absurd (cc)
+      | inl at ↦ let x : Some f ≡ Some fact = sym (table_same facts 0 f l) ∙ subst (λ k. table (slice_set facts 0 (Some f)) k ≡ Some fact) at h in
+          let t : f ≡ fact = cc in
+          inl (at, ap (λ y. y.types) (sym t) ∙ e)
+      | inr other ↦
+          let gone : table facts q ≡ None = is q in
+          let never : None ≡ Some fact = sym gone ∙ sym (table_other facts 0 q f other) ∙ h in
+          absurd (cc)
     ]

@@ -48,27 +48,27 @@ changes_set declared counters c v bit l =
             many = long ∙ old.many;
             bounded =
                 λ k d inside. let within : k < length counters = omega (arith, inside, long) in elim (cases_eq k c) [
-                  inl same ↦ subst (λ q. (slice_index_or new q d).0 ≤ (slice_index_or new q d).1) (sym same) (subst (λ x. x.0 ≤ x.1) (sym (get_or-set_same counters c cell d (omega (arith, same, within)))) (l old))
-                | inr other ↦ subst (λ x. x.0 ≤ x.1) (sym (get_or-set_other counters c k cell d other)) (old.bounded k d within)
+                  | inl same ↦ subst (λ q. (slice_index_or new q d).0 ≤ (slice_index_or new q d).1) (sym same) (subst (λ x. x.0 ≤ x.1) (sym (get_or-set_same counters c cell d (omega (arith, same, within)))) (l old))
+                  | inr other ↦ subst (λ x. x.0 ≤ x.1) (sym (get_or-set_other counters c k cell d other)) (old.bounded k d within)
                 ];
             small =
                 λ k d inside. let within : k < length counters = omega (arith, inside, long) in elim (cases_eq k c) [
-                  inl same ↦ subst (λ q. (slice_index_or new q d).1 < 2 ^ 64) (sym same) (subst (λ x. x.1 < 2 ^ 64) (sym (get_or-set_same counters c cell d (omega (arith, same, within)))) (old.small c (0, 0) (omega (arith, same, within))))
-                | inr other ↦ subst (λ x. x.1 < 2 ^ 64) (sym (get_or-set_other counters c k cell d other)) (old.small k d within)
+                  | inl same ↦ subst (λ q. (slice_index_or new q d).1 < 2 ^ 64) (sym same) (subst (λ x. x.1 < 2 ^ 64) (sym (get_or-set_same counters c cell d (omega (arith, same, within)))) (old.small c (0, 0) (omega (arith, same, within))))
+                  | inr other ↦ subst (λ x. x.1 < 2 ^ 64) (sym (get_or-set_other counters c k cell d other)) (old.small k d within)
                 ];
           };
       undeclared =
           λ q none. elim (cases_eq q c) [
-            inl same ↦ let off = subst (λ x. declared / 2 ^ x % 2 ≡ 0) same none in absurd (omega (arith, off, bit))
-          | inr other ↦ get_or-set_other counters c q cell (0, 0) other
+            | inl same ↦ let off = subst (λ x. declared / 2 ^ x % 2 ≡ 0) same none in absurd (omega (arith, off, bit))
+            | inr other ↦ get_or-set_other counters c q cell (0, 0) other
           ];
       bounds =
           λ q. elim (cases_eq q c) [
-            inl same ↦ subst (λ x. (counter new x).1 ≡ (counter counters x).1) (sym same) (elim (cases_lt c (length counters)) [
-              inl inside ↦ ap (λ x. x.1) (get_or-set_same counters c cell (0, 0) inside)
-            | inr past ↦ ap (λ x. x.1) (get_or_past new c (0, 0) (omega (arith, past, long)) ∙ sym (get_or_past counters c (0, 0) past))
+            | inl same ↦ subst (λ x. (counter new x).1 ≡ (counter counters x).1) (sym same) (elim (cases_lt c (length counters)) [
+              | inl inside ↦ ap (λ x. x.1) (get_or-set_same counters c cell (0, 0) inside)
+              | inr past ↦ ap (λ x. x.1) (get_or_past new c (0, 0) (omega (arith, past, long)) ∙ sym (get_or_past counters c (0, 0) past))
             ])
-          | inr other ↦ ap (λ x. x.1) (get_or-set_other counters c q cell (0, 0) other)
+            | inr other ↦ ap (λ x. x.1) (get_or-set_other counters c q cell (0, 0) other)
           ];
     }
 

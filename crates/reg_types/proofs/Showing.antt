@@ -255,7 +255,7 @@ effect_shows count pc declared fact i upper (StoreRegister size) flaw e =
     let stored = store_type fact.types (type_at fact.types i.dst) i (bytes_in size) in
     unset_shown (Shows count pc i (StoreRegister size)) flaw (is_unset (type_at fact.types i.src)) i.src (unless_pointer (is_pointer (type_at fact.types i.src)) stored) refl
     (λ g. unless_shown (Shows count pc i (StoreRegister size)) flaw (is_pointer (type_at fact.types i.src)) stored tt
-     (λ h. store_shown (Shows count pc i (StoreRegister size)) flaw fact.types (type_at fact.types i.dst) i (bytes_in size) (inr tt) (inl (inr tt)) tt h) g) e
+    (λ h. store_shown (Shows count pc i (StoreRegister size)) flaw fact.types (type_at fact.types i.dst) i (bytes_in size) (inr tt) (inl (inr tt)) tt h) g) e
 effect_shows count pc declared fact i upper Goto flaw e = no_effect (Shows count pc i Goto) flaw _ e
 effect_shows count pc declared fact i upper GotoLong flaw e = no_effect (Shows count pc i GotoLong) flaw _ e
 effect_shows count pc declared fact i upper (Branch c w s) flaw e =

@@ -39,8 +39,8 @@ length-written stack at (b ∷ bytes) = length-written (slice_set stack at (Byte
 keeps_one : (stack : List Cell) (at b p : ℕ) → at < length stack → HasByte (cell_at stack p) → HasByte (cell_at (slice_set stack at (Byte b)) p)
 keeps_one stack at b p l h =
     elim (cases_eq p at) [
-      inl same ↦ subst (λ q. HasByte (cell_at (slice_set stack at (Byte b)) q)) (sym same) (b, get_or-set_same stack at (Byte b) Empty l)
-    | inr other ↦ subst HasByte (sym (get_or-set_other stack at p (Byte b) Empty other)) h
+      | inl same ↦ subst (λ q. HasByte (cell_at (slice_set stack at (Byte b)) q)) (sym same) (b, get_or-set_same stack at (Byte b) Empty l)
+      | inr other ↦ subst HasByte (sym (get_or-set_other stack at p (Byte b) Empty other)) h
     ]
 
 -- a store keeps the bytes that are set
@@ -56,8 +56,8 @@ sets_bytes stack at [] p l w = absurd (omega (arith, w.0, w.1))
 sets_bytes stack at (b ∷ bytes) p l w =
     let e = length-set stack at (Byte b) in
     elim (cases_eq p at) [
-      inl same ↦ keeps_bytes (slice_set stack at (Byte b)) (suc at) bytes p (omega (arith, e)) (subst (λ q. HasByte (cell_at (slice_set stack at (Byte b)) q)) (sym same) (b, get_or-set_same stack at (Byte b) Empty (omega arith)))
-    | inr other ↦ sets_bytes (slice_set stack at (Byte b)) (suc at) bytes p (omega (arith, e)) (omega (arith, w.0), omega (arith, w.1))
+      | inl same ↦ keeps_bytes (slice_set stack at (Byte b)) (suc at) bytes p (omega (arith, e)) (subst (λ q. HasByte (cell_at (slice_set stack at (Byte b)) q)) (sym same) (b, get_or-set_same stack at (Byte b) Empty (omega arith)))
+      | inr other ↦ sets_bytes (slice_set stack at (Byte b)) (suc at) bytes p (omega (arith, e)) (omega (arith, w.0), omega (arith, w.1))
     ]
 
 pub length-little : (i n x : ℕ) → length (bytes_low_first i n x) ≡ n
@@ -113,8 +113,8 @@ all_from set at zero h p w = absurd (omega (arith, w.0, w.1))
 all_from set at (suc n) h p w =
     let t = both (slice_index_or set at false) (all_in set (suc at) n) h in
     elim (cases_eq p at) [
-      inl same ↦ subst (Has set) (sym same) t.0
-    | inr other ↦ all_from set (suc at) n t.1 p (omega (arith, w.0), omega (arith, w.1))
+      | inl same ↦ subst (Has set) (sym same) t.0
+      | inr other ↦ all_from set (suc at) n t.1 p (omega (arith, w.0), omega (arith, w.1))
     ]
 
 and_true : (a b : Bool) → a ≡ true → b ≡ true → (a && b) ≡ true

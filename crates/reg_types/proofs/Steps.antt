@@ -179,8 +179,8 @@ module _ (declared : ℕ) (fact after : Fact) (s : State) (fits : Fits fact s) w
       record {
         bytes =
             λ p has. elim ((h.places p).0 has) [
-              inl old ↦ fits.stack.bytes p old
-            | inr new ↦ let w = subst (λ x. Within x.at x.len p) (sym same) new in absurd (omega (arith, w.0, w.1))
+              | inl old ↦ fits.stack.bytes p old
+              | inr new ↦ let w = subst (λ x. Within x.at x.len p) (sym same) new in absurd (omega (arith, w.0, w.1))
             ];
       }
 
@@ -192,8 +192,8 @@ module _ (declared : ℕ) (fact after : Fact) (s : State) (fits : Fits fact s) w
         registers =
             λ r. subst (λ ts. FitsType (type_at ts r) (register (slice_set s.registers dst v) r)) (sym (after_types e (unmarked (slice_set types dst t)) is same))
             (elim (same_or_other r dst) [
-              inl at ↦ subst (λ q. FitsType (type_at (slice_set types dst t) q) (register (slice_set s.registers dst v) q)) (sym at) (subst (FitsType (type_at (slice_set types dst t) dst)) (sym (written_value s.registers dst v lt)) (written_type types dst t v h))
-            | inr other ↦ subst (λ w. FitsType (type_at (slice_set types dst t) r) w) (sym (get_or-set_other s.registers dst r v Unset other)) (subst (λ u. FitsType u (register s.registers r)) (sym (get_or-set_other types dst r t Anything other)) (fits.registers r))
+              | inl at ↦ subst (λ q. FitsType (type_at (slice_set types dst t) q) (register (slice_set s.registers dst v) q)) (sym at) (subst (FitsType (type_at (slice_set types dst t) dst)) (sym (written_value s.registers dst v lt)) (written_type types dst t v h))
+              | inr other ↦ subst (λ w. FitsType (type_at (slice_set types dst t) r) w) (sym (get_or-set_other s.registers dst r v Unset other)) (subst (λ u. FitsType u (register s.registers r)) (sym (get_or-set_other types dst r t Anything other)) (fits.registers r))
             ]);
         many = length-set s.registers dst v ∙ fits.many;
         stack = stays e (slice_set types dst t) is same;
@@ -267,7 +267,7 @@ module _ (declared : ℕ) (fact after : Fact) (s : State) (fits : Fits fact s) w
       let g = load_gives context (type_at fact.types i.src) (register s.registers i.src) i size x.0 (fits.registers i.src) x.1 in
       subst (λ o. Follows declared after ((s.pc + 1) ∷ []) s (where_some o (λ at. where_some (read at size context s.stack) (λ n. sets s i.dst (Number (f n)))))) (sym g.2)
       (subst (λ o. Follows declared after ((s.pc + 1) ∷ []) s (where_some o (λ n. sets s i.dst (Number (f n))))) (sym g.3)
-       (sets_follow e i.dst r (Some (Number (f g.0))) is small h (λ t k. subst (λ u. FitsType u (Number (f g.0))) (g.4 ∙ same_type x.0 t (sym x.1 ∙ k)) tt)))
+      (sets_follow e i.dst r (Some (Number (f g.0))) is small h (λ t k. subst (λ u. FitsType u (Number (f g.0))) (g.4 ∙ same_type x.0 t (sym x.1 ∙ k)) tt)))
 
   -- ---- stores
 
@@ -280,8 +280,8 @@ module _ (declared : ℕ) (fact after : Fact) (s : State) (fits : Fits fact s) w
             record {
               bytes =
                   λ p has. elim ((is.places p).0 has) [
-                    inl old ↦ keeps_bytes s.stack at bytes p (omega (arith, fits.long)) (fits.stack.bytes p old)
-                  | inr new ↦ sets_bytes s.stack at bytes p (omega (arith, fits.long)) (subst (λ x. Within x.at x.len p) (sym same) new)
+                    | inl old ↦ keeps_bytes s.stack at bytes p (omega (arith, fits.long)) (fits.stack.bytes p old)
+                    | inr new ↦ sets_bytes s.stack at bytes p (omega (arith, fits.long)) (subst (λ x. Within x.at x.len p) (sym same) new)
                   ];
             };
         long = length-written s.stack at bytes ∙ fits.long;
@@ -332,8 +332,8 @@ module _ (declared : ℕ) (fact after : Fact) (s : State) (fits : Fits fact s) w
             record {
               bytes =
                   λ p has. subst (λ st. HasByte (cell_at st p)) (sym stack) (elim ((is.places p).0 has) [
-                    inl old ↦ keeps_bytes s.stack at bytes p (omega (arith, fits.long)) (fits.stack.bytes p old)
-                  | inr new ↦ sets_bytes s.stack at bytes p (omega (arith, fits.long)) (subst (λ x. Within x.at x.len p) (sym same) new)
+                    | inl old ↦ keeps_bytes s.stack at bytes p (omega (arith, fits.long)) (fits.stack.bytes p old)
+                    | inr new ↦ sets_bytes s.stack at bytes p (omega (arith, fits.long)) (subst (λ x. Within x.at x.len p) (sym same) new)
                   ]);
             };
         long = ap length stack ∙ length-written s.stack at bytes ∙ fits.long;
@@ -344,7 +344,7 @@ module _ (declared : ℕ) (fact after : Fact) (s : State) (fits : Fits fact s) w
   step_follows context view i upper (Arithmetic op w source) e tos small is h l =
       subst (λ ts. Follows declared after ts s (act declared context view s i upper (Arithmetic op w source))) (some_list _ tos l)
       (sets_follow e i.dst (alu_type op w source i (type_at fact.types i.dst) (operand_type source w i fact.types)) (alu_value op w source i (register s.registers i.dst) (operand source w i s.registers)) is small h
-       (λ t g. arithmetic op w source i s.registers (type_at fact.types i.dst) (operand_type source w i fact.types) (register s.registers i.dst) t (fits.registers i.dst) (operand_fits source w i) g))
+      (λ t g. arithmetic op w source i s.registers (type_at fact.types i.dst) (operand_type source w i fact.types) (register s.registers i.dst) t (fits.registers i.dst) (operand_fits source w i) g))
   step_follows context view i upper Wide e tos small is h l =
       subst (λ ts. Follows declared after ts s (act declared context view s i upper Wide)) (some_list _ tos l)
       (wide_follows e i.dst (cast_unsigned w32 upper * 2 ^ 32 + cast_unsigned w32 i.imm) is small h)
@@ -363,7 +363,7 @@ module _ (declared : ℕ) (fact after : Fact) (s : State) (fits : Fits fact s) w
       let n = numeric (type_at fact.types i.src) (register s.registers i.src) (fits.registers i.src) (neither (type_at fact.types i.src) u.0 p.0) in
       subst (λ ts. Follows declared after ts s (act declared context view s i upper (StoreRegister size))) (some_list _ tos l)
       (subst (λ v. Follows declared after ((s.pc + 1) ∷ []) s (where_some (number v) (λ n. stores s i (bytes_in size) n))) (sym n.1)
-       (stores_follow i (bytes_in size) n.0 e is (size_small size) p.1))
+      (stores_follow i (bytes_in size) n.0 e is (size_small size) p.1))
   step_follows context view i upper Goto e tos small is h l = jumps_follow e i.offset [] tos is (same_effect h) l
   step_follows context view i upper GotoLong e tos small is h l = jumps_follow e i.imm [] tos is (same_effect h) l
   step_follows context view i upper (Branch c w source) e tos small is h l =
@@ -374,7 +374,7 @@ module _ (declared : ℕ) (fact after : Fact) (s : State) (fits : Fits fact s) w
       let n = numeric b (operand source w i s.registers) (operand_fits source w i) x.1 in
       subst (λ v. Follows declared after tos s (where_some (number v) (λ a. where_some (number (operand source w i s.registers)) (λ b. branches s (holds c w a b) i.offset)))) (sym m.1)
       (subst (λ v. Follows declared after tos s (where_some (number v) (λ b. branches s (holds c w m.0 b) i.offset))) (sym n.1)
-       (branches_follow (holds c w m.0 n.0) e i.offset tos is x.2 l))
+      (branches_follow (holds c w m.0 n.0) e i.offset tos is x.2 l))
   step_follows context view i upper Exit e tos small is h l =
       let t = exit_test (is_numeric (type_at fact.types 0)) (NotANumber 0) (unmarked fact.types) e h in
       let n = numeric (type_at fact.types 0) (register s.registers 0) (fits.registers 0) t in
@@ -383,4 +383,4 @@ module _ (declared : ℕ) (fact after : Fact) (s : State) (fits : Fits fact s) w
       let x = called declared fact.types view (register s.registers 1) (register s.registers 2) s.counters s.stack (type_at fact.types 1) (type_at fact.types 2) (fits.registers 1) (fits.registers 2) (helper_of i.imm) e refl refl h in
       subst (λ ts. Follows declared after ts s (act declared context view s i upper Call)) (some_list _ tos l)
       (subst (λ o. Follows declared after ((s.pc + 1) ∷ []) s (where_some o (λ a. call_state s a))) (sym x.there)
-       (inl refl, call_fits e is x.reply x.at x.bytes x.marks x.stack_is x.inside, x.changes))
+      (inl refl, call_fits e is x.reply x.at x.bytes x.marks x.stack_is x.inside, x.changes))

@@ -101,8 +101,8 @@ below_right a b j e h =
 pub join_step : (ts a b : List RegType) (r : ℕ) (v : RegType) → r < length ts → v ≡ join_type (type_at ts r) (type_at b r) → type_at ts r ≡ type_at a r → ((k : ℕ) → k < r → type_at ts k ≡ join_type (type_at a k) (type_at b k)) → (k : ℕ) → k < r + 1 → type_at (slice_set ts r v) k ≡ join_type (type_at a k) (type_at b k)
 join_step ts a b r v l e same below k h =
     elim (cases_eq k r) [
-      inl at ↦ subst (λ q. type_at (slice_set ts r v) q ≡ join_type (type_at a q) (type_at b q)) (sym at) (get_or-set_same ts r v Anything l ∙ e ∙ ap (λ t. join_type t (type_at b r)) same)
-    | inr other ↦ get_or-set_other ts r k v Anything other ∙ below k (omega arith)
+      | inl at ↦ subst (λ q. type_at (slice_set ts r v) q ≡ join_type (type_at a q) (type_at b q)) (sym at) (get_or-set_same ts r v Anything l ∙ e ∙ ap (λ t. join_type t (type_at b r)) same)
+      | inr other ↦ get_or-set_other ts r k v Anything other ∙ below k (omega arith)
     ]
 
 pub others_step : (ts a : List RegType) (r : ℕ) (v : RegType) → ((k : ℕ) → r ≤ k → type_at ts k ≡ type_at a k) → (k : ℕ) → r + 1 ≤ k → type_at (slice_set ts r v) k ≡ type_at a k
@@ -111,8 +111,8 @@ others_step ts a r v above k h = let other : k ≢ r = omega arith in get_or-set
 pub joined_all : (a b j : List RegType) (n : ℕ) → length a ≡ 11 → length b ≡ 11 → length j ≡ 11 → 11 ≤ n → ((k : ℕ) → k < n → type_at j k ≡ join_type (type_at a k) (type_at b k)) → (k : ℕ) → type_at j k ≡ join_type (type_at a k) (type_at b k)
 joined_all a b j n la lb lj le h k =
     elim (cases_lt k n) [
-      inl l ↦ h k l
-    | inr g ↦ let pa : length a ≤ k = omega arith in let pb : length b ≤ k = omega arith in let pj : length j ≤ k = omega arith in get_or_past j k Anything pj ∙ sym (ap (λ t. join_type t (type_at b k)) (get_or_past a k Anything pa) ∙ ap (join_type Anything) (get_or_past b k Anything pb))
+      | inl l ↦ h k l
+      | inr g ↦ let pa : length a ≤ k = omega arith in let pb : length b ≤ k = omega arith in let pj : length j ≤ k = omega arith in get_or_past j k Anything pj ∙ sym (ap (λ t. join_type t (type_at b k)) (get_or_past a k Anything pa) ∙ ap (join_type Anything) (get_or_past b k Anything pb))
     ]
 
 -- ---- tables
@@ -161,8 +161,8 @@ merges (Some g) f old m e = let same : g ≡ old = cc in subst (λ t. IsBelow t 
 pub widens_merged : (facts : List (Option Fact)) (to : ℕ) (f : Fact) (d : Option Fact) → to < length facts → MergesOld (slice_index_or facts to d) f → Widens (table facts) (table (slice_set facts to (Some f)))
 widens_merged facts to f d l m q fact e =
     elim (cases_eq q to) [
-      inl same ↦ record { wider = f; is = subst (λ k. table (slice_set facts to (Some f)) k ≡ Some f) (sym same) (table_same facts to f l); below = merges (slice_index_or facts to d) f fact m (get_or_default facts to d None l ∙ subst (λ k. table facts k ≡ Some fact) same e) }
-    | inr other ↦ record { wider = fact; is = table_other facts to q f other ∙ e; below = IsBelow-refl fact }
+      | inl same ↦ record { wider = f; is = subst (λ k. table (slice_set facts to (Some f)) k ≡ Some f) (sym same) (table_same facts to f l); below = merges (slice_index_or facts to d) f fact m (get_or_default facts to d None l ∙ subst (λ k. table facts k ≡ Some fact) same e) }
+      | inr other ↦ record { wider = fact; is = table_other facts to q f other ∙ e; below = IsBelow-refl fact }
     ]
 
 pub grows_merged : (facts : List (Option Fact)) (pc to : ℕ) (f : Fact) (d : Option Fact) → pc < to → to < length facts → MergesOld (slice_index_or facts to d) f → Grows pc (table facts) (table (slice_set facts to (Some f)))
@@ -182,8 +182,8 @@ done_more us declared a b pc g d here =
       entered = Enters-grows a b pc d.start 0 g d.entered;
       each =
           λ q i fact l at e. elim (cases_eq q pc) [
-            inl same ↦ subst (λ k. IsTyped us declared b k i fact) (sym same) (here i fact (subst (λ k. slice_get us k ≡ Some (First i)) same at) (subst (λ k. a k ≡ Some fact) same (sym (g.kept q (omega arith)) ∙ e)))
-          | inr other ↦ IsTyped-grows us declared a b pc q i fact g (d.each q i fact (omega arith) at (sym (g.kept q (omega arith)) ∙ e))
+            | inl same ↦ subst (λ k. IsTyped us declared b k i fact) (sym same) (here i fact (subst (λ k. slice_get us k ≡ Some (First i)) same at) (subst (λ k. a k ≡ Some fact) same (sym (g.kept q (omega arith)) ∙ e)))
+            | inr other ↦ IsTyped-grows us declared a b pc q i fact g (d.each q i fact (omega arith) at (sym (g.kept q (omega arith)) ∙ e))
           ];
     }
 

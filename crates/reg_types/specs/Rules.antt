@@ -235,8 +235,8 @@ abbrev pub call_with : ℕ → List RegType → Kind → Kind → RegType → Re
 call_with declared types first second a b =
     if fits_kind first a
     then (if fits_kind second b
-        then (if is_declared declared first a then Ok (marks_record (after_call types) (record_at second b)) else Err UndeclaredCounter)
-        else Err (BadArgument 2))
+    then (if is_declared declared first a then Ok (marks_record (after_call types) (record_at second b)) else Err UndeclaredCounter)
+    else Err (BadArgument 2))
     else Err (BadArgument 1)
 
 abbrev pub kind_at : List Kind → ℕ → Kind

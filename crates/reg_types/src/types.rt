@@ -82,10 +82,23 @@ impl RegType {
         ensures { result ≡ join_type self other }
     {
         match (self, other) {
-            (RegType::Num, RegType::Num | RegType::Const(_)) | (RegType::Const(_), RegType::Num) => RegType::Num,
-            (RegType::Const(c), RegType::Const(d)) => if c == d { RegType::Const(c) } else { RegType::Num },
-            (RegType::Ctx(k), RegType::Ctx(m)) => if k == m { RegType::Ctx(k) } else { RegType::Unset },
-            (RegType::Stk(k), RegType::Stk(m)) => if k == m { RegType::Stk(k) } else { RegType::Unset },
+            (RegType::Num, RegType::Num | RegType::Const(_)) | (RegType::Const(_), RegType::Num) =>
+                RegType::Num,
+            (RegType::Const(c), RegType::Const(d)) => if c == d {
+                RegType::Const(c)
+            } else {
+                RegType::Num
+            },
+            (RegType::Ctx(k), RegType::Ctx(m)) => if k == m {
+                RegType::Ctx(k)
+            } else {
+                RegType::Unset
+            },
+            (RegType::Stk(k), RegType::Stk(m)) => if k == m {
+                RegType::Stk(k)
+            } else {
+                RegType::Unset
+            },
             _ => RegType::Unset,
         }
     }
@@ -99,7 +112,10 @@ impl Fact {
         let mut types = [RegType::Unset; 11];
         types[1] = RegType::Ctx(0);
         types[10] = RegType::Stk(0);
-        Fact { types, stack: StackMap::empty() }
+        Fact {
+            types,
+            stack: StackMap::empty(),
+        }
     }
 
     /// What both facts say.
@@ -124,6 +140,9 @@ impl Fact {
     {
         let mut stack = self.stack;
         stack.mark(effect.at, effect.len);
-        Fact { types: effect.types, stack }
+        Fact {
+            types: effect.types,
+            stack,
+        }
     }
 }
