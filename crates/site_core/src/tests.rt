@@ -386,7 +386,7 @@ fn events_are_run_in_turn(rt: HostRuntime) -> Result<(), Fail> {
     let config = config(alloc)?.ok_or("no configuration")?;
     let (site, results) = Site::run(alloc, config, events)?;
     assert_eq!(rt; results.len(), 2);
-    let last = &site.history()[site.history().len() - 1];
+    let last = site.history().get(1).ok_or("no entry")?;
     assert_eq!(rt;
         (last.number, last.pass, last.moment, last.reply),
         (2, 2, 7, shown(3, 0, 0))
