@@ -5,7 +5,7 @@ ghost use Rattle.std.specs.Prelude.{◌≡◌, ℕ, ◌≤◌, ◌<◌, ◌^◌}
 ghost use Rattle.std.specs.List.{All};
 ghost use Rattle.bpf_model.specs.Machine.{counter};
 ghost use Rattle.bpf_model.specs.Runs.{AreCounters};
-ghost use Rattle.counters.specs.Changes.{can_add, after_add, can_take, after_take};
+ghost use Rattle.counters.specs.Changes.{can_add, after_add, can_take, after_take, adopted};
 
 use std::marker::Model;
 
@@ -69,6 +69,17 @@ impl Counters {
         true
     }
 
+    /// The declared counters become those of another value; the rest stay.
+    pub fn adopt(&mut self, declared: u32, other: &Counters)
+        ensures { (c : ℕ) → counter self.new c ≡ adopted declared other.now self.old c }
+    {
+        for c in 0..32 {
+            if (declared >> c) % 2 == 1 {
+                self.cells[c] = other.cells[c];
+            }
+        }
+    }
+
     /// Takes from a counter from 0 to 31. Where `n` is over the value the answer is false, and nothing changes.
     pub fn take(&mut self, c: u32, n: u64) -> bool
         requires { c < 32 }
@@ -99,4 +110,22 @@ fn bound_at(cells: &[(u64, u64); 32], c: usize) -> u64
     ensures small { result < 2 ^ 64 }
 {
     cells[c].1
+}
+
+#[cfg(test)]
+mod tests {
+    use super::*;
+
+    #[test]
+    fn counters_stay_within_their_bounds(rt: HostRuntime) {
+        let mut counters = Counters::new([(1, 2); 32]);
+        assert_eq!(rt; (counters.get(3), counters.bound(3)), (1, 2));
+        assert!(rt; counters.add(3, 1) && !counters.add(3, 1) && !counters.add(31, u64::MAX));
+        assert!(rt; !counters.take(3, 3) && counters.take(3, 2) && counters.take(31, 1));
+        assert_eq!(rt; (counters.get(3), counters.get(31)), (0, 0));
+        counters.adopt(8, &Counters::new([(1, 2); 32]));
+        assert_eq!(rt; (counters.get(3), counters.get(31)), (1, 0));
+        let mut full = Counters::new([(u64::MAX, u64::MAX); 32]);
+        assert!(rt; !full.add(0, u64::MAX) && full.take(0, u64::MAX) && full.add(0, u64::MAX));
+    }
 }

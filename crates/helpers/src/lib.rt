@@ -118,3 +118,50 @@ pub fn call(id: i32, a: u64, b: u64, view: &View, counters: &mut Counters, stack
         Helper::PriceOf => price_of(view, a),
     }
 }
+
+#[cfg(test)]
+mod tests {
+    use super::*;
+
+    fn world() -> View {
+        let mut points = [PointView { state: 0, nozzle: 0, amount: 0 }; 32];
+        points[1] = PointView { state: 8, nozzle: 2, amount: 513 };
+        View { count: 2, points, prices: [1799, 0, 0, 0, 0, 0, 0, 5] }
+    }
+
+    #[test]
+    fn helpers_answer(rt: HostRuntime) {
+        let mut counters = Counters::new([(1, 2); 32]);
+        let mut stack = [7; 512];
+        for (id, a, b, want) in [
+            (1, 31, 0, 1),
+            (2, 0, 1, 1),
+            (2, 0, 1, 0),
+            (3, 0, 3, 0),
+            (3, 0, 2, 1),
+            (4, 2, 0, 8),
+            (4, 3, 0, 0),
+            (4, 4294967298, 0, 0),
+            (5, 2, 496, 1),
+            (5, 0, 0, 0),
+            (6, 1, 0, 1799),
+            (6, 8, 0, 5),
+            (6, 9, 0, 0),
+        ] {
+            assert_eq!(rt; call(id, a, b, &world(), &mut counters, &mut stack), want, "helper {id}");
+        }
+        assert_eq!(rt; counters.get(0), 0);
+        assert!(rt; stack[496..] == [8, 0, 0, 0, 2, 0, 0, 0, 1, 2, 0, 0, 0, 0, 0, 0]);
+        assert!(rt; stack[..17] == [0, 0, 0, 0, 0, 0, 0, 0, 0, 0, 0, 0, 0, 0, 0, 0, 7]);
+    }
+
+    #[test]
+    fn helpers_take_arguments(rt: HostRuntime) {
+        assert_eq!(rt; arguments(2), Some([Kind::Counter, Kind::Number]));
+        assert_eq!(rt; arguments(5), Some([Kind::Number, Kind::Place]));
+        assert!(rt; arguments(0).is_none() && arguments(7).is_none() && arguments(-1).is_none());
+        let mut memory = [0; 512];
+        put(&mut memory, 510, 2, 0x10203);
+        assert!(rt; memory[509..] == [0, 3, 2]);
+    }
+}

@@ -2,7 +2,12 @@
 #![tactic(auto)]
 
 mod arithmetic;
+mod rebasing;
 mod running;
 mod words;
 
+pub use rebasing::rebase;
 pub use running::run;
+
+#[cfg(test)]
+mod tests;

@@ -1,34 +1,41 @@
--- The rules accept plain instructions.
-use Rattle.std.proofs.Common.{◌≡◌, ◌≢◌, ℕ, zero, suc, ◌+◌, ◌-◌, ◌*◌, ◌^◌, ◌<◌, ◌≤◌, ◌⊎◌, List, [], ◌∷◌, Option, Some, None, Bool, true, false, refl, sym, ap, ◌∙◌, subst, inl, inr, arith, length}
-use Rattle.std.specs.Prelude.{Result, Ok, Err, IsSome, OnOk, OnErr, ℤ, pos, neg_ℤ, slice_set, slice_index_or, ◌==◌, cond, ⊤}
+-- The rules accept plain programs.
+use Rattle.std.proofs.Common.{◌≡◌, ◌≢◌, ℕ, zero, suc, ◌+◌, ◌-◌, ◌*◌, ◌^◌, ◌<◌, ◌≤◌, ◌⊎◌, List, [], ◌∷◌, ◌++◌, Option, Some, None, Bool, true, false, refl, sym, ap, ◌∙◌, subst, inl, inr, arith, length}
+use Rattle.std.specs.Prelude.{Result, Ok, Err, IsSome, OnOk, OnErr, ℤ, pos, neg_ℤ, nat_le, slice_get, slice_set, slice_index_or, ◌==◌, cond, ⊤}
 use Rattle.std.specs.Int.{cast_unsigned, w32}
-use Rattle.std.proofs.lemmas.List.{get_or-set_other, get_or-set_same, length-set}
+use Rattle.std.proofs.lemmas.Bool.{cases_eq, cases_lt}
+use Rattle.std.proofs.lemmas.Bool.Decides.{nat_tests}
+use Rattle.std.proofs.lemmas.Option.{slice_get_within}
+use Rattle.std.proofs.lemmas.List.{get_or-set_other, get_or-set_same, get_or_default, length-set}
 use Rattle.bpf_model.specs.declared.instruction.Inst.{Inst}
+use Rattle.bpf_model.specs.declared.instruction.Unit.{Unit as ProgramUnit}
+use Rattle.bpf_model.specs.declared.instruction.Unit.TheVariants.{First, Second}
 use Rattle.bpf_model.specs.declared.instruction.Width.{Width}
 use Rattle.bpf_model.specs.declared.instruction.Width.TheVariants.{Narrow, Full}
 use Rattle.bpf_model.specs.declared.instruction.Source.{Source}
 use Rattle.bpf_model.specs.declared.instruction.Source.TheVariants.{Immediate, Register}
 use Rattle.bpf_model.specs.declared.instruction.Operator.{Operator}
 use Rattle.bpf_model.specs.declared.instruction.Operator.TheVariants.{Sum, Difference, Product, Quotient, Or, And, ShiftLeft, ShiftRight, Negate, Remainder, Xor, Move, ShiftSigned, SwapBytes}
+use Rattle.bpf_model.specs.declared.instruction.Size.{Size}
 use Rattle.bpf_model.specs.declared.instruction.Form.{Form}
 use Rattle.bpf_model.specs.declared.instruction.Form.TheVariants.{Arithmetic, Wide, Load, LoadSigned, StoreImmediate, StoreRegister, Goto, GotoLong, Branch, Call, Exit}
-use Rattle.bpf_model.specs.Reading.{bytes_in}
+use Rattle.bpf_model.specs.Reading.{bytes_in, form_of, units}
 use Rattle.bpf_model.specs.Arithmetic.{low}
 use Rattle.bpf_model.specs.Machine.{shifted, immediate}
+use Rattle.bpf_model.proofs.Reading.{wide_at}
 use Rattle.reg_types.specs.declared.types.RegType.{RegType}
 use Rattle.reg_types.specs.declared.types.RegType.TheVariants.{Unset, Num, Const, Ctx, Stk}
 use Rattle.reg_types.specs.declared.types.Flaw.{Flaw}
-use Rattle.reg_types.specs.Rules.{type_at, is_plain, one_number, two_numbers, alu_type, operand_type, set_type, load_type, number_at, unchanged, effect, join_type}
+use Rattle.reg_types.specs.declared.types.Flaw.TheVariants.{FallsOff, NotANumber}
 use Rattle.reg_types.specs.declared.types.Fact.{Fact}
-use Rattle.reg_types.specs.Facts.{entry_types, Facts, IsFact, table, types_of}
-use Rattle.bpf_model.specs.Reading.{form_of}
-use Rattle.bpf_model.specs.declared.instruction.Unit.{Unit as ProgramUnit}
-use Rattle.reg_types.specs.Plain.{IsPlainForm, SetsFirst, is_numeric, ArePlain, PlainOption, PlainAbove, PlainAt, PlainHere, PlainFrom, PlainTypesAt, AcceptsAll}
-use Rattle.reg_types.proofs.Tables.{table_same, table_other, any_default}
-use Rattle.std.proofs.lemmas.Bool.{cases_eq}
-use Rattle.std.proofs.lemmas.Option.{slice_get-get_or}
-use Rattle.std.proofs.Common.{◌++◌}
-use Rattle.bpf_model.specs.declared.instruction.Unit.TheVariants.{First, Second}
+use Rattle.reg_types.specs.declared.types.Effect.{Effect}
+use Rattle.reg_types.specs.Rules.{type_at, is_numeric, is_plain, one_number, two_numbers, alu_type, operand_type, unmarked, set_type, load_type, number_at, compared, exited, effect, falls_off, judged, join_type}
+use Rattle.reg_types.specs.Facts.{entry_types, Facts, table}
+use Rattle.reg_types.specs.Plain.{IsPlainForm, SetsFirst, LoadsArgument, ArePlainUnits}
+use Rattle.reg_types.specs.Accepting.{ArePlain, PlainOption, PlainAbove, PlainAt, PlainHere, PlainFrom, PlainTypesAt, AcceptsAll}
+use Rattle.reg_types.proofs.Tables.{table_same, table_other}
+
+abbrev ok_of : Effect → Result Effect Flaw
+ok_of e = Ok e
 
 abbrev Typed : Type 0
 Typed = Result RegType Flaw
@@ -79,51 +86,82 @@ numbers_ok Negate w i a n h = gives (one_number i.dst a) (one_ok i.dst a h)
 numbers_ok SwapBytes w i a n h = gives (one_number i.dst a) (one_ok i.dst a h)
 numbers_ok op w i a n h = gives (two_numbers i.dst i.src a (Const n)) (two_ok i.dst i.src n a h)
 
+-- what is left has plain types
+abbrev Accepted : Result Effect Flaw → Type 0
+Accepted r = (e : Effect) × (r ≡ ok_of e) × ArePlain e.types
+
 -- a number is put into R0
-set_first : (types : List RegType) (o : Typed) → 2 ≤ length types → type_at types 1 ≡ Ctx 0 → GivesNumber o → (after : List RegType) × (set_type types 0 o ≡ Ok after) × ArePlain after
+set_first : (types : List RegType) (o : Typed) → 2 ≤ length types → type_at types 1 ≡ Ctx 0 → GivesNumber o → Accepted (set_type types 0 o)
 set_first types (Err e) l b g = absurd g
 set_first types (Ok t) l b g =
-    (slice_set types 0 t, refl, record {
+    (unmarked (slice_set types 0 t), refl, record {
       long = let e = length-set types 0 t in omega (arith, e);
       base = get_or-set_other types 0 1 t Unset (omega arith) ∙ b;
       number = ap is_numeric (get_or-set_same types 0 t Unset (omega arith)) ∙ g;
     })
 
-load_ok : (i : Inst) (size : ℕ) (o : Option ℕ) → IsSome o → GivesNumber (number_at o)
-load_ok i size None h = absurd (cc)
-load_ok i size (Some at) h = refl
+set_dst : (types : List RegType) (dst : ℕ) (o : Typed) → dst ≡ 0 → 2 ≤ length types → type_at types 1 ≡ Ctx 0 → GivesNumber o → Accepted (set_type types dst o)
+set_dst types dst o z l b g = subst (λ d. Accepted (set_type types d o)) (sym z) (set_first types o l b g)
+
+load_ok : (o : Option ℕ) → IsSome o → GivesNumber (number_at o)
+load_ok None h = absurd (cc)
+load_ok (Some at) h = refl
+
+-- a load from the context through R1
+load_first : (fact : Fact) (i : Inst) (size : Size) → LoadsArgument i size → 2 ≤ length fact.types → type_at fact.types 1 ≡ Ctx 0 → Accepted (set_type fact.types i.dst (load_type fact.stack (type_at fact.types i.src) i (bytes_in size)))
+load_first fact i size f l b =
+    let o = load_type fact.stack (type_at fact.types i.src) i (bytes_in size) in
+    let same : load_type fact.stack (Ctx 0) i (bytes_in size) ≡ o = ap (λ t. load_type fact.stack t i (bytes_in size)) (sym (ap (type_at fact.types) f.1 ∙ b)) in
+    set_dst fact.types i.dst o f.0 l b (subst GivesNumber same (load_ok (shifted 0 i.offset (64 - bytes_in size)) f.2))
+
+compare_ok : (types : List RegType) (dst src n : ℕ) (a : RegType) → is_numeric a ≡ true → ArePlain types → Accepted (compared types dst src a (Const n))
+compare_ok types dst src n a h p =
+    (unmarked types, ap (λ b. cond b (ok_of (unmarked types)) (Err (NotANumber dst))) h, p)
+
+exit_ok : (types : List RegType) → ArePlain types → Accepted (exited types (type_at types 0))
+exit_ok types p = (unmarked types, ap (λ b. cond b (ok_of (unmarked types)) (Err (NotANumber 0))) p.number, p)
 
 -- a plain instruction is accepted where R0 has a number
-pub plain_effect : (types : List RegType) (i : Inst) (upper : ℤ) (form : Form) → ArePlain types → IsPlainForm i form → (after : List RegType) × (effect types i upper form ≡ Ok after) × ArePlain after
-plain_effect types i upper Goto p f = (types, refl, p)
-plain_effect types i upper GotoLong p f = (types, refl, p)
-plain_effect types i upper Exit p f = (types, ap (unchanged types) (one_ok 0 (type_at types 0) p.number), p)
-plain_effect types i upper Wide p f =
+plain_effect : (declared : ℕ) (fact : Fact) (i : Inst) (upper : ℤ) (form : Form) → ArePlain fact.types → IsPlainForm i form → Accepted (effect declared fact i upper form)
+plain_effect declared fact i upper Goto p f = (unmarked fact.types, refl, p)
+plain_effect declared fact i upper GotoLong p f = (unmarked fact.types, refl, p)
+plain_effect declared fact i upper Exit p f = exit_ok fact.types p
+plain_effect declared fact i upper Wide p f =
     let o : Typed = Ok (Const (cast_unsigned w32 upper * 2 ^ 32 + cast_unsigned w32 i.imm)) in
-    let x = set_first types o p.long p.base refl in
-    (x.0, ap (λ d. set_type types d o) f ∙ x.1, x.2)
-plain_effect types i upper (Branch c w Immediate) p f =
-    (types, ap (unchanged types) (two_ok i.dst i.src (immediate w i.imm) (type_at types i.dst) (ap (λ d. is_numeric (type_at types d)) f ∙ p.number)), p)
-plain_effect types i upper (Arithmetic SwapBytes w s) p f =
-    let h = ap (λ d. is_numeric (type_at types d)) f ∙ p.number in
-    let x = set_first types (one_number i.dst (type_at types i.dst)) p.long p.base (gives (one_number i.dst (type_at types i.dst)) (one_ok i.dst (type_at types i.dst) h)) in
-    (x.0, ap (λ d. set_type types d (one_number i.dst (type_at types i.dst))) f ∙ x.1, x.2)
-plain_effect types i upper (Arithmetic op w Immediate) p f =
-    let h = ap (λ d. is_numeric (type_at types d)) f ∙ p.number in
-    let o = alu_type op w Immediate i (type_at types i.dst) (Const (immediate w i.imm)) in
-    let x = set_first types o p.long p.base (numbers_ok op w i (type_at types i.dst) (immediate w i.imm) h) in
-    (x.0, ap (λ d. set_type types d o) f ∙ x.1, x.2)
-plain_effect types i upper (Load size) p f =
-    let o = load_type (type_at types i.src) i (bytes_in size) in
-    let same : load_type (Ctx 0) i (bytes_in size) ≡ o = ap (λ t. load_type t i (bytes_in size)) (sym (ap (type_at types) f.1 ∙ p.base)) in
-    let x = set_first types o p.long p.base (subst GivesNumber same (load_ok i (bytes_in size) (shifted 0 i.offset (64 - bytes_in size)) f.2)) in
-    (x.0, ap (λ d. set_type types d o) f.0 ∙ x.1, x.2)
-plain_effect types i upper (Arithmetic op w Register) p f = absurd f
-plain_effect types i upper (Branch c w Register) p f = absurd f
-plain_effect types i upper (LoadSigned size) p f = absurd f
-plain_effect types i upper (StoreImmediate size) p f = absurd f
-plain_effect types i upper (StoreRegister size) p f = absurd f
-plain_effect types i upper Call p f = absurd f
+    set_dst fact.types i.dst o f p.long p.base refl
+plain_effect declared fact i upper (Branch c w Immediate) p f =
+    compare_ok fact.types i.dst i.src (immediate w i.imm) (type_at fact.types i.dst) (ap (λ d. is_numeric (type_at fact.types d)) f ∙ p.number) p
+plain_effect declared fact i upper (Arithmetic SwapBytes w s) p f =
+    let h = ap (λ d. is_numeric (type_at fact.types d)) f ∙ p.number in
+    set_dst fact.types i.dst (one_number i.dst (type_at fact.types i.dst)) f p.long p.base (gives (one_number i.dst (type_at fact.types i.dst)) (one_ok i.dst (type_at fact.types i.dst) h))
+plain_effect declared fact i upper (Arithmetic op w Immediate) p f =
+    let h = ap (λ d. is_numeric (type_at fact.types d)) f ∙ p.number in
+    set_dst fact.types i.dst (alu_type op w Immediate i (type_at fact.types i.dst) (Const (immediate w i.imm))) f p.long p.base (numbers_ok op w i (type_at fact.types i.dst) (immediate w i.imm) h)
+plain_effect declared fact i upper (Load size) p f = load_first fact i size f p.long p.base
+plain_effect declared fact i upper (LoadSigned size) p f = load_first fact i size f p.long p.base
+plain_effect declared fact i upper (Arithmetic op w Register) p f = absurd f
+plain_effect declared fact i upper (Branch c w Register) p f = absurd f
+plain_effect declared fact i upper (StoreImmediate size) p f = absurd f
+plain_effect declared fact i upper (StoreRegister size) p f = absurd f
+plain_effect declared fact i upper Call p f = absurd f
+
+-- the first instruction sets R0, and R1 points to the context there
+first_effect : (declared : ℕ) (fact : Fact) (i : Inst) (upper : ℤ) (form : Form) → 2 ≤ length fact.types → type_at fact.types 1 ≡ Ctx 0 → IsPlainForm i form → SetsFirst form → Accepted (effect declared fact i upper form)
+first_effect declared fact i upper Wide l b f s =
+    let o : Typed = Ok (Const (cast_unsigned w32 upper * 2 ^ 32 + cast_unsigned w32 i.imm)) in set_dst fact.types i.dst o f l b refl
+first_effect declared fact i upper (Load size) l b f s = load_first fact i size f l b
+first_effect declared fact i upper (LoadSigned size) l b f s = load_first fact i size f l b
+first_effect declared fact i upper (Arithmetic Move w Immediate) l b f s =
+    set_dst fact.types i.dst (alu_type Move w Immediate i (type_at fact.types i.dst) (Const (immediate w i.imm))) f l b (plain_move (is_plain i.offset) (low w (immediate w i.imm)))
+first_effect declared fact i upper (Arithmetic Move w Register) l b f s = absurd s
+first_effect declared fact i upper (Arithmetic op w source) l b f s = absurd s
+first_effect declared fact i upper Goto l b f s = absurd s
+first_effect declared fact i upper GotoLong l b f s = absurd s
+first_effect declared fact i upper Exit l b f s = absurd s
+first_effect declared fact i upper (Branch c w source) l b f s = absurd s
+first_effect declared fact i upper (StoreImmediate size) l b f s = absurd s
+first_effect declared fact i upper (StoreRegister size) l b f s = absurd s
+first_effect declared fact i upper Call l b f s = absurd s
 
 -- joins of plain facts are plain
 join_numeric : (a b : RegType) → is_numeric a ≡ true → is_numeric b ≡ true → is_numeric (join_type a b) ≡ true
@@ -149,51 +187,91 @@ plain_join a b j l e p q =
       number = ap is_numeric (e 0) ∙ join_numeric (type_at a 0) (type_at b 0) p.number q.number;
     }
 
+-- ---- no plain instruction falls off
+
+forms_same : (f g : Form) (o : Option Form) → o ≡ Some f → o ≡ Some g → f ≡ g
+forms_same f g o a b = cc
+
+is_exit : Form → Bool
+is_exit Exit = true
+is_exit form = false
+
+module _ (bytes : List ℕ) (us : List ProgramUnit) (reads : units bytes ≡ Some us) (plain : ArePlainUnits us) (pc : ℕ) (i : Inst) (at : slice_get us pc ≡ Some (First i)) where
+  -- the last unit is an exit
+  exits_last : (form : Form) → form_of i.opcode ≡ Some form → length us ≤ pc + 1 → Exit ≡ form
+  exits_last form is l =
+      let inside = slice_get_within us pc (First i) at in
+      let last : length us - 1 ≡ pc = omega arith in
+      let here : slice_get us pc ≡ Some (First plain.last) = subst (λ k. slice_get us k ≡ Some (First plain.last)) last plain.last_is in
+      let same : Some (First plain.last) ≡ Some (First i) = sym here ∙ at in
+      let unit : plain.last ≡ i = cc in
+      forms_same Exit form (form_of i.opcode) (subst (λ u. form_of u.opcode ≡ Some Exit) unit plain.exits) is
+
+  le_of : (m n : ℕ) → nat_le m n ≡ true → m ≤ n
+  le_of m n e = grind (arith, nat_tests)
+
+  stays_by : (b : Bool) (n : ℕ) → nat_le (length us) n ≡ b → (length us ≤ n → ⊥) → b ≡ false
+  stays_by true n e h = absurd (h (le_of (length us) n e))
+  stays_by false n e h = refl
+
+  no_exit : (form : Form) → form_of i.opcode ≡ Some form → (Exit ≡ form → ⊥) → nat_le (length us) (pc + 1) ≡ false
+  no_exit form is other = stays_by (nat_le (length us) (pc + 1)) (pc + 1) refl (λ l. other (exits_last form is l))
+
+  no_last_wide : form_of i.opcode ≡ Some Wide → length us ≤ pc + 2 → ⊥
+  no_last_wide is l =
+      let second = wide_at bytes us pc i reads at is in
+      let inside = slice_get_within us (pc + 1) (Second _) second in
+      let last : length us - 1 ≡ pc + 1 = omega arith in
+      let here = subst (λ k. slice_get us k ≡ Some (First plain.last)) last plain.last_is in
+      let same : Some (First plain.last) ≡ Some (Second _) = sym here ∙ second in
+      cc
+
+  stays_on : (form : Form) → form_of i.opcode ≡ Some form → falls_off (length us) pc form ≡ false
+  stays_on Exit is = refl
+  stays_on Goto is = refl
+  stays_on GotoLong is = refl
+  stays_on Wide is = stays_by (nat_le (length us) (pc + 2)) (pc + 2) refl (no_last_wide is)
+  stays_on (Arithmetic op w s) is = no_exit (Arithmetic op w s) is (λ e. cc)
+  stays_on (Load size) is = no_exit (Load size) is (λ e. cc)
+  stays_on (LoadSigned size) is = no_exit (LoadSigned size) is (λ e. cc)
+  stays_on (StoreImmediate size) is = no_exit (StoreImmediate size) is (λ e. cc)
+  stays_on (StoreRegister size) is = no_exit (StoreRegister size) is (λ e. cc)
+  stays_on (Branch c w s) is = no_exit (Branch c w s) is (λ e. cc)
+  stays_on Call is = no_exit Call is (λ e. cc)
+
+  accepted : (declared : ℕ) (fact : Fact) (upper : ℤ) (form : Form) → form_of i.opcode ≡ Some form → Accepted (effect declared fact i upper form) → Accepted (judged (length us) pc declared fact i upper form)
+  accepted declared fact upper form is x =
+      (x.0, ap (λ b. cond b (Err FallsOff) (effect declared fact i upper form)) (stays_on form is) ∙ x.1, x.2)
+
+  plain_here : (declared : ℕ) (fact : Fact) (upper : ℤ) (form : Form) → form_of i.opcode ≡ Some form → PlainTypesAt pc fact.types → Accepted (judged (length us) pc declared fact i upper form)
+  plain_here declared fact upper form is (inr p) =
+      accepted declared fact upper form is (plain_effect declared fact i upper form p (plain.each pc i form at is))
+  plain_here declared fact upper form is (inl z) =
+      let two : 2 ≤ length fact.types = let e = ap (λ l. length l) z.1 in omega (arith, e) in
+      let base : type_at fact.types 1 ≡ Ctx 0 = ap (λ l. type_at l 1) z.1 in
+      let sets = plain.sets i form (subst (λ k. slice_get us k ≡ Some (First i)) z.0 at) is in
+      accepted declared fact upper form is (first_effect declared fact i upper form two base (plain.each pc i form at is) sets)
+
+pub plain_accepts : (bytes : List ℕ) (us : List ProgramUnit) (declared : ℕ) → units bytes ≡ Some us → ArePlainUnits us → AcceptsAll us declared
+plain_accepts bytes us declared reads plain =
+    record { each = λ pc i fact at types upper form is. plain_here bytes us reads plain pc i at declared fact upper form is types }
+
 -- ---- the table
 
 plain_there : (pc to : ℕ) (facts : List (Option Fact)) (o : Option Fact) → pc < to → slice_index_or facts to None ≡ o → PlainAbove pc (table facts) → PlainOption o
 plain_there pc to facts None l e p = tt
-plain_there pc to facts (Some g) l e p = p to g.types l (ap types_of e)
+plain_there pc to facts (Some g) l e p = p to g l e
 
-pub plain_merged : (facts : List (Option Fact)) (pc to : ℕ) (f : Fact) (d : Option Fact) → pc < to → to < length facts → slice_index_or facts to d ≡ d → (PlainOption d → ArePlain f.types) → PlainAbove pc (table facts) → PlainAbove pc (table (slice_set facts to (Some f)))
-plain_merged facts pc to f d l inside same merged p q types after h =
+pub plain_merged : (facts : List (Option Fact)) (pc to : ℕ) (f : Fact) (d : Option Fact) → pc < to → to < length facts → (PlainOption (slice_index_or facts to d) → ArePlain f.types) → PlainAbove pc (table facts) → PlainAbove pc (table (slice_set facts to (Some f)))
+plain_merged facts pc to f d l inside merged p q fact after h =
     elim (cases_eq q to) [
-      inl at ↦ let e : Some f.types ≡ Some types = sym (table_same facts to f inside) ∙ subst (λ k. table (slice_set facts to (Some f)) k ≡ Some types) at h in
-      let t : f.types ≡ types = cc in
-      subst ArePlain t (merged (plain_there pc to facts d l (any_default facts to None d inside ∙ same) p))
-    | inr other ↦ p q types after (sym (table_other facts to q f other) ∙ h)
+      inl at ↦ let e : Some f ≡ Some fact = sym (table_same facts to f inside) ∙ subst (λ k. table (slice_set facts to (Some f)) k ≡ Some fact) at h in
+      let t : f ≡ fact = cc in
+      subst (λ x. ArePlain x.types) t (merged (plain_there pc to facts (slice_index_or facts to d) l (get_or_default facts to None d inside) p))
+    | inr other ↦ p q fact after (sym (table_other facts to q f other) ∙ h)
     ]
 
--- ---- one instruction
-
-same_form : (f g : Form) (o : Option Form) → o ≡ Some f → o ≡ Some g → f ≡ g
-same_form f g o a b = cc
-
-at_form : (us : List ProgramUnit) (pc : ℕ) (i : Inst) (types : List RegType) (form : Form) (upper : ℤ) → form_of i.opcode ≡ Some form → PlainAt us pc i types → (after : List RegType) × (effect types i upper form ≡ Ok after) × ArePlain after
-at_form us pc i types form upper is p =
-    subst (λ f. (after : List RegType) × (effect types i upper f ≡ Ok after) × ArePlain after) (same_form p.form form (form_of i.opcode) p.form_is is) (p.accepted upper)
-
-pub never_refused : (us : List ProgramUnit) (pc : ℕ) (i : Inst) (types : List RegType) (form : Form) (upper : ℤ) (e : Flaw) → form_of i.opcode ≡ Some form → IsFact (Err e) (effect types i upper form) → PlainAt us pc i types → ⊥
-never_refused us pc i types form upper e is fact p =
-    let x = at_form us pc i types form upper is p in subst (IsFact (Err e)) x.1 fact
-
-pub plain_after : (us : List ProgramUnit) (pc : ℕ) (i : Inst) (types : List RegType) (form : Form) (upper : ℤ) (f : Fact) → form_of i.opcode ≡ Some form → IsFact (Ok f) (effect types i upper form) → PlainAt us pc i types → ArePlain f.types
-plain_after us pc i types form upper f is fact p =
-    let x = at_form us pc i types form upper is p in
-    subst ArePlain (sym (subst (IsFact (Ok f)) x.1 fact)) x.2
-
 -- ---- the pass
-
-abbrev no_fact : Option Fact
-no_fact = None
-
-pub here_at : (us : List ProgramUnit) (facts : List (Option Fact)) (pc : ℕ) (d : ProgramUnit) (dd : Option Fact) (i : Inst) (f : Fact) → pc < length facts → pc < length us → slice_index_or facts pc dd ≡ Some f → slice_index_or us pc d ≡ First i → PlainHere us pc (table facts) → PlainAt us pc i f.types
-here_at us facts pc d dd i f l m e g here =
-    here i f.types (slice_get-get_or us pc d m ∙ ap Some g) (ap types_of (any_default facts pc None dd l ∙ e))
-
-pub err_map : {A E P Q : Type 0} (r : Result A E) → (P → Q) → OnErr r P → OnErr r Q
-err_map (Ok a) f h = tt
-err_map (Err e) f h = f h
 
 above_of : (pc k : ℕ) (types : List RegType) → pc < k → PlainTypesAt k types → ArePlain types
 above_of pc k types l (inl z) = absurd (omega (arith, z.0))
@@ -201,26 +279,20 @@ above_of pc k types l (inr p) = p
 
 -- the next unit
 pub from_more : (pc : ℕ) (old new : Facts) → PlainFrom pc old → (PlainAbove pc old → PlainAbove pc new) → PlainFrom (pc + 1) new
-from_more pc old new p keeps q types l h =
-    inr (keeps (λ k ts after e. above_of pc k ts after (p k ts (omega arith) e)) q types (omega arith) h)
+from_more pc old new p keeps q fact l h =
+    inr (keeps (λ k f after e. above_of pc k f.types after (p k f (omega arith) e)) q fact (omega arith) h)
 
-pub here_from : (us : List ProgramUnit) (pc : ℕ) (facts : Facts) → AcceptsAll us → PlainFrom pc facts → PlainHere us pc facts
-here_from us pc facts a p i types at h = a.each pc i types at (p pc types (omega arith) h)
-
-pub none_more : (facts : List (Option Fact)) → ((q : ℕ) → table facts q ≡ None) → (q : ℕ) → table (facts ++ no_fact ∷ []) q ≡ None
-none_more [] h zero = refl
-none_more [] h (suc q) = refl
-none_more (f ∷ fs) h zero = h zero
-none_more (f ∷ fs) h (suc q) = none_more fs (λ k. h (suc k)) q
+pub here_from : (us : List ProgramUnit) (declared pc : ℕ) (facts : Facts) → AcceptsAll us declared → PlainFrom pc facts → PlainHere us pc declared facts
+here_from us declared pc facts a p i fact at h = a.each pc i fact at (p pc fact (omega arith) h)
 
 pub begins_plain : (facts : List (Option Fact)) (f : Fact) → ((q : ℕ) → table facts q ≡ None) → 0 < length facts → f.types ≡ entry_types → PlainFrom 0 (table (slice_set facts 0 (Some f)))
-begins_plain facts f is l e q types after h =
+begins_plain facts f is l e q fact after h =
     elim (cases_eq q 0) [
-      inl at ↦ let x : Some f.types ≡ Some types = sym (table_same facts 0 f l) ∙ subst (λ k. table (slice_set facts 0 (Some f)) k ≡ Some types) at h in
-      let t : f.types ≡ types = cc in
-      inl (at, sym t ∙ e)
+      inl at ↦ let x : Some f ≡ Some fact = sym (table_same facts 0 f l) ∙ subst (λ k. table (slice_set facts 0 (Some f)) k ≡ Some fact) at h in
+      let t : f ≡ fact = cc in
+      inl (at, ap (λ y. y.types) (sym t) ∙ e)
     | inr other ↦
       let gone : table facts q ≡ None = is q in
-      let never : None ≡ Some types = sym gone ∙ sym (table_other facts 0 q f other) ∙ h in
+      let never : None ≡ Some fact = sym gone ∙ sym (table_other facts 0 q f other) ∙ h in
       absurd (cc)
     ]

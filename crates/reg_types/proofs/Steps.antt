@@ -1,11 +1,12 @@
 -- A well typed instruction isn't stuck, and leads to a state that fits its result.
 use Rattle.std.proofs.Common.{◌≡◌, ◌≢◌, ℕ, zero, suc, ◌+◌, ◌-◌, ◌*◌, ◌<◌, ◌≤◌, ◌⊎◌, List, [], ◌∷◌, Option, Some, None, Bool, true, false, refl, sym, ap, ◌∙◌, subst, inl, inr, arith, length}
-use Rattle.std.specs.Prelude.{Result, Ok, Err, ℤ, pos, ◌^◌, ◌==◌, cond, slice_get, slice_set, slice_index_or, ⊤}
+use Rattle.std.specs.Prelude.{Result, Ok, Err, ℤ, pos, ◌^◌, ◌/◌, ◌%◌, ◌==◌, ◌&&◌, cond, drop, nat_le, is_some, slice_get, slice_set, slice_index_or, ⊤}
 use Rattle.std.specs.List.{AllByRecursion}
 use Rattle.std.specs.Int.{cast_unsigned, w32, w64}
 use Rattle.std.proofs.lemmas.Bool.{cases_lt}
 use Rattle.std.proofs.lemmas.Bool.Decides.{nat_tests}
-use Rattle.std.proofs.lemmas.List.{get_or-set_other, length-set}
+use Rattle.std.proofs.lemmas.List.{get_or-set_other, length-set, get_or-drop, length-drop}
+use Rattle.byteorder.specs.Endian.{little_bytes}
 use Rattle.bpf_model.specs.declared.instruction.Inst.{Inst}
 use Rattle.bpf_model.specs.declared.instruction.Width.{Width}
 use Rattle.bpf_model.specs.declared.instruction.Width.TheVariants.{Narrow, Full}
@@ -16,55 +17,60 @@ use Rattle.bpf_model.specs.declared.instruction.Form.{Form}
 use Rattle.bpf_model.specs.declared.instruction.Form.TheVariants.{Arithmetic, Wide, Load, LoadSigned, StoreImmediate, StoreRegister, Goto, GotoLong, Branch, Call, Exit}
 use Rattle.bpf_model.specs.declared.machine.Value.{Value}
 use Rattle.bpf_model.specs.declared.machine.Value.TheVariants.{Unset, Number, Context, Stack}
+use Rattle.bpf_model.specs.declared.machine.Cell.{Cell}
 use Rattle.bpf_model.specs.declared.machine.View.{View}
 use Rattle.bpf_model.specs.declared.machine.State.{State}
 use Rattle.bpf_model.specs.Reading.{bytes_in}
-use Rattle.bpf_model.specs.Arithmetic.{holds}
-use Rattle.bpf_model.specs.Machine.{Next, Goes, Exits, Stuck, Place, InContext, InStack, where_some, shifted, number, immediate, map_option, mem, read, register, operand, alu_value, sets, jumps, branches, act}
+use Rattle.bpf_model.specs.Arithmetic.{holds, extended}
+use Rattle.bpf_model.specs.Machine.{Counters, Next, Goes, Exits, Stuck, Place, InContext, InStack, where_some, shifted, number, immediate, map_option, mem, read, register, operand, alu_value, sets, jumps, branches, stores, stack_place, cell_at, written, after_call as call_state, Answer, answer, helper, helper_of, act}
+use Rattle.stack_map.specs.Places.{Has, Within}
 use Rattle.reg_types.specs.declared.types.RegType.{RegType}
 use Rattle.reg_types.specs.declared.types.RegType.TheVariants.{Unset as Anything, Num, Const, Ctx, Stk}
+use Rattle.reg_types.specs.declared.types.Fact.{Fact}
+use Rattle.reg_types.specs.declared.types.Effect.{Effect}
 use Rattle.reg_types.specs.declared.types.Flaw.{Flaw}
 use Rattle.reg_types.specs.declared.types.Flaw.TheVariants.{FallsOff, WriteR10, NotANumber, NotAPointer, OutOfRange, UnsetBytes, StoreToContext, StorePointer, PointerArithmetic}
-use Rattle.reg_types.specs.Rules.{type_at, one_number, two_numbers, operand_type, alu_type, set_type, number_at, load_type, unchanged, effect}
-use Rattle.reg_types.specs.Facts.{FitsType, Fits, option_cons, leads}
-use Rattle.reg_types.proofs.Values.{Gives, one, two, arithmetic}
+use Rattle.reg_types.specs.Rules.{type_at, is_numeric, is_unset, is_pointer, operand_type, alu_type, unmarked, put_type, set_type, natural, lowest, number_at, number_set, all_in, load_type, marks, store_type, unless_pointer, store_register, compared, exited, after_call, effect}
+use Rattle.reg_types.specs.Facts.{FitsType, HasByte, Covered, Fits, Changes, IsAfter, option_cons, leads}
+use Rattle.reg_types.proofs.Values.{Gives, arithmetic}
+use Rattle.reg_types.proofs.Stack.{covered_load, keeps_bytes, sets_bytes, length-written, length-little, store_inside, size_small}
+use Rattle.reg_types.proofs.Calls.{Changes-refl, Answered, called}
 
 abbrev pub IsIn : ℕ → List ℕ → Type 0
 IsIn x [] = ⊥
 IsIn x (y ∷ ys) = (x ≡ y) ⊎ IsIn x ys
 
--- it goes on at one of these units, in a state that fits, or ends; the counters stay
-abbrev pub Follows : List RegType → List ℕ → State → Next → Type 0
-Follows after tos s (Goes t) = IsIn t.pc tos × Fits after t × (t.counters ≡ s.counters)
-Follows after tos s (Exits r counters) = counters ≡ s.counters
-Follows after tos s Stuck = ⊥
+-- it goes on at one of these units, in a state that fits, or ends
+abbrev pub Follows : ℕ → Fact → List ℕ → State → Next → Type 0
+Follows declared after tos s (Goes t) = IsIn t.pc tos × Fits after t × Changes declared s.counters t.counters
+Follows declared after tos s (Exits r counters) = counters ≡ s.counters
+Follows declared after tos s Stuck = ⊥
 
-abbrev Types : Type 0
-Types = Result (List RegType) Flaw
+abbrev Effects : Type 0
+Effects = Result Effect Flaw
 
-abbrev ok_of : List RegType → Types
-ok_of ts = Ok ts
+abbrev ok_of : Effect → Effects
+ok_of e = Ok e
 
 abbrev typed_as : RegType → Result RegType Flaw
 typed_as t = Ok t
 
-same_types : {x y : List RegType} → ok_of x ≡ ok_of y → x ≡ y
-same_types e = cc
+same_effect : {x y : Effect} → ok_of x ≡ ok_of y → x ≡ y
+same_effect e = cc
 
-same_type : (x y : RegType) → typed_as x ≡ typed_as y → x ≡ y
-same_type x y e = cc
+write_test : (b : Bool) (r : Effects) (e : Effect) → cond b (Err WriteR10) r ≡ ok_of e → (b ≡ false) × (r ≡ ok_of e)
+write_test true r e h = absurd (cc)
+write_test false r e h = (refl, h)
 
-write_test : (b : Bool) (x y : List RegType) → cond b (Err WriteR10) (ok_of x) ≡ ok_of y → (b ≡ false) × (x ≡ y)
-write_test true x y e = absurd (cc)
-write_test false x y e = (refl, same_types e)
+put_is : (types : List RegType) (dst : ℕ) (r : Result RegType Flaw) (e : Effect) → put_type types dst r ≡ ok_of e → (t : RegType) × (r ≡ typed_as t) × (unmarked (slice_set types dst t) ≡ e)
+put_is types dst (Err f) e h = absurd (cc)
+put_is types dst (Ok t) e h = (t, refl, same_effect h)
 
-pub set_is : (types : List RegType) (dst : ℕ) (r : Result RegType Flaw) (after : List RegType) → set_type types dst r ≡ ok_of after → (t : RegType) × (r ≡ typed_as t) × ((dst == 10) ≡ false) × (slice_set types dst t ≡ after)
-set_is types dst (Err e) after h = absurd (cc)
-set_is types dst (Ok t) after h = let x = write_test (dst == 10) (slice_set types dst t) after h in (t, refl, x.0, x.1)
-
-unchanged_is : (types : List RegType) (r : Result RegType Flaw) (after : List RegType) → unchanged types r ≡ ok_of after → (t : RegType) × (r ≡ typed_as t) × (types ≡ after)
-unchanged_is types (Err e) after h = absurd (cc)
-unchanged_is types (Ok t) after h = (t, refl, same_types h)
+pub set_is : (types : List RegType) (dst : ℕ) (r : Result RegType Flaw) (e : Effect) → set_type types dst r ≡ ok_of e → (t : RegType) × (r ≡ typed_as t) × ((dst == 10) ≡ false) × (unmarked (slice_set types dst t) ≡ e)
+set_is types dst r e h =
+    let x = write_test (dst == 10) (put_type types dst r) e h in
+    let y = put_is types dst r e x.1 in
+    (y.0, y.1, x.0, y.2)
 
 -- ---- a register is written
 
@@ -81,109 +87,300 @@ written_value (x ∷ xs) (suc n) v lt = written_value xs n v (omega arith)
 same_or_other : (r q : ℕ) → (r ≡ q) ⊎ (r ≢ q)
 same_or_other r q = elim (cases_lt r q) [ inl l ↦ inr (omega arith) | inr g ↦ elim (cases_lt q r) [ inl l ↦ inr (omega arith) | inr h ↦ inl (omega arith) ] ]
 
-module _ (types : List RegType) (s : State) (fits : Fits types s) where
-  fits_written : (dst : ℕ) (t : RegType) (v : Value) (pc : ℕ) → dst ≤ 10 → FitsType t v → Fits (slice_set types dst t) (record s { pc = pc; registers = slice_set s.registers dst v })
-  fits_written dst t v pc small h =
+-- ---- numbers
+
+abbrev HasNumber : Value → Type 0
+HasNumber v = (n : ℕ) × (v ≡ Number n)
+
+pub numeric : (t : RegType) (v : Value) → FitsType t v → is_numeric t ≡ true → HasNumber v
+numeric Num (Number n) h e = (n, refl)
+numeric (Const c) (Number n) h e = (n, refl)
+numeric Anything v h e = absurd (cc)
+numeric (Ctx k) v h e = absurd (cc)
+numeric (Stk k) v h e = absurd (cc)
+numeric Num Unset h e = absurd h
+numeric Num (Context n) h e = absurd h
+numeric Num (Stack n) h e = absurd h
+numeric (Const c) Unset h e = absurd h
+numeric (Const c) (Context n) h e = absurd h
+numeric (Const c) (Stack n) h e = absurd h
+
+compare_test : (a b : Bool) (x y : Flaw) (r e : Effect) → cond a (cond b (ok_of r) (Err y)) (Err x) ≡ ok_of e → (a ≡ true) × (b ≡ true) × (r ≡ e)
+compare_test true true x y r e h = (refl, refl, same_effect h)
+compare_test true false x y r e h = absurd (cc)
+compare_test false b x y r e h = absurd (cc)
+
+exit_test : (a : Bool) (x : Flaw) (r e : Effect) → cond a (ok_of r) (Err x) ≡ ok_of e → a ≡ true
+exit_test true x r e h = refl
+exit_test false x r e h = absurd (cc)
+
+-- ---- places
+
+set_test : (b : Bool) (t : RegType) → cond b (typed_as Num) (Err UnsetBytes) ≡ typed_as t → (b ≡ true) × (Num ≡ t)
+set_test true t h = (refl, cc)
+set_test false t h = absurd (cc)
+
+mark_is : (types : List RegType) (size : ℕ) (o : Option ℕ) (e : Effect) → marks types size o ≡ ok_of e → (at : ℕ) × (o ≡ Some at) × (record { types = types; at = at; len = size } ≡ e)
+mark_is types size None e h = absurd (cc)
+mark_is types size (Some at) e h = (at, refl, same_effect h)
+
+pointer_is : (pointer : Bool) (r : Effects) (e : Effect) → unless_pointer pointer r ≡ ok_of e → (pointer ≡ false) × (r ≡ ok_of e)
+pointer_is pointer (Err f) e h = absurd (cc)
+pointer_is true (Ok r) e h = absurd (cc)
+pointer_is false (Ok r) e h = (refl, h)
+
+unset_test : (b : Bool) (f : Flaw) (r : Effects) (e : Effect) → cond b (Err f) r ≡ ok_of e → (b ≡ false) × (r ≡ ok_of e)
+unset_test true f r e h = absurd (cc)
+unset_test false f r e h = (refl, h)
+
+pub neither : (t : RegType) → is_unset t ≡ false → is_pointer t ≡ false → is_numeric t ≡ true
+neither Num a b = refl
+neither (Const c) a b = refl
+neither Anything a b = absurd (cc)
+neither (Ctx k) a b = absurd (cc)
+neither (Stk k) a b = absurd (cc)
+
+-- a store's pointer is into the stack, and its bytes lie inside
+pub store_is : (types : List RegType) (base : RegType) (v : Value) (i : Inst) (size : ℕ) (e : Effect) → FitsType base v → store_type types base i size ≡ ok_of e → (at : ℕ) × (stack_place (mem v i.offset size) ≡ Some at) × (record { types = types; at = at; len = size } ≡ e)
+store_is types (Stk k) (Stack n) i size e h g =
+    let x = mark_is types size (shifted (lowest k) i.offset (512 - size)) e g in
+    let there : lowest k ≡ n = ap natural (sym h) in
+    (x.0, ap (λ m. stack_place (map_option InStack (shifted m i.offset (512 - size)))) (sym there) ∙ ap (λ o. stack_place (map_option InStack o)) x.1, x.2)
+store_is types Anything v i size e h g = absurd (cc)
+store_is types Num v i size e h g = absurd (cc)
+store_is types (Const c) v i size e h g = absurd (cc)
+store_is types (Ctx k) v i size e h g = absurd (cc)
+store_is types (Stk k) Unset i size e h g = absurd h
+store_is types (Stk k) (Number n) i size e h g = absurd h
+store_is types (Stk k) (Context n) i size e h g = absurd h
+
+abbrev marked_by : List RegType → ℕ → ℕ → Effect
+marked_by types at len = record { types = types; at = at; len = len }
+
+-- the types and values of R6 to R10 stay over a call
+called_fits : (types : List RegType) (values : List Value) (n r : ℕ) → ((q : ℕ) → FitsType (type_at types q) (register values q)) → FitsType (type_at (after_call types) r) (register (Number n ∷ Unset ∷ Unset ∷ Unset ∷ Unset ∷ Unset ∷ drop 6 values) r)
+called_fits types values n zero h = tt
+called_fits types values n (suc zero) h = tt
+called_fits types values n (suc (suc zero)) h = tt
+called_fits types values n (suc (suc (suc zero))) h = tt
+called_fits types values n (suc (suc (suc (suc zero)))) h = tt
+called_fits types values n (suc (suc (suc (suc (suc zero))))) h = tt
+called_fits types values n (suc (suc (suc (suc (suc (suc r)))))) h =
+    subst (λ t. FitsType t (register (drop 6 values) r)) (sym (get_or-drop 6 types r Anything))
+    (subst (FitsType (type_at types (6 + r))) (sym (get_or-drop 6 values r Unset)) (h (6 + r)))
+
+module _ (declared : ℕ) (fact after : Fact) (s : State) (fits : Fits fact s) where
+  -- the types and places are those of the effect
+  after_types : (e x : Effect) → IsAfter fact e after → x ≡ e → after.types ≡ x.types
+  after_types e x h same = h.types ∙ ap (λ y. y.types) (sym same)
+
+  stays : (e : Effect) (types : List RegType) → IsAfter fact e after → unmarked types ≡ e → Covered after.stack s.stack
+  stays e types h same =
+      record {
+        bytes =
+            λ p has. elim ((h.places p).0 has) [
+              inl old ↦ fits.stack.bytes p old
+            | inr new ↦ let w = subst (λ x. Within x.at x.len p) (sym same) new in absurd (omega (arith, w.0, w.1))
+            ];
+      }
+
+  fits_written : (e : Effect) (dst : ℕ) (t : RegType) (v : Value) (pc : ℕ) → IsAfter fact e after → unmarked (slice_set fact.types dst t) ≡ e → dst ≤ 10 → FitsType t v → Fits after (record s { pc = pc; registers = slice_set s.registers dst v })
+  fits_written e dst t v pc is same small h =
+      let types = fact.types in
       let lt : dst < length s.registers = omega (arith, fits.many) in
       record {
         registers =
-            λ r. elim (same_or_other r dst) [
-              inl same ↦ subst (λ q. FitsType (type_at (slice_set types dst t) q) (register (slice_set s.registers dst v) q)) (sym same) (subst (FitsType (type_at (slice_set types dst t) dst)) (sym (written_value s.registers dst v lt)) (written_type types dst t v h))
+            λ r. subst (λ ts. FitsType (type_at ts r) (register (slice_set s.registers dst v) r)) (sym (after_types e (unmarked (slice_set types dst t)) is same))
+            (elim (same_or_other r dst) [
+              inl at ↦ subst (λ q. FitsType (type_at (slice_set types dst t) q) (register (slice_set s.registers dst v) q)) (sym at) (subst (FitsType (type_at (slice_set types dst t) dst)) (sym (written_value s.registers dst v lt)) (written_type types dst t v h))
             | inr other ↦ subst (λ w. FitsType (type_at (slice_set types dst t) r) w) (sym (get_or-set_other s.registers dst r v Unset other)) (subst (λ u. FitsType u (register s.registers r)) (sym (get_or-set_other types dst r t Anything other)) (fits.registers r))
-            ];
+            ]);
         many = length-set s.registers dst v ∙ fits.many;
+        stack = stays e (slice_set types dst t) is same;
+        long = fits.long;
       }
 
-  fits_moved : (pc : ℕ) → Fits types (record s { pc = pc })
-  fits_moved pc = record { registers = fits.registers; many = fits.many }
+  fits_moved : (e : Effect) (pc : ℕ) → IsAfter fact e after → unmarked fact.types ≡ e → Fits after (record s { pc = pc })
+  fits_moved e pc is same =
+      record {
+        registers = λ r. subst (λ ts. FitsType (type_at ts r) (register s.registers r)) (sym (after_types e (unmarked fact.types) is same)) (fits.registers r);
+        many = fits.many;
+        stack = stays e fact.types is same;
+        long = fits.long;
+      }
 
-  sets_follow : (dst : ℕ) (r : Result RegType Flaw) (after : List RegType) (o : Option Value) → dst ≤ 10 → set_type types dst r ≡ ok_of after → ((t : RegType) → r ≡ typed_as t → Gives o t) → Follows after ((s.pc + 1) ∷ []) s (where_some o (λ v. sets s dst v))
-  sets_follow dst r after None small e h = let x = set_is types dst r after e in absurd (h x.0 x.1)
-  sets_follow dst r after (Some v) small e h =
-      let x = set_is types dst r after e in
-      let fit = fits_written dst x.0 v (s.pc + 1) small (h x.0 x.1) in
-      subst (λ b. Follows after ((s.pc + 1) ∷ []) s (cond b Stuck (Goes (record s { pc = s.pc + 1; registers = slice_set s.registers dst v })))) (sym x.2)
-      (inl refl, subst (λ l. Fits l (record s { pc = s.pc + 1; registers = slice_set s.registers dst v })) x.3 fit, refl)
+  sets_follow : (e : Effect) (dst : ℕ) (r : Result RegType Flaw) (o : Option Value) → IsAfter fact e after → dst ≤ 10 → set_type fact.types dst r ≡ ok_of e → ((t : RegType) → r ≡ typed_as t → Gives o t) → Follows declared after ((s.pc + 1) ∷ []) s (where_some o (λ v. sets s dst v))
+  sets_follow e dst r None is small h g = let x = set_is fact.types dst r e h in absurd (g x.0 x.1)
+  sets_follow e dst r (Some v) is small h g =
+      let x = set_is fact.types dst r e h in
+      let fit = fits_written e dst x.0 v (s.pc + 1) is x.3 small (g x.0 x.1) in
+      subst (λ b. Follows declared after ((s.pc + 1) ∷ []) s (cond b Stuck (Goes (record s { pc = s.pc + 1; registers = slice_set s.registers dst v })))) (sym x.2)
+      (inl refl, fit, Changes-refl declared s.counters)
 
-  wide_follows : (dst n : ℕ) (after : List RegType) → dst ≤ 10 → set_type types dst (Ok (Const n)) ≡ ok_of after → Follows after ((s.pc + 2) ∷ []) s (cond (dst == 10) Stuck (Goes (record s { pc = s.pc + 2; registers = slice_set s.registers dst (Number n) })))
-  wide_follows dst n after small e =
-      let x = write_test (dst == 10) (slice_set types dst (Const n)) after e in
-      let fit = fits_written dst (Const n) (Number n) (s.pc + 2) small refl in
-      subst (λ b. Follows after ((s.pc + 2) ∷ []) s (cond b Stuck (Goes (record s { pc = s.pc + 2; registers = slice_set s.registers dst (Number n) })))) (sym x.0)
-      (inl refl, subst (λ l. Fits l (record s { pc = s.pc + 2; registers = slice_set s.registers dst (Number n) })) x.1 fit, refl)
+  wide_follows : (e : Effect) (dst n : ℕ) → IsAfter fact e after → dst ≤ 10 → set_type fact.types dst (Ok (Const n)) ≡ ok_of e → Follows declared after ((s.pc + 2) ∷ []) s (cond (dst == 10) Stuck (Goes (record s { pc = s.pc + 2; registers = slice_set s.registers dst (Number n) })))
+  wide_follows e dst n is small h =
+      let x = write_test (dst == 10) (put_type fact.types dst (Ok (Const n))) e h in
+      let fit = fits_written e dst (Const n) (Number n) (s.pc + 2) is (same_effect x.1) small refl in
+      subst (λ b. Follows declared after ((s.pc + 2) ∷ []) s (cond b Stuck (Goes (record s { pc = s.pc + 2; registers = slice_set s.registers dst (Number n) })))) (sym x.0)
+      (inl refl, fit, Changes-refl declared s.counters)
 
-  operand_fits : (source : Source) (w : Width) (i : Inst) → FitsType (operand_type source w i types) (operand source w i s.registers)
+  operand_fits : (source : Source) (w : Width) (i : Inst) → FitsType (operand_type source w i fact.types) (operand source w i s.registers)
   operand_fits Immediate w i = refl
   operand_fits Register w i = fits.registers i.src
 
-  -- a load: the place is there, so a number comes
-  number_is : (o : Option ℕ) (t : RegType) → number_at o ≡ typed_as t → (at : ℕ) × (o ≡ Some at) × (Num ≡ t)
-  number_is None t e = absurd (cc)
-  number_is (Some at) t e = (at, refl, cc)
+  -- ---- loads
 
-  load_gives : (context : List ℕ) (a : RegType) (v : Value) (i : Inst) (size : ℕ) (t : RegType) → FitsType a v → load_type a i size ≡ typed_as t → (n : ℕ) × (at : Place) × (mem v i.offset size ≡ Some at) × (read at size context s.stack ≡ Some n) × (Num ≡ t)
+  context_is : (o : Option ℕ) (t : RegType) → number_at o ≡ typed_as t → (at : ℕ) × (o ≡ Some at) × (Num ≡ t)
+  context_is None t e = absurd (cc)
+  context_is (Some at) t e = (at, refl, cc)
+
+  stack_is : (size : ℕ) (o : Option ℕ) (t : RegType) → number_set fact.stack size o ≡ typed_as t → (at : ℕ) × (o ≡ Some at) × (all_in fact.stack at size ≡ true) × (Num ≡ t)
+  stack_is size None t e = absurd (cc)
+  stack_is size (Some at) t e = let x = set_test (all_in fact.stack at size) t e in (at, refl, x.0, x.1)
+
+  load_gives : (context : List ℕ) (a : RegType) (v : Value) (i : Inst) (size : ℕ) (t : RegType) → FitsType a v → load_type fact.stack a i size ≡ typed_as t → (n : ℕ) × (at : Place) × (mem v i.offset size ≡ Some at) × (read at size context s.stack ≡ Some n) × (Num ≡ t)
+  load_gives context (Ctx k) (Context n) i size t h e =
+      let x = context_is (shifted k i.offset (64 - size)) t e in
+      (_, InContext x.0, ap (λ m. map_option InContext (shifted m i.offset (64 - size))) h ∙ ap (map_option InContext) x.1, refl, x.2)
+  load_gives context (Stk k) (Stack n) i size t h e =
+      let x = stack_is size (shifted (lowest k) i.offset (512 - size)) t e in
+      let there : lowest k ≡ n = ap natural (sym h) in
+      let got = covered_load fact.stack s.stack x.0 size fits.stack x.2 in
+      (got.0, InStack x.0, ap (λ m. map_option InStack (shifted m i.offset (512 - size))) (sym there) ∙ ap (map_option InStack) x.1, got.1, x.3)
   load_gives context Anything v i size t h e = absurd (cc)
   load_gives context Num v i size t h e = absurd (cc)
   load_gives context (Const c) v i size t h e = absurd (cc)
-  load_gives context (Stk k) v i size t h e = absurd (cc)
-  load_gives context (Ctx k) (Context n) i size t h e =
-      let x = number_is (shifted k i.offset (64 - size)) t e in
-      (_, InContext x.0, ap (λ m. map_option InContext (shifted m i.offset (64 - size))) h ∙ ap (map_option InContext) x.1, refl, x.2)
   load_gives context (Ctx k) Unset i size t h e = absurd h
   load_gives context (Ctx k) (Number n) i size t h e = absurd h
   load_gives context (Ctx k) (Stack n) i size t h e = absurd h
+  load_gives context (Stk k) Unset i size t h e = absurd h
+  load_gives context (Stk k) (Number n) i size t h e = absurd h
+  load_gives context (Stk k) (Context n) i size t h e = absurd h
+
+  same_type : (x y : RegType) → typed_as x ≡ typed_as y → x ≡ y
+  same_type x y e = cc
+
+  loads_follow : (context : List ℕ) (f : ℕ → ℕ) (i : Inst) (size : ℕ) (e : Effect) → IsAfter fact e after → i.dst ≤ 10 → set_type fact.types i.dst (load_type fact.stack (type_at fact.types i.src) i size) ≡ ok_of e → Follows declared after ((s.pc + 1) ∷ []) s (where_some (mem (register s.registers i.src) i.offset size) (λ at. where_some (read at size context s.stack) (λ n. sets s i.dst (Number (f n)))))
+  loads_follow context f i size e is small h =
+      let r = load_type fact.stack (type_at fact.types i.src) i size in
+      let x = set_is fact.types i.dst r e h in
+      let g = load_gives context (type_at fact.types i.src) (register s.registers i.src) i size x.0 (fits.registers i.src) x.1 in
+      subst (λ o. Follows declared after ((s.pc + 1) ∷ []) s (where_some o (λ at. where_some (read at size context s.stack) (λ n. sets s i.dst (Number (f n)))))) (sym g.2)
+      (subst (λ o. Follows declared after ((s.pc + 1) ∷ []) s (where_some o (λ n. sets s i.dst (Number (f n))))) (sym g.3)
+       (sets_follow e i.dst r (Some (Number (f g.0))) is small h (λ t k. subst (λ u. FitsType u (Number (f g.0))) (g.4 ∙ same_type x.0 t (sym x.1 ∙ k)) tt)))
+
+  -- ---- stores
+
+  fits_stored : (e : Effect) (at : ℕ) (bytes : List ℕ) (pc : ℕ) → IsAfter fact e after → record { types = fact.types; at = at; len = length bytes } ≡ e → at + length bytes ≤ 512 → Fits after (record s { pc = pc; stack = written s.stack at bytes })
+  fits_stored e at bytes pc is same inside =
+      record {
+        registers = λ r. subst (λ ts. FitsType (type_at ts r) (register s.registers r)) (sym (after_types e (record { types = fact.types; at = at; len = length bytes }) is same)) (fits.registers r);
+        many = fits.many;
+        stack =
+            record {
+              bytes =
+                  λ p has. elim ((is.places p).0 has) [
+                    inl old ↦ keeps_bytes s.stack at bytes p (omega (arith, fits.long)) (fits.stack.bytes p old)
+                  | inr new ↦ sets_bytes s.stack at bytes p (omega (arith, fits.long)) (subst (λ x. Within x.at x.len p) (sym same) new)
+                  ];
+            };
+        long = length-written s.stack at bytes ∙ fits.long;
+      }
+
+  stores_follow : (i : Inst) (size n : ℕ) (e : Effect) → IsAfter fact e after → size ≤ 8 → store_type fact.types (type_at fact.types i.dst) i size ≡ ok_of e → Follows declared after ((s.pc + 1) ∷ []) s (stores s i size n)
+  stores_follow i size n e is small h =
+      let x = store_is fact.types (type_at fact.types i.dst) (register s.registers i.dst) i size e (fits.registers i.dst) h in
+      let long = length-little 0 size n in
+      let inside : x.0 + size ≤ 512 = store_inside (register s.registers i.dst) i size x.0 small x.1 in
+      let same : record { types = fact.types; at = x.0; len = length (little_bytes size n) } ≡ e = ap (λ l. marked_by fact.types x.0 l) long ∙ x.2 in
+      subst (λ o. Follows declared after ((s.pc + 1) ∷ []) s (where_some o (λ at. Goes (record s { pc = s.pc + 1; stack = written s.stack at (little_bytes size n) })))) (sym x.1)
+      (inl refl, fits_stored e x.0 (little_bytes size n) (s.pc + 1) is same (omega (arith, long, inside)), Changes-refl declared s.counters)
+
+  -- ---- jumps
 
   cons_is : (o : Option ℕ) (rest tos : List ℕ) → option_cons o rest ≡ Some tos → (to : ℕ) × (o ≡ Some to) × ((to ∷ rest) ≡ tos)
   cons_is None rest tos e = absurd (cc)
   cons_is (Some to) rest tos e = (to, refl, cc)
 
-  jumps_follow : (after : List RegType) (z : ℤ) (rest tos : List ℕ) → types ≡ after → option_cons (shifted (s.pc + 1) z 512) rest ≡ Some tos → Follows after tos s (jumps s z)
-  jumps_follow after z rest tos same e =
-      let x = cons_is (shifted (s.pc + 1) z 512) rest tos e in
-      subst (λ o. Follows after tos s (where_some o (λ to. Goes (record s { pc = to })))) (sym x.1)
-      (subst (IsIn x.0) x.2 (inl refl), subst (λ l. Fits l (record s { pc = x.0 })) same (fits_moved x.0), refl)
+  jumps_follow : (e : Effect) (z : ℤ) (rest tos : List ℕ) → IsAfter fact e after → unmarked fact.types ≡ e → option_cons (shifted (s.pc + 1) z 512) rest ≡ Some tos → Follows declared after tos s (jumps s z)
+  jumps_follow e z rest tos is same h =
+      let x = cons_is (shifted (s.pc + 1) z 512) rest tos h in
+      subst (λ o. Follows declared after tos s (where_some o (λ to. Goes (record s { pc = to })))) (sym x.1)
+      (subst (IsIn x.0) x.2 (inl refl), fits_moved e x.0 is same, Changes-refl declared s.counters)
 
-  falls_through : (after : List RegType) (z : ℤ) (tos : List ℕ) → types ≡ after → option_cons (shifted (s.pc + 1) z 512) ((s.pc + 1) ∷ []) ≡ Some tos → Follows after tos s (Goes (record s { pc = s.pc + 1 }))
-  falls_through after z tos same e =
-      let x = cons_is (shifted (s.pc + 1) z 512) ((s.pc + 1) ∷ []) tos e in
-      (subst (IsIn (s.pc + 1)) x.2 (inr (inl refl)), subst (λ l. Fits l (record s { pc = s.pc + 1 })) same (fits_moved (s.pc + 1)), refl)
+  falls_through : (e : Effect) (z : ℤ) (tos : List ℕ) → IsAfter fact e after → unmarked fact.types ≡ e → option_cons (shifted (s.pc + 1) z 512) ((s.pc + 1) ∷ []) ≡ Some tos → Follows declared after tos s (Goes (record s { pc = s.pc + 1 }))
+  falls_through e z tos is same h =
+      let x = cons_is (shifted (s.pc + 1) z 512) ((s.pc + 1) ∷ []) tos h in
+      (subst (IsIn (s.pc + 1)) x.2 (inr (inl refl)), fits_moved e (s.pc + 1) is same, Changes-refl declared s.counters)
 
-  branches_follow : (b : Bool) (after : List RegType) (z : ℤ) (tos : List ℕ) → types ≡ after → option_cons (shifted (s.pc + 1) z 512) ((s.pc + 1) ∷ []) ≡ Some tos → Follows after tos s (branches s b z)
-  branches_follow true after z tos same e = jumps_follow after z ((s.pc + 1) ∷ []) tos same e
-  branches_follow false after z tos same e = falls_through after z tos same e
+  branches_follow : (b : Bool) (e : Effect) (z : ℤ) (tos : List ℕ) → IsAfter fact e after → unmarked fact.types ≡ e → option_cons (shifted (s.pc + 1) z 512) ((s.pc + 1) ∷ []) ≡ Some tos → Follows declared after tos s (branches s b z)
+  branches_follow true e z tos is same h = jumps_follow e z ((s.pc + 1) ∷ []) tos is same h
+  branches_follow false e z tos is same h = falls_through e z tos is same h
 
   some_list : (x y : List ℕ) → Some x ≡ Some y → x ≡ y
   some_list x y e = cc
 
+  -- ---- calls
+
+  call_fits : (e : Effect) → IsAfter fact e after → (a : Answer) (at : ℕ) (bytes : List ℕ) → marked_by (after_call fact.types) at (length bytes) ≡ e → a.stack ≡ written s.stack at bytes → at + length bytes ≤ 512 → Fits after (record s { pc = s.pc + 1; registers = Number a.value ∷ Unset ∷ Unset ∷ Unset ∷ Unset ∷ Unset ∷ drop 6 s.registers; stack = a.stack; counters = a.counters })
+  call_fits e is a at bytes same stack inside =
+      let long = length-drop 6 s.registers in
+      record {
+        registers = λ r. subst (λ ts. FitsType (type_at ts r) (register (Number a.value ∷ Unset ∷ Unset ∷ Unset ∷ Unset ∷ Unset ∷ drop 6 s.registers) r)) (sym (after_types e (marked_by (after_call fact.types) at (length bytes)) is same)) (called_fits fact.types s.registers a.value r fits.registers);
+        many = omega (arith, long, fits.many);
+        stack =
+            record {
+              bytes =
+                  λ p has. subst (λ st. HasByte (cell_at st p)) (sym stack) (elim ((is.places p).0 has) [
+                    inl old ↦ keeps_bytes s.stack at bytes p (omega (arith, fits.long)) (fits.stack.bytes p old)
+                  | inr new ↦ sets_bytes s.stack at bytes p (omega (arith, fits.long)) (subst (λ x. Within x.at x.len p) (sym same) new)
+                  ]);
+            };
+        long = ap length stack ∙ length-written s.stack at bytes ∙ fits.long;
+      }
+
   -- one instruction
-  pub step_follows : (declared : ℕ) (context : List ℕ) (view : View) (i : Inst) (upper : ℤ) (form : Form) (after : List RegType) (tos : List ℕ) → i.dst ≤ 10 → effect types i upper form ≡ ok_of after → leads s.pc i form ≡ Some tos → Follows after tos s (act declared context view s i upper form)
-  step_follows declared context view i upper (Arithmetic op w source) after tos small e l =
-      subst (λ ts. Follows after ts s (act declared context view s i upper (Arithmetic op w source))) (some_list _ tos l)
-      (sets_follow i.dst (alu_type op w source i (type_at types i.dst) (operand_type source w i types)) after (alu_value op w source i (register s.registers i.dst) (operand source w i s.registers)) small e
-       (λ t h. arithmetic op w source i s.registers (type_at types i.dst) (operand_type source w i types) (register s.registers i.dst) t (fits.registers i.dst) (operand_fits source w i) h))
-  step_follows declared context view i upper Wide after tos small e l =
-      subst (λ ts. Follows after ts s (act declared context view s i upper Wide)) (some_list _ tos l)
-      (wide_follows i.dst (cast_unsigned w32 upper * 2 ^ 32 + cast_unsigned w32 i.imm) after small e)
-  step_follows declared context view i upper (Load size) after tos small e l =
-      let x = set_is types i.dst (load_type (type_at types i.src) i (bytes_in size)) after e in
-      let g = load_gives context (type_at types i.src) (register s.registers i.src) i (bytes_in size) x.0 (fits.registers i.src) x.1 in
-      subst (λ ts. Follows after ts s (act declared context view s i upper (Load size))) (some_list _ tos l)
-      (subst (λ o. Follows after ((s.pc + 1) ∷ []) s (where_some o (λ at. where_some (read at (bytes_in size) context s.stack) (λ n. sets s i.dst (Number n))))) (sym g.2)
-       (subst (λ o. Follows after ((s.pc + 1) ∷ []) s (where_some o (λ n. sets s i.dst (Number n)))) (sym g.3)
-        (sets_follow i.dst (load_type (type_at types i.src) i (bytes_in size)) after (Some (Number g.0)) small e (λ t h. subst (λ u. FitsType u (Number g.0)) (g.4 ∙ same_type x.0 t (sym x.1 ∙ h)) tt))))
-  step_follows declared context view i upper Goto after tos small e l = jumps_follow after i.offset [] tos (same_types e) l
-  step_follows declared context view i upper GotoLong after tos small e l = jumps_follow after i.imm [] tos (same_types e) l
-  step_follows declared context view i upper (Branch c w source) after tos small e l =
-      let x = unchanged_is types (two_numbers i.dst i.src (type_at types i.dst) (operand_type source w i types)) after e in
-      let n = two i.dst i.src (type_at types i.dst) (operand_type source w i types) (register s.registers i.dst) (operand source w i s.registers) x.0 (fits.registers i.dst) (operand_fits source w i) x.1 in
-      subst (λ v. Follows after tos s (where_some (number v) (λ a. where_some (number (operand source w i s.registers)) (λ b. branches s (holds c w a b) i.offset)))) (sym n.0.1)
-      (subst (λ v. Follows after tos s (where_some (number v) (λ b. branches s (holds c w n.0.0 b) i.offset))) (sym n.1.1)
-       (branches_follow (holds c w n.0.0 n.1.0) after i.offset tos x.2 l))
-  step_follows declared context view i upper Exit after tos small e l =
-      let x = unchanged_is types (one_number 0 (type_at types 0)) after e in
-      let n = one 0 (type_at types 0) (register s.registers 0) x.0 (fits.registers 0) x.1 in
-      subst (λ v. Follows after tos s (where_some (number v) (λ r. Exits r s.counters))) (sym n.0.1) refl
-  step_follows declared context view i upper (LoadSigned size) after tos small e l = absurd (cc)
-  step_follows declared context view i upper (StoreImmediate size) after tos small e l = absurd (cc)
-  step_follows declared context view i upper (StoreRegister size) after tos small e l = absurd (cc)
-  step_follows declared context view i upper Call after tos small e l = absurd (cc)
+  pub step_follows : (context : List ℕ) (view : View) (i : Inst) (upper : ℤ) (form : Form) (e : Effect) (tos : List ℕ) → i.dst ≤ 10 → IsAfter fact e after → effect declared fact i upper form ≡ ok_of e → leads s.pc i form ≡ Some tos → Follows declared after tos s (act declared context view s i upper form)
+  step_follows context view i upper (Arithmetic op w source) e tos small is h l =
+      subst (λ ts. Follows declared after ts s (act declared context view s i upper (Arithmetic op w source))) (some_list _ tos l)
+      (sets_follow e i.dst (alu_type op w source i (type_at fact.types i.dst) (operand_type source w i fact.types)) (alu_value op w source i (register s.registers i.dst) (operand source w i s.registers)) is small h
+       (λ t g. arithmetic op w source i s.registers (type_at fact.types i.dst) (operand_type source w i fact.types) (register s.registers i.dst) t (fits.registers i.dst) (operand_fits source w i) g))
+  step_follows context view i upper Wide e tos small is h l =
+      subst (λ ts. Follows declared after ts s (act declared context view s i upper Wide)) (some_list _ tos l)
+      (wide_follows e i.dst (cast_unsigned w32 upper * 2 ^ 32 + cast_unsigned w32 i.imm) is small h)
+  step_follows context view i upper (Load size) e tos small is h l =
+      subst (λ ts. Follows declared after ts s (act declared context view s i upper (Load size))) (some_list _ tos l)
+      (loads_follow context (λ n. n) i (bytes_in size) e is small h)
+  step_follows context view i upper (LoadSigned size) e tos small is h l =
+      subst (λ ts. Follows declared after ts s (act declared context view s i upper (LoadSigned size))) (some_list _ tos l)
+      (loads_follow context (λ n. cast_unsigned w64 (extended (8 * bytes_in size) n)) i (bytes_in size) e is small h)
+  step_follows context view i upper (StoreImmediate size) e tos small is h l =
+      subst (λ ts. Follows declared after ts s (act declared context view s i upper (StoreImmediate size))) (some_list _ tos l)
+      (stores_follow i (bytes_in size) (cast_unsigned w64 i.imm) e is (size_small size) h)
+  step_follows context view i upper (StoreRegister size) e tos small is h l =
+      let u = unset_test (is_unset (type_at fact.types i.src)) (NotANumber i.src) (unless_pointer (is_pointer (type_at fact.types i.src)) (store_type fact.types (type_at fact.types i.dst) i (bytes_in size))) e h in
+      let p = pointer_is (is_pointer (type_at fact.types i.src)) (store_type fact.types (type_at fact.types i.dst) i (bytes_in size)) e u.1 in
+      let n = numeric (type_at fact.types i.src) (register s.registers i.src) (fits.registers i.src) (neither (type_at fact.types i.src) u.0 p.0) in
+      subst (λ ts. Follows declared after ts s (act declared context view s i upper (StoreRegister size))) (some_list _ tos l)
+      (subst (λ v. Follows declared after ((s.pc + 1) ∷ []) s (where_some (number v) (λ n. stores s i (bytes_in size) n))) (sym n.1)
+       (stores_follow i (bytes_in size) n.0 e is (size_small size) p.1))
+  step_follows context view i upper Goto e tos small is h l = jumps_follow e i.offset [] tos is (same_effect h) l
+  step_follows context view i upper GotoLong e tos small is h l = jumps_follow e i.imm [] tos is (same_effect h) l
+  step_follows context view i upper (Branch c w source) e tos small is h l =
+      let a = type_at fact.types i.dst in
+      let b = operand_type source w i fact.types in
+      let x = compare_test (is_numeric a) (is_numeric b) (NotANumber i.dst) (NotANumber i.src) (unmarked fact.types) e h in
+      let m = numeric a (register s.registers i.dst) (fits.registers i.dst) x.0 in
+      let n = numeric b (operand source w i s.registers) (operand_fits source w i) x.1 in
+      subst (λ v. Follows declared after tos s (where_some (number v) (λ a. where_some (number (operand source w i s.registers)) (λ b. branches s (holds c w a b) i.offset)))) (sym m.1)
+      (subst (λ v. Follows declared after tos s (where_some (number v) (λ b. branches s (holds c w m.0 b) i.offset))) (sym n.1)
+       (branches_follow (holds c w m.0 n.0) e i.offset tos is x.2 l))
+  step_follows context view i upper Exit e tos small is h l =
+      let t = exit_test (is_numeric (type_at fact.types 0)) (NotANumber 0) (unmarked fact.types) e h in
+      let n = numeric (type_at fact.types 0) (register s.registers 0) (fits.registers 0) t in
+      subst (λ v. Follows declared after tos s (where_some (number v) (λ r. Exits r s.counters))) (sym n.1) refl
+  step_follows context view i upper Call e tos small is h l =
+      let x = called declared fact.types view (register s.registers 1) (register s.registers 2) s.counters s.stack (type_at fact.types 1) (type_at fact.types 2) (fits.registers 1) (fits.registers 2) (helper_of i.imm) e refl refl h in
+      subst (λ ts. Follows declared after ts s (act declared context view s i upper Call)) (some_list _ tos l)
+      (subst (λ o. Follows declared after ((s.pc + 1) ∷ []) s (where_some o (λ a. call_state s a))) (sym x.there)
+       (inl refl, call_fits e is x.reply x.at x.bytes x.marks x.stack_is x.inside, x.changes))

@@ -63,3 +63,6 @@ located pc flaw.UnsetBytes = UnsetBytes pc
 located pc flaw.StoreToContext = StoreToContext pc
 located pc flaw.StorePointer = StorePointer pc
 located pc flaw.PointerArithmetic = PointerArithmetic pc
+located pc flaw.NoSuchHelper = NoSuchHelper pc
+located pc (flaw.BadArgument n) = BadArgument pc n
+located pc flaw.UndeclaredCounter = UndeclaredCounter pc

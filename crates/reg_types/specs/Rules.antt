@@ -1,5 +1,6 @@
--- The typing rules, as functions.
-use Rattle.std.specs.Prelude.{ℕ, zero, suc, ◌+◌, ◌*◌, ◌-◌, ◌^◌, ◌==◌, nat_le, Bool, true, false, not, ◌&&◌, ◌||◌, if◌then◌else◌, ℤ, pos, negsuc, neg_ℤ, ◌+ℤ◌, int_le, List, [], ◌∷◌, slice_set, slice_index_or, Option, Some, None, Result, Ok, Err}
+-- Promises: the typing rules, as functions (this profile, type rules). The code computes them; what they are for is
+-- that a program which they accept is good.
+use Rattle.std.specs.Prelude.{ℕ, zero, suc, ◌+◌, ◌*◌, ◌/◌, ◌%◌, ◌-◌, ◌^◌, ◌==◌, nat_le, Bool, true, false, not, ◌&&◌, ◌||◌, if◌then◌else◌, ℤ, pos, negsuc, neg_ℤ, ◌+ℤ◌, int_le, List, [], ◌∷◌, drop, slice_set, slice_index_or, Option, Some, None, is_some, Result, Ok, Err}
 use Rattle.std.specs.Ordering.{int_eq}
 use Rattle.std.specs.Int.{cast_unsigned, w32}
 use Rattle.bpf_model.specs.declared.instruction.Inst.{Inst}
@@ -14,10 +15,15 @@ use Rattle.bpf_model.specs.declared.instruction.Form.TheVariants.{Arithmetic, Wi
 use Rattle.bpf_model.specs.Reading.{bytes_in}
 use Rattle.bpf_model.specs.Arithmetic.{low}
 use Rattle.bpf_model.specs.Machine.{shifted, immediate}
+use Rattle.helpers.specs.declared.Kind.{Kind}
+use Rattle.helpers.specs.declared.Kind.TheVariants.{Nothing, Number, Counter, Place}
+use Rattle.helpers.specs.Calls.{signature}
 use Rattle.reg_types.specs.declared.types.RegType.{RegType}
 use Rattle.reg_types.specs.declared.types.RegType.TheVariants.{Unset, Num, Const, Ctx, Stk}
+use Rattle.reg_types.specs.declared.types.Fact.{Fact}
+use Rattle.reg_types.specs.declared.types.Effect.{Effect}
 use Rattle.reg_types.specs.declared.types.Flaw.{Flaw}
-use Rattle.reg_types.specs.declared.types.Flaw.TheVariants.{FallsOff, WriteR10, NotANumber, NotAPointer, OutOfRange, UnsetBytes, StoreToContext, StorePointer, PointerArithmetic}
+use Rattle.reg_types.specs.declared.types.Flaw.TheVariants.{FallsOff, WriteR10, NotANumber, NotAPointer, OutOfRange, UnsetBytes, StoreToContext, StorePointer, PointerArithmetic, NoSuchHelper, BadArgument, UndeclaredCounter}
 
 abbrev pub type_at : List RegType → ℕ → RegType
 type_at types r = slice_index_or types r Unset
@@ -35,6 +41,13 @@ is_pointer Num = false
 is_pointer (Const c) = false
 is_pointer (Ctx k) = true
 is_pointer (Stk k) = true
+
+abbrev pub is_numeric : RegType → Bool
+is_numeric Num = true
+is_numeric (Const c) = true
+is_numeric Unset = false
+is_numeric (Ctx k) = false
+is_numeric (Stk k) = false
 
 -- the least type above both
 abbrev pub join_type : RegType → RegType → RegType
@@ -96,42 +109,172 @@ abbrev pub operand_type : Source → Width → Inst → List RegType → RegType
 operand_type Immediate w i types = Const (immediate w i.imm)
 operand_type Register w i types = type_at types i.src
 
--- ---- one instruction
+-- ---- what an instruction leaves
 
--- the types after a register was written
-abbrev pub set_type : List RegType → ℕ → Result RegType Flaw → Result (List RegType) Flaw
-set_type types dst (Err e) = Err e
-set_type types dst (Ok t) = if dst == 10 then Err WriteR10 else Ok (slice_set types dst t)
+abbrev pub unmarked : List RegType → Effect
+unmarked types = record { types = types; at = 0; len = 0 }
+
+abbrev pub put_type : List RegType → ℕ → Result RegType Flaw → Result Effect Flaw
+put_type types dst (Err e) = Err e
+put_type types dst (Ok t) = Ok (unmarked (slice_set types dst t))
+
+-- a register is written
+abbrev pub set_type : List RegType → ℕ → Result RegType Flaw → Result Effect Flaw
+set_type types dst r = if dst == 10 then Err WriteR10 else put_type types dst r
+
+-- ---- places
+
+-- the place that a stack pointer's type names, counted from the stack's lowest byte
+abbrev pub natural : ℤ → ℕ
+natural (pos n) = n
+natural (negsuc n) = 0
+
+abbrev pub lowest : ℤ → ℕ
+lowest k = natural (k +ℤ pos 512)
+
+-- a list of truth values has all of so many places from one on
+abbrev pub all_in : List Bool → ℕ → ℕ → Bool
+all_in set at zero = true
+all_in set at (suc n) = slice_index_or set at false && all_in set (suc at) n
 
 abbrev pub number_at : Option ℕ → Result RegType Flaw
 number_at None = Err OutOfRange
 number_at (Some at) = Ok Num
 
--- a load from the context; no byte of the stack is set
-abbrev pub load_type : RegType → Inst → ℕ → Result RegType Flaw
-load_type Unset i size = Err NotAPointer
-load_type Num i size = Err NotAPointer
-load_type (Const c) i size = Err NotAPointer
-load_type (Ctx k) i size = number_at (shifted k i.offset (64 - size))
-load_type (Stk k) i size = Err UnsetBytes
+abbrev pub number_set : List Bool → ℕ → Option ℕ → Result RegType Flaw
+number_set set size None = Err OutOfRange
+number_set set size (Some at) = if all_in set at size then Ok Num else Err UnsetBytes
 
-abbrev pub unchanged : List RegType → Result RegType Flaw → Result (List RegType) Flaw
-unchanged types (Err e) = Err e
-unchanged types (Ok t) = Ok types
+abbrev pub load_type : List Bool → RegType → Inst → ℕ → Result RegType Flaw
+load_type set Unset i size = Err NotAPointer
+load_type set Num i size = Err NotAPointer
+load_type set (Const c) i size = Err NotAPointer
+load_type set (Ctx k) i size = number_at (shifted k i.offset (64 - size))
+load_type set (Stk k) i size = number_set set size (shifted (lowest k) i.offset (512 - size))
 
--- the types after an instruction; `upper` is the upper half of a wide load's number
-abbrev pub effect : List RegType → Inst → ℤ → Form → Result (List RegType) Flaw
-effect types i upper (Arithmetic op w s) =
-    set_type types i.dst (alu_type op w s i (type_at types i.dst) (operand_type s w i types))
-effect types i upper Wide = set_type types i.dst (Ok (Const (cast_unsigned w32 upper * 2 ^ 32 + cast_unsigned w32 i.imm)))
-effect types i upper (Load size) = set_type types i.dst (load_type (type_at types i.src) i (bytes_in size))
-effect types i upper Goto = Ok types
-effect types i upper GotoLong = Ok types
-effect types i upper (Branch c w s) =
-    unchanged types (two_numbers i.dst i.src (type_at types i.dst) (operand_type s w i types))
-effect types i upper Exit = unchanged types (one_number 0 (type_at types 0))
--- not yet in the profile
-effect types i upper (LoadSigned size) = Err UnsetBytes
-effect types i upper (StoreImmediate size) = Err StoreToContext
-effect types i upper (StoreRegister size) = Err StoreToContext
-effect types i upper Call = Err StoreToContext
+abbrev pub marks : List RegType → ℕ → Option ℕ → Result Effect Flaw
+marks types size None = Err OutOfRange
+marks types size (Some at) = Ok (record { types = types; at = at; len = size })
+
+abbrev pub store_type : List RegType → RegType → Inst → ℕ → Result Effect Flaw
+store_type types Unset i size = Err NotAPointer
+store_type types Num i size = Err NotAPointer
+store_type types (Const c) i size = Err NotAPointer
+store_type types (Ctx k) i size = Err StoreToContext
+store_type types (Stk k) i size = marks types size (shifted (lowest k) i.offset (512 - size))
+
+-- the flaw of a pointer that is stored comes after those of its place
+abbrev pub unless_pointer : Bool → Result Effect Flaw → Result Effect Flaw
+unless_pointer pointer (Err e) = Err e
+unless_pointer pointer (Ok e) = if pointer then Err StorePointer else Ok e
+
+abbrev pub store_register : List RegType → RegType → RegType → Inst → ℕ → Result Effect Flaw
+store_register types base value i size =
+    if is_unset value then Err (NotANumber i.src) else unless_pointer (is_pointer value) (store_type types base i size)
+
+-- ---- comparisons and exits
+
+abbrev pub compared : List RegType → ℕ → ℕ → RegType → RegType → Result Effect Flaw
+compared types dst src a b =
+    if is_numeric a then (if is_numeric b then Ok (unmarked types) else Err (NotANumber src)) else Err (NotANumber dst)
+
+abbrev pub exited : List RegType → RegType → Result Effect Flaw
+exited types a = if is_numeric a then Ok (unmarked types) else Err (NotANumber 0)
+
+-- ---- calls
+
+-- where a record of 16 bytes is put
+abbrev pub place_by : RegType → Option ℕ
+place_by (Stk k) = shifted (lowest k) (pos 0) 496
+place_by Unset = None
+place_by Num = None
+place_by (Const c) = None
+place_by (Ctx k) = None
+
+abbrev pub fits_counter : RegType → Bool
+fits_counter (Const c) = nat_le c 31
+fits_counter Unset = false
+fits_counter Num = false
+fits_counter (Ctx k) = false
+fits_counter (Stk k) = false
+
+abbrev pub fits_kind : Kind → RegType → Bool
+fits_kind Nothing t = true
+fits_kind Number t = is_numeric t
+fits_kind Counter t = fits_counter t
+fits_kind Place t = is_some (place_by t)
+
+-- the bit of a constant counter in the mask
+abbrev pub declares : ℕ → RegType → Bool
+declares declared (Const c) = declared / 2 ^ c % 2 == 1
+declares declared Unset = true
+declares declared Num = true
+declares declared (Ctx k) = true
+declares declared (Stk k) = true
+
+abbrev pub is_declared : ℕ → Kind → RegType → Bool
+is_declared declared Counter t = declares declared t
+is_declared declared Nothing t = true
+is_declared declared Number t = true
+is_declared declared Place t = true
+
+abbrev pub after_call : List RegType → List RegType
+after_call types = Num ∷ Unset ∷ Unset ∷ Unset ∷ Unset ∷ Unset ∷ drop 6 types
+
+abbrev pub marks_record : List RegType → Option ℕ → Effect
+marks_record types None = unmarked types
+marks_record types (Some at) = record { types = types; at = at; len = 16 }
+
+abbrev pub record_at : Kind → RegType → Option ℕ
+record_at Place t = place_by t
+record_at Nothing t = None
+record_at Number t = None
+record_at Counter t = None
+
+abbrev pub call_with : ℕ → List RegType → Kind → Kind → RegType → RegType → Result Effect Flaw
+call_with declared types first second a b =
+    if fits_kind first a
+    then (if fits_kind second b
+        then (if is_declared declared first a then Ok (marks_record (after_call types) (record_at second b)) else Err UndeclaredCounter)
+        else Err (BadArgument 2))
+    else Err (BadArgument 1)
+
+abbrev pub kind_at : List Kind → ℕ → Kind
+kind_at kinds n = slice_index_or kinds n Nothing
+
+abbrev pub call_type : ℕ → List RegType → Option (List Kind) → Result Effect Flaw
+call_type declared types None = Err NoSuchHelper
+call_type declared types (Some kinds) =
+    call_with declared types (kind_at kinds 0) (kind_at kinds 1) (type_at types 1) (type_at types 2)
+
+-- ---- one instruction
+
+-- what an instruction leaves; `upper` is the upper half of a wide load's number
+abbrev pub effect : ℕ → Fact → Inst → ℤ → Form → Result Effect Flaw
+effect declared f i upper (Arithmetic op w s) =
+    set_type f.types i.dst (alu_type op w s i (type_at f.types i.dst) (operand_type s w i f.types))
+effect declared f i upper Wide = set_type f.types i.dst (Ok (Const (cast_unsigned w32 upper * 2 ^ 32 + cast_unsigned w32 i.imm)))
+effect declared f i upper (Load size) = set_type f.types i.dst (load_type f.stack (type_at f.types i.src) i (bytes_in size))
+effect declared f i upper (LoadSigned size) = set_type f.types i.dst (load_type f.stack (type_at f.types i.src) i (bytes_in size))
+effect declared f i upper (StoreImmediate size) = store_type f.types (type_at f.types i.dst) i (bytes_in size)
+effect declared f i upper (StoreRegister size) =
+    store_register f.types (type_at f.types i.dst) (type_at f.types i.src) i (bytes_in size)
+effect declared f i upper Goto = Ok (unmarked f.types)
+effect declared f i upper GotoLong = Ok (unmarked f.types)
+effect declared f i upper (Branch c w s) =
+    compared f.types i.dst i.src (type_at f.types i.dst) (operand_type s w i f.types)
+effect declared f i upper Call = call_type declared f.types (signature i.imm)
+effect declared f i upper Exit = exited f.types (type_at f.types 0)
+
+-- the instruction goes on to the next one, and no unit follows
+abbrev pub falls_off : ℕ → ℕ → Form → Bool
+falls_off count pc Exit = false
+falls_off count pc Goto = false
+falls_off count pc GotoLong = false
+falls_off count pc Wide = nat_le count (pc + 2)
+falls_off count pc form = nat_le count (pc + 1)
+
+-- what an instruction leaves, or the first flaw of it
+abbrev pub judged : ℕ → ℕ → ℕ → Fact → Inst → ℤ → Form → Result Effect Flaw
+judged count pc declared f i upper form =
+    if falls_off count pc form then Err FallsOff else effect declared f i upper form

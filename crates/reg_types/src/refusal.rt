@@ -123,6 +123,9 @@ impl Flaw {
             Flaw::StoreToContext => TypeFault::StoreToContext(pc),
             Flaw::StorePointer => TypeFault::StorePointer(pc),
             Flaw::PointerArithmetic => TypeFault::PointerArithmetic(pc),
+            Flaw::NoSuchHelper => TypeFault::NoSuchHelper(pc),
+            Flaw::BadArgument(argument) => TypeFault::BadArgument(pc, u32::from(argument)),
+            Flaw::UndeclaredCounter => TypeFault::UndeclaredCounter(pc),
         }
     }
 }

@@ -1,6 +1,14 @@
-// What is known of registers before an instruction.
+// What is known before an instruction.
 
-/// What is known of a register: nothing, that it holds a number or which one, or where it points.
+ghost use Rattle.std.specs.Prelude.{◌≡◌, ◌≤◌, ◌+◌};
+ghost use Rattle.reg_types.specs.Rules.{type_at, is_unset, is_pointer, is_numeric, join_type};
+ghost use Rattle.reg_types.specs.Facts.{IsBelow, IsAfter, IsEntry};
+ghost use Rattle.reg_types.specs.Accepting.{ArePlain};
+
+use stack_map::StackMap;
+
+/// What is known of a register: nothing, that it holds a number or which one, or where it points: so many bytes from
+/// the context's first byte, 0 to 64, or from the stack's end, -512 to 0.
 #[derive(Clone, Copy, Debug, PartialEq, Eq)]
 pub enum RegType {
     Unset,
@@ -10,10 +18,19 @@ pub enum RegType {
     Stk(i32),
 }
 
-/// What is known before an instruction.
+/// What is known before an instruction: the types of registers 0 to 10, and which bytes of the stack are set.
 #[derive(Clone, Copy, Debug, PartialEq, Eq)]
 pub struct Fact {
     pub types: [RegType; 11],
+    pub stack: StackMap,
+}
+
+/// What an instruction leaves: the types, and the bytes of the stack that it sets, `len` of them from `at` on.
+#[derive(Clone, Copy, Debug, PartialEq, Eq)]
+pub struct Effect {
+    pub types: [RegType; 11],
+    pub at: u32,
+    pub len: u32,
 }
 
 /// What is wrong with an instruction under a fact.
@@ -28,6 +45,9 @@ pub enum Flaw {
     StoreToContext,
     StorePointer,
     PointerArithmetic,
+    NoSuchHelper,
+    BadArgument(u8),
+    UndeclaredCounter,
 }
 
 /// Where an instruction can lead to.
@@ -36,4 +56,74 @@ pub enum Successors {
     End,
     One(u32),
     Two(u32, u32),
+}
+
+impl RegType {
+    pub fn is_nothing(self) -> bool
+        ensures { result ≡ is_unset self }
+    {
+        matches!(self, RegType::Unset)
+    }
+
+    pub fn points(self) -> bool
+        ensures { result ≡ is_pointer self }
+    {
+        matches!(self, RegType::Ctx(_) | RegType::Stk(_))
+    }
+
+    pub fn counts(self) -> bool
+        ensures { result ≡ is_numeric self }
+    {
+        matches!(self, RegType::Num | RegType::Const(_))
+    }
+
+    /// The least type above both.
+    pub fn join(self, other: RegType) -> RegType
+        ensures { result ≡ join_type self other }
+    {
+        match (self, other) {
+            (RegType::Num, RegType::Num | RegType::Const(_)) | (RegType::Const(_), RegType::Num) => RegType::Num,
+            (RegType::Const(c), RegType::Const(d)) => if c == d { RegType::Const(c) } else { RegType::Num },
+            (RegType::Ctx(k), RegType::Ctx(m)) => if k == m { RegType::Ctx(k) } else { RegType::Unset },
+            (RegType::Stk(k), RegType::Stk(m)) => if k == m { RegType::Stk(k) } else { RegType::Unset },
+            _ => RegType::Unset,
+        }
+    }
+}
+
+impl Fact {
+    /// What is known on entry.
+    pub fn entry() -> Fact
+        ensures { IsEntry result }
+    {
+        let mut types = [RegType::Unset; 11];
+        types[1] = RegType::Ctx(0);
+        types[10] = RegType::Stk(0);
+        Fact { types, stack: StackMap::empty() }
+    }
+
+    /// What both facts say.
+    pub fn join(&self, other: &Fact) -> Fact
+        ensures left { IsBelow self.now result }
+        ensures right { IsBelow other.now result }
+        ensures plain { ArePlain self.now.types → ArePlain other.now.types → ArePlain result.types }
+    {
+        let mut types = self.types;
+        for r in 0..11 {
+            types[r] = types[r].join(other.types[r]);
+        }
+        let mut stack = self.stack;
+        stack.meet(&other.stack);
+        Fact { types, stack }
+    }
+
+    /// What is known after an instruction with this effect.
+    pub fn after(&self, effect: &Effect) -> Fact
+        requires { effect.now.at + effect.now.len ≤ 512 }
+        ensures { IsAfter self.now effect.now result }
+    {
+        let mut stack = self.stack;
+        stack.mark(effect.at, effect.len);
+        Fact { types: effect.types, stack }
+    }
 }

@@ -1,0 +1,12 @@
+use Rattle.std.proofs.Common.{◌≡◌, ℕ, subst, sym, ◌∙◌}
+use Rattle.bpf_model.specs.Program.{outcome}
+use Rattle.bpf_model.specs.Machine.{counter}
+use Rattle.counters.specs.Changes.{adopted}
+use Rattle.interp.proofs.Depending.{rebased}
+use Rattle.interp.proofs.rebasing.rebase.Goals as goal
+
+pub returns-clause-ran : goal.returns-clause-ran
+unfolding outcome
+returns-clause-ran c =
+    rebased c.args.program.now.bytes c.flow-flow.result.now c.args.program.now.declared c.args.context.now c.args.view.now c.flow-flow.ensures c.args.before.now c.args.now.now c.args.after.now c.adopt.new.self c.args.answer c.get-before.ensures.right.many c.get-old.ensures.right.many c.get-new.ensures.right.many c.requires.agree c.requires.ran
+    (λ q. subst (λ d. counter c.adopt.new.self q ≡ adopted d c.args.after.now c.args.now.now q) c.declared.ensures (c.adopt.ensures q))

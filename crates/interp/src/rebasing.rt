@@ -1,0 +1,28 @@
+// A run's outcome on other counters.
+
+ghost use Rattle.std.specs.Prelude.{◌≡◌, ℕ};
+ghost use Rattle.bpf_model.specs.Machine.{counter};
+ghost use Rattle.bpf_model.specs.Runs.{Ended};
+ghost use Rattle.bpf_model.specs.Program.{outcome};
+ghost use Rattle.counters.specs.Changes.{adopted};
+ghost use Rattle.interp.specs.Depends.{Agrees};
+
+use counters::Counters;
+use helpers::View;
+use reg_types::Program;
+
+/// A run and its answer depend on the declared counters alone: where the program answered on the counters `before` and
+/// left those of `after`, it gives the same answer on `now`, whose declared counters are those of `before`. The declared
+/// counters of `now` become those of `after`, and the others stay, as that run would leave them.
+pub fn rebase(program: &Program, context: &[u8; 64], view: &View, before: &Counters, answer: u64, after: &Counters, now: &mut Counters)
+    requires ran { outcome program.now context.now view.now before.now ≡ Ended answer after.now }
+    requires agree { Agrees program.now.declared before.now now.old }
+    ensures ran { outcome program.now context.now view.now now.old ≡ Ended answer now.new }
+    ensures counters { (c : ℕ) → counter now.new c ≡ adopted program.now.declared after.now now.old c }
+{
+    let _flow = program.flow();
+    let _before = before.get(0);
+    let _old = now.get(0);
+    now.adopt(program.declared(), after);
+    let _new = now.get(0);
+}

@@ -1,0 +1,113 @@
+-- Where the instructions of a program lead: to units further on at which instructions begin.
+use Rattle.std.proofs.Common.{◌≡◌, ◌≢◌, ℕ, zero, suc, ◌+◌, ◌-◌, ◌<◌, ◌≤◌, ◌⊎◌, List, [], ◌∷◌, Option, Some, None, Bool, true, false, refl, sym, ap, ◌∙◌, subst, inl, inr, arith, add-one, length}
+use Rattle.std.specs.Prelude.{ℤ, pos, ◌/◌, ◌&&◌, not, nat_le, cond, slice_get, IsSome, is_some, ⊤}
+use Rattle.std.specs.List.{AllByRecursion}
+use Rattle.std.proofs.lemmas.Bool.Decides.{nat_tests}
+use Rattle.std.proofs.lemmas.Option.{slice_get_within}
+use Rattle.bpf_model.specs.declared.instruction.Inst.{Inst}
+use Rattle.bpf_model.specs.declared.instruction.Unit.{Unit as ProgramUnit}
+use Rattle.bpf_model.specs.declared.instruction.Unit.TheVariants.{First, Second}
+use Rattle.bpf_model.specs.declared.instruction.Form.{Form}
+use Rattle.bpf_model.specs.declared.instruction.Form.TheVariants.{Arithmetic, Wide, Load, LoadSigned, StoreImmediate, StoreRegister, Goto, GotoLong, Branch, Call, Exit}
+use Rattle.bpf_model.specs.Reading.{form_of, units, unit_at, begins, fields_at, imm_at, opcode_at, is_wide}
+use Rattle.bpf_model.specs.Machine.{and_then, shifted}
+use Rattle.bpf_model.specs.Flow.{IsAhead, GoesForward, distance_at, distance_of, distance_by}
+use Rattle.bpf_model.proofs.Reading.{units_at, inst_at, small_registers, count_of_units, wide_at}
+use Rattle.reg_types.specs.Rules.{falls_off}
+use Rattle.reg_types.specs.Facts.{IsSound, leads, option_cons}
+
+first_unit : (b : Bool) (i j : Inst) (v : ℤ) → cond b (First i) (Second v) ≡ First j → (b ≡ true) × (i ≡ j)
+first_unit true i j v e = (refl, cc)
+first_unit false i j v e = absurd (cc)
+
+get_inside : (us : List ProgramUnit) (pc : ℕ) → pc < length us → (u : ProgramUnit) × (slice_get us pc ≡ Some u)
+get_inside [] pc l = absurd (omega arith)
+get_inside (u ∷ us) zero l = (u, refl)
+get_inside (u ∷ us) (suc pc) l = get_inside us pc (omega arith)
+
+-- a unit at which an instruction begins
+begins_first : (bytes : List ℕ) (us : List ProgramUnit) (pc : ℕ) → units bytes ≡ Some us → begins bytes pc ≡ true → pc < length us → (i : Inst) × (slice_get us pc ≡ Some (First i))
+begins_first bytes us pc reads b l =
+    let x = get_inside us pc l in
+    let u = units_at bytes us pc x.0 reads x.1 in
+    let is : First (fields_at bytes pc) ≡ x.0 = sym (ap (λ t. cond t (First (fields_at bytes pc)) (Second (imm_at bytes pc))) b) ∙ u.is in
+    (fields_at bytes pc, x.1 ∙ ap Some (sym is))
+
+module _ (bytes : List ℕ) (us : List ProgramUnit) (reads : units bytes ≡ Some us) (pc : ℕ) (i : Inst) (at : slice_get us pc ≡ Some (First i)) where
+  here : (begins bytes pc ≡ true) × (fields_at bytes pc ≡ i)
+  here = let u = units_at bytes us pc (First i) reads at in first_unit (begins bytes pc) (fields_at bytes pc) i (imm_at bytes pc) u.is
+
+  wide_next : is_wide (form_of (opcode_at bytes pc)) ≡ is_wide (form_of i.opcode)
+  wide_next = ap (λ j. is_wide (form_of j.opcode)) here.1
+
+  next_begins : (form : Form) → form_of i.opcode ≡ Some form → is_wide (Some form) ≡ false → begins bytes (pc + 1) ≡ true
+  next_begins form is narrow =
+      ap (begins bytes) (add-one pc) ∙ ap (λ b. not (b && is_wide (form_of (opcode_at bytes pc)))) here.0 ∙ ap not (wide_next ∙ ap is_wide is ∙ narrow)
+
+  second_begins : form_of i.opcode ≡ Some Wide → begins bytes (pc + 2) ≡ true
+  second_begins is =
+      let two : pc + 2 ≡ suc (suc pc) = omega arith in
+      let inside : begins bytes (suc pc) ≡ false = ap (λ b. not (b && is_wide (form_of (opcode_at bytes pc)))) here.0 ∙ ap not (wide_next ∙ ap is_wide is) in
+      ap (begins bytes) two ∙ ap (λ b. not (b && is_wide (form_of (opcode_at bytes (suc pc))))) inside
+
+  goes_next : (form : Form) → form_of i.opcode ≡ Some form → is_wide (Some form) ≡ false → nat_le (length us) (pc + 1) ≡ false → IsAhead us pc (pc + 1)
+  goes_next form is narrow more =
+      let l : pc + 1 < length us = grind (arith, nat_tests) in
+      record { ahead = omega arith; inside = l; first = begins_first bytes us (pc + 1) reads (next_begins form is narrow) l }
+
+  goes_over : form_of i.opcode ≡ Some Wide → nat_le (length us) (pc + 2) ≡ false → IsAhead us pc (pc + 2)
+  goes_over is more =
+      let l : pc + 2 < length us = grind (arith, nat_tests) in
+      record { ahead = omega arith; inside = l; first = begins_first bytes us (pc + 2) reads (second_begins is) l }
+
+  distance_is : (form : Form) (z : ℤ) → form_of i.opcode ≡ Some form → distance_by (Some form) i ≡ Some z → distance_at us pc ≡ Some z
+  distance_is form z is h = ap (λ o. and_then o distance_of) at ∙ ap (λ o. distance_by o i) is ∙ h
+
+  -- where each form leads
+  pub leads_ahead : GoesForward us → (form : Form) → form_of i.opcode ≡ Some form → falls_off (length us) pc form ≡ false → (tos : List ℕ) × (leads pc i form ≡ Some tos) × AllByRecursion (IsAhead us pc) tos
+  leads_ahead f Exit is more = ([], refl, tt)
+  leads_ahead f Goto is more =
+      let j = f.jumps pc i.offset (distance_is Goto i.offset is refl) in
+      (j.0 ∷ [], ap (λ o. option_cons o []) j.1, (j.2, tt))
+  leads_ahead f GotoLong is more =
+      let j = f.jumps pc i.imm (distance_is GotoLong i.imm is refl) in
+      (j.0 ∷ [], ap (λ o. option_cons o []) j.1, (j.2, tt))
+  leads_ahead f (Branch c w s) is more =
+      let j = f.jumps pc i.offset (distance_is (Branch c w s) i.offset is refl) in
+      (j.0 ∷ (pc + 1) ∷ [], ap (λ o. option_cons o ((pc + 1) ∷ [])) j.1, (j.2, (goes_next (Branch c w s) is refl more, tt)))
+  leads_ahead f Wide is more = ((pc + 2) ∷ [], refl, (goes_over is more, tt))
+  leads_ahead f (Arithmetic op w s) is more = ((pc + 1) ∷ [], refl, (goes_next (Arithmetic op w s) is refl more, tt))
+  leads_ahead f (Load size) is more = ((pc + 1) ∷ [], refl, (goes_next (Load size) is refl more, tt))
+  leads_ahead f (LoadSigned size) is more = ((pc + 1) ∷ [], refl, (goes_next (LoadSigned size) is refl more, tt))
+  leads_ahead f (StoreImmediate size) is more = ((pc + 1) ∷ [], refl, (goes_next (StoreImmediate size) is refl more, tt))
+  leads_ahead f (StoreRegister size) is more = ((pc + 1) ∷ [], refl, (goes_next (StoreRegister size) is refl more, tt))
+  leads_ahead f Call is more = ((pc + 1) ∷ [], refl, (goes_next Call is refl more, tt))
+
+-- what stands at a unit of a program
+pub record IsThere (us : List ProgramUnit) (pc : ℕ) (i : Inst) : Type 0 where
+  pub small : pc < 512
+  pub inside : pc < length us
+  pub dst : i.dst ≤ 10
+  pub src : i.src ≤ 10
+  pub form : IsSome (form_of i.opcode)
+
+pub there : (bytes : List ℕ) (us : List ProgramUnit) (pc : ℕ) (i : Inst) → units bytes ≡ Some us → slice_get us pc ≡ Some (First i) → IsThere us pc i
+there bytes us pc i reads at =
+    let x = inst_at bytes us pc i reads at in
+    let r = small_registers bytes pc i x.0 x.1 in
+    let l = slice_get_within us pc (First i) at in
+    let n = count_of_units bytes us reads in
+    record { small = omega (arith, l, n.1); inside = l; dst = r.0; src = r.1; form = ap is_some x.1.form_is }
+
+-- an instruction begins at the first unit
+pub first_there : (bytes : List ℕ) (us : List ProgramUnit) → units bytes ≡ Some us → (i : Inst) × (slice_get us 0 ≡ Some (First i))
+first_there bytes us reads = let n = count_of_units bytes us reads in begins_first bytes us 0 reads refl n.0
+
+-- all of these units lie further on
+pub all_forward : (us : List ProgramUnit) (pc : ℕ) (tos : List ℕ) → AllByRecursion (IsAhead us pc) tos → AllByRecursion (λ to. pc < to) tos
+all_forward us pc [] h = tt
+all_forward us pc (to ∷ tos) h = (h.0.ahead, all_forward us pc tos h.1)
+
+pub all_inside : (us : List ProgramUnit) (pc n : ℕ) (tos : List ℕ) → n ≡ length us → AllByRecursion (IsAhead us pc) tos → AllByRecursion (λ to. to < n) tos
+all_inside us pc n [] e h = tt
+all_inside us pc n (to ∷ tos) e h = (let l = h.0.inside in omega (arith, e, l), all_inside us pc n tos e h.1)
