@@ -1,14 +1,12 @@
 -- What a new version changes.
-use Rattle.std.proofs.Common.{◌≡◌, ◌≢◌, ℕ, ◌+◌, ◌-◌, ◌<◌, ◌≤◌, List, [], ◌∷◌, ◌++◌, length, Option, Some, None, slice_set, refl, arith, ap, ◌∙◌, sym, get_or, suc, zero, leb, cond, true, rules}
+use Rattle.std.proofs.Common.{◌≡◌, ℕ, ◌+◌, ◌-◌, ◌<◌, ◌≤◌, List, [], ◌∷◌, ◌++◌, length, Option, Some, None, slice_set, refl, arith, ap, get_or, suc, zero, leb, cond}
 use Rattle.std.specs.List.{slice_get}
-use Rattle.std.specs.Prelude.{All, slice_index_or}
+use Rattle.std.specs.Prelude.{All}
 use Rattle.std.proofs.lemmas.Bool.Decides.{nat_tests}
-use Rattle.std.proofs.lemmas.Grind.{common_steps}
 use Rattle.std.proofs.lemmas.List.{get_or-set_same, get_or-set_other}
 use Rattle.bpf_model.specs.Program.{ProgramText}
-use Rattle.program_slots.specs.Value.{SlotsValue}
 use Rattle.program_slots.specs.Views.{IsVersion}
-use Rattle.program_slots.specs.Slots.{number_in, program_of, version_of, version_in}
+use Rattle.program_slots.specs.Slots.{program_of, version_of}
 use Rattle.program_slots.specs.Promises.{Installs}
 
 slice_get-last : {A : Type 0} → (xs : List A) (x : A) → slice_get (xs ++ x ∷ []) (length xs) ≡ Some x

@@ -1,5 +1,5 @@
 -- Representation: what the fields of slots stand for, and what holds of them.
-use Rattle.std.specs.Prelude.{◌≡◌, ℕ, ◌≤◌, length, map, List, Option, Some, None, IfSome, All}
+use Rattle.std.specs.Prelude.{◌≡◌, ℕ, ◌≤◌, length, map, Option, Some, None, All}
 use Rattle.std.specs.Arc.{arc_value}
 use Rattle.program_slots.specs.Value.{SlotsValue}
 use Rattle.program_slots.specs.declared.Slots.TheInside.{Inside}

@@ -1,11 +1,7 @@
-use Rattle.std.proofs.Common.{rules, ◌≡◌, ◌≢◌, ℕ, ◌+◌, ◌<◌, length, map, List, [], ◌∷◌, ◌++◌, arith, ap, ◌∙◌, sym}
+use Rattle.std.proofs.Common.{◌≡◌, ◌+◌, ◌<◌, length, map, [], ◌∷◌, ◌++◌, arith}
 use Rattle.std.specs.Arc.{arc_value}
-use Rattle.std.specs.Prelude.{All}
 use Rattle.std.proofs.lemmas.List.{map-append, length-map}
 use Rattle.std.proofs.lemmas.Grind.{common_steps}
-use Rattle.bpf_model.specs.Program.{ProgramText}
-use Rattle.program_slots.specs.Promises.{Installs}
-use Rattle.program_slots.specs.Views.{IsVersion}
 use Rattle.program_slots.proofs.Installs.{installs}
 use Rattle.program_slots.proofs.Slots.install.Goals as goal
 
