@@ -2,6 +2,8 @@
 #![tactic(auto)]
 
 #[cfg(test)]
+mod journals;
+#[cfg(test)]
 mod scripts;
 #[cfg(test)]
 mod tests;

@@ -1,12 +1,11 @@
 //! What the program does for its words.
 use crate::files::{Text, read_file};
 use console::{
-    ConfigFault, Ended, Job, MOST_BYTES, READS, SessionFault, Settings, Told, asm_file,
+    ConfigFault, Ended, Job, MOST_BYTES, READS, SessionFault, Settings, asm_file,
     audit_entries, config_part, dis_file, journal_fault_line, play, play_within, read_config,
     read_head, verify_file,
 };
 use decision_journal::read_entries;
-use std::alloc::AllocError;
 use std::fs::File;
 use std::io::{self, BufReader};
 use till_request::devices::{StreamIn, StreamOut};
@@ -30,7 +29,7 @@ pub fn do_job(rt: &HostRuntime, job: Job) -> u8 {
         Job::Verify { counters, file } => tell_of(rt, &file, Tell::Verify(counters)),
         Job::Play { config, script } => play_files(rt, &config, &script),
         Job::Audit { config, journal } => audit_files(rt, &config, &journal),
-        Job::Serve(_) => not_there(rt),
+        Job::Serve(_config) => not_there(rt),
     };
     match done {
         Ok(status) => status,
@@ -48,7 +47,7 @@ fn say(rt: &HostRuntime, text: String, status: u8) -> io::Result<u8> {
 }
 
 fn not_there(rt: &HostRuntime) -> io::Result<u8> {
-    eprintln!(rt; "fc: this program does not serve yet")?;
+    eprintln!(rt; "fc: this word is not there yet")?;
     Ok(USAGE)
 }
 
