@@ -5,3 +5,7 @@ pub mod Numbers
 pub mod Lines
 pub mod Sounding
 pub mod Assembling
+pub mod LineText
+pub mod ReadBack
+pub mod Forms
+pub mod EveryForm

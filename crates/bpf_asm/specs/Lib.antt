@@ -5,3 +5,4 @@ pub mod Grammar
 pub mod Program
 pub mod Tables
 pub mod Sound
+pub mod RoundTrip

@@ -3,6 +3,7 @@
 
 ghost use Rattle.std.specs.Prelude.{◌≡◌, ◌++◌, IfOk, IfErr, map, None, ◌&&◌, nat_le, string_bytes};
 ghost use Rattle.bpf_asm.specs.Program as spec;
+ghost use Rattle.bpf_asm.specs.RoundTrip.{RoundTrip};
 ghost use Rattle.bpf_asm.specs.Sound.{AreSound};
 ghost use Rattle.bpf_asm.specs.Text.{canon, high_of};
 
@@ -106,6 +107,27 @@ pub fn assemble(alloc: Global, text: &[u8]) -> Result<Code, AsmFault>
     };
     match assemble_rows(alloc, rows.as_slice()) {
         Ok(code) => Ok(code),
+        Err(fault) => Err(fault),
+    }
+}
+
+/// The canonical text of a program spells the program, and nothing else. The function does nothing: its contract is the law.
+pub fn law_of_canonical_text()
+    ensures { RoundTrip }
+{
+}
+
+/// A program shown as text and assembled again: the same program, unless memory is refused.
+pub fn reassemble(alloc: Global, code: &Code) -> Result<Code, AsmFault>
+    ensures same { IfOk result (λ again. again ≡ code.now) }
+    ensures refused { IfErr result (λ fault. fault ≡ AsmFault.OutOfMemory) }
+{
+    let _units = code.units();
+    let Ok(text) = disassemble(alloc, code) else {
+        return Err(AsmFault::OutOfMemory);
+    };
+    match assemble(alloc, text.as_bytes()) {
+        Ok(again) => Ok(again),
         Err(fault) => Err(fault),
     }
 }

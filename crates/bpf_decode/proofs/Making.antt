@@ -2,7 +2,10 @@
 use Rattle.std.proofs.Common.{◌≡◌, ℕ, zero, suc, ◌+◌, ◌-◌, ◌*◌, ◌^◌, ◌<◌, ◌≤◌, List, [], ◌∷◌, ◌++◌, Option, Some, None, Bool, true, false, refl, sym, ap, ◌∙◌, subst, arith, add-one, length, length-append, drop, append_assoc, w16, w32, FitsSigned}
 use Rattle.std.specs.Prelude.{◌/◌, ◌%◌, ◌==◌, ◌&&◌, not, cond, nat_le, slice_index, ℤ, ⊤}
 use Rattle.std.specs.Int.{cast_signed, cast_unsigned}
-use Rattle.std.proofs.Math.Facts.{Fits-of_z}
+use Rattle.std.proofs.Math.Facts.{Fits-of_z, Fits-of_lt, sfits_to_z}
+use Rattle.std.proofs.Common.{zero-add}
+use Rattle.std.specs.Prelude.{slice_get}
+use Rattle.bpf_model.proofs.Reading.{IsUnit, units_at, length_of_units}
 use Rattle.std.proofs.lemmas.Int.{to_z-of_z}
 use Rattle.std.proofs.lemmas.List.{drop-drop, get_or-drop}
 use Rattle.std.proofs.lemmas.Bool.Decides.{nat_tests}
@@ -242,3 +245,116 @@ program_of_units us h some few =
     let half : length bytes / 8 ≡ length us = omega (arith, whole) in
     let r = all_kept bytes (length us) whole us 0 true [] (omega arith) h (record { rest = refl; place = refl; sound = refl; read = refl }) in
     (bytes, all_units bytes us (right_length bytes (omega (arith, whole)) (omega (arith, whole)) (omega (arith, whole))) (subst (λ m. fault_below bytes m ≡ None) (sym half) r.0) (sym (subst (λ m. units_below bytes m ≡ us) (sym half) r.1)), are_bytes true us h)
+
+-- ---- the other way: a program's units are sound one by one
+
+half_false : (f : Form) → half_wide f false ≡ None
+half_false Wide = refl
+half_false (Arithmetic op w s) = refl
+half_false (Load n) = refl
+half_false (LoadSigned n) = refl
+half_false (StoreImmediate n) = refl
+half_false (StoreRegister n) = refl
+half_false Goto = refl
+half_false GotoLong = refl
+half_false (Branch c w s) = refl
+half_false Call = refl
+half_false Exit = refl
+
+sound_before : (o : Option Form) (i : Inst) (last : Bool) → first_fault o i last ≡ None → first_fault o i false ≡ None
+sound_before None i last e = absurd (cc)
+sound_before (Some form) i last e =
+    let h = two_tests (has_right_fields form i) (has_right_registers form i) (half_wide form last) e in
+    passes (has_right_fields form i) (has_right_registers form i) (half_wide form false) h.0 h.1 (half_false form)
+
+half_is : (f : Form) (last : Bool) → half_wide f last ≡ None → is_wide (Some f) ≡ true → last ≡ false
+half_is Wide true e w = absurd (cc)
+half_is Wide false e w = refl
+half_is f last e w = absurd (cc)
+
+wide_goes_on : (o : Option Form) (i : Inst) (last : Bool) → first_fault o i last ≡ None → is_wide o ≡ true → last ≡ false
+wide_goes_on None i last e w = absurd (cc)
+wide_goes_on (Some form) i last e w = half_is form last (two_tests (has_right_fields form i) (has_right_registers form i) (half_wide form last) e).2 w
+
+same_inst : (i j : Inst) → First i ≡ First j → i ≡ j
+same_inst i j e = cc
+
+same_imm : (v w : ℤ) → Second v ≡ Second w → v ≡ w
+same_imm v w e = cc
+
+no_first : (i : Inst) (v : ℤ) → First i ≡ Second v → ⊥
+no_first i v e = cc
+
+not_true : (b : Bool) → not b ≡ false → b ≡ true
+not_true true e = refl
+not_true false e = absurd (cc)
+
+module _ (bytes : List ℕ) (small : AreBytes bytes) where
+  byte_below : (n k : ℕ) → slice_index (drop n bytes) k < 256
+  byte_below n k = subst (λ x. x < 256) (sym (at_drop bytes n k (n + k) refl)) (small (n + k))
+
+  offset_fits : (pc : ℕ) → FitsSigned w16 (fields_at bytes pc).offset
+  offset_fits pc =
+      let a = byte_below (8 * pc + 2) 0 in
+      let b = byte_below (8 * pc + 2) 1 in
+      sfits_to_z {w = w16} (Fits-of_lt {w = w16} (omega (arith, a, b)))
+
+  imm_fits : (pc : ℕ) → FitsSigned w32 (imm_at bytes pc)
+  imm_fits pc =
+      let a = byte_below (8 * pc + 4) 0 in
+      let b = byte_below (8 * pc + 4) 1 in
+      let c = byte_below (8 * pc + 4) 2 in
+      let d = byte_below (8 * pc + 4) 3 in
+      sfits_to_z {w = w32} (Fits-of_lt {w = w32} (omega (arith, a, b, c, d)))
+
+  read_inst : (pc : ℕ) → first_fault (form_of (opcode_at bytes pc)) (fields_at bytes pc) (is_last bytes pc) ≡ None → IsInstruction (fields_at bytes pc)
+  read_inst pc e =
+      let regs = small (8 * pc + 1) in
+      record {
+        opcode = small (8 * pc);
+        dst = omega arith;
+        src = omega (arith, regs);
+        offset = offset_fits pc;
+        imm = imm_fits pc;
+        sound = sound_before (form_of (opcode_at bytes pc)) (fields_at bytes pc) (is_last bytes pc) e;
+      }
+
+  goes_on : (pc : ℕ) → is_last bytes pc ≡ false → pc + 1 < length bytes / 8
+  goes_on pc e = grind (arith, nat_tests)
+
+  all_units_are : (us : List ProgramUnit) (pc : ℕ) (first : Bool) → pc + length us ≡ length bytes / 8 → begins bytes pc ≡ first → ((k m : ℕ) (u : ProgramUnit) → slice_get us k ≡ Some u → m ≡ pc + k → IsUnit bytes m u) → (first ≡ false → 0 < length us) → AreUnits first us
+  all_units_are [] pc true l place unit some = tt
+  all_units_are [] pc false l place unit some = absurd (let no = some refl in omega (arith, no))
+  all_units_are (First i ∷ us) pc true l place unit some =
+      let u = unit 0 pc (First i) refl (omega arith) in
+      let is = same_inst (fields_at bytes pc) i (sym (ap (λ b. cond b (First (fields_at bytes pc)) (Second (imm_at bytes pc))) place) ∙ u.is) in
+      let sound : first_fault (form_of (opcode_at bytes pc)) (fields_at bytes pc) (is_last bytes pc) ≡ None =
+          sym (ap (λ b. cond b (first_fault (form_of (opcode_at bytes pc)) (fields_at bytes pc) (is_last bytes pc)) (second_fault bytes pc)) place) ∙ u.sound
+      in
+      let next : begins bytes (suc pc) ≡ not (is_wide (form_of i.opcode)) =
+          ap (λ b. not (b && is_wide (form_of (opcode_at bytes pc)))) place ∙ ap (λ (j : Inst). not (is_wide (form_of j.opcode))) is
+      in
+      let more : not (is_wide (form_of i.opcode)) ≡ false → 0 < length us =
+          λ e. let w : is_wide (form_of (opcode_at bytes pc)) ≡ true = ap (λ (j : Inst). is_wide (form_of j.opcode)) is ∙ not_true (is_wide (form_of i.opcode)) e in
+               let room = goes_on pc (wide_goes_on (form_of (opcode_at bytes pc)) (fields_at bytes pc) (is_last bytes pc) sound w) in
+               omega (arith, room)
+      in
+      (subst IsInstruction is (read_inst pc sound),
+       all_units_are us (suc pc) (not (is_wide (form_of i.opcode))) (omega arith) next (λ k m x g e. unit (suc k) m x g (omega arith)) more)
+  all_units_are (Second v ∷ us) pc true l place unit some =
+      let u = unit 0 pc (Second v) refl (omega arith) in
+      absurd (no_first (fields_at bytes pc) v (sym (ap (λ b. cond b (First (fields_at bytes pc)) (Second (imm_at bytes pc))) place) ∙ u.is))
+  all_units_are (First i ∷ us) pc false l place unit some =
+      let u = unit 0 pc (First i) refl (omega arith) in
+      absurd (no_first i (imm_at bytes pc) (sym (sym (ap (λ b. cond b (First (fields_at bytes pc)) (Second (imm_at bytes pc))) place) ∙ u.is)))
+  all_units_are (Second v ∷ us) pc false l place unit some =
+      let u = unit 0 pc (Second v) refl (omega arith) in
+      let is = same_imm (imm_at bytes pc) v (sym (ap (λ b. cond b (First (fields_at bytes pc)) (Second (imm_at bytes pc))) place) ∙ u.is) in
+      let next : begins bytes (suc pc) ≡ true = ap (λ b. not (b && is_wide (form_of (opcode_at bytes pc)))) place in
+      (subst (FitsSigned w32) is (imm_fits pc), all_units_are us (suc pc) true (omega arith) next (λ k m x g e. unit (suc k) m x g (omega arith)) (λ e. absurd (cc)))
+
+-- a program's units are sound one by one
+pub units_of_program : (us : List ProgramUnit) → IsProgram us → AreUnits true us
+units_of_program us p =
+    let long = length_of_units p.0 us p.1 in
+    all_units_are p.0 p.2 us 0 true (omega (arith, long)) refl (λ k m u g e. units_at p.0 us m u p.1 (ap (slice_get us) (e ∙ zero-add k) ∙ g)) (λ e. absurd (cc))
