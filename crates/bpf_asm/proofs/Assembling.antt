@@ -1,6 +1,6 @@
 -- The units of rows without fault are a program.
-use Rattle.std.proofs.Common.{◌≡◌, ℕ, zero, suc, ◌+◌, ◌-◌, ◌^◌, ◌<◌, ◌≤◌, List, [], ◌∷◌, ◌++◌, length, Option, Some, None, Bool, true, false, refl, sym, ap, ◌∙◌, subst, arith, rules, w16, w32, FitsSigned, length-append}
-use Rattle.std.specs.Prelude.{◌%◌, ◌/◌, ◌&&◌, ◌||◌, ◌==◌, not, Ok, nat_le, nat_lt, cond, ℤ, pos, negsuc, neg_ℤ, ⊤, if◌then◌else◌}
+use Rattle.std.proofs.Common.{◌≡◌, ℕ, zero, suc, ◌+◌, ◌^◌, ◌<◌, ◌≤◌, List, [], ◌∷◌, ◌++◌, length, Option, Some, None, Bool, true, false, refl, sym, ap, ◌∙◌, subst, arith, rules, w16, w32, FitsSigned}
+use Rattle.std.specs.Prelude.{◌%◌, ◌/◌, ◌&&◌, not, Ok, nat_le, cond, ℤ, pos}
 use Rattle.std.specs.Int.{cast_signed}
 use Rattle.std.specs.Str.{bytes_eq}
 use lib.IntN.{◌-ℤ◌}
@@ -23,21 +23,20 @@ use Rattle.bpf_model.specs.declared.instruction.Form.TheVariants as form
 use Rattle.bpf_model.specs.declared.instruction.Unit.{Unit as ProgramUnit}
 use Rattle.bpf_model.specs.declared.instruction.Unit.TheVariants.{First, Second}
 use Rattle.bpf_model.specs.declared.instruction.UnitFault.{UnitFault}
-use Rattle.bpf_model.specs.declared.instruction.UnitFault.TheVariants.{Opcode, Field, Register as BadRegister, HalfWide}
+use Rattle.bpf_model.specs.declared.instruction.UnitFault.TheVariants.{Field, Register as BadRegister}
 use Rattle.bpf_model.specs.Reading.{form_of, first_fault, has_right_fields, has_right_registers, half_wide, is_wide}
 use Rattle.bpf_decode.specs.Making.{IsInstruction, AreUnits}
 use Rattle.bpf_asm.specs.declared.AsmFault.{AsmFault}
 use Rattle.bpf_asm.specs.declared.AsmFault.TheVariants.{BadLine, BadLabel, OutOfRange, Length, OutOfMemory}
 use Rattle.bpf_asm.specs.declared.grammar.Value.{Value}
 use Rattle.bpf_asm.specs.declared.grammar.Fields.{Fields}
-use Rattle.bpf_asm.specs.declared.grammar.Target.{Target}
 use Rattle.bpf_asm.specs.declared.grammar.Target.TheVariants.{Label, Distance}
 use Rattle.bpf_asm.specs.declared.grammar.Statement.{Statement}
 use Rattle.bpf_asm.specs.declared.grammar.Statement.TheVariants.{Plain, Wide, Jump}
 use Rattle.bpf_asm.specs.declared.grammar.Line.{Line}
 use Rattle.bpf_asm.specs.declared.grammar.Line.TheVariants as line
 use Rattle.bpf_asm.specs.Lex.{Text}
-use Rattle.bpf_asm.specs.Program.{Row, row_of, with_row, rows_of, fits_size, fits, target_fits, statement_fits, line_fits, row_fault, or_fault, first_fault as first_line_fault, source_bit, operator_code, condition_code, size_code, arithmetic_class, jump_class, opcode_of, signed, size_or_zero, int_of, inst_of, low_half, high_half, line_len_of, units_in, Definition, defining, labels_from, place_found, place_of, distance_of, jump_inst, statement_units, line_units, units_from, spelled, AreRight, AreWithin, length_fault, label_fault, rows_fault, fault_of, assembled_with, assembled, cut, IsFault}
+use Rattle.bpf_asm.specs.Program.{Row, row_of, with_row, rows_of, fits_size, fits, target_fits, statement_fits, line_fits, row_fault, or_fault, first_fault as first_line_fault, source_bit, operator_code, condition_code, size_code, arithmetic_class, jump_class, opcode_of, signed, size_or_zero, int_of, inst_of, low_half, high_half, line_len_of, units_in, Definition, defining, labels_from, place_found, place_of, jump_inst, statement_units, line_units, units_from, spelled, AreRight, AreWithin, length_fault, label_fault, rows_fault, fault_of, assembled_with, assembled, cut, IsFault}
 use Rattle.bpf_asm.specs.Sound.{IsOf, IsPlain, IsJump, IsSound, AreSound}
 
 -- ---- rows in range

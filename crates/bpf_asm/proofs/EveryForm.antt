@@ -1,15 +1,8 @@
 -- The canonical text of a program spells the program: each form in turn, then whole programs.
-use Rattle.std.proofs.Common.{◌≡◌, ◌<◌, ◌≤◌, ◌-◌, ◌+◌, ◌^◌, ◌*◌, ◌/◌, ◌%◌, ℕ, zero, suc, List, [], ◌∷◌, ◌++◌, length, map, Option, Some, None, Bool, true, false, refl, ap, sym, ◌∙◌, subst, arith, rules, w16, w32, FitsSigned, inl, inr}
-use Rattle.std.specs.Prelude.{codes, ◌&&◌, ◌||◌, ◌==◌, ◌⊎◌, not, nat_lt, nat_le, cond, ℤ, pos, negsuc, option_map, ⊤}
-use Rattle.std.specs.Char.{is_ascii_digit}
-use Rattle.std.specs.Str.{all_ascii_digits}
-use Rattle.std.specs.Fmt.{decimal}
+use Rattle.std.proofs.Common.{◌≡◌, ◌<◌, ◌≤◌, ℕ, zero, suc, List, [], ◌∷◌, Option, Some, None, Bool, true, false, refl, ap, sym, ◌∙◌, subst, arith, rules, w16, w32, FitsSigned, inl, inr}
+use Rattle.std.specs.Prelude.{◌&&◌, ◌||◌, ◌==◌, ◌⊎◌, not, nat_le, cond, ℤ, pos, negsuc, ⊤}
 use Rattle.std.proofs.lemmas.Bool.{cases_lt, eqb-true}
-use Rattle.std.proofs.lemmas.Int.{ints, to_z-of_z}
-use Rattle.std.proofs.Math.Facts.{Fits-of_z}
-use Rattle.std.specs.Int.{cast_signed, cast_unsigned}
 use Rattle.std.proofs.lemmas.Bool.Decides.{nat_tests}
-use Rattle.std.proofs.lemmas.Fmt.{decimal_nonempty, decimal_digit, decimal_step}
 use Rattle.bpf_model.specs.declared.instruction.Inst.{Inst}
 use Rattle.bpf_model.specs.declared.instruction.Width.{Width}
 use Rattle.bpf_model.specs.declared.instruction.Width.TheVariants.{Narrow, Full}
@@ -20,35 +13,21 @@ use Rattle.bpf_model.specs.Reading.{is_wide, is_double, is_int, uses, fits_form,
 use Rattle.bpf_model.proofs.Reading.{both_true}
 use Rattle.bpf_model.specs.declared.instruction.Operator.{Operator}
 use Rattle.bpf_model.specs.declared.instruction.Operator.TheVariants as operator
-use Rattle.bpf_model.specs.declared.instruction.Condition.{Condition}
-use Rattle.bpf_model.specs.declared.instruction.Condition.TheVariants as condition
-use Rattle.bpf_model.specs.declared.instruction.Size.{Size}
-use Rattle.bpf_model.specs.declared.instruction.Size.TheVariants.{Byte, Half, Word, Double}
 use Rattle.bpf_model.specs.declared.instruction.Form.{Form}
 use Rattle.bpf_model.specs.declared.instruction.Form.TheVariants as form
-use Rattle.bpf_asm.specs.declared.token.Token.{Token}
-use Rattle.bpf_asm.specs.declared.token.Token.TheVariants.{Register, Number, Assign, Compare, Unsigned, Signed, Swap, If, Goto, GotoLong, Call, Exit, Long, Open, Close, Star, Plus, Minus, Colon, Name}
-use Rattle.bpf_asm.specs.declared.grammar.Value.{Value}
-use Rattle.bpf_asm.specs.declared.grammar.Fields.{Fields}
-use Rattle.bpf_asm.specs.declared.grammar.Target.TheVariants.{Label, Distance}
-use Rattle.bpf_asm.specs.declared.grammar.Statement.{Statement}
-use Rattle.bpf_asm.specs.declared.grammar.Statement.TheVariants.{Plain, Wide, Jump}
-use Rattle.bpf_asm.specs.declared.grammar.Line.{Line}
-use Rattle.bpf_asm.specs.declared.grammar.Line.TheVariants as line
-use Rattle.bpf_asm.specs.Lex.{Text, is_blank, token_len, continues_word, kind_of}
-use Rattle.bpf_asm.specs.Grammar.{Tokens, plus, minus, exactly, fields, plain, line_of, is_same, when, statement, no_fields, first_some, operand, swap, extend, extension, guarded, load_form, load_with}
-use Rattle.bpf_asm.specs.Text.{Piece, Next, After, token_of, register_text, operator_text, condition_text, size_text, signed_size_text, number, distance, shift, place, pieces, swap_text, upper}
-use Rattle.bpf_asm.specs.Program.{fits, inst_of, jump_inst, int_of, opcode_of, low_half, high_half}
-use Rattle.bpf_asm.proofs.Again.{stops, body, IsFront, lit, number_front, register_front, size_front, open_size, decimal_digits, digits_continue, prefix_front, digit_code, number_kind, register_by, minus_token, plus_token}
-use Rattle.bpf_asm.proofs.LineText.{clean, clean_append, decimal_clean, AreGood}
-use Rattle.bpf_asm.proofs.ReadBack.{SaysOf, Says}
-
+use Rattle.bpf_asm.specs.declared.token.Token.TheVariants.{Unsigned, Signed, Swap}
+use Rattle.bpf_asm.specs.declared.grammar.Statement.TheVariants.{Plain}
+use Rattle.bpf_asm.specs.Lex.{Text}
+use Rattle.bpf_asm.specs.Grammar.{exactly, fields, when}
+use Rattle.bpf_asm.specs.Text.{size_text, signed_size_text, swap_text}
+use Rattle.bpf_asm.specs.Program.{inst_of, opcode_of}
+use Rattle.bpf_asm.proofs.ReadBack.{Says}
 use Rattle.bpf_asm.proofs.Forms.{IsWritten, operator_written, signed_quotient, signed_remainder, same_width, number_line, register_line, number_means, signed_quotient_means, signed_remainder_means, register_means, negation_line, le16_written, le32_written, le64_written, be16_written, be32_written, be64_written, bswap16_written, bswap32_written, bswap64_written, swap_line, extension8_line, extension16_line, extension32_line, wide_line, unsigned_size, signed_size, load_line, register_store_line, number_store_line, goto_line, gotol_line, branch_register_line, branch_number_line, call_line, exit_line, IsTwo}
 use Rattle.std.specs.Prelude.{Ok, Result}
 use Rattle.bpf_asm.specs.declared.AsmFault.TheVariants.{BadLine, BadLabel, OutOfRange, Length, OutOfMemory}
 use Rattle.bpf_model.specs.declared.instruction.Unit.{Unit as ProgramUnit}
 use Rattle.bpf_model.specs.declared.instruction.UnitFault.{UnitFault}
-use Rattle.bpf_model.specs.declared.instruction.UnitFault.TheVariants.{Opcode, Field, Register as BadRegister, HalfWide}
+use Rattle.bpf_model.specs.declared.instruction.UnitFault.TheVariants.{Field, Register as BadRegister}
 use Rattle.bpf_model.specs.Reading.{form_of, first_fault, half_wide}
 use Rattle.bpf_model.proofs.Reading.{count_of_units}
 use Rattle.bpf_decode.specs.Faults.{IsProgram}
@@ -138,7 +117,6 @@ module _ (i : Inst) (high : ℤ) (off : FitsSigned w16 i.offset) (imm : FitsSign
   zero_src : (i.src == 0) ≡ true → i.src ≡ 0
   zero_src h = eqb-true i.src 0 h
 
-
   number_quotient : (w : Width) → Given (form.Arithmetic operator.Quotient w source.Immediate) → (is_int i.offset 0 ≡ true) ⊎ (is_int i.offset 1 ≡ true) → Says (form.Arithmetic operator.Quotient w source.Immediate) i high
   number_quotient w g (inl e) = subst (λ k. Says (form.Arithmetic operator.Quotient w source.Immediate) k high) (same (form.Arithmetic operator.Quotient w source.Immediate) i i.dst 0 (pos 0) i.imm g.op refl (zero_src g.parts.src) (int_is i.offset 0 e) refl) (number_line operator.Quotient 0 w i.dst i.imm high (operator_written operator.Quotient tt) (omega arith) g.dst imm (number_means operator.Quotient tt w i.dst i.imm))
   number_quotient w g (inr e) = subst (λ k. Says (form.Arithmetic operator.Quotient w source.Immediate) k high) (same (form.Arithmetic operator.Quotient w source.Immediate) i i.dst 0 (pos 1) i.imm g.op refl (zero_src g.parts.src) (int_is i.offset 1 e) refl) (number_line operator.Quotient 1 w i.dst i.imm high signed_quotient (omega arith) g.dst imm (signed_quotient_means w i.dst i.imm))
@@ -174,7 +152,6 @@ module _ (i : Inst) (high : ℤ) (off : FitsSigned w16 i.offset) (imm : FitsSign
 
   narrow_move : (n : ℕ) → Given (form.Arithmetic operator.Move Narrow source.Register) → is_int i.offset n ≡ true → Says (form.Arithmetic operator.Move Narrow source.Register) (inst_of (form.Arithmetic operator.Move Narrow source.Register) i.dst i.src (pos n) (pos 0)) high → Says (form.Arithmetic operator.Move Narrow source.Register) i high
   narrow_move n g e h = subst (λ k. Says (form.Arithmetic operator.Move Narrow source.Register) k high) (same (form.Arithmetic operator.Move Narrow source.Register) i i.dst i.src (pos n) (pos 0) g.op refl refl (int_is i.offset n e) (int_is i.imm 0 g.parts.imm)) h
-
 
   full_move : (n : ℕ) → Given (form.Arithmetic operator.Move Full source.Register) → is_int i.offset n ≡ true → Says (form.Arithmetic operator.Move Full source.Register) (inst_of (form.Arithmetic operator.Move Full source.Register) i.dst i.src (pos n) (pos 0)) high → Says (form.Arithmetic operator.Move Full source.Register) i high
   full_move n g e h = subst (λ k. Says (form.Arithmetic operator.Move Full source.Register) k high) (same (form.Arithmetic operator.Move Full source.Register) i i.dst i.src (pos n) (pos 0) g.op refl refl (int_is i.offset n e) (int_is i.imm 0 g.parts.imm)) h
@@ -275,8 +252,6 @@ module _ (i : Inst) (high : ℤ) (off : FitsSigned w16 i.offset) (imm : FitsSign
   form_says (form.Branch c w source.Register) h g = subst (λ k. Says (form.Branch c w source.Register) k high) (same (form.Branch c w source.Register) i i.dst i.src i.offset (pos 0) g.op refl refl refl (int_is i.imm 0 g.parts.imm)) (branch_register_line c w i.dst i.src i.offset high g.dst g.src off)
   form_says form.Call h g = subst (λ k. Says form.Call k high) (same form.Call i 0 0 (pos 0) i.imm g.op (zero_dst g.parts.dst) (zero_src g.parts.src) (int_is i.offset 0 g.parts.offset) refl) (call_line i.imm high imm)
   form_says form.Exit h g = subst (λ k. Says form.Exit k high) (same form.Exit i 0 0 (pos 0) (pos 0) g.op (zero_dst g.parts.dst) (zero_src g.parts.src) (int_is i.offset 0 g.parts.offset) (int_is i.imm 0 g.parts.imm)) (exit_line high)
-
-
 
 -- ---- opcodes
 

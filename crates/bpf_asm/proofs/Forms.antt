@@ -1,23 +1,21 @@
 -- The line of each form says its instruction.
-use Rattle.std.proofs.Common.{◌≡◌, ◌<◌, ◌≤◌, ◌-◌, ◌+◌, ◌^◌, ◌*◌, ◌/◌, ◌%◌, ℕ, zero, suc, List, [], ◌∷◌, ◌++◌, length, map, Option, Some, None, Bool, true, false, refl, ap, sym, ◌∙◌, subst, arith, rules, w16, w32, FitsSigned, inl, inr}
-use Rattle.std.specs.Prelude.{codes, ◌&&◌, ◌||◌, ◌==◌, ◌⊎◌, not, nat_lt, nat_le, cond, ℤ, pos, negsuc, option_map, ⊤}
+use Rattle.std.proofs.Common.{◌≡◌, ◌<◌, ◌≤◌, ◌+◌, ◌^◌, ◌*◌, ◌/◌, ◌%◌, ℕ, suc, List, [], ◌∷◌, ◌++◌, length, map, Option, Some, None, Bool, true, false, refl, ap, sym, ◌∙◌, subst, arith, rules, w16, w32, FitsSigned, inl, inr}
+use Rattle.std.specs.Prelude.{codes, ◌&&◌, ◌==◌, ◌⊎◌, ℤ, pos, negsuc, option_map, ⊤}
 use Rattle.std.specs.Char.{is_ascii_digit}
 use Rattle.std.specs.Str.{all_ascii_digits}
 use Rattle.std.specs.Fmt.{decimal}
-use Rattle.std.proofs.lemmas.Bool.{cases_lt, eqb-true}
+use Rattle.std.proofs.lemmas.Bool.{cases_lt}
 use Rattle.std.proofs.lemmas.Int.{ints, to_z-of_z}
 use Rattle.std.proofs.Math.Facts.{Fits-of_z}
 use Rattle.std.specs.Int.{cast_signed, cast_unsigned}
 use Rattle.std.proofs.lemmas.Bool.Decides.{nat_tests}
 use Rattle.std.proofs.lemmas.Fmt.{decimal_nonempty, decimal_digit, decimal_step}
-use Rattle.bpf_model.specs.declared.instruction.Inst.{Inst}
 use Rattle.bpf_model.specs.declared.instruction.Width.{Width}
 use Rattle.bpf_model.specs.declared.instruction.Width.TheVariants.{Narrow, Full}
 use Rattle.bpf_model.specs.declared.instruction.Source.{Source}
 use Rattle.bpf_model.specs.declared.instruction.Source.TheVariants as source
 use Rattle.bpf_model.specs.declared.instruction.Unit.TheVariants.{First, Second}
-use Rattle.bpf_model.specs.Reading.{is_wide, is_double, is_int, uses, fits_form, has_form, has_right_fields, has_right_registers}
-use Rattle.bpf_model.proofs.Reading.{both_true}
+use Rattle.bpf_model.specs.Reading.{is_wide, is_double}
 use Rattle.bpf_model.specs.declared.instruction.Operator.{Operator}
 use Rattle.bpf_model.specs.declared.instruction.Operator.TheVariants as operator
 use Rattle.bpf_model.specs.declared.instruction.Condition.{Condition}
@@ -27,21 +25,19 @@ use Rattle.bpf_model.specs.declared.instruction.Size.TheVariants.{Byte, Half, Wo
 use Rattle.bpf_model.specs.declared.instruction.Form.{Form}
 use Rattle.bpf_model.specs.declared.instruction.Form.TheVariants as form
 use Rattle.bpf_asm.specs.declared.token.Token.{Token}
-use Rattle.bpf_asm.specs.declared.token.Token.TheVariants.{Register, Number, Assign, Compare, Unsigned, Signed, Swap, If, Goto, GotoLong, Call, Exit, Long, Open, Close, Star, Plus, Minus, Colon, Name}
+use Rattle.bpf_asm.specs.declared.token.Token.TheVariants.{Register, Number, Assign, Compare, Unsigned, Signed, Swap, If, Goto, GotoLong, Call, Long, Open, Close, Star, Plus, Minus}
 use Rattle.bpf_asm.specs.declared.grammar.Value.{Value}
-use Rattle.bpf_asm.specs.declared.grammar.Fields.{Fields}
-use Rattle.bpf_asm.specs.declared.grammar.Target.TheVariants.{Label, Distance}
-use Rattle.bpf_asm.specs.declared.grammar.Statement.{Statement}
+use Rattle.bpf_asm.specs.declared.grammar.Target.TheVariants.{Distance}
 use Rattle.bpf_asm.specs.declared.grammar.Statement.TheVariants.{Plain, Wide, Jump}
 use Rattle.bpf_asm.specs.declared.grammar.Line.{Line}
 use Rattle.bpf_asm.specs.declared.grammar.Line.TheVariants as line
-use Rattle.bpf_asm.specs.Lex.{Text, is_blank, token_len, continues_word, kind_of}
+use Rattle.bpf_asm.specs.Lex.{Text, token_len, continues_word, kind_of}
 use Rattle.bpf_asm.specs.Grammar.{Tokens, plus, minus, exactly, fields, plain, line_of, is_same, when, statement, no_fields, first_some, operand, swap, extend, extension, guarded, load_form, load_with}
-use Rattle.bpf_asm.specs.Text.{Piece, Next, After, token_of, register_text, operator_text, condition_text, size_text, signed_size_text, number, distance, shift, place, pieces, swap_text, upper}
-use Rattle.bpf_asm.specs.Program.{fits, inst_of, jump_inst, int_of, opcode_of, low_half, high_half}
-use Rattle.bpf_asm.proofs.Again.{stops, body, IsFront, lit, number_front, register_front, size_front, open_size, decimal_digits, digits_continue, prefix_front, digit_code, number_kind, register_by, minus_token, plus_token}
+use Rattle.bpf_asm.specs.Text.{Piece, Next, After, token_of, register_text, operator_text, condition_text, size_text, signed_size_text, number, distance, shift, place, swap_text, upper}
+use Rattle.bpf_asm.specs.Program.{fits, inst_of, int_of, low_half, high_half}
+use Rattle.bpf_asm.proofs.Again.{stops, body, IsFront, lit, number_front, register_front, decimal_digits, digits_continue, prefix_front, digit_code, number_kind, register_by, minus_token, plus_token}
 use Rattle.bpf_asm.proofs.LineText.{clean, clean_append, decimal_clean, AreGood}
-use Rattle.bpf_asm.proofs.ReadBack.{SaysOf, Says}
+use Rattle.bpf_asm.proofs.ReadBack.{SaysOf}
 
 -- ---- numbers
 
@@ -281,7 +277,6 @@ register_means operator.Move h w d s = ap (λ b. when b (Plain (form.Arithmetic 
 register_means operator.ShiftSigned h w d s = ap (λ b. when b (Plain (form.Arithmetic operator.ShiftSigned w source.Register) (fields d s (exactly 0) (exactly 0)))) (same_width w)
 register_means operator.Negate h w d s = absurd h
 register_means operator.SwapBytes h w d s = absurd h
-
 
 -- ---- one register
 
@@ -536,8 +531,6 @@ number_store_line n b z v high l h g =
       len = refl;
       units = λ ls at name. ap (λ x. First (inst_of (form.StoreImmediate n) b 0 x (int_of (value_of v))) ∷ []) (int_back z) ∙ ap (λ x. First (inst_of (form.StoreImmediate n) b 0 z x) ∷ []) (int_back v);
     }
-
-
 
 -- ---- jumps
 

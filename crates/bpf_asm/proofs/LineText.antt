@@ -1,6 +1,6 @@
 -- The text of pieces is one line, which is cut into the pieces' tokens again.
-use Rattle.std.proofs.Common.{◌≡◌, ◌<◌, ◌≤◌, ◌-◌, ◌+◌, ◌^◌, ℕ, zero, suc, List, [], ◌∷◌, ◌++◌, length, take, take_all, map, Option, Some, None, Bool, true, false, refl, ap, sym, ◌∙◌, subst, append_assoc, arith}
-use Rattle.std.specs.Prelude.{codes, ◌&&◌, ◌||◌, ◌==◌, not, nat_lt, cond, slice_index, ⊤}
+use Rattle.std.proofs.Common.{◌≡◌, ◌<◌, ◌^◌, ℕ, suc, List, [], ◌∷◌, ◌++◌, length, take, take_all, map, Some, None, Bool, true, false, refl, ap, sym, ◌∙◌, append_assoc, arith}
+use Rattle.std.specs.Prelude.{◌&&◌, ◌||◌, ◌==◌, not, nat_lt, cond, slice_index, ⊤}
 use Rattle.std.specs.List.{list_all}
 use Rattle.std.specs.Char.{is_ascii_digit}
 use Rattle.std.specs.Str.{all_ascii_digits}
@@ -10,7 +10,7 @@ use Rattle.std.proofs.lemmas.Bool.{eqb-true}
 use Rattle.bpf_asm.specs.declared.grammar.Line.{Line}
 use Rattle.bpf_asm.specs.Lex.{Text, code_len, split, kind_of}
 use Rattle.bpf_asm.specs.Grammar.{line_of}
-use Rattle.bpf_asm.specs.Program.{Row, row, row_of, row_by, row_with, words_of, label_of, cut, with_byte}
+use Rattle.bpf_asm.specs.Program.{row, row_of, row_by, row_with, words_of, label_of, cut, with_byte}
 use Rattle.bpf_asm.specs.Text.{Piece, Next, After, token_of, line_text}
 use Rattle.bpf_asm.proofs.Again.{body, IsFront, AreCut, cut_again, decimal_digits}
 

@@ -1,20 +1,19 @@
 -- The canonical text of a program spells the program, where each of its instructions' lines says the instruction.
-use Rattle.std.proofs.Common.{◌≡◌, ◌<◌, ◌≤◌, ◌-◌, ◌+◌, ◌^◌, ℕ, zero, suc, List, [], ◌∷◌, ◌++◌, length, map, Option, Some, None, Bool, true, false, refl, ap, sym, ◌∙◌, subst, append_assoc, arith, length-append}
-use Rattle.std.specs.Prelude.{◌&&◌, not, Ok, nat_le, cond, ℤ, is_some, ⊤}
+use Rattle.std.proofs.Common.{◌≡◌, ◌<◌, ◌≤◌, ◌+◌, ℕ, List, [], ◌∷◌, ◌++◌, length, map, Some, None, Bool, true, false, refl, ap, sym, ◌∙◌, subst, append_assoc, arith, length-append}
+use Rattle.std.specs.Prelude.{◌&&◌, not, Ok, cond, ℤ, is_some, ⊤}
 use Rattle.std.proofs.lemmas.Bool.Decides.{nat_tests}
 use Rattle.bpf_model.specs.declared.instruction.Inst.{Inst}
 use Rattle.bpf_model.specs.declared.instruction.Form.{Form}
 use Rattle.bpf_model.specs.declared.instruction.Unit.{Unit as ProgramUnit}
 use Rattle.bpf_model.specs.declared.instruction.Unit.TheVariants.{First, Second}
 use Rattle.bpf_model.specs.Reading.{form_of, is_wide}
-use Rattle.bpf_asm.specs.declared.AsmFault.{AsmFault}
-use Rattle.bpf_asm.specs.declared.AsmFault.TheVariants.{BadLine, BadLabel, OutOfRange, Length}
+use Rattle.bpf_asm.specs.declared.AsmFault.TheVariants.{BadLabel, OutOfRange}
 use Rattle.bpf_asm.specs.declared.grammar.Statement.{Statement}
 use Rattle.bpf_asm.specs.declared.grammar.Line.TheVariants as line
 use Rattle.bpf_asm.specs.Lex.{Text, kind_of}
 use Rattle.bpf_asm.specs.Grammar.{line_of}
-use Rattle.bpf_asm.specs.Text.{Piece, token_of, pieces, line_text, instruction_text, canon, high_of}
-use Rattle.bpf_asm.specs.Program.{Row, row, row_of, with_row, rows_of, last_word, statement_fits, line_fits, row_fault, or_fault, first_fault, Definition, statement_len, units_in, labels_from, label_fault, goes_to_label, place_found, statement_units, units_from, length_fault, rows_fault, fault_of, assembled_with, assembled, cut}
+use Rattle.bpf_asm.specs.Text.{Piece, token_of, pieces, instruction_text, canon, high_of}
+use Rattle.bpf_asm.specs.Program.{row, row_of, with_row, rows_of, last_word, statement_fits, row_fault, or_fault, first_fault, Definition, statement_len, units_in, labels_from, label_fault, goes_to_label, place_found, statement_units, units_from, length_fault, rows_fault, fault_of, assembled_with, assembled, cut}
 use Rattle.bpf_asm.proofs.Again.{body}
 use Rattle.bpf_asm.proofs.LineText.{AreGood, body_clean, cut_clean, line_body, line_says}
 
@@ -120,9 +119,9 @@ spells_again us some few h =
     let lines = cut (canon us) in
     let rows = rows_of lines in
     let sound : fault_of lines ≡ None =
-        ap (λ o. or_fault o (rows_fault rows)) (b.none 1)
-        ∙ ap (λ n. or_fault (length_fault n) (label_fault (labels_from 0 rows) 1 [] rows)) b.count
-        ∙ ap (λ o. or_fault o (label_fault (labels_from 0 rows) 1 [] rows)) (good_length (length us) some few)
-        ∙ b.faultless (labels_from 0 rows) 1 []
+    ap (λ o. or_fault o (rows_fault rows)) (b.none 1)
+    ∙ ap (λ n. or_fault (length_fault n) (label_fault (labels_from 0 rows) 1 [] rows)) b.count
+    ∙ ap (λ o. or_fault o (label_fault (labels_from 0 rows) 1 [] rows)) (good_length (length us) some few)
+    ∙ b.faultless (labels_from 0 rows) 1 []
     in
     ap (assembled_with lines) sound ∙ ap Ok (b.units (labels_from 0 rows) 0)

@@ -1,6 +1,6 @@
 -- What the grammar gives is an instruction of the profile: its opcode is its form's, its fields are those that the form takes.
-use Rattle.std.proofs.Common.{◌≡◌, ℕ, zero, suc, ◌+◌, ◌-◌, ◌<◌, ◌≤◌, List, [], ◌∷◌, ◌++◌, map, Option, Some, None, Bool, true, false, refl, sym, ap, ◌∙◌, subst, arith}
-use Rattle.std.specs.Prelude.{◌&&◌, ◌||◌, ◌==◌, nat_le, cond, ℤ, pos, option_map, slice_index, ⊤}
+use Rattle.std.proofs.Common.{◌≡◌, ℕ, ◌-◌, List, [], ◌∷◌, map, Option, Some, None, Bool, true, false, refl, ap, ◌∙◌, arith}
+use Rattle.std.specs.Prelude.{◌&&◌, ◌||◌, ◌==◌, nat_le, cond, pos, option_map, slice_index, ⊤}
 use Rattle.std.specs.List.{list_all}
 use Rattle.std.specs.Str.{bytes_eq}
 use Rattle.std.specs.Char.{is_ascii_digit}
@@ -24,13 +24,13 @@ use Rattle.bpf_asm.specs.declared.grammar.Value.{Value}
 use Rattle.bpf_asm.specs.declared.grammar.Fields.{Fields}
 use Rattle.bpf_asm.specs.declared.grammar.Target.{Target}
 use Rattle.bpf_asm.specs.declared.grammar.Statement.{Statement}
-use Rattle.bpf_asm.specs.declared.grammar.Statement.TheVariants.{Plain, Wide, Jump}
+use Rattle.bpf_asm.specs.declared.grammar.Statement.TheVariants.{Plain, Wide}
 use Rattle.bpf_asm.specs.declared.grammar.Line.{Line}
 use Rattle.bpf_asm.specs.declared.grammar.Line.TheVariants as line
 use Rattle.bpf_asm.specs.Lex.{Text, Table, symbols, words, lookup, numbered, register_or_name, kind_of, small, number_value}
 use Rattle.bpf_asm.specs.Grammar.{Tokens, plus, minus, exactly, fields, is_same, when, operand, sized, based, plain, load_form, load_with, load_of, extension, extend, swap, is_full, guarded, first_some, only_assigned, assigned, stored, store_with, store_of, target, jump_to, branch, no_fields, statement, is_word, line_of}
 use Rattle.bpf_asm.specs.Program.{Row, row_with, row_by, row_of, words_of, with_row, rows_of, opcode_of, inst_of, int_of}
-use Rattle.bpf_asm.specs.Sound.{IsOf, IsPlain, IsJump, IsSound, AreSound}
+use Rattle.bpf_asm.specs.Sound.{IsPlain, IsJump, IsSound, AreSound}
 
 -- ---- the decoder reads back the form of each opcode
 

@@ -1,9 +1,8 @@
 -- Promises: what the grammar gives is an instruction of the profile.
-use Rattle.std.specs.Prelude.{◌≡◌, ℕ, Bool, true, false, not, ◌&&◌, ◌||◌, ◌==◌, nat_le, ℤ, pos, List, [], ◌∷◌, Option, Some, None, ⊤}
+use Rattle.std.specs.Prelude.{◌≡◌, ℕ, true, false, nat_le, ℤ, List, [], ◌∷◌, Some, ⊤}
 use Rattle.bpf_model.specs.declared.instruction.Form.{Form}
 use Rattle.bpf_model.specs.Reading.{form_of, has_right_fields, has_right_registers, is_wide}
 use Rattle.bpf_asm.specs.declared.grammar.Fields.{Fields}
-use Rattle.bpf_asm.specs.declared.grammar.Statement.{Statement}
 use Rattle.bpf_asm.specs.declared.grammar.Statement.TheVariants.{Plain, Wide, Jump}
 use Rattle.bpf_asm.specs.declared.grammar.Line.{Line}
 use Rattle.bpf_asm.specs.declared.grammar.Line.TheVariants as line

@@ -114,8 +114,7 @@ pub fn assemble(alloc: Global, text: &[u8]) -> Result<Code, AsmFault>
 /// The canonical text of a program spells the program, and nothing else. The function does nothing: its contract is the law.
 pub fn law_of_canonical_text()
     ensures { RoundTrip }
-{
-}
+{}
 
 /// A program shown as text and assembled again: the same program, unless memory is refused.
 pub fn reassemble(alloc: Global, code: &Code) -> Result<Code, AsmFault>

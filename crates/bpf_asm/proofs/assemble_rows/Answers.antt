@@ -1,9 +1,7 @@
-use Rattle.std.proofs.Common.{◌≡◌, ◌<◌, ◌≤◌, ℕ, List, true, false, map, length, Bor, refl, sym, ap, ◌∙◌, subst, arith, rules}
-use Rattle.std.specs.Prelude.{not, Bool}
-use Rattle.bpf_model.specs.declared.instruction.Unit.{Unit as ProgramUnit}
+use Rattle.std.proofs.Common.{◌≡◌, ◌<◌, ◌≤◌, ℕ, List, true, map, length, Bor, sym, ap, ◌∙◌, subst, rules}
 use Rattle.bpf_decode.specs.Making.{AreUnits}
 use Rattle.bpf_asm.specs.declared.grammar.Line.{Line}
-use Rattle.bpf_asm.specs.Program.{Row, Definition, row, definition, units_in, units_from, labels_from, AreWithin}
+use Rattle.bpf_asm.specs.Program.{Row, Definition, row, definition, AreWithin}
 use Rattle.bpf_asm.proofs.Assembling.{places_within, right_count, spelled_by, spelled_units, units_length}
 use Rattle.bpf_asm.proofs.assemble_rows.Goals as goal
 

@@ -1,4 +1,4 @@
-use Rattle.std.proofs.Common.{◌≤◌, arith}
+use Rattle.std.proofs.Common.{arith}
 use Rattle.bpf_asm.proofs.units.distance_to.Goals as goal
 
 pub apart-requires-clause-place : goal.apart-requires-clause-place
