@@ -1,13 +1,13 @@
 -- Units that are sound one by one are a program: their bytes are read as the same units.
-use Rattle.std.proofs.Common.{◌≡◌, ℕ, zero, suc, ◌+◌, ◌-◌, ◌*◌, ◌^◌, ◌<◌, ◌≤◌, List, [], ◌∷◌, ◌++◌, Option, Some, None, Bool, true, false, refl, sym, ap, ◌∙◌, subst, arith, add-one, length, length-append, drop, append_assoc, w16, w32, FitsSigned}
-use Rattle.std.specs.Prelude.{◌/◌, ◌%◌, ◌==◌, ◌&&◌, not, cond, nat_le, slice_index, ℤ, ⊤}
+use Rattle.std.proofs.Common.{◌≡◌, ℕ, zero, suc, ◌+◌, ◌*◌, ◌<◌, ◌≤◌, List, [], ◌∷◌, ◌++◌, Option, Some, None, Bool, true, false, refl, sym, ap, ◌∙◌, subst, arith, length, drop, append_assoc, w16, w32, FitsSigned}
+use Rattle.std.specs.Prelude.{◌/◌, ◌%◌, ◌==◌, ◌&&◌, not, cond, slice_index, ℤ}
 use Rattle.std.specs.Int.{cast_signed, cast_unsigned}
 use Rattle.std.proofs.Math.Facts.{Fits-of_z, Fits-of_lt, sfits_to_z}
 use Rattle.std.proofs.Common.{zero-add}
 use Rattle.std.specs.Prelude.{slice_get}
 use Rattle.bpf_model.proofs.Reading.{IsUnit, units_at, length_of_units}
 use Rattle.std.proofs.lemmas.Int.{to_z-of_z}
-use Rattle.std.proofs.lemmas.List.{drop-drop, get_or-drop}
+use Rattle.std.proofs.lemmas.List.{drop-drop}
 use Rattle.std.proofs.lemmas.Bool.Decides.{nat_tests}
 use Rattle.byteorder.specs.Endian.{little_bytes, little_number}
 use Rattle.bpf_model.specs.declared.instruction.Inst.{Inst}
@@ -16,8 +16,8 @@ use Rattle.bpf_model.specs.declared.instruction.Form.TheVariants.{Arithmetic, Wi
 use Rattle.bpf_model.specs.declared.instruction.Unit.{Unit as ProgramUnit}
 use Rattle.bpf_model.specs.declared.instruction.Unit.TheVariants.{First, Second}
 use Rattle.bpf_model.specs.declared.instruction.UnitFault.{UnitFault}
-use Rattle.bpf_model.specs.declared.instruction.UnitFault.TheVariants.{Opcode, Field, Register as BadRegister, HalfWide}
-use Rattle.bpf_model.specs.Reading.{unit_at, units_below, unit_fault, fields_at, imm_at, begins, first_fault, second_fault, form_of, opcode_at, is_last, fault_below, or_at, is_wide, half_wide, has_right_fields, has_right_registers, has_right_length, units}
+use Rattle.bpf_model.specs.declared.instruction.UnitFault.TheVariants.{Field, Register as BadRegister}
+use Rattle.bpf_model.specs.Reading.{unit_at, units_below, unit_fault, fields_at, imm_at, begins, first_fault, second_fault, form_of, opcode_at, is_last, fault_below, or_at, is_wide, half_wide, has_right_fields, has_right_registers}
 use Rattle.bpf_decode.specs.Encoded.{unit_bytes, encoded}
 use Rattle.bpf_decode.specs.Faults.{AreBytes, IsProgram}
 use Rattle.bpf_decode.specs.Making.{IsInstruction, AreUnits}
@@ -67,9 +67,9 @@ module _ (bytes : List ℕ) (pc : ℕ) where
       let dst : slice_index bytes (8 * pc + 1) % 16 ≡ i.dst = ap (λ x. x % 16) regs ∙ registers_low i.dst i.src s.dst s.src in
       let src : slice_index bytes (8 * pc + 1) / 16 ≡ i.src = ap (λ x. x / 16) regs ∙ registers_high i.dst i.src s.dst s.src in
       let offset : cast_signed w16 (little_number 2 (drop (8 * pc + 2) bytes)) ≡ i.offset =
-          ap (λ l. cast_signed w16 (little_number 2 l)) (later us 2 h)
-          ∙ ap (cast_signed w16) (two_bytes (cast_unsigned w16 i.offset) (small_offset i.offset s.offset))
-          ∙ to_z-of_z w16 i.offset s.offset
+      ap (λ l. cast_signed w16 (little_number 2 l)) (later us 2 h)
+      ∙ ap (cast_signed w16) (two_bytes (cast_unsigned w16 i.offset) (small_offset i.offset s.offset))
+      ∙ to_z-of_z w16 i.offset s.offset
       in
       let imm : imm_at bytes pc ≡ i.imm = imm_is _ _ _ _ i.imm rest s.imm h in
       λ j. record { opcode = op j; dst = dst j; src = src j; offset = offset j; imm = imm j }
@@ -329,18 +329,19 @@ module _ (bytes : List ℕ) (small : AreBytes bytes) where
       let u = unit 0 pc (First i) refl (omega arith) in
       let is = same_inst (fields_at bytes pc) i (sym (ap (λ b. cond b (First (fields_at bytes pc)) (Second (imm_at bytes pc))) place) ∙ u.is) in
       let sound : first_fault (form_of (opcode_at bytes pc)) (fields_at bytes pc) (is_last bytes pc) ≡ None =
-          sym (ap (λ b. cond b (first_fault (form_of (opcode_at bytes pc)) (fields_at bytes pc) (is_last bytes pc)) (second_fault bytes pc)) place) ∙ u.sound
+      sym (ap (λ b. cond b (first_fault (form_of (opcode_at bytes pc)) (fields_at bytes pc) (is_last bytes pc)) (second_fault bytes pc)) place) ∙ u.sound
       in
       let next : begins bytes (suc pc) ≡ not (is_wide (form_of i.opcode)) =
-          ap (λ b. not (b && is_wide (form_of (opcode_at bytes pc)))) place ∙ ap (λ (j : Inst). not (is_wide (form_of j.opcode))) is
+      ap (λ b. not (b && is_wide (form_of (opcode_at bytes pc)))) place ∙ ap (λ (j : Inst). not (is_wide (form_of j.opcode))) is
       in
       let more : not (is_wide (form_of i.opcode)) ≡ false → 0 < length us =
-          λ e. let w : is_wide (form_of (opcode_at bytes pc)) ≡ true = ap (λ (j : Inst). is_wide (form_of j.opcode)) is ∙ not_true (is_wide (form_of i.opcode)) e in
-               let room = goes_on pc (wide_goes_on (form_of (opcode_at bytes pc)) (fields_at bytes pc) (is_last bytes pc) sound w) in
-               omega (arith, room)
-      in
-      (subst IsInstruction is (read_inst pc sound),
-       all_units_are us (suc pc) (not (is_wide (form_of i.opcode))) (omega arith) next (λ k m x g e. unit (suc k) m x g (omega arith)) more)
+      λ e. let w : is_wide (form_of (opcode_at bytes pc)) ≡ true = ap (λ (j : Inst). is_wide (form_of j.opcode)) is ∙ not_true (is_wide (form_of i.opcode)) e in
+      let room = goes_on pc (wide_goes_on (form_of (opcode_at bytes pc)) (fields_at bytes pc) (is_last bytes pc) sound w) in
+      omega (arith, room)
+      in (
+        subst IsInstruction is (read_inst pc sound),
+        all_units_are us (suc pc) (not (is_wide (form_of i.opcode))) (omega arith) next (λ k m x g e. unit (suc k) m x g (omega arith)) more,
+      )
   all_units_are (Second v ∷ us) pc true l place unit some =
       let u = unit 0 pc (Second v) refl (omega arith) in
       absurd (no_first (fields_at bytes pc) v (sym (ap (λ b. cond b (First (fields_at bytes pc)) (Second (imm_at bytes pc))) place) ∙ u.is))

@@ -1,5 +1,5 @@
 -- Promises: lists of units that are a program, told unit by unit.
-use Rattle.std.specs.Prelude.{◌≡◌, ℕ, ◌<◌, Bool, true, false, not, List, [], ◌∷◌, Option, None, FitsSigned, ⊤}
+use Rattle.std.specs.Prelude.{◌≡◌, ◌<◌, Bool, true, false, not, List, [], ◌∷◌, None, FitsSigned, ⊤}
 use Rattle.std.specs.Int.{w16, w32}
 use Rattle.bpf_model.specs.declared.instruction.Inst.{Inst}
 use Rattle.bpf_model.specs.declared.instruction.Unit.{Unit as ProgramUnit}

@@ -1,6 +1,7 @@
 //! Configurations as their owner writes them.
 use crate::{ConfigFault, Serve, config_part, read_config, read_head};
 use site_core::Site;
+use std::alloc::Global;
 use std::test::Fail;
 use till_request::LineIn;
 use till_request::devices::MemoryIn;
@@ -154,43 +155,57 @@ fn faults_in_their_order(rt: HostRuntime) -> Result<(), Fail> {
     Ok(())
 }
 
+/// What is read of a text's head, as one text: the configuration, a bar, and what is left unread.
+fn head_and_rest(alloc: Global, text: &str) -> Result<Vec<u8>, Fail> {
+    let bytes = Vec::from_slice(alloc, text.as_bytes())?;
+    let mut input = MemoryIn::new(bytes, Vec::new(alloc), None);
+    let mut reads = 67_108_864;
+    let head = read_head(alloc, &mut input, &mut reads)?;
+    let mut told = Vec::new(alloc);
+    if let Some(part) = config_part(head.as_slice()) {
+        told.extend_from_slice(part)?;
+        told.push(b'|')?;
+    }
+    let mut rest = [0u8; 64];
+    let count = input.read(&mut rest)?;
+    told.extend_from_slice(&rest[..count])?;
+    Ok(told)
+}
+
 #[test]
 fn a_head_ends_with_its_line(rt: HostRuntime) -> Result<(), Fail> {
-    for (text, want, left) in [
-        ("a = 1\n---\ntill 1 open 1\n", "a = 1\n", "till 1 open 1\n"),
-        ("---\n---\n", "", "---\n"),
+    for (text, want) in [
+        ("a = 1\n---\ntill 1 open 1\n", "a = 1\n|till 1 open 1\n"),
+        ("---\n---\n", "|---\n"),
         (
             "a = 1\n--- \n---\r\n----\n---",
-            "a = 1\n--- \n---\r\n----\n---",
-            "",
+            "a = 1\n--- \n---\r\n----\n---|",
         ),
-        ("", "", ""),
+        ("", "|"),
     ] {
-        let bytes = Vec::from_slice(rt.alloc(), text.as_bytes())?;
-        let mut input = MemoryIn::new(bytes, Vec::new(rt.alloc()), None);
-        let mut reads = 67_108_864;
-        let head = read_head(rt.alloc(), &mut input, &mut reads)?;
-        assert_eq!(rt;
-            config_part(head.as_slice()),
-            Some(want.as_bytes()),
-            "{text}"
-        );
-        let mut rest = [0u8; 64];
-        let count = input.read(&mut rest)?;
-        assert_eq!(rt; &rest[..count], left.as_bytes(), "{text}");
+        let told = head_and_rest(rt.alloc(), text)?;
+        assert_eq!(rt; told.as_slice(), want.as_bytes(), "{text}");
     }
     Ok(())
 }
 
+/// Whether a configuration of so many bytes, in front of its separator, is taken.
+fn is_taken(alloc: Global, count: usize) -> Result<bool, Fail> {
+    let mut bytes = Vec::new(alloc);
+    for _ in 1..count {
+        bytes.push(b'#')?;
+    }
+    bytes.extend_from_slice(b"\n---\n")?;
+    let mut input = MemoryIn::new(bytes, Vec::new(alloc), None);
+    let mut reads = 67_108_864;
+    let head = read_head(alloc, &mut input, &mut reads)?;
+    Ok(config_part(head.as_slice()).is_some())
+}
+
 #[test]
 fn a_head_of_too_many_bytes_is_none(rt: HostRuntime) -> Result<(), Fail> {
-    for (count, is_there) in [(65_536, true), (65_537, false), (70_000, false)] {
-        let mut bytes = vec![in rt.alloc(); b'#'; count - 1]?;
-        bytes.extend_from_slice(b"\n---\n")?;
-        let mut input = MemoryIn::new(bytes, Vec::new(rt.alloc()), None);
-        let mut reads = 67_108_864;
-        let head = read_head(rt.alloc(), &mut input, &mut reads)?;
-        assert_eq!(rt; config_part(head.as_slice()).is_some(), is_there, "{count}");
-    }
+    assert!(rt; is_taken(rt.alloc(), 65_536)?);
+    assert!(rt; !is_taken(rt.alloc(), 65_537)?);
+    assert!(rt; !is_taken(rt.alloc(), 70_000)?);
     Ok(())
 }

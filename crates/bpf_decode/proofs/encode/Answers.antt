@@ -1,4 +1,4 @@
-use Rattle.std.proofs.Common.{◌≡◌, ◌<◌, take, take_all, length, arith, ap, ◌∙◌}
+use Rattle.std.proofs.Common.{take_all, arith, ap, ◌∙◌}
 use Rattle.bpf_model.specs.Reading.{units}
 use Rattle.bpf_decode.specs.Encoded.{encoded}
 use Rattle.bpf_decode.proofs.Encoding.{encoded_step, read_back}
