@@ -59,7 +59,7 @@ fn scripts_are_answered(rt: HostRuntime) -> Result<(), Fail> {
                 assert_eq!(rt; written.as_slice(), text.as_bytes());
                 assert!(rt; ended.cut.is_none());
             }
-            _ => assert!(rt; false, "{script}"),
+            _ => assert!(rt; false),
         }
     }
     Ok(())

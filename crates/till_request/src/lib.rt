@@ -17,8 +17,6 @@ mod write;
 pub use act::{Act, Answer, Bytes, LineFault, Reply, Request, Role};
 pub use device::{DeviceFault, LineIn, LineOut};
 pub use grammar::{number_u32, number_u64, parse_line, parse_words, split_words};
-pub use line::{
-    InputFault, LINE_BYTES, LineReadFault, NextLine, next_byte, next_line, read_line,
-};
+pub use line::{InputFault, LINE_BYTES, LineReadFault, NextLine, next_byte, next_line, read_line};
 pub use spelling::{spell_act, spelling_is_read};
 pub use write::{WriteFault, write_all, write_answer};
