@@ -1,9 +1,9 @@
 //! What the program does for its words.
 use crate::files::{Text, read_file};
 use console::{
-    ConfigFault, Ended, Job, MOST_BYTES, READS, SessionFault, Settings, asm_file,
-    audit_entries, config_part, dis_file, journal_fault_line, play, play_within, read_config,
-    read_head, verify_file,
+    ConfigFault, Ended, Job, MOST_BYTES, READS, SessionFault, Settings, asm_file, audit_entries,
+    config_part, dis_file, journal_fault_line, play, play_within, read_config, read_head,
+    verify_file,
 };
 use decision_journal::read_entries;
 use std::fs::File;
@@ -95,8 +95,18 @@ fn refuse_config(rt: &HostRuntime, fault: ConfigFault) -> io::Result<u8> {
 /// The status of a play that ended so; what a device did is said on standard error.
 fn status_of(rt: &HostRuntime, ended: Result<Ended, SessionFault>) -> io::Result<u8> {
     let fault = match ended {
-        Ok(Ended { lines: _, cut: None }) => return Ok(DONE),
-        Ok(Ended { lines: _, cut: Some(_) }) => return Ok(REFUSED),
+        Ok(
+            Ended {
+                lines: _,
+                cut: None,
+            },
+        ) => return Ok(DONE),
+        Ok(
+            Ended {
+                lines: _,
+                cut: Some(_),
+            },
+        ) => return Ok(REFUSED),
         Err(SessionFault::Read) => "a read failed (N1)",
         Err(SessionFault::Write) => "a write failed (N2)",
         Err(SessionFault::ReadsSpent) => "the reads ran out (N3)",
@@ -184,7 +194,7 @@ fn audit_files(rt: &HostRuntime, config: &str, journal: &str) -> io::Result<u8> 
         Err(error) => return cannot_read(rt, journal, error),
     };
     let mut input = StreamIn {
-        reader: file,
+        reader: BufReader::new(rt.alloc(), file)?,
         reads: 0,
         failures: 0,
     };

@@ -11,7 +11,9 @@ use std::process::ExitCode;
 
 /// The words of the command line, the program's name first.
 fn words_of(rt: &HostRuntime) -> io::Result<Vec<String>> {
-    std::env::args(rt)?.collect(rt.alloc()).map_err(io::Error::from)
+    std::env::args(rt)?
+        .collect(rt.alloc())
+        .map_err(io::Error::from)
 }
 
 fn status_of(rt: &HostRuntime) -> u8 {
