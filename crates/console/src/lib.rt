@@ -14,4 +14,6 @@ pub use line_session::{Ended, READS, SessionFault};
 pub use player::Player;
 pub use playing::{play, play_within};
 pub use script::{ScriptLine, parse_script_line};
-pub use site_config::{ConfigFault, MOST_BYTES, Serve, Settings, config_part, read_config, read_head};
+pub use site_config::{
+    ConfigFault, MOST_BYTES, Serve, Settings, config_part, read_config, read_head,
+};

@@ -32,15 +32,7 @@ pub fn play_within<I: LineIn, O: LineOut>(
         return Err(SessionFault::OutOfMemory);
     };
     let mut moment = 0;
-    talk_within(
-        alloc,
-        input,
-        output,
-        &Player,
-        &mut moment,
-        &mut site,
-        left,
-    )
+    talk_within(alloc, input, output, &Player, &mut moment, &mut site, left)
 }
 
 /// Answers a script line by line: a session over the configuration's site, from moment 0 on, of at most 67,108,864 reads.

@@ -27,11 +27,6 @@ const PRICE: [u8; 8] = [0x61, 0x10, 0x28, 0, 0, 0, 0, 0];
 /// R0 is 5,000.
 const FIVE_THOUSAND: [u8; 8] = [0xb7, 0, 0, 0, 0x88, 0x13, 0, 0];
 
-/// Counter 0 is raised by 1.
-const RAISE: [u8; 24] = [
-    0xb7, 1, 0, 0, 0, 0, 0, 0, 0xb7, 2, 0, 0, 1, 0, 0, 0, 0x85, 0, 0, 0, 2, 0, 0, 0,
-];
-
 #[derive(Clone, Copy, Debug, Drop)]
 enum Does {
     Till(u32, Request),
@@ -134,39 +129,6 @@ const DELIVERY: [(Does, Reply); 6] = [
 ];
 
 const OPEN: (Does, Reply) = (Does::Till(1, Request::OpenPoint(1)), Reply::Done);
-
-#[test]
-fn a_counter_stops_presets_at_its_bound(rt: HostRuntime) -> Result<(), Fail> {
-    let mut site = start(rt.alloc())?;
-    load(&rt, rt.alloc(), &mut site, 1, 1, &RAISE, Reply::Version(1))?;
-    let preset = Does::Till(1, Request::Preset(1, 100));
-    play(
-        &rt,
-        &mut site,
-        0,
-        &[
-            OPEN,
-            (preset, Reply::Granted(1, 1)),
-            (preset, Reply::Granted(1, 1)),
-            (preset, refused_with(24, 1)),
-        ],
-    );
-    assert_eq!(rt;
-        (site.counter(0), site.counter(31), site.counter(32)),
-        (Some((2, 2)), Some((0, 0)), None)
-    );
-    Ok(())
-}
-
-#[test]
-fn a_closed_point_runs_no_program(rt: HostRuntime) -> Result<(), Fail> {
-    let mut site = start(rt.alloc())?;
-    load(&rt, rt.alloc(), &mut site, 0, 1, &RAISE, Reply::Version(1))?;
-    let release = Does::Till(1, Request::Release(1, 8000));
-    play(&rt, &mut site, 0, &[(release, refused_with(22, 2))]);
-    assert_eq!(rt; site.counter(0), Some((0, 2)));
-    Ok(())
-}
 
 #[test]
 fn a_replaced_version_decides_no_more(rt: HostRuntime) -> Result<(), Fail> {
