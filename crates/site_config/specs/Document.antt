@@ -1,4 +1,4 @@
--- Reading with a fault, and the document of some bytes.
+-- Definitions: reading with a fault, and the document of some bytes.
 use Rattle.std.specs.Prelude.{◌≡◌, ℕ, List, ◌++◌, Option, Some, None, Result, Ok, Err, if◌then◌else◌}
 use Rattle.std.specs.Str.{is_utf8}
 use Rattle.toml.specs.Data.{Members}

@@ -1,4 +1,4 @@
--- A document by its keys and types.
+-- Definitions: a document by its keys and types.
 use Rattle.std.specs.Prelude.{◌==◌, ◌&&◌, ◌||◌, ℕ, ℤ, List, [], ◌∷◌, codes, Bool, true, false, Option, Some, None, Result, Ok, Err, option_and_then, if◌then◌else◌}
 use Rattle.std.specs.Str.{bytes_eq}
 use Rattle.toml.specs.Data.{Data, Items, Members, no_items, item, no_members, member, table, get_member, as_integer, as_array, as_table}

@@ -1,0 +1,15 @@
+//! Acceptance: tables of cases that go through all crates, from a text that comes in to the text that goes out.
+#![tactic(auto)]
+
+#[cfg(test)]
+mod journals;
+#[cfg(test)]
+mod points;
+#[cfg(test)]
+mod programs;
+#[cfg(test)]
+mod releases;
+#[cfg(test)]
+mod sites;
+#[cfg(test)]
+mod texts;

@@ -1,0 +1,8 @@
+//! Refused memory: tests that take all memory that the process can get, give back a measured room, and see that a call
+//! which finds too little of it changes nothing. They stand apart, since they leave no memory to anybody beside them.
+#![tactic(auto)]
+
+#[cfg(test)]
+mod events;
+#[cfg(test)]
+mod hoarding;
