@@ -2,7 +2,7 @@
 use crate::{rebase, run};
 use counters::Counters;
 use helpers::{PointView, View};
-use reg_types::verify;
+use reg_types::{Program, verify};
 
 /// No point, and no price.
 const EMPTY: View = View {
@@ -15,6 +15,15 @@ const EMPTY: View = View {
     prices: [0; 8],
 };
 
+/// A run from some counters, carried over to the same counters: its answer, and counter 0 after it.
+fn carried(program: &Program, context: &[u8; 64], before: Counters) -> (u64, u64) {
+    let mut after = before;
+    let answer = run(program, context, &EMPTY, &mut after);
+    let mut now = before;
+    rebase(program, context, &EMPTY, &before, answer, &after, &mut now);
+    (answer, now.get(0))
+}
+
 // It adds 1 to counter 0, and answers what the helper answers.
 #[test]
 fn a_run_is_carried_over(rt: HostRuntime) {
@@ -23,16 +32,8 @@ fn a_run_is_carried_over(rt: HostRuntime) {
         0, 0, 0, 0, 0, 0,
     ];
     let program = verify(rt.alloc(), &bytes, 1).expect(&rt, "a program");
-    let context = [0; 64];
-    let before = Counters::new([(0, 2); 32]);
-    let mut after = Counters::new([(0, 2); 32]);
-    let answer = run(&program, &context, &EMPTY, &mut after);
+    let counters = Counters::new([(0, 2); 32]);
+    let (answer, value) = carried(&program, &[0; 64], counters);
     assert_eq!(rt; answer, 1);
-    assert_eq!(rt; after.get(0), 1);
-    let mut now = Counters::new([(0, 2); 32]);
-    rebase(
-        &program, &context, &EMPTY, &before, answer, &after, &mut now,
-    );
-    assert_eq!(rt; now.get(0), 1);
-    assert_eq!(rt; now.get(1), 0);
+    assert_eq!(rt; value, 1);
 }
