@@ -6,8 +6,8 @@ use Rattle.site_core.specs.Site.{SiteValue, Upholds}
 use Rattle.site_lock.specs.declared.close.Why.{Why}
 use Rattle.site_lock.specs.declared.close.Why.TheVariants.{PassMissing, NotInHistory, OtherConfig}
 use Rattle.site_lock.specs.Passes.{PassView, Opened}
-use Rattle.site_lock.specs.Merge.{AreAll, IsFault, IsMerge}
-use Rattle.site_lock.specs.Closing.{Closes, HasFault, Refuses, Hinders}
+use Rattle.site_lock.specs.Merge.{AreAll, IsMerge}
+use Rattle.site_lock.specs.Closing.{Closes, Refuses, Hinders}
 
 pub none_missing : (f : Opened) (n : ℕ) (xs ys : List PassView) (r : Bool) → r ≡ true → IsTrue r ↔ AreAll n xs → xs ≡ ys → n ≡ f.passes → AreAll f.passes ys
 none_missing f n xs ys r e h same num =
