@@ -1,0 +1,5 @@
+pub mod Fresh
+pub mod Loops
+pub mod Ends
+pub mod Fitting
+pub mod Saying

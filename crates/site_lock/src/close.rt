@@ -1,0 +1,29 @@
+//! Closing a forecourt.
+use super::forecourt::Forecourt;
+use super::pass::{Pass, Yard};
+use site_core::Site;
+
+/// Why a forecourt was not closed.
+#[derive(Clone, Copy, Debug, PartialEq, Eq, Drop)]
+pub enum Why {
+    /// C1: the passes handed in aren't all of the forecourt's, each once.
+    PassMissing,
+    /// C2: the receipt of this pass with this number isn't the entry there, or the entry there has no receipt.
+    NotInHistory(u32, u32),
+    /// C3: the site has another configuration.
+    OtherConfig,
+}
+
+/// A forecourt that was not closed, with the passes that were handed in.
+#[derive(Drop)]
+pub struct CloseFault<L: Yard> {
+    pub why: Why,
+    pub forecourt: Forecourt<L>,
+    pub passes: Vec<Pass<L>>,
+}
+
+/// What a closed forecourt leaves.
+#[derive(Drop)]
+pub struct Closed {
+    pub site: Site,
+}
