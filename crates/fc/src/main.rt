@@ -3,6 +3,7 @@
 
 mod files;
 mod jobs;
+mod progress;
 
 use console::{CommandFault, command};
 use jobs::{FAILED, USAGE, do_job};
