@@ -10,6 +10,8 @@ mod programs;
 #[cfg(test)]
 mod releases;
 #[cfg(test)]
+mod sessions;
+#[cfg(test)]
 mod sites;
 #[cfg(test)]
 mod texts;

@@ -82,3 +82,18 @@ fn dispensers_and_products(rt: HostRuntime) {
         assert!(rt; is_answered(rt.alloc(), STATION, script, text), "{name}");
     }
 }
+
+#[test]
+fn a_rule_is_replaced_while_another_car_fuels(rt: HostRuntime) {
+    let script = format!(in rt.alloc();
+        "{GRANT}till 1 open 1\ntill 1 open 2\ntill 1 release 1 8000\ndisp 1 up 1\ndisp 1 order\ndisp 1 started\nload 0 0 b7000000881300009500000000000000\ntill 2 release 2 8000\ndisp 1 flow 7000 3891\ndisp 1 down\ntill 1 show 1\ntill 2 show 2\n"
+    ).expect(&rt, "memory");
+    assert!(rt;
+        is_answered(
+            rt.alloc(),
+            STATION,
+            script.as_str(),
+            "1 version 1\n2 done\n3 done\n4 granted 8000 by 1\n5 done\n6 order authorise 8000\n7 done\n8 version 2\n9 granted 5000 by 2\n10 done\n11 done\n12 point 3 0 0 0 0 0 1\n13 point 5 0 0 0 5000 0 0\n",
+        )
+    );
+}
