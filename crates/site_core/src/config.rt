@@ -1,9 +1,10 @@
 //! The configuration.
 
-ghost use Rattle.std.specs.Prelude.{◌≡◌, ◌↔◌, IfSome, IsTrue, is_some};
+ghost use Rattle.std.specs.Prelude.{◌≡◌, ◌↔◌, IfOk, IfSome, IsTrue, is_some};
 ghost use Rattle.site_core.specs.Limits.{ConfigValue, IsConfig};
 ghost use Rattle.site_core.specs.Decide.{slots_of};
 
+use std::alloc::{AllocError, Global};
 use std::marker::Model;
 
 /// What a site is made from: its number of tills, the slot of price changes, the prices of products 1 to 8 in thousandths, for each
@@ -66,6 +67,32 @@ impl Config {
         })
     }
 
+    /// The same configuration once more. The error is want of memory.
+    pub fn copied(&self, alloc: Global) -> Result<Config, AllocError>
+        ensures { IfOk result (λ config. config ≡ self.now) }
+    {
+        let points = Vec::from_slice(alloc, self.points.as_slice())?;
+        Ok(Config {
+            tills: self.tills,
+            price_slot: self.price_slot,
+            prices: self.prices,
+            points,
+            counters: self.counters,
+        })
+    }
+
+    /// Whether the two are the same in every part.
+    pub fn is_same(&self, other: &Config) -> bool
+        ensures { IsTrue result ↔ (self.now ≡ other.now) }
+    {
+        if self.tills != other.tills || self.price_slot != other.price_slot {
+            return false;
+        }
+        is_same_prices(&self.prices, &other.prices)
+            && is_same_points(self.points.as_slice(), other.points.as_slice())
+            && is_same_counters(self.counters.as_slice(), other.counters.as_slice())
+    }
+
     /// How many tills there are.
     pub(crate) fn tills(&self) -> u32
         ensures { result ≡ self.now.tills }
@@ -123,4 +150,22 @@ impl Config {
     {
         self.points.as_slice()
     }
+}
+
+fn is_same_prices(a: &[u32; 8], b: &[u32; 8]) -> bool
+    ensures { IsTrue result ↔ (a.now ≡ b.now) }
+{
+    a == b
+}
+
+fn is_same_points(a: &[(u32, u32)], b: &[(u32, u32)]) -> bool
+    ensures { IsTrue result ↔ (a.now ≡ b.now) }
+{
+    a == b
+}
+
+fn is_same_counters(a: &[(u64, u64)], b: &[(u64, u64)]) -> bool
+    ensures { IsTrue result ↔ (a.now ≡ b.now) }
+{
+    a == b
 }

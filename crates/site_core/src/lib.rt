@@ -14,7 +14,7 @@ mod station;
 #[cfg(test)]
 mod tests;
 
-pub use auditing::{AuditFault, audit};
+pub use auditing::{AuditFault, audit, event_of};
 pub use config::Config;
 pub use events::{Answered, CallFault, Event, What};
 pub use site::Site;

@@ -1,0 +1,4 @@
+pub mod Fresh
+pub mod Loops
+pub mod Ends
+pub mod Fitting

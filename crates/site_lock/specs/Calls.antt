@@ -1,0 +1,34 @@
+-- Definitions: what an answered call gives its pass, and which replies fit an event.
+use Rattle.std.specs.Prelude.{◌≡◌, ℕ, ◌+◌, List, [], ◌∷◌, ◌++◌}
+use Rattle.decision_journal.specs.declared.entries.Entry.{Entry}
+use Rattle.till_request.specs.declared.act.Act.{Act}
+use Rattle.till_request.specs.declared.act.Reply.{Reply}
+use Rattle.site_core.specs.declared.events.Answered.{Answered}
+use Rattle.site_core.specs.Limits.{ConfigValue}
+use Rattle.site_core.specs.State.{SiteState}
+use Rattle.site_core.specs.Legal.{LegalHistory}
+use Rattle.site_core.specs.Site.{act_of}
+use Rattle.site_lock.specs.declared.pass.Receipt.{Receipt}
+use Rattle.site_lock.specs.Passes.{PassView}
+
+-- The pass counts one call more, and its receipts gain this answer with the event asked.
+pub record Gains (before now : PassView) (moment : ℕ) (act : Act) (a : Answered) : Type 0 where
+  pub id : now.id ≡ before.id
+  pub amount : now.amount ≡ before.amount + 1
+  pub receipt : Receipt
+  pub receipts : now.receipts ≡ before.receipts ++ receipt ∷ []
+  pub number : receipt.number ≡ a.number
+  pub reply : receipt.reply ≡ a.reply
+  pub at : receipt.moment ≡ moment
+  pub does : act_of receipt.what ≡ act
+
+-- Some legal history of this configuration ends with an entry of this event and this reply.
+pub record FitsIn (config : ConfigValue) (pass moment : ℕ) (act : Act) (reply : Reply) : Type 0 where
+  pub before : List Entry
+  pub last : Entry
+  pub state : SiteState
+  pub legal : LegalHistory config (before ++ last ∷ []) state
+  pub by : last.pass ≡ pass
+  pub at : last.moment ≡ moment
+  pub does : last.act ≡ act
+  pub answers : last.reply ≡ reply

@@ -1,0 +1,45 @@
+-- Definitions: what a desk over a forecourt and a pass answers (this profile).
+use Rattle.std.specs.Prelude.{◌≡◌, ℕ, ◌≤◌, List, length, Option, Some, Result, Ok, Err}
+use Rattle.reg_types.specs.declared.refusal.Refusal.{Refusal}
+use Rattle.reg_types.specs.Refusals.{shown_by}
+use Rattle.till_request.specs.declared.act.Act.{Act}
+use Rattle.till_request.specs.declared.act.Reply.{Reply}
+use Rattle.till_request.specs.declared.act.Answer.{Answer}
+use Rattle.till_request.specs.declared.act.Answer.TheVariants.{Entered, JournalFull, OutOfMemory, Line, Program}
+use Rattle.site_core.specs.declared.events.Answered.{Answered}
+use Rattle.site_core.specs.declared.events.CallFault.{CallFault}
+use Rattle.site_core.specs.declared.events.CallFault.TheVariants as fault
+use Rattle.site_core.specs.Limits.{ConfigValue}
+use Rattle.site_core.specs.Step.{entered_moment}
+use Rattle.site_core.specs.Audit.{IsGoodAct, IsRefusedAct}
+use Rattle.site_lock.specs.Passes.{PassView}
+use Rattle.site_lock.specs.Calls.{Gains, FitsIn}
+
+-- The act was entered: the pass gained the receipt of this number and reply, of the act at its moment (a till's request has its own, all else has 0).
+-- The reply fits, and a program that was loaded is good.
+pub record DeskEnters (config : ConfigValue) (before now : PassView) (act : Act) (moment number : ℕ) (reply : Reply) : Type 0 where
+  pub gains : Gains before now (entered_moment act moment) act (record { number = number; reply = reply })
+  pub number_is : length now.receipts ≤ number
+  pub fits : FitsIn config before.id (entered_moment act moment) act reply
+  pub good : IsGoodAct act
+
+-- The act is a load, its bytes and mask show this refusal, and nothing has changed.
+pub record DeskRefuses (before now : PassView) (act : Act) (number : ℕ) (unit part : Option ℕ) : Type 0 where
+  pub refusal : Refusal
+  pub refused : IsRefusedAct act refusal
+  pub shown : shown_by refusal ≡ Some (number, unit, part)
+  pub same : now ≡ before
+
+-- after any answer without a number the pass is as before
+abbrev pub DeskAnswers : ConfigValue → PassView → PassView → Act → ℕ → Answer → Type 0
+DeskAnswers config before now act moment (Entered number reply) = DeskEnters config before now act moment number reply
+DeskAnswers config before now act moment JournalFull = now ≡ before
+DeskAnswers config before now act moment OutOfMemory = now ≡ before
+DeskAnswers config before now act moment (Line fault) = ⊥
+DeskAnswers config before now act moment (Program number unit part) = DeskRefuses before now act number unit part
+
+-- a call's answer as a desk says it
+abbrev pub said_of : Result Answered CallFault → Answer
+said_of (Ok a) = Entered a.number a.reply
+said_of (Err fault.JournalFull) = JournalFull
+said_of (Err fault.OutOfMemory) = OutOfMemory

@@ -1,0 +1,6 @@
+pub mod Passes
+pub mod Calls
+pub mod Grounds
+pub mod Merge
+pub mod Closing
+pub mod Desks

@@ -1,0 +1,23 @@
+-- Promises: what contracts see of a pass and of a forecourt.
+use Rattle.std.specs.Prelude.{◌≡◌, ℕ, ◌+◌, ◌<◌, List, [], length, Some, slice_get}
+use Rattle.site_core.specs.Limits.{ConfigValue}
+use Rattle.site_lock.specs.declared.pass.Receipt.{Receipt}
+
+-- The number of a pass, what its share of the call ledger counts, and its receipts, the oldest first.
+pub record PassView : Type 0 where
+  pub id : ℕ
+  pub amount : ℕ
+  pub receipts : List Receipt
+
+-- A forecourt's configuration and the number of its passes.
+pub record Opened : Type 0 where
+  pub config : ConfigValue
+  pub passes : ℕ
+
+-- a pass without receipts
+abbrev pub new_pass : ℕ → PassView
+new_pass id = record { id = id; amount = 0; receipts = [] }
+
+-- the passes 1 to n, without receipts
+abbrev pub AreNew : ℕ → List PassView → Type 0
+AreNew n passes = (length passes ≡ n) × ((k : ℕ) → k < n → slice_get passes k ≡ Some (new_pass (k + 1)))

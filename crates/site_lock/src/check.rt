@@ -1,0 +1,161 @@
+//! Whether a history is what the passes were answered.
+ghost use Rattle.std.specs.Prelude.{◌≡◌, ◌↔◌, IsTrue, IfNone, IfSome, All, Any, count_by, ◌==◌};
+ghost use Rattle.site_lock.specs.Merge.{Matches, IsEntryOf, StandsFrom, FailsFrom, HasNumber, Covers, Covered, IsMerge, IsFault, AreAll};
+
+use super::pass::{Pass, Receipt, Yard};
+use decision_journal::Entry;
+use till_request::Reply;
+
+fn is_same_reply(a: &Reply, b: &Reply) -> bool
+    ensures { IsTrue result ↔ (a.now ≡ b.now) }
+{
+    a == b
+}
+
+fn matches(id: u32, receipt: &Receipt, entry: &Entry) -> bool
+    ensures { IsTrue result ↔ Matches id receipt.now entry.now }
+{
+    if entry.number != receipt.number || entry.pass != id || entry.moment != receipt.moment {
+        return false;
+    }
+    receipt.what.is_act(&entry.act) && is_same_reply(&entry.reply, &receipt.reply)
+}
+
+// Whether the receipt is the entry at its number.
+fn stands(history: &[Entry], id: u32, receipt: &Receipt) -> bool
+    ensures { IsTrue result ↔ IsEntryOf history.now id receipt.now }
+{
+    if receipt.number == 0 {
+        return false;
+    }
+    match history.get(receipt.number as usize - 1) {
+        None => false,
+        Some(entry) => matches(id, receipt, entry),
+    }
+}
+
+// The number of the first receipt that is wrong.
+fn wrong_receipt(history: &[Entry], id: u32, receipts: &[Receipt]) -> Option<u32>
+    ensures none { IfNone result (StandsFrom history.now id 0 receipts.now) }
+    ensures some { IfSome result (λ n. FailsFrom history.now id 0 receipts.now n) }
+{
+    let mut last = 0;
+    let mut rest = receipts;
+    while let Some((receipt, tail)) = rest.split_first() {
+        if receipt.number <= last || !stands(history, id, receipt) {
+            return Some(receipt.number);
+        }
+        last = receipt.number;
+        rest = tail;
+    }
+    None
+}
+
+fn wrong_pass<L: Yard>(history: &[Entry], passes: &[Pass<L>]) -> Option<(u32, u32)>
+    ensures none { IfNone result (All (λ p. StandsFrom history.now p.id 0 p.receipts) passes.now) }
+    ensures some { IfSome result (λ x. Any (λ p. (p.id ≡ x.0) × FailsFrom history.now p.id 0 p.receipts x.1) passes.now) }
+{
+    for pass in passes {
+        if let Some(number) = wrong_receipt(history, pass.id(), pass.receipts()) {
+            return Some((pass.id(), number));
+        }
+    }
+    None
+}
+
+fn has_number(receipts: &[Receipt], number: u32) -> bool
+    ensures { IsTrue result ↔ HasNumber receipts.now number }
+{
+    receipts.iter().any(|receipt| receipt.number == number)
+}
+
+// The same, where the numbers rise. False says nothing.
+fn has_rising_number(receipts: &[Receipt], number: u32) -> bool
+    ensures { IsTrue result → HasNumber receipts.now number }
+{
+    match receipts.binary_search_by_key(&number, |receipt| receipt.number) {
+        Ok(at) => receipts[at].number == number,
+        Err(_) => false,
+    }
+}
+
+fn covers<L: Yard>(pass: &Pass<L>, entry: &Entry) -> bool
+    ensures { IsTrue result ↔ Covers entry.now pass.now }
+{
+    pass.id() == entry.pass && has_number(pass.receipts(), entry.number)
+}
+
+fn is_covered<L: Yard>(passes: &[Pass<L>], entry: &Entry) -> bool
+    ensures { IsTrue result ↔ Covered passes.now entry.now }
+{
+    for pass in passes {
+        if covers(pass, entry) {
+            return true;
+        }
+    }
+    false
+}
+
+// The same, fast where the passes' numbers rise. False says nothing.
+fn is_covered_soon<L: Yard>(passes: &[Pass<L>], entry: &Entry) -> bool
+    ensures { IsTrue result → Covered passes.now entry.now }
+{
+    for pass in passes {
+        if pass.id() == entry.pass && has_rising_number(pass.receipts(), entry.number) {
+            return true;
+        }
+    }
+    false
+}
+
+fn is_covered_at_all<L: Yard>(passes: &[Pass<L>], entry: &Entry) -> bool
+    ensures { IsTrue result ↔ Covered passes.now entry.now }
+{
+    is_covered_soon(passes, entry) || is_covered(passes, entry)
+}
+
+fn uncovered<L: Yard>(history: &[Entry], passes: &[Pass<L>]) -> Option<(u32, u32)>
+    ensures none { IfNone result (All (Covered passes.now) history.now) }
+    ensures some { IfSome result (λ x. Any (λ e. (e.pass ≡ x.0) × (e.number ≡ x.1) × ¬ Covered passes.now e) history.now) }
+{
+    for entry in history {
+        if !is_covered_at_all(passes, entry) {
+            return Some((entry.pass, entry.number));
+        }
+    }
+    None
+}
+
+/// What keeps a history from being what the passes were answered: a pass and a number. Either the first receipt of the pass that is
+/// wrong has this number: it isn't the entry there by pass, event, moment and reply, or isn't above the receipt before it. Or the
+/// entry of this pass and number stands in no receipt of that pass.
+pub fn fault<L: Yard>(history: &[Entry], passes: &[Pass<L>]) -> Option<(u32, u32)>
+    ensures none { IfNone result (IsMerge history.now passes.now) }
+    ensures some { IfSome result (λ x. IsFault history.now passes.now x.0 x.1) }
+{
+    match wrong_pass(history, passes) {
+        Some(x) => Some(x),
+        None => uncovered(history, passes),
+    }
+}
+
+fn count_of<L: Yard>(passes: &[Pass<L>], id: u32) -> usize
+    ensures { result ≡ count_by (λ p. p.id == id) passes.now }
+{
+    passes.iter().filter(|pass| pass.id() == id).count()
+}
+
+/// Whether these are the passes 1 to `number`, each once.
+pub fn are_all<L: Yard>(number: u32, passes: &[Pass<L>]) -> bool
+    ensures { IsTrue result ↔ AreAll number passes.now }
+{
+    if passes.len() != number as usize {
+        return false;
+    }
+    for before in 0..number {
+        if count_of(passes, before + 1) != 1 {
+            return false;
+        }
+    }
+    true
+}

@@ -1,0 +1,113 @@
+//! A desk over a forecourt and a pass.
+ghost use Rattle.std.specs.Prelude.{◌≡◌, ℕ};
+ghost use Rattle.till_request.specs.declared.act.Act.{Act};
+ghost use Rattle.site_core.specs.Audit.{IsGoodAct, IsRefusedAct};
+ghost use Rattle.site_core.specs.Limits.{ConfigValue};
+ghost use Rattle.site_core.specs.Site.{act_of};
+ghost use Rattle.site_lock.specs.Passes.{PassView};
+ghost use Rattle.site_lock.specs.Desks.{DeskAnswers, said_of};
+
+use super::forecourt::Forecourt;
+use super::pass::{Pass, Yard};
+use line_session::Desk;
+use reg_types::Refusal;
+use site_core::{Answered, CallFault, What, event_of};
+use std::alloc::Global;
+use std::sync::Wait;
+use till_request::{Act, Answer};
+
+/// Answers acts by a forecourt, with one pass. A load's bytes are verified before the lock is taken: a refused program is answered by
+/// its V line and is no event.
+#[derive(Drop)]
+pub struct PassDesk<'a, L: Yard, R: Wait> {
+    rt: &'a R,
+    alloc: Global,
+    yard: &'a Forecourt<L>,
+    pass: Pass<L>,
+}
+
+impl<'a, L: Yard, R: Wait> PassDesk<'a, L, R> {
+    /// A desk with this pass. Takes no memory.
+    pub fn new(
+        rt: &'a R,
+        alloc: Global,
+        yard: &'a Forecourt<L>,
+        pass: Pass<L>,
+    ) -> PassDesk<'a, L, R>
+        ensures { result.pass ≡ pass }
+    {
+        PassDesk {
+            rt,
+            alloc,
+            yard,
+            pass,
+        }
+    }
+
+    /// The pass, with the receipts that it gained at the desk.
+    pub fn into_pass(self) -> Pass<L>
+        ensures { result ≡ self.entry.pass }
+    {
+        self.pass
+    }
+}
+
+impl<L: Yard, R: Wait> Desk for PassDesk<'_, L, R> {
+    ghost use Rattle.site_lock.specs.Desks.{DeskAnswers};
+
+    ghost step = { λ desk act moment answer after. DeskAnswers L.config desk.pass after.pass act moment answer };
+
+    fn answer(&mut self, act: Act, moment: u64) -> Answer {
+        let PassDesk {
+            rt,
+            alloc,
+            yard,
+            pass,
+        } = self;
+        match event_of(*alloc, &act) {
+            Ok(what) => call(*rt, yard, pass, moment, what),
+            Err(refusal) => refused(refusal),
+        }
+    }
+}
+
+// Makes the call that an event asks for.
+fn call<L: Yard, R: Wait>(
+    rt: &R,
+    yard: &Forecourt<L>,
+    pass: &mut Pass<L>,
+    moment: u64,
+    what: What,
+) -> Answer
+    requires { IsGoodAct (act_of what) }
+    ensures { DeskAnswers L.config pass.old pass.new (act_of what) moment result }
+{
+    match what {
+        What::Till { till, request } => said(yard.request(rt, pass, till, moment, request)),
+        What::Dispenser { point, event } => said(yard.dispenser(rt, pass, point, event)),
+        What::Load { slot, program } => said(yard.load(rt, pass, slot, program)),
+    }
+}
+
+fn said(called: Result<Answered, CallFault>) -> Answer
+    ensures { result ≡ said_of called }
+{
+    match called {
+        Ok(answered) => Answer::Entered {
+            number: answered.number,
+            reply: answered.reply,
+        },
+        Err(CallFault::JournalFull) => Answer::JournalFull,
+        Err(CallFault::OutOfMemory) => Answer::OutOfMemory,
+    }
+}
+
+// The answer to a load that is no event.
+fn refused(refusal: Refusal) -> Answer
+    ensures { (config : ConfigValue) (pass : PassView) (act : Act) (moment : ℕ) → IsRefusedAct act refusal → DeskAnswers config pass pass act moment result }
+{
+    match refusal.shown() {
+        Some((number, unit, part)) => Answer::Program(number, unit, part),
+        None => Answer::OutOfMemory,
+    }
+}
