@@ -6,3 +6,4 @@ pub mod Running
 pub mod Shown
 pub mod Grants
 pub mod Filling
+pub mod Pairs

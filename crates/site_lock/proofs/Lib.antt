@@ -2,3 +2,4 @@ pub mod Fresh
 pub mod Loops
 pub mod Ends
 pub mod Fitting
+pub mod Saying

@@ -82,6 +82,8 @@ fn call<L: Yard, R: Wait>(
     requires { IsGoodAct (act_of what) }
     ensures { DeskAnswers L.config pass.old pass.new (act_of what) moment result }
 {
+    // Lets the proof know that the configuration is the ledger's.
+    let _ = yard.config();
     match what {
         What::Till { till, request } => said(yard.request(rt, pass, till, moment, request)),
         What::Dispenser { point, event } => said(yard.dispenser(rt, pass, point, event)),

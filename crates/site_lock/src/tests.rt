@@ -182,10 +182,12 @@ fn desk_of<R: Wait>(
 }
 
 /// A whole sale, and what other tills ask meanwhile.
-const SALE: &str = "load 0 0 79101800000000009500000000000000\ntill 1 open 1\ndisp 1 up 1\ntill 1 release 1 8000\ndisp 1 order\ndisp 1 started\n\
+const SALE: &str =
+    "load 0 0 79101800000000009500000000000000\ntill 1 open 1\ndisp 1 up 1\ntill 1 release 1 8000\ndisp 1 order\ndisp 1 started\n\
     disp 1 flow 2500 1390\ndisp 1 down\ntill 1 lock 1 1\ntill 2 lock 1 1\ntill 2 clear 1 1\ntill 1 clear 1 1\ntill 1 clear 1 1\ntill 1 show 1\n";
 
-const SALE_ANSWERS: &str = "1 version 1\n2 done\n3 done\n4 granted 8000 by 1\n5 order authorise 8000\n6 done\n\
+const SALE_ANSWERS: &str =
+    "1 version 1\n2 done\n3 done\n4 granted 8000 by 1\n5 order authorise 8000\n6 done\n\
     7 done\n8 done\n9 done\n10 S27\n11 S27\n12 done\n13 S28\n14 point 3 0 0 0 0 0 0\n";
 
 #[test]
@@ -236,7 +238,10 @@ fn calls<L: Yard, R: Wait>(
     let asked = [0x79u8, 0x10, 0x18, 0, 0, 0, 0, 0, 0x95, 0, 0, 0, 0, 0, 0, 0];
     let program = verify(alloc, asked.as_slice(), 0).ok().ok_or("a program")?;
     let program = Arc::new(alloc, program)?;
-    let loaded = yard.load(rt, &mut second, 16, program).ok().ok_or("a load")?;
+    let loaded = yard
+        .load(rt, &mut second, 16, program)
+        .ok()
+        .ok_or("a load")?;
     let reported = yard
         .dispenser(rt, &mut second, 2, DispenserEvent::Up(3))
         .ok()

@@ -1,4 +1,4 @@
-use Rattle.std.proofs.Common.{ℕ, ◌≡◌, ◌+◌, ◌==◌, ◌<◌, rules, arith, ◌∙◌, sym, below_more}
+use Rattle.std.proofs.Common.{◌≡◌, ◌+◌, ◌==◌, rules, arith, ◌∙◌, sym, below_more}
 use Rattle.std.specs.Prelude.{count_by}
 use Rattle.site_lock.specs.Passes.{PassView}
 use Rattle.site_lock.proofs.check.are_all.Goals as goal

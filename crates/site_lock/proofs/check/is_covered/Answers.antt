@@ -1,6 +1,6 @@
-use Rattle.std.proofs.Common.{rules, arith, ◌<◌, length}
+use Rattle.std.proofs.Common.{rules, ◌<◌, length}
 use Rattle.site_lock.specs.Passes.{PassView}
-use Rattle.site_lock.specs.Merge.{Covers, Covered}
+use Rattle.site_lock.specs.Merge.{Covers}
 use Rattle.site_lock.proofs.Loops.{all_more, none_of}
 use Rattle.site_lock.proofs.check.is_covered.Goals as goal
 

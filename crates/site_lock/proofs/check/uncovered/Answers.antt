@@ -1,4 +1,4 @@
-use Rattle.std.proofs.Common.{rules, arith, ◌<◌, length}
+use Rattle.std.proofs.Common.{rules, ◌<◌, length}
 use Rattle.decision_journal.specs.declared.entries.Entry.{Entry}
 use Rattle.site_lock.specs.Merge.{Covered}
 use Rattle.site_lock.proofs.Loops.{all_more}

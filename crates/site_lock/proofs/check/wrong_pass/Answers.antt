@@ -1,4 +1,4 @@
-use Rattle.std.proofs.Common.{rules, arith, ap, sym, ◌∙◌, ◌<◌, ◌≡◌, subst, length, get_or}
+use Rattle.std.proofs.Common.{rules, ◌<◌, length}
 use Rattle.site_lock.specs.Passes.{PassView}
 use Rattle.site_lock.specs.Merge.{StandsFrom}
 use Rattle.site_lock.proofs.Loops.{all_more}

@@ -1,0 +1,31 @@
+-- What a desk says of a call.
+use Rattle.std.proofs.Common.{◌≡◌, ℕ, ◌≤◌, length, IfOk, OnErr, Result, Ok, Err, sym, subst}
+use Rattle.till_request.specs.declared.act.Act.{Act}
+use Rattle.till_request.specs.declared.act.Answer.{Answer}
+use Rattle.site_core.specs.declared.events.Answered.{Answered}
+use Rattle.site_core.specs.declared.events.CallFault.{CallFault}
+use Rattle.site_core.specs.declared.events.CallFault.TheVariants as fault
+use Rattle.site_core.specs.Limits.{ConfigValue}
+use Rattle.site_core.specs.Step.{entered_moment}
+use Rattle.site_core.specs.Audit.{IsGoodAct}
+use Rattle.site_lock.specs.Passes.{PassView}
+use Rattle.site_lock.specs.Calls.{Gains, FitsIn}
+use Rattle.site_lock.specs.Desks.{DeskAnswers, said_of}
+
+-- what a call of the act at the moment says of its pass
+pub record Called (config : ConfigValue) (old new : PassView) (moment : ℕ) (act : Act) (r : Result Answered CallFault) : Type 0 where
+  pub gains : IfOk r (λ (a : Answered). Gains old new moment act a)
+  pub number : IfOk r (λ (a : Answered). length new.receipts ≤ a.number)
+  pub fits : IfOk r (λ (a : Answered). FitsIn config old.id moment act a.reply)
+  pub same : OnErr r (new ≡ old)
+
+said-so : (config : ConfigValue) (old new : PassView) (act : Act) (moment : ℕ) (r : Result Answered CallFault) → Called config old new (entered_moment act moment) act r → IsGoodAct act → DeskAnswers config old new act moment (said_of r)
+said-so config old new act moment (Ok a) called good = record { gains = called.gains; number_is = called.number; fits = called.fits; good = good }
+said-so config old new act moment (Err fault.JournalFull) called good = called.same
+said-so config old new act moment (Err fault.OutOfMemory) called good = called.same
+
+pub answers : (kept config : ConfigValue) (old new : PassView) (act : Act) (moment : ℕ) (r : Result Answered CallFault) (answer : Answer) → kept ≡ config → answer ≡ said_of r → Called kept old new (entered_moment act moment) act r → IsGoodAct act → DeskAnswers config old new act moment answer
+answers kept config old new act moment r answer same is called good =
+    let P : Answer → Type 0 = λ a. DeskAnswers config old new act moment a in
+    let Q : ConfigValue → Type 0 = λ k. Called k old new (entered_moment act moment) act r in
+    subst P (sym is) (said-so config old new act moment r (subst Q same called) good)
