@@ -1,5 +1,5 @@
 -- One pass more.
-use Rattle.std.proofs.Common.{◌≡◌, ℕ, ◌+◌, ◌<◌, ◌≤◌, List, [], ◌∷◌, ◌++◌, length, refl, sym, ap, ◌∙◌, subst, rules, arith, length-append, Some, None, Option, zero, suc, below_more}
+use Rattle.std.proofs.Common.{◌≡◌, ℕ, ◌+◌, ◌<◌, List, [], ◌∷◌, ◌++◌, length, refl, sym, ap, ◌∙◌, subst, arith, length-append, Some, zero, suc, below_more}
 use Rattle.std.specs.List.{slice_get}
 use Rattle.site_lock.specs.Passes.{PassView, new_pass}
 use Rattle.site_lock.specs.Passes.{AreNew}

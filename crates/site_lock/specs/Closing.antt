@@ -15,11 +15,12 @@ pub record Closes (f : Opened) (passes : List PassView) (s : SiteValue) : Type 0
   pub calls : length s.history ≡ sum_by (λ (p : PassView). p.amount) passes
   pub merge : IsMerge s.history passes
 
--- some legal history of this configuration has this fault
+-- Some legal history of this configuration, with as many entries as the passes were answered calls, has this fault.
 pub record HasFault (config : ConfigValue) (passes : List PassView) (id number : ℕ) : Type 0 where
   pub site : SiteValue
   pub config_is : site.config ≡ config
   pub legal : Upholds site
+  pub calls : length site.history ≡ sum_by (λ (p : PassView). p.amount) passes
   pub fault : IsFault site.history passes id number
 
 -- PassMissing exactly where these aren't all passes; a site of another configuration can't be

@@ -1,8 +1,5 @@
 //! Closing a forecourt.
-ghost use Rattle.std.specs.Prelude.{◌≡◌, ◌<◌, length, sum_by, vec_len};
-
 use super::forecourt::Forecourt;
-use super::ground::Ground;
 use super::pass::{Pass, Yard};
 use site_core::Site;
 
@@ -29,22 +26,4 @@ pub struct CloseFault<L: Yard> {
 #[derive(Drop)]
 pub struct Closed {
     pub site: Site,
-}
-
-/// The site, with as many entries as all passes were answered calls.
-pub(super) fn merged<L: Yard>(ground: Ground<L>, passes: Vec<Pass<L>>) -> Site
-    requires all { vec_len passes ≡ L.parts }
-    requires some { 0 < L.parts }
-    ensures site { result ≡ ground.site }
-    ensures total { length result.history ≡ sum_by (λ p. p.amount) passes.items }
-{
-    let mut passes = passes;
-    let Some(first) = passes.pop() else {
-        unreachable!()
-    };
-    let mut all = first.into_share();
-    while let Some(pass) = passes.pop() {
-        all.merge(pass.into_share());
-    }
-    ground.end(&mut all)
 }

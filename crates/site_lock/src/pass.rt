@@ -80,15 +80,12 @@ impl<L: Yard> Pass<L> {
         self.receipts.as_slice()
     }
 
-    pub(super) fn into_share(self) -> Share<L>
-        ensures parts { result.parts ≡ 1 }
-        ensures amount { result.amount ≡ self.amount }
+    /// A share that counts nothing.
+    pub(super) fn lend_none(&mut self) -> Share<L>
+        ensures parts { result.parts ≡ 0 }
+        ensures amount { result.amount ≡ 0 }
+        ensures same { self.new ≡ self.old }
     {
-        let Pass {
-            id: _,
-            share,
-            receipts: _,
-        } = self;
-        share
+        self.share.empty()
     }
 }

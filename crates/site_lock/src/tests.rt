@@ -137,7 +137,7 @@ fn desk<L: Yard, R: Wait>(
     alloc: Global,
     blank: Blank,
     config: Config,
-    script: &str,
+    script: Vec<u8>,
 ) -> Result<(Vec<u8>, usize, Option<usize>), Fail>
     requires name { blank.name ≡ L.name }
     requires parts { blank.parts ≡ L.parts }
@@ -146,8 +146,7 @@ fn desk<L: Yard, R: Wait>(
 {
     let (yard, mut passes) = Forecourt::<L>::start(alloc, config, 1, blank)?;
     let pass = passes.pop().ok_or("a pass")?;
-    let bytes = Vec::from_slice(alloc, script.as_bytes())?;
-    let mut input = MemoryIn::new(bytes, Vec::new(alloc), None);
+    let mut input = MemoryIn::new(script, Vec::new(alloc), None);
     let mut output = MemoryOut::new(alloc, Vec::new(alloc), None);
     let mut clock = Still;
     let mut desk = PassDesk::new(rt, alloc, &yard, pass);
@@ -178,6 +177,7 @@ fn desk_of<R: Wait>(
     config: Config,
     script: &str,
 ) -> Result<(Vec<u8>, usize, Option<usize>), Fail> {
+    let script = Vec::from_slice(alloc, script.as_bytes())?;
     desk::<Brand, R>(rt, alloc, Blank::new(1), config, script)
 }
 

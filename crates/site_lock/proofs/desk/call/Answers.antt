@@ -1,9 +1,7 @@
-use Rattle.std.proofs.Common.{ℕ, sym, subst}
-use Rattle.till_request.specs.declared.act.Answer.{Answer}
+use Rattle.std.proofs.Common.{sym, subst}
 use Rattle.site_core.specs.declared.events.What.{What}
 use Rattle.site_core.specs.declared.events.What.TheVariants as what
 use Rattle.site_core.specs.Audit.{IsGoodAct}
-use Rattle.site_core.specs.Limits.{ConfigValue}
 use Rattle.site_core.specs.Site.{act_of}
 use Rattle.site_lock.specs.Desks.{DeskAnswers}
 use Rattle.site_lock.proofs.Saying.{answers}
