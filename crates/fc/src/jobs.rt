@@ -1,6 +1,7 @@
 //! What the program does for its words.
 use crate::files::{Text, read_file};
 use crate::progress::{Progress, Watched};
+use crate::serve::serve_settings;
 use console::{
     ConfigFault, Ended, Job, MOST_BYTES, READS, SessionFault, Settings, asm_file, audit_entries,
     config_part, dis_file, journal_fault_line, play, play_within, read_config, read_head,
@@ -9,6 +10,10 @@ use console::{
 use decision_journal::{JournalFault, read_entries};
 use std::fs::File;
 use std::io::{self, BufReader, IsTerminal};
+use std::net::{Net, TcpListener, TcpStream};
+use std::sync::Wait;
+use std::thread::Threads;
+use std::time::Clock;
 use till_request::devices::{StreamIn, StreamOut};
 
 /// All was done. A refusal inside a play is an answer.
@@ -21,7 +26,11 @@ pub const USAGE: u8 = 2;
 pub const FAILED: u8 = 3;
 
 /// Does a job, and answers the exit status. What goes wrong with a file or a device is said on standard error.
-pub fn do_job(rt: &HostRuntime, job: Job) -> u8 {
+pub fn do_job<H: Net<Listener = TcpListener, Stream = TcpStream> + Threads + Wait + Clock + Sync>(
+    rt: &HostRuntime,
+    host: &H,
+    job: Job,
+) -> u8 {
     let done = match job {
         Job::NoWords => play_input(rt),
         Job::Show(text) => say(rt, text, DONE),
@@ -30,7 +39,7 @@ pub fn do_job(rt: &HostRuntime, job: Job) -> u8 {
         Job::Verify { counters, file } => tell_of(rt, &file, Tell::Verify(counters)),
         Job::Play { config, script } => play_files(rt, &config, &script),
         Job::Audit { config, journal } => audit_files(rt, &config, &journal),
-        Job::Serve(_config) => not_there(rt),
+        Job::Serve(config) => serve_file(rt, host, &config),
     };
     match done {
         Ok(status) => status,
@@ -47,9 +56,15 @@ fn say(rt: &HostRuntime, text: String, status: u8) -> io::Result<u8> {
     Ok(status)
 }
 
-fn not_there(rt: &HostRuntime) -> io::Result<u8> {
-    eprintln!(rt; "fc: this word is not there yet")?;
-    Ok(USAGE)
+fn serve_file<H: Net<Listener = TcpListener, Stream = TcpStream> + Threads + Wait + Clock + Sync>(
+    rt: &HostRuntime,
+    host: &H,
+    config: &str,
+) -> io::Result<u8> {
+    match settings_of(rt, config)? {
+        Ok(settings) => serve_settings(rt, host, settings),
+        Err(status) => Ok(status),
+    }
 }
 
 /// What is told of one file.
@@ -74,7 +89,8 @@ fn tell_of(rt: &HostRuntime, path: &str, tell: Tell) -> io::Result<u8> {
     say(rt, told.text, told.status)
 }
 
-fn refuse(rt: &HostRuntime, fault: &str) -> io::Result<u8> {
+/// Prints a fault's number, and answers the status.
+pub fn refuse(rt: &HostRuntime, fault: &str) -> io::Result<u8> {
     println!(rt; "{fault}")?;
     Ok(REFUSED)
 }

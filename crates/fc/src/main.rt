@@ -4,8 +4,9 @@
 mod files;
 mod jobs;
 mod progress;
+mod serve;
 
-use console::{CommandFault, command};
+use console::{CommandFault, Job, command};
 use jobs::{FAILED, USAGE, do_job};
 use std::io;
 use std::process::ExitCode;
@@ -17,21 +18,25 @@ fn words_of(rt: &HostRuntime) -> io::Result<Vec<String>> {
         .map_err(io::Error::from)
 }
 
-fn status_of(rt: &HostRuntime) -> u8 {
+/// What the words ask for, or the exit status where they ask for nothing.
+fn job_of(rt: &HostRuntime) -> Result<Job, u8> {
     let Ok(words) = words_of(rt) else {
         let _ = eprintln!(rt; "fc: the words are not text; see fc --help");
-        return USAGE;
+        return Err(USAGE);
     };
     match command(rt.alloc(), words) {
-        Ok(job) => do_job(rt, job),
+        Ok(job) => Ok(job),
         Err(CommandFault::Usage(text)) => {
             let _ = eprint!(rt; "{text}");
-            USAGE
+            Err(USAGE)
         }
-        Err(CommandFault::OutOfMemory) => FAILED,
+        Err(CommandFault::OutOfMemory) => Err(FAILED),
     }
 }
 
 fn main(rt: HostRuntime) -> ExitCode {
-    ExitCode::from(status_of(&rt))
+    ExitCode::from(match job_of(&rt) {
+        Ok(job) => do_job(&rt, &rt, job),
+        Err(status) => status,
+    })
 }

@@ -5,6 +5,8 @@ mod answering;
 mod at_desk;
 mod desk;
 mod desk_session;
+mod doors;
+mod serving;
 mod speaker;
 #[cfg(test)]
 mod tests;
@@ -13,4 +15,6 @@ pub use answering::{Ended, READS, SessionFault, talk, talk_within};
 pub use at_desk::AtDesk;
 pub use desk::{Clock, Desk};
 pub use desk_session::session;
+pub use doors::Doors;
+pub use serving::worker;
 pub use speaker::{SpeakFault, Speaker};

@@ -1,9 +1,9 @@
 //! Sessions over memory devices, with a desk that numbers what it is asked.
-use crate::{Clock, Desk, Ended, SessionFault, session};
+use crate::{Clock, Desk, Doors, Ended, SessionFault, session, worker};
 use std::alloc::Global;
 use std::test::Fail;
 use till_request::devices::{MemoryIn, MemoryOut};
-use till_request::{Act, Answer, LineFault, Reply, Role};
+use till_request::{Act, Answer, DeviceFault, LineFault, Reply, Role};
 
 /// Tells 1, 2, 3 and so on.
 #[derive(Drop)]
@@ -128,4 +128,81 @@ fn a_failed_call_ends_a_session(rt: HostRuntime) {
             None => assert!(rt; false),
         }
     }
+}
+
+/// What the next door is.
+#[derive(Clone, Copy, Debug)]
+enum Door {
+    Shut,
+    /// A script, and after how many reads each read fails.
+    Script(&'static [u8], Option<u64>),
+}
+
+/// Opens the doors of a list, and none behind its end.
+#[derive(Drop)]
+struct Row<'a> {
+    alloc: Global,
+    doors: &'a [Door],
+    asked: usize,
+}
+
+impl Doors for Row<'_> {
+    type In = MemoryIn;
+
+    type Out = MemoryOut;
+
+    ghost opens = { λ _ _ _ _. Unit {0} };
+
+    ghost fails = { λ _ _. Unit {0} };
+
+    fn next(&mut self) -> Result<(MemoryIn, MemoryOut), DeviceFault> {
+        let door = self.doors.get(self.asked).copied();
+        self.asked = self.asked.wrapping_add(1);
+        let Some(Door::Script(script, good)) = door else {
+            return Err(DeviceFault);
+        };
+        let Ok(bytes) = Vec::from_slice(self.alloc, script) else {
+            return Err(DeviceFault);
+        };
+        let input = MemoryIn::new(bytes, Vec::new(self.alloc), good);
+        Ok((
+            input,
+            MemoryOut::new(self.alloc, Vec::new(self.alloc), None),
+        ))
+    }
+}
+
+/// How many of the first connections at these doors were good, how many doors were asked for, and
+/// what the desk and the clock had by then.
+fn served(alloc: Global, doors: &[Door], connections: u32) -> (u64, usize, u32, u64) {
+    let mut row = Row {
+        alloc,
+        doors,
+        asked: 0,
+    };
+    let mut clock = Ticks { moment: 0 };
+    let mut desk = Numbers { entries: 0 };
+    let well = worker(
+        alloc,
+        Role::Till,
+        &mut row,
+        &mut clock,
+        &mut desk,
+        connections,
+    );
+    (well, row.asked, desk.entries, clock.moment)
+}
+
+#[test]
+fn a_worker_serves_each_door(rt: HostRuntime) {
+    let doors = [
+        Door::Script(b"till 1 open 1\ntill 1 show 1\n", None),
+        Door::Shut,
+        Door::Script(b"till 1 show 1\ntill 1 show 1\n", Some(20)),
+        Door::Script(b"till 1 show 1", None),
+        Door::Script(b"till 1 open 1\n", None),
+    ];
+    assert_eq!(rt; served(rt.alloc(), &doors, 4), (2, 4, 3, 3));
+    assert_eq!(rt; served(rt.alloc(), &doors, 5), (3, 5, 4, 4));
+    assert_eq!(rt; served(rt.alloc(), &doors, 0), (0, 0, 0, 0));
 }

@@ -1,0 +1,54 @@
+#!/bin/sh
+# Lines per second and the time that an answer takes, of a site served over loopback: a preset, which runs a program, and
+# a `show`, on 1 and on 8 connections, each of which sends a line and waits for its answer. Takes under a minute.
+#
+#     bench/serve.sh [LINES]      LINES of each connection, 20000 where it isn't said
+set -eu
+here=$(CDPATH='' cd -- "$(dirname -- "$0")" && pwd -P)
+fc=$here/../crates/fc/out/fc
+[ -x "$fc" ] || { echo "bench: build the program first: ./fc --version" >&2; exit 1; }
+work=$(mktemp -d)
+trap 'kill "$served" 2>/dev/null || true; rm -rf "$work"' EXIT
+served=
+cc -O2 -pthread -o "$work/driver" "$here/serve.c"
+
+# Starts a site on ports that are free, with so many workers for tills; each serves one connection.
+start() {
+    port=$((20000 + $$ % 20000))
+    for _ in 1 2 3 4 5 6 7 8 9 10; do
+        port=$((port + 17))
+        cat >"$work/site.toml" <<END
+tills = 1
+price_slot = 2
+prices = [1799, 1849, 0, 0, 0, 0, 0, 0]
+point = [{release = 0, preset = 1}]
+[serve]
+till_port = $port
+dispenser_port = $((port + 1))
+owner_port = $((port + 2))
+till_workers = $1
+dispenser_workers = 1
+connections = 1
+END
+        : >"$work/said"
+        "$fc" serve "$work/site.toml" </dev/null >"$work/journal" 2>"$work/said" &
+        served=$!
+        for _ in 1 2 3 4 5 6 7 8 9 10 11 12 13 14 15 16 17 18 19 20; do
+            grep -q serving "$work/said" && return
+            kill -0 "$served" 2>/dev/null || break
+            sleep 0.1
+        done
+        kill "$served" 2>/dev/null || true
+    done
+    echo "bench: no free ports" >&2
+    exit 1
+}
+
+for line in 'till 1 preset 1 5000' 'till 1 show 1'; do
+    for connections in 1 8; do
+        start "$connections"
+        timeout 60 "$work/driver" "$port" "$connections" "${1:-20000}" "$line"
+        wait "$served"
+        served=
+    done
+done

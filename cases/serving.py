@@ -1,0 +1,103 @@
+"""A site served over loopback, for the cases and benchmarks that drive it: free ports, the program, its peers."""
+
+import os
+import select
+import socket
+import subprocess
+import tempfile
+import time
+
+PATIENCE = 30  # seconds that any one wait may take
+
+
+def free_ports(count):
+    """Ports that nobody has at this moment."""
+    sockets = [socket.socket() for _ in range(count)]
+    for one in sockets:
+        one.bind(("127.0.0.1", 0))
+    ports = [one.getsockname()[1] for one in sockets]
+    for one in sockets:
+        one.close()
+    return ports
+
+
+class Site:
+    """`fc serve` over a configuration without its `[serve]`, on ports that are free. Another program may take a port
+    between the choice and the start: then others are chosen."""
+
+    def __init__(self, fc, site, till_workers, dispenser_workers, connections):
+        self.fc = fc
+        self.folder = tempfile.TemporaryDirectory()
+        self.config = os.path.join(self.folder.name, "site.toml")
+        for _ in range(10):
+            self.till, self.dispenser, self.owner = free_ports(3)
+            with open(self.config, "w") as file:
+                file.write(
+                    f"{site}\n[serve]\ntill_port = {self.till}\ndispenser_port = {self.dispenser}\n"
+                    f"owner_port = {self.owner}\ntill_workers = {till_workers}\n"
+                    f"dispenser_workers = {dispenser_workers}\nconnections = {connections}\n"
+                )
+            self.journal = open(os.path.join(self.folder.name, "journal"), "w+b")
+            self.program = subprocess.Popen(
+                [fc, "serve", self.config], stdin=subprocess.DEVNULL, stdout=self.journal, stderr=subprocess.PIPE
+            )
+            said = self.first_line()
+            if said == (
+                f"fc: serving on 127.0.0.1: tills {self.till}, dispensers {self.dispenser}, owner {self.owner}\n"
+            ):
+                return
+            self.program.kill()
+            if self.program.wait() != 3:
+                raise SystemExit(f"fc serve said {said!r}")
+        raise SystemExit("no free ports")
+
+    def first_line(self):
+        until = time.monotonic() + PATIENCE
+        said = b""
+        while not said.endswith(b"\n") and time.monotonic() < until:
+            if select.select([self.program.stderr], [], [], 1)[0]:
+                piece = os.read(self.program.stderr.fileno(), 4096)
+                if not piece:
+                    break
+                said += piece
+        return said.decode()
+
+    def end(self):
+        """The status, once all workers have ended, and the journal."""
+        status = self.program.wait(timeout=PATIENCE)
+        self.journal.seek(0)
+        return status, self.journal.read().decode()
+
+    def audit(self):
+        told = subprocess.run(
+            [self.fc, "audit", self.config, self.journal.name], capture_output=True, timeout=PATIENCE, text=True
+        )
+        return told.returncode, told.stdout
+
+
+class Peer:
+    """A connection, and what was said and heard on it."""
+
+    def __init__(self, port):
+        self.socket = socket.create_connection(("127.0.0.1", port), timeout=PATIENCE)
+        self.socket.setsockopt(socket.IPPROTO_TCP, socket.TCP_NODELAY, 1)
+        self.reader = self.socket.makefile("rb")
+        self.said = []
+        self.heard = []
+
+    def ask(self, *lines, piece=None):
+        """Sends lines at once, or so many bytes at a time, and reads as many answers."""
+        text = "".join(line + "\n" for line in lines).encode()
+        for at in range(0, len(text), piece or len(text)):
+            self.socket.sendall(text[at : at + (piece or len(text))])
+        for line in lines:
+            answer = self.reader.readline().decode()
+            if not answer.endswith("\n"):
+                raise SystemExit(f"{line!r} was answered by {answer!r}")
+            self.said.append(line)
+            self.heard.append(answer[:-1])
+        return self.heard[-1]
+
+    def close(self):
+        self.reader.close()
+        self.socket.close()

@@ -1,0 +1,121 @@
+-- What was said from state to state was also said from what a caller sees of the states.
+use Rattle.std.proofs.Common.{◌≡◌, ℕ, List, [], ◌∷◌, Option, Some, None, Result, Ok, Err, refl, ap, IfOk, OnErr}
+use Rattle.till_request.specs.declared.act.Act.{Act}
+use Rattle.till_request.specs.declared.act.Role.{Role}
+use Rattle.till_request.specs.declared.act.LineFault.{LineFault}
+use Rattle.till_request.specs.declared.act.Answer.{Answer}
+use Rattle.till_request.specs.Grammar.{act_of}
+use Rattle.line_session.specs.declared.answering.Ended.{Ended}
+use Rattle.line_session.specs.declared.answering.SessionFault.{SessionFault}
+use Rattle.line_session.specs.Session.{AnswersAct, SpeaksAt, desk_says}
+use Rattle.line_session.specs.Talk.{SaysAll, Talks, Ends, Breaks}
+use Rattle.line_session.specs.Serving.{Outcome, Sits, Visits, VisitsAll, Serves}
+
+module _ {S T : Type 0} (f : S → T) (says : S → List ℕ → List ℕ → S → Type 0) (seen : T → List ℕ → List ℕ → T → Type 0)
+    (shows : (s : S) (line text : List ℕ) (s' : S) → says s line text s' → seen (f s) line text (f s')) where
+  all_seen : (lines : List (List ℕ)) (s : S) (texts : List (List ℕ)) (s' : S) → SaysAll says lines s texts s' → SaysAll seen lines (f s) texts (f s')
+  all_seen [] s [] s' h = ap f h
+  all_seen (line ∷ lines) s (text ∷ texts) s' h = (f h.0, shows s line text h.0 h.1, all_seen lines h.0 texts s' h.2)
+  all_seen [] s (text ∷ texts) s' h = absurd h
+  all_seen (line ∷ lines) s [] s' h = absurd h
+
+  talks_seen : (s s' : S) (i j o p : Option (List ℕ)) (count : ℕ) (rest more : List ℕ) → Talks says s s' i j o p count rest more → Talks seen (f s) (f s') i j o p count rest more
+  talks_seen s s' i j o p count rest more t = record {
+    lines = t.lines;
+    texts = t.texts;
+    each = t.each;
+    said = all_seen t.lines s t.texts s' t.said;
+    taken = t.taken;
+    written = t.written;
+    counted = t.counted;
+  }
+
+  ends_seen : (s s' : S) (i j o p : Option (List ℕ)) (count : ℕ) (cut : Option LineFault) → Ends says s s' i j o p count cut → Ends seen (f s) (f s') i j o p count cut
+  ends_seen s s' i j o p count cut e = record {
+    answered = e.answered;
+    rest = e.rest;
+    talks = talks_seen s s' i j o p e.answered e.rest _ e.talks;
+    is_cut = e.is_cut;
+    counted = e.counted;
+  }
+
+  breaks_seen : (s s' : S) (i j o p : Option (List ℕ)) → Breaks says s s' i j o p → Breaks seen (f s) (f s') i j o p
+  breaks_seen s s' i j o p b = record {
+    lines = b.lines;
+    texts = b.texts;
+    each = b.each;
+    said = all_seen b.lines s b.texts s' b.said;
+    rest = b.rest;
+    taken = b.taken;
+    cut = b.cut;
+    front = b.front;
+    after = b.after;
+    written = b.written;
+    begins = b.begins;
+  }
+
+  module _ {I O : Type 0} (remaining : I → Option (List ℕ)) (reads read_failures : I → ℕ) (written : O → Option (List ℕ)) (write_failures : O → ℕ) where
+    sits_seen : (result : Result Ended SessionFault) (i : I) (o : O) (s s' : S)
+        → Sits says remaining reads read_failures written write_failures result i o s s' → Sits seen remaining reads read_failures written write_failures result i o (f s) (f s')
+    sits_seen (Ok ended) i o s s' t = record {
+      input = t.input;
+      output = t.output;
+      said = ends_seen s s' _ _ _ _ ended.lines ended.cut t.said;
+      broken = t.broken;
+      read_fault = t.read_fault;
+      write_fault = t.write_fault;
+      count = t.count;
+      few = t.few;
+      counted = t.counted;
+      spent = t.spent;
+    }
+    sits_seen (Err fault) i o s s' t = record {
+      input = t.input;
+      output = t.output;
+      said = t.said;
+      broken = breaks_seen s s' _ _ _ _ t.broken;
+      read_fault = t.read_fault;
+      write_fault = t.write_fault;
+      count = t.count;
+      few = t.few;
+      counted = t.counted;
+      spent = t.spent;
+    }
+
+    module _ {D : Type 0} (opens : D → I → O → D → Type 0) (fails : D → D → Type 0) where
+      visits_seen : (outcome : Outcome) (d : D) (s : S) (d' : D) (s' : S)
+          → Visits opens fails (Sits says remaining reads read_failures written write_failures) outcome d s d' s'
+          → Visits opens fails (Sits seen remaining reads read_failures written write_failures) outcome d (f s) d' (f s')
+      visits_seen None d s d' s' v = (v.0, ap f v.1)
+      visits_seen (Some result) d s d' s' v = (v.0, v.1, v.2, sits_seen result v.0 v.1 s s' v.3)
+
+      all_visits_seen : (outcomes : List Outcome) (d : D) (s : S) (d' : D) (s' : S)
+          → VisitsAll (Visits opens fails (Sits says remaining reads read_failures written write_failures)) outcomes d s d' s'
+          → VisitsAll (Visits opens fails (Sits seen remaining reads read_failures written write_failures)) outcomes d (f s) d' (f s')
+      all_visits_seen [] d s d' s' h = (h.0, ap f h.1)
+      all_visits_seen (outcome ∷ outcomes) d s d' s' h = (h.0, f h.1, visits_seen outcome d s h.0 h.1 h.2, all_visits_seen outcomes h.0 h.1 d' s' h.3)
+
+      pub serves_seen : (asked well : ℕ) (d : D) (s : S) (d' : D) (s' : S)
+          → Serves (Visits opens fails (Sits says remaining reads read_failures written write_failures)) asked well d s d' s'
+          → Serves (Visits opens fails (Sits seen remaining reads read_failures written write_failures)) asked well d (f s) d' (f s')
+      serves_seen asked well d s d' s' h = record {
+        outcomes = h.outcomes;
+        each = all_visits_seen h.outcomes d s d' s' h.each;
+        all_asked = h.all_asked;
+        counted = h.counted;
+      }
+
+module _ {C C' D D' : Type 0} (f : C → C') (g : D → D') (step : D → Act → ℕ → Answer → D → Type 0) (step' : D' → Act → ℕ → Answer → D' → Type 0)
+    (tick : C → ℕ → C → Type 0) (tick' : C' → ℕ → C' → Type 0)
+    (steps : (d : D) (act : Act) (moment : ℕ) (a : Answer) (e : D) → step d act moment a e → step' (g d) act moment a (g e))
+    (ticks : (c : C) (moment : ℕ) (e : C) → tick c moment e → tick' (f c) moment (f e)) where
+  answers_seen : (act : Result Act LineFault) (c : C) (d : D) (a : Answer) (c' : C) (d' : D) → AnswersAct step tick act c d a c' d' → AnswersAct step' tick' act (f c) (g d) a (f c') (g d')
+  answers_seen (Ok act) c d a c' d' h = (h.0, ticks c h.0 c' h.1, steps d act h.0 a d' h.2)
+  answers_seen (Err fault) c d a c' d' h = (h.0, ap f h.1, ap g h.2)
+
+  pub desk_seen : (role : Role) (s : C × D) (line text : List ℕ) (s' : C × D) → desk_says step tick role s line text s' → desk_says step' tick' role (f s.0, g s.1) line text (f s'.0, g s'.1)
+  desk_seen role s line text s' h = record {
+    answer = h.answer;
+    answers = answers_seen (act_of role line) s.0 s.1 h.answer s'.0 s'.1 h.answers;
+    text_is = h.text_is;
+  }

@@ -1,0 +1,54 @@
+-- Promises: what a worker did. It asked for one door after another, and at each one that opened a session ran, from where
+-- the connections before left the clock and the desk.
+use Rattle.std.specs.Prelude.{◌≡◌, ℕ, ◌+◌, ◌≤◌, List, [], ◌∷◌, length, Option, Some, None, Result, Ok, Err, IfOk, OnErr}
+use Rattle.till_request.specs.Count.{RoseBy, one_if}
+use Rattle.line_session.specs.declared.answering.Ended.{Ended}
+use Rattle.line_session.specs.declared.answering.SessionFault.{SessionFault}
+use Rattle.line_session.specs.declared.answering.SessionFault.TheVariants.{ReadsSpent}
+use Rattle.line_session.specs.Talk.{Ends, Breaks, is_read, is_write}
+
+-- how a connection went: None, the door did not open; else what its session answered
+abbrev pub Outcome : Type 0
+Outcome = Option (Result Ended SessionFault)
+
+-- one of those that ended without fault
+abbrev pub one_good : Outcome → ℕ
+one_good None = 0
+one_good (Some (Err fault)) = 0
+one_good (Some (Ok ended)) = 1
+
+-- how many of them ended without fault
+abbrev pub good : List Outcome → ℕ
+good [] = 0
+good (outcome ∷ outcomes) = one_good outcome + good outcomes
+
+-- a session that ended so at this input and output: all was said, or a beginning of it is out. It failed by a device only
+-- where that failed, and for its reads only where they ran out.
+pub record Sits {S I O : Type 0} (says : S → List ℕ → List ℕ → S → Type 0) (remaining : I → Option (List ℕ)) (reads read_failures : I → ℕ) (written : O → Option (List ℕ)) (write_failures : O → ℕ) (result : Result Ended SessionFault) (i : I) (o : O) (s s' : S) : Type 0 where
+  pub input : I
+  pub output : O
+  pub said : IfOk result (λ ended. Ends says s s' (remaining i) (remaining input) (written o) (written output) ended.lines ended.cut)
+  pub broken : OnErr result (Breaks says s s' (remaining i) (remaining input) (written o) (written output))
+  pub read_fault : RoseBy (one_if (is_read result)) (read_failures i) (read_failures input)
+  pub write_fault : RoseBy (one_if (is_write result)) (write_failures o) (write_failures output)
+  pub count : ℕ
+  pub few : count ≤ 67108864
+  pub counted : RoseBy count (reads i) (reads input)
+  pub spent : result ≡ Err ReadsSpent → count ≡ 67108864
+
+-- one connection: the door did not open, and nobody was asked; or it opened, and a session ran at it
+abbrev pub Visits : {D S I O : Type 0} → (D → I → O → D → Type 0) → (D → D → Type 0) → (Result Ended SessionFault → I → O → S → S → Type 0) → Outcome → D → S → D → S → Type 0
+Visits opens fails sits None d s d' s' = fails d d' × (s' ≡ s)
+Visits {D} {S} {I} {O} opens fails sits (Some result) d s d' s' = (i : I) × (o : O) × opens d i o d' × sits result i o s s'
+
+-- connections that went so, one after another
+abbrev pub VisitsAll : {D S : Type 0} → (Outcome → D → S → D → S → Type 0) → List Outcome → D → S → D → S → Type 0
+VisitsAll visits [] d s d' s' = (d' ≡ d) × (s' ≡ s)
+VisitsAll {D} {S} visits (outcome ∷ outcomes) d s d' s' = (m : D) × (t : S) × visits outcome d s m t × VisitsAll visits outcomes m t d' s'
+
+-- so many connections, and so many of them good
+pub record Serves {D S : Type 0} (visits : Outcome → D → S → D → S → Type 0) (asked well : ℕ) (d : D) (s : S) (d' : D) (s' : S) : Type 0 where
+  pub outcomes : List Outcome
+  pub each : VisitsAll visits outcomes d s d' s'
+  pub all_asked : length outcomes ≡ asked
+  pub counted : well ≡ good outcomes

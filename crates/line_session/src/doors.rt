@@ -1,0 +1,22 @@
+//! Where lines come from and answers go, connection by connection.
+use till_request::{DeviceFault, LineIn, LineOut};
+
+/// Opens doors, one after another: what lines are read from, and what their answers go to.
+pub trait Doors {
+    type In: LineIn + Drop;
+
+    type Out: LineOut + Drop;
+
+    ghost use Rattle.std.specs.Prelude.{IfOk, OnErr};
+
+    /// The doors that it may open, and what it goes on to.
+    ghost opens: { Self → Self.In → Self.Out → Self → Type 0 };
+
+    /// What it may go on to where a door does not open.
+    ghost fails: { Self → Self → Type 0 };
+
+    /// The next door.
+    fn next(&mut self) -> Result<(Self::In, Self::Out), DeviceFault>
+        ensures ok { IfOk result (λ door. opens self.old door.0 door.1 self.new) }
+        ensures err { OnErr result (fails self.old self.new) };
+}

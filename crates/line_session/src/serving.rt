@@ -1,0 +1,63 @@
+//! Sessions at a desk, connection by connection.
+ghost use Rattle.std.specs.Prelude.{◌≡◌, ◌≤◌};
+ghost use Rattle.line_session.specs.Session.{desk_says};
+ghost use Rattle.line_session.specs.Serving.{Serves, Sits, Visits, one_good};
+
+use crate::answering::{Ended, SessionFault};
+use crate::desk::{Clock, Desk};
+use crate::desk_session::session;
+use crate::doors::Doors;
+use std::alloc::Global;
+use till_request::Role;
+
+/// Opens a door and runs a session at it. `None`: the door did not open.
+fn attend<S: Doors, C: Clock, D: Desk>(
+    alloc: Global,
+    role: Role,
+    doors: &mut S,
+    clock: &mut C,
+    desk: &mut D,
+) -> Option<Result<Ended, SessionFault>>
+    ensures { Visits S.opens S.fails (Sits (desk_says D.step C.tick role) S.In.remaining S.In.reads S.In.failures S.Out.written S.Out.failures)
+        result doors.old (clock.old, desk.old) doors.new (clock.new, desk.new) }
+{
+    match doors.next() {
+        Ok((mut input, mut output)) => {
+            Some(session(alloc, role, &mut input, &mut output, clock, desk))
+        }
+        Err(_) => None,
+    }
+}
+
+/// One for a connection that ended without fault.
+fn one_if_good(outcome: Option<Result<Ended, SessionFault>>) -> u64
+    ensures counted { result ≡ one_good outcome }
+    ensures most { result ≤ 1 }
+{
+    match outcome {
+        Some(Ok(_)) => 1,
+        _ => 0,
+    }
+}
+
+/// Serves so many connections for somebody of a role, one after another, and answers how many
+/// ended without fault.
+///
+/// A door that does not open counts as a connection, and not as a good one.
+pub fn worker<S: Doors, C: Clock, D: Desk>(
+    alloc: Global,
+    role: Role,
+    doors: &mut S,
+    clock: &mut C,
+    desk: &mut D,
+    connections: u32,
+) -> u64
+    ensures { Serves (Visits S.opens S.fails (Sits (desk_says D.step C.tick role) S.In.remaining S.In.reads S.In.failures S.Out.written S.Out.failures))
+        connections result doors.old (clock.old, desk.old) doors.new (clock.new, desk.new) }
+{
+    let mut well = 0;
+    for _ in 0..connections {
+        well += one_if_good(attend(alloc, role, doors, clock, desk));
+    }
+    well
+}

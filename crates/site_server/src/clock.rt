@@ -1,0 +1,36 @@
+//! Moments by the machine's clock.
+ghost use Rattle.std.specs.Prelude.{◌≡◌};
+
+use line_session::Clock;
+use std::time;
+use std::time::{SystemTime, UNIX_EPOCH};
+
+/// Tells whole seconds since the start of 1970. Where the machine's clock can't be read, or stands before 1970, the moment told last
+/// is told again; at first that is 0.
+#[derive(Drop)]
+pub struct MachineClock<'a, R: time::Clock> {
+    rt: &'a R,
+    last: u64,
+}
+
+impl<'a, R: time::Clock> MachineClock<'a, R> {
+    /// A clock that has told nothing yet.
+    pub fn new(rt: &'a R) -> MachineClock<'a, R>
+        ensures { result.last ≡ 0 }
+    {
+        MachineClock { rt, last: 0 }
+    }
+}
+
+impl<R: time::Clock> Clock for MachineClock<'_, R> {
+    ghost tick = { λ _ moment after. after.last ≡ moment };
+
+    fn now(&mut self) -> u64 {
+        if let Ok(time) = SystemTime::now(self.rt) {
+            if let Ok(since) = time.duration_since(UNIX_EPOCH) {
+                self.last = since.as_secs();
+            }
+        }
+        self.last
+    }
+}

@@ -1,0 +1,17 @@
+//! Serving a site over sockets: connections of tills, dispensers and the owner, a worker for each pass, and the journal of all of them.
+#![tactic(auto)]
+
+mod clock;
+mod crew;
+mod doors;
+mod listeners;
+mod serving;
+#[cfg(test)]
+mod tests;
+
+pub use clock::MachineClock;
+pub use crew::Crew;
+pub use doors::TcpDoors;
+pub use listeners::{ListenFault, Listeners};
+pub use serving::{ServeFault, Served, serve, serve_site};
+pub use site_lock::Why;

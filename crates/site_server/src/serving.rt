@@ -1,0 +1,121 @@
+//! Serving a site.
+ghost use Rattle.std.specs.Prelude.{◌≡◌, IfErr, IfOk};
+ghost use Rattle.site_server.specs.Crews.{passes_of};
+ghost use Rattle.site_server.specs.Ending.{Leaves, Spoils};
+
+use crate::clock::MachineClock;
+use crate::crew::Crew;
+use crate::doors::TcpDoors;
+use crate::listeners::Listeners;
+use line_session::worker;
+use site_core::{Config, Site};
+use site_lock::{Forecourt, Pass, PassDesk, Why, Yard};
+use std::alloc::{AllocError, Global};
+use std::marker::Brand;
+use std::sync::Wait;
+use std::sync::ledger::Blank;
+use std::thread;
+use std::thread::Threads;
+use std::time::Clock;
+
+/// What serving leaves.
+#[derive(Drop)]
+pub struct Served {
+    /// The site, closed.
+    pub site: Site,
+    /// How many connections ended without fault.
+    pub well: u64,
+}
+
+/// Why serving left no closed site.
+#[derive(Clone, Copy, Debug, PartialEq, Eq, Drop)]
+pub enum ServeFault {
+    OutOfMemory,
+    /// C1, C2 or C3: what the workers were answered isn't the site's history.
+    NotClosed(Why),
+}
+
+impl From<AllocError> for ServeFault {
+    ghost use Rattle.site_server.specs.declared.serving.ServeFault.TheVariants.{OutOfMemory};
+
+    ghost from_gives = { λ _ e. e ≡ OutOfMemory };
+
+    fn from(_: AllocError) -> Self {
+        ServeFault::OutOfMemory
+    }
+}
+
+/// Serves so many connections of a listener for one pass, and answers the pass and how many ended without fault.
+fn serve_pass<L: Yard, R: Wait + Clock>(
+    rt: &R,
+    alloc: Global,
+    yard: &Forecourt<L>,
+    pass: Pass<L>,
+    crew: Crew,
+    listeners: &Listeners,
+    connections: u32,
+) -> (Pass<L>, u64) {
+    let role = crew.role(pass.id());
+    let mut doors = TcpDoors::new(alloc, listeners.of(role));
+    let mut clock = MachineClock::new(rt);
+    let mut desk = PassDesk::new(rt, alloc, yard, pass);
+    let well = worker(alloc, role, &mut doors, &mut clock, &mut desk, connections);
+    (desk.into_pass(), well)
+}
+
+/// Serves a site of this configuration: each worker of the crew serves so many connections, one after another, and then the site is closed.
+pub fn serve<L: Yard + Send + Sync, R: Threads + Wait + Clock + Sync>(
+    rt: &R,
+    alloc: Global,
+    config: Config,
+    blank: Blank,
+    crew: Crew,
+    listeners: &Listeners,
+    connections: u32,
+) -> Result<Served, ServeFault>
+    requires name { blank.name ≡ L.name }
+    requires parts { blank.parts ≡ L.parts }
+    requires config { config ≡ L.config }
+    requires passes { blank.parts ≡ passes_of crew.tills crew.dispensers }
+    ensures ok { IfOk result (λ served. Leaves config (passes_of crew.tills crew.dispensers) served.site) }
+    ensures err { IfErr result (λ fault. Spoils config (passes_of crew.tills crew.dispensers) fault) }
+{
+    let (yard, passes) = Forecourt::<L>::start(alloc, config, crew.passes(), blank)?;
+    let shared = &yard;
+    let done = thread::map_vec(
+        rt,
+        passes,
+        &|pass: Pass<L>| serve_pass(rt, alloc, shared, pass, crew, listeners, connections),
+    )?;
+    let mut passes = Vec::new(alloc);
+    let mut well = 0u64;
+    for (pass, ended) in done {
+        well = well.wrapping_add(ended);
+        if passes.push(pass).is_err() {
+            return Err(ServeFault::OutOfMemory);
+        }
+    }
+    match yard.close(rt, passes) {
+        Ok(closed) => Ok(Served {
+            site: closed.site,
+            well,
+        }),
+        Err(fault) => Err(ServeFault::NotClosed(fault.why)),
+    }
+}
+
+/// As `serve`, with a ledger of its own.
+pub fn serve_site<R: Threads + Wait + Clock + Sync>(
+    rt: &R,
+    alloc: Global,
+    config: Config,
+    crew: Crew,
+    listeners: &Listeners,
+    connections: u32,
+) -> Result<Served, ServeFault>
+    ensures ok { IfOk result (λ served. Leaves config (passes_of crew.tills crew.dispensers) served.site) }
+    ensures err { IfErr result (λ fault. Spoils config (passes_of crew.tills crew.dispensers) fault) }
+{
+    let blank = Blank::new(u64::from(crew.passes()));
+    serve::<Brand, R>(rt, alloc, config, blank, crew, listeners, connections)
+}

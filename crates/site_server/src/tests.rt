@@ -1,0 +1,134 @@
+//! Serving over loopback: the peers are a thread of the test.
+use crate::{Crew, ListenFault, Listeners, ServeFault, Served, serve_site};
+use decision_journal::write_entries;
+use site_core::{Config, Site};
+use std::alloc::Global;
+use std::io;
+use std::io::{BufRead, BufReader, Write};
+use std::net::{Net, SocketAddr, TcpListener, TcpStream};
+use std::sync::Wait;
+use std::test::Fail;
+use std::thread::{Threads, join};
+use std::time::Clock;
+use till_request::devices::MemoryOut;
+
+/// One till, and one point whose releases go to slot 0 and presets to slot 1.
+fn config(alloc: Global) -> Option<Config> {
+    let points = vec![in alloc; (0, 1)].ok()?;
+    Config::new(1, 2, [1799, 1849, 0, 0, 0, 0, 0, 0], points, [(0, 0); 32])
+}
+
+/// A connection of a peer.
+#[derive(Drop)]
+struct Peer {
+    stream: TcpStream,
+    reader: BufReader<TcpStream>,
+    heard: String,
+}
+
+impl Peer {
+    fn connect<R: Net<Listener = TcpListener, Stream = TcpStream>>(
+        rt: &R,
+        alloc: Global,
+        address: SocketAddr,
+    ) -> io::Result<Peer> {
+        let stream = TcpStream::connect(rt, address)?;
+        let reader = BufReader::new(alloc, stream.try_clone()?)?;
+        Ok(Peer {
+            stream,
+            reader,
+            heard: String::new(alloc),
+        })
+    }
+
+    /// Sends bytes, and reads one line of answer.
+    fn ask(&mut self, text: &str) -> io::Result<()> {
+        self.stream.write_all(text.as_bytes())?;
+        self.reader.read_line(&mut self.heard)?;
+        Ok(())
+    }
+}
+
+/// Where tills, dispensers and the owner connect.
+#[derive(Clone, Copy)]
+struct Addresses {
+    till: SocketAddr,
+    dispenser: SocketAddr,
+    owner: SocketAddr,
+}
+
+fn addresses_of(listeners: &Listeners) -> io::Result<Addresses> {
+    Ok(Addresses {
+        till: listeners.till.local_addr()?,
+        dispenser: listeners.dispenser.local_addr()?,
+        owner: listeners.owner.local_addr()?,
+    })
+}
+
+/// The owner loads a program, a till opens a point and asks for a release, and the dispenser takes its order.
+fn in_turn<R: Net<Listener = TcpListener, Stream = TcpStream>>(
+    rt: &R,
+    alloc: Global,
+    at: Addresses,
+) -> io::Result<String> {
+    let mut owner = Peer::connect(rt, alloc, at.owner)?;
+    owner.ask("load 0 0 79101800000000009500000000000000\n")?;
+    let mut till = Peer::connect(rt, alloc, at.till)?;
+    till.ask("till 1 open 1\n")?;
+    till.ask("till 1 release 1 8000\n")?;
+    let mut dispenser = Peer::connect(rt, alloc, at.dispenser)?;
+    dispenser.ask("disp 1 order\n")?;
+    let mut heard = owner.heard;
+    heard.push_str(till.heard.as_str())?;
+    heard.push_str(dispenser.heard.as_str())?;
+    Ok(heard)
+}
+
+/// The journal of a site.
+fn journal_of(alloc: Global, site: &Site) -> Option<Vec<u8>> {
+    let mut output = MemoryOut::new(alloc, Vec::new(alloc), None);
+    write_entries(alloc, site.history(), &mut output).ok()?;
+    Some(output.bytes)
+}
+
+/// Serves one connection of each kind, beside what the peers do, and answers what these heard and the site that was closed then.
+fn one_of_each<R: Net<Listener = TcpListener, Stream = TcpStream> + Threads + Wait + Clock + Sync>(
+    rt: &R,
+    alloc: Global,
+) -> Result<(Served, String), Fail> {
+    let config = config(alloc).ok_or("a configuration")?;
+    let opened = Listeners::open(rt, 0, 0, 0);
+    let listeners = match opened {
+        Ok(listeners) => listeners,
+        Err(_) => return Err(Fail::from("a port")),
+    };
+    let at = addresses_of(&listeners)?;
+    let shared = &listeners;
+    let crew = Crew::new(1, 1).ok_or("a crew")?;
+    let (served, heard) = join(
+        rt,
+        || serve_site(rt, alloc, config, crew, shared, 1),
+        || in_turn(rt, alloc, at),
+    );
+    match served {
+        Ok(served) => Ok((served, heard?)),
+        Err(_) => Err(Fail::from("a closed site")),
+    }
+}
+
+#[test]
+fn serve_on_loopback(rt: HostRuntime) -> Result<(), Fail> {
+    let (served, heard) = one_of_each(&rt, rt.alloc())?;
+    assert_eq!(rt;
+        heard.as_str(),
+        "1 version 1\n2 done\n3 granted 8000 by 1\n4 order authorise 8000\n"
+    );
+    assert_eq!(rt; served.well, 3);
+    match journal_of(rt.alloc(), &served.site) {
+        Some(journal) => assert!(rt;
+            journal.ends_with(b"\n4 2 0 disp 1 order = order authorise 8000\n")
+        ),
+        None => assert!(rt; false),
+    }
+    Ok(())
+}
