@@ -6,6 +6,7 @@
 set -eu
 here=$(CDPATH='' cd -- "$(dirname -- "$0")" && pwd -P)
 fc=${FC:-$here/../crates/fc/out/fc}
+[ -x /usr/bin/time ] || { echo "journal.sh: GNU time is not at /usr/bin/time" >&2; exit 1; }
 [ -x "$fc" ] || { echo "journal.sh: $fc is not there; ./fc --version builds it" >&2; exit 1; }
 site=$here/station.toml
 work=$(mktemp -d)
@@ -14,18 +15,13 @@ trap 'rm -rf "$work"' EXIT
 
 # measure NAME LINES COMMAND ..: runs it and prints a row; what it prints goes to $work/out.
 measure() {
-    python3 - "$work/out" "$@" <<'PYTHON'
-import resource, subprocess, sys, time
-out, name, lines, command = sys.argv[1], sys.argv[2], int(sys.argv[3]), sys.argv[4:]
-with open(out, "wb") as sink:
-    begin = time.monotonic()
-    status = subprocess.run(command, stdin=subprocess.DEVNULL, stdout=sink).returncode
-    seconds = time.monotonic() - begin
-used = resource.getrusage(resource.RUSAGE_CHILDREN)
-cpu = used.ru_utime + used.ru_stime
-print(f"{name:<22}{lines:>10}{seconds:>10.2f}{cpu:>10.2f}{lines / max(cpu, 1e-3):>14,.0f}{used.ru_maxrss / 1024:>12,.1f}", flush=True)
-sys.exit(status)
-PYTHON
+    name=$1 lines=$2
+    shift 2
+    /usr/bin/time -o "$work/time" -f '%e %U %S %M' "$@" >"$work/out" </dev/null || { echo "journal.sh: $name failed" >&2; exit 1; }
+    awk -v name="$name" -v lines="$lines" '{
+        cpu = $2 + $3
+        printf "%-22s%10d%10.2f%10.2f%14s%12.1f\n", name, lines, $1, cpu, (cpu > 0 ? int(lines / cpu) : "-"), $4 / 1024
+    }' "$work/time"
 }
 
 printf '%-22s%10s%10s%10s%14s%12s\n' step lines seconds cpu lines/cpu-s peak-MB
