@@ -1,4 +1,4 @@
--- Promises: what contracts see of a pass and of a forecourt.
+-- Definitions: a pass and a forecourt, as contracts see them.
 use Rattle.std.specs.Prelude.{◌≡◌, ℕ, ◌+◌, ◌<◌, List, [], length, Some, slice_get}
 use Rattle.site_core.specs.Limits.{ConfigValue}
 use Rattle.site_lock.specs.declared.pass.Receipt.{Receipt}
