@@ -1,14 +1,15 @@
 //! What the program does for its words.
 use crate::files::{Text, read_file};
+use crate::progress::{Progress, Watched};
 use crate::serve::serve_settings;
 use console::{
     ConfigFault, Ended, Job, MOST_BYTES, READS, SessionFault, Settings, asm_file, audit_entries,
     config_part, dis_file, journal_fault_line, play, play_within, read_config, read_head,
     verify_file,
 };
-use decision_journal::read_entries;
+use decision_journal::{JournalFault, read_entries};
 use std::fs::File;
-use std::io::{self, BufReader};
+use std::io::{self, BufReader, IsTerminal};
 use std::net::{Net, TcpListener, TcpStream};
 use std::sync::Wait;
 use std::thread::Threads;
@@ -187,16 +188,22 @@ fn play_files(rt: &HostRuntime, config: &str, script: &str) -> io::Result<u8> {
         Ok(file) => file,
         Err(error) => return cannot_read(rt, script, error),
     };
-    let mut input = StreamIn {
-        reader: BufReader::new(rt.alloc(), file)?,
-        reads: 0,
-        failures: 0,
+    // On a terminal the answers themselves show how far it is.
+    let is_silent = !rt.stdout().is_terminal();
+    let mut input = Watched {
+        input: StreamIn {
+            reader: BufReader::new(rt.alloc(), file)?,
+            reads: 0,
+            failures: 0,
+        },
+        progress: Progress::new(rt.stderr(), is_silent),
     };
     let mut output = StreamOut {
         writer: io::writer(rt),
         failures: 0,
     };
     let ended = play(rt.alloc(), settings.config, &mut input, &mut output);
+    input.progress.clear();
     status_of(rt, ended)
 }
 
@@ -209,22 +216,35 @@ fn audit_files(rt: &HostRuntime, config: &str, journal: &str) -> io::Result<u8> 
         Ok(file) => file,
         Err(error) => return cannot_read(rt, journal, error),
     };
-    let mut input = StreamIn {
-        reader: BufReader::new(rt.alloc(), file)?,
-        reads: 0,
-        failures: 0,
+    let mut input = Watched {
+        input: StreamIn {
+            reader: file,
+            reads: 0,
+            failures: 0,
+        },
+        progress: Progress::new(rt.stderr(), true),
     };
     match read_entries(rt.alloc(), &mut input) {
         Ok(entries) => {
-            let told = audit_entries(rt.alloc(), settings.config, &entries)?;
+            input.progress.say("entries read, and now entered again");
+            let told = audit_entries(rt.alloc(), settings.config, &entries);
+            input.progress.clear();
+            let told = told?;
             say(rt, told.text, told.status)
         }
-        Err(fault) => match journal_fault_line(rt.alloc(), fault)? {
-            Some(told) => say(rt, told.text, told.status),
-            None => {
-                eprintln!(rt; "fc: {journal}: {fault}")?;
-                Ok(FAILED)
-            }
-        },
+        Err(fault) => {
+            input.progress.clear();
+            tell_journal_fault(rt, journal, fault)
+        }
+    }
+}
+
+fn tell_journal_fault(rt: &HostRuntime, journal: &str, fault: JournalFault) -> io::Result<u8> {
+    match journal_fault_line(rt.alloc(), fault)? {
+        Some(told) => say(rt, told.text, told.status),
+        None => {
+            eprintln!(rt; "fc: {journal}: {fault}")?;
+            Ok(FAILED)
+        }
     }
 }

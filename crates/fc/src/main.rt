@@ -3,6 +3,7 @@
 
 mod files;
 mod jobs;
+mod progress;
 mod serve;
 
 use console::{CommandFault, Job, command};
