@@ -1,5 +1,5 @@
 -- Connection by connection.
-use Rattle.std.proofs.Common.{◌≡◌, ℕ, ◌+◌, List, [], ◌∷◌, ◌++◌, length, refl, sym, ◌∙◌, ap, arith, length-append}
+use Rattle.std.proofs.Common.{◌≡◌, ℕ, ◌+◌, List, [], ◌∷◌, ◌++◌, refl, arith, length-append}
 use Rattle.line_session.specs.Serving.{Outcome, VisitsAll, Serves, good, one_good}
 
 good_more : (outcomes : List Outcome) (outcome : Outcome) → good (outcomes ++ outcome ∷ []) ≡ good outcomes + one_good outcome

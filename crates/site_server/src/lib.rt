@@ -13,5 +13,5 @@ pub use clock::MachineClock;
 pub use crew::Crew;
 pub use doors::TcpDoors;
 pub use listeners::{ListenFault, Listeners};
-pub use serving::{ServeFault, Served, serve, serve_site};
+pub use serving::{ServeFault, Served, serve, serve_pass, serve_site};
 pub use site_lock::Why;

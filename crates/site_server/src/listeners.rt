@@ -1,4 +1,6 @@
 //! The open ports.
+ghost use Rattle.std.specs.Prelude.{◌≡◌, ◌⊎◌, IfErr};
+
 use std::io;
 use std::net::{Net, SocketAddr, TcpListener, TcpStream};
 use till_request::Role;
@@ -22,7 +24,9 @@ pub struct Listeners {
 fn listen<R: Net<Listener = TcpListener, Stream = TcpStream>>(
     rt: &R,
     port: u32,
-) -> Result<TcpListener, ListenFault> {
+) -> Result<TcpListener, ListenFault>
+    ensures { IfErr result (λ fault. fault.port ≡ port) }
+{
     let Ok(number) = u16::try_from(port) else {
         let error = io::Error::from(io::ErrorKind::InvalidInput);
         return Err(ListenFault { port, error });
@@ -38,7 +42,9 @@ impl Listeners {
         till: u32,
         dispenser: u32,
         owner: u32,
-    ) -> Result<Listeners, ListenFault> {
+    ) -> Result<Listeners, ListenFault>
+        ensures { IfErr result (λ fault. (fault.port ≡ till) ⊎ (fault.port ≡ dispenser) ⊎ (fault.port ≡ owner)) }
+    {
         let till = listen(rt, till)?;
         let dispenser = listen(rt, dispenser)?;
         let owner = listen(rt, owner)?;
@@ -49,8 +55,13 @@ impl Listeners {
         })
     }
 
-    /// Where somebody of a role connects.
-    pub fn of(&self, role: Role) -> &TcpListener {
+    /// Where somebody of a role connects; who may send all lines connects as the owner.
+    pub fn of(&self, role: Role) -> &TcpListener
+        ensures till { role ≡ Role.Till → result.now ≡ self.now.till }
+        ensures dispenser { role ≡ Role.Dispenser → result.now ≡ self.now.dispenser }
+        ensures owner { role ≡ Role.Owner → result.now ≡ self.now.owner }
+        ensures all { role ≡ Role.All → result.now ≡ self.now.owner }
+    {
         match role {
             Role::Till => &self.till,
             Role::Dispenser => &self.dispenser,

@@ -1,13 +1,17 @@
 //! Serving a site.
-ghost use Rattle.std.specs.Prelude.{◌≡◌, IfErr, IfOk};
+ghost use Rattle.std.specs.Prelude.{◌≡◌, ℕ, IfErr, IfOk, vec_len};
+ghost use Rattle.line_session.specs.Session.{desk_says};
+ghost use Rattle.line_session.specs.Serving.{Serves, Sits, Visits};
 ghost use Rattle.site_server.specs.Crews.{passes_of};
-ghost use Rattle.site_server.specs.Ending.{Leaves, Spoils};
+ghost use Rattle.site_lock.specs.Merge.{AreAll};
+ghost use Rattle.site_server.specs.Ending.{HandsBack, Leaves, Spoils};
+ghost use Rattle.site_server.specs.Posts.{pass_answers, tells};
 
 use crate::clock::MachineClock;
 use crate::crew::Crew;
 use crate::doors::TcpDoors;
 use crate::listeners::Listeners;
-use line_session::worker;
+use line_session::{Doors, worker};
 use site_core::{Config, Site};
 use site_lock::{Forecourt, Pass, PassDesk, Why, Yard};
 use std::alloc::{AllocError, Global};
@@ -17,6 +21,7 @@ use std::sync::ledger::Blank;
 use std::thread;
 use std::thread::Threads;
 use std::time::Clock;
+use till_request::Role;
 
 /// What serving leaves.
 #[derive(Drop)]
@@ -45,8 +50,29 @@ impl From<AllocError> for ServeFault {
     }
 }
 
-/// Serves so many connections of a listener for one pass, and answers the pass and how many ended without fault.
-fn serve_pass<L: Yard, R: Wait + Clock>(
+/// Serves so many connections of a role for one pass, and answers the pass, with the receipts that it gained, and how many
+/// connections ended without fault.
+pub fn serve_pass<L: Yard, S: Doors, R: Wait + Clock>(
+    rt: &R,
+    alloc: Global,
+    yard: &Forecourt<L>,
+    pass: Pass<L>,
+    role: Role,
+    doors: &mut S,
+    connections: u32,
+) -> (Pass<L>, u64)
+    ensures served { (moment : ℕ) × Serves (Visits S.opens S.fails (Sits (desk_says (pass_answers L.config) tells role) S.In.remaining S.In.reads S.In.failures S.Out.written S.Out.failures))
+        connections result.1 doors.old (0, pass) doors.new (moment, result.0) }
+    ensures id { result.0.id ≡ pass.id }
+{
+    let mut clock = MachineClock::new(rt);
+    let mut desk = PassDesk::new(rt, alloc, yard, pass);
+    let well = worker(alloc, role, doors, &mut clock, &mut desk, connections);
+    (desk.into_pass(), well)
+}
+
+/// Serves so many connections of the listener that is the pass's.
+fn serve_post<L: Yard, R: Wait + Clock>(
     rt: &R,
     alloc: Global,
     yard: &Forecourt<L>,
@@ -54,13 +80,29 @@ fn serve_pass<L: Yard, R: Wait + Clock>(
     crew: Crew,
     listeners: &Listeners,
     connections: u32,
-) -> (Pass<L>, u64) {
+) -> (Pass<L>, u64)
+    ensures { result.0.id ≡ pass.id }
+{
     let role = crew.role(pass.id());
     let mut doors = TcpDoors::new(alloc, listeners.of(role));
-    let mut clock = MachineClock::new(rt);
-    let mut desk = PassDesk::new(rt, alloc, yard, pass);
-    let well = worker(alloc, role, &mut doors, &mut clock, &mut desk, connections);
-    (desk.into_pass(), well)
+    serve_pass(rt, alloc, yard, pass, role, &mut doors, connections)
+}
+
+/// The passes that the workers hand back, and how many connections ended without fault.
+fn gathered<L: Yard>(
+    alloc: Global,
+    done: Vec<(Pass<L>, u64)>,
+) -> Result<(Vec<Pass<L>>, u64), AllocError>
+    requires { HandsBack done.items }
+    ensures { IfOk result (λ r. AreAll (vec_len done) r.0.items) }
+{
+    let mut passes = Vec::new(alloc);
+    let mut well = 0u64;
+    for (pass, ended) in done {
+        well = well.wrapping_add(ended);
+        passes.push(pass)?;
+    }
+    Ok((passes, well))
 }
 
 /// Serves a site of this configuration: each worker of the crew serves so many connections, one after another, and then the site is closed.
@@ -85,16 +127,11 @@ pub fn serve<L: Yard + Send + Sync, R: Threads + Wait + Clock + Sync>(
     let done = thread::map_vec(
         rt,
         passes,
-        &|pass: Pass<L>| serve_pass(rt, alloc, shared, pass, crew, listeners, connections),
+        &|pass: Pass<L>| -> (Pass<L>, u64)
+            ensures { result.0.id ≡ pass.id }
+        { serve_post(rt, alloc, shared, pass, crew, listeners, connections) },
     )?;
-    let mut passes = Vec::new(alloc);
-    let mut well = 0u64;
-    for (pass, ended) in done {
-        well = well.wrapping_add(ended);
-        if passes.push(pass).is_err() {
-            return Err(ServeFault::OutOfMemory);
-        }
-    }
+    let (passes, well) = gathered(alloc, done)?;
     match yard.close(rt, passes) {
         Ok(closed) => Ok(Served {
             site: closed.site,

@@ -1,5 +1,5 @@
 -- Counters that wrap.
-use Rattle.std.proofs.Common.{◌≡◌, ℕ, ◌+◌, ◌-◌, ◌≤◌, ◌%◌, ◌^◌, arith}
+use Rattle.std.proofs.Common.{◌≡◌, ℕ, ◌+◌, ◌-◌, ◌≤◌, ◌%◌, arith}
 use Rattle.till_request.specs.Count.{RoseBy}
 
 mod_more : (a b c j k : ℕ) → b % 18446744073709551616 ≡ (a + j) % 18446744073709551616 → c % 18446744073709551616 ≡ (b + k) % 18446744073709551616 → c % 18446744073709551616 ≡ (a + (j + k)) % 18446744073709551616

@@ -1,8 +1,6 @@
 -- What is taken piece by piece.
-use Rattle.std.proofs.Common.{◌≡◌, ◌≢◌, ℕ, List, [], ◌∷◌, ◌++◌, Some, None, Option, Result, Ok, Err, OnErr, sym, ◌∙◌, ap, append_assoc, rules, arith}
-use Rattle.std.specs.List.{AllByRecursion}
+use Rattle.std.proofs.Common.{◌≢◌, ℕ, List, [], ◌∷◌, ◌++◌, Some, None, Option, Result, Ok, Err, OnErr, sym, ◌∙◌, ap, append_assoc}
 use Rattle.std.specs.Io.KnownBytes.{Consumes, Appends}
-use Rattle.std.proofs.lemmas.Grind.{common_steps}
 use Rattle.till_request.specs.Line.{HasNoLf}
 
 pub consumes_more : (a b c : Option (List ℕ)) (xs ys : List ℕ) → Consumes a b xs → Consumes b c ys → Consumes a c (xs ++ ys)

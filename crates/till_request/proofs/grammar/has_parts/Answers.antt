@@ -1,4 +1,4 @@
-use Rattle.std.proofs.Common.{◌≡◌, ℕ, ◌+◌, List, [], drop, map, Bool, ◌&&◌, sym, ◌∙◌, ap, Bor}
+use Rattle.std.proofs.Common.{ℕ, ◌+◌, List, [], drop, map, ◌&&◌, sym, ◌∙◌, ap, Bor}
 use Rattle.std.specs.Cmp.Lexicographic.{pointwise}
 use Rattle.till_request.specs.Grammar.{part_fits}
 use Rattle.till_request.specs.declared.form.Part.TheVariants.{Word}

@@ -1,4 +1,4 @@
-use Rattle.std.proofs.Common.{sym, ◌∙◌, rules}
+use Rattle.std.proofs.Common.{sym, ◌∙◌}
 use Rattle.till_request.proofs.Numbers.{unparsed, digits_text}
 use Rattle.till_request.proofs.grammar.number_u64.Goals as goal
 

@@ -1,4 +1,3 @@
-use Rattle.std.proofs.Common.{ap}
 use Rattle.till_request.proofs.Faults.{fault_taken}
 use Rattle.till_request.proofs.line.read_line.Goals as goal
 

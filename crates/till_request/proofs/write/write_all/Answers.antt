@@ -1,5 +1,3 @@
-use Rattle.std.proofs.Common.{rules}
-use Rattle.std.proofs.lemmas.Grind.{common_steps}
 use Rattle.till_request.proofs.Counts.{rose_more}
 use Rattle.till_request.proofs.Out.{written_more, within_more}
 use Rattle.till_request.proofs.write.write_all.Goals as goal

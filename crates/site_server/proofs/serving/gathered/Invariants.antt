@@ -1,0 +1,6 @@
+use Rattle.std.proofs.Common.{◌≡◌, map}
+use Rattle.site_server.proofs.serving.gathered.Given as goal
+
+-- the passes so far are those that were handed back
+abbrev pub invariant-loop-pass : goal.invariant-loop-pass
+invariant-loop-pass g l = map (λ p. p.id) l.passes.items ≡ map (λ x. x.0.id) l.yielded
