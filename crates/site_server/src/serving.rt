@@ -1,5 +1,5 @@
 //! Serving a site.
-ghost use Rattle.std.specs.Prelude.{◌≡◌, ℕ, IfErr, IfOk, vec_len};
+ghost use Rattle.std.specs.Prelude.{◌≡◌, ℕ, [], IfErr, IfOk, vec_len};
 ghost use Rattle.line_session.specs.Session.{desk_says};
 ghost use Rattle.line_session.specs.Serving.{Serves, Sits, Visits};
 ghost use Rattle.site_server.specs.Crews.{passes_of};
@@ -88,15 +88,16 @@ fn serve_post<L: Yard, R: Wait + Clock>(
     serve_pass(rt, alloc, yard, pass, role, &mut doors, connections)
 }
 
-/// The passes that the workers hand back, and how many connections ended without fault.
+/// The passes that the workers hand back, in a list that was empty, and how many connections ended without fault.
 fn gathered<L: Yard>(
-    alloc: Global,
+    room: Vec<Pass<L>>,
     done: Vec<(Pass<L>, u64)>,
 ) -> Result<(Vec<Pass<L>>, u64), AllocError>
-    requires { HandsBack done.items }
+    requires empty { room.items ≡ [] }
+    requires back { HandsBack done.items }
     ensures { IfOk result (λ r. AreAll (vec_len done) r.0.items) }
 {
-    let mut passes = Vec::new(alloc);
+    let mut passes = room;
     let mut well = 0u64;
     for (pass, ended) in done {
         well = well.wrapping_add(ended);
@@ -123,6 +124,8 @@ pub fn serve<L: Yard + Send + Sync, R: Threads + Wait + Clock + Sync>(
     ensures err { IfErr result (λ fault. Spoils config (passes_of crew.tills crew.dispensers) fault) }
 {
     let (yard, passes) = Forecourt::<L>::start(alloc, config, crew.passes(), blank)?;
+    // Room for the end is taken before anything is served: the history isn't lost for want of it.
+    let room = Vec::with_capacity(alloc, crew.passes() as usize)?;
     let shared = &yard;
     let done = thread::map_vec(
         rt,
@@ -131,7 +134,7 @@ pub fn serve<L: Yard + Send + Sync, R: Threads + Wait + Clock + Sync>(
             ensures { result.0.id ≡ pass.id }
         { serve_post(rt, alloc, shared, pass, crew, listeners, connections) },
     )?;
-    let (passes, well) = gathered(alloc, done)?;
+    let (passes, well) = gathered(room, done)?;
     match yard.close(rt, passes) {
         Ok(closed) => Ok(Served {
             site: closed.site,

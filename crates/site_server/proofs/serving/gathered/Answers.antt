@@ -7,4 +7,4 @@ use Rattle.site_server.proofs.serving.gathered.Goals as goal
 pub returns : goal.returns
 returns g c =
     let end = YieldsList-end (YieldsList-from_vec {s = c.into_iter-pass-iterator.result} c.args.done.items (search rules) (search rules)) c.loop-pass.yielded c.loop-pass.pass-iterator c.loop-pass.yielded_by c.next.result c.next.new.self c.in-None.is c.next.ensures.steps in
-    all_handed_back c.loop-pass.passes.items c.args.done.items _ (c.loop-pass.invariant ∙ ap (map (λ x. x.0.id)) (sym (map-id c.loop-pass.yielded) ∙ end.0)) (search rules) c.requires
+    all_handed_back c.loop-pass.passes.items c.args.done.items _ (c.loop-pass.invariant ∙ ap (map (λ x. x.0.id)) (sym (map-id c.loop-pass.yielded) ∙ end.0)) (search rules) c.requires.back
