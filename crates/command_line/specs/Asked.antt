@@ -29,8 +29,23 @@ of_file name file = with_rule (new_app name) (file_rule file)
 abbrev pub of_files : Text → Text → Text → App
 of_files name first second = with_rule (of_file name first) (file_rule second)
 
+abbrev pub asm_app : App
+asm_app = of_file (codes "asm") (codes "file")
+
+abbrev pub dis_app : App
+dis_app = of_file (codes "dis") (codes "file")
+
 abbrev pub verify_app : App
 verify_app = with_rule (of_file (codes "verify") (codes "file")) mask_rule
+
+abbrev pub play_app : App
+play_app = of_files (codes "play") (codes "config") (codes "script")
+
+abbrev pub audit_app : App
+audit_app = of_files (codes "audit") (codes "config") (codes "journal")
+
+abbrev pub serve_app : App
+serve_app = of_file (codes "serve") (codes "config")
 
 abbrev pub top_app : App
 top_app = record (new_app (codes "fc")) { top = record (new_app (codes "fc")).top { has_version = true } }
@@ -39,12 +54,7 @@ top_app = record (new_app (codes "fc")) { top = record (new_app (codes "fc")).to
 abbrev pub fc_app : App
 fc_app =
     with_subcommand (with_subcommand (with_subcommand (with_subcommand (with_subcommand (with_subcommand top_app
-    (of_file (codes "asm") (codes "file")).top)
-    (of_file (codes "dis") (codes "file")).top)
-    verify_app.top)
-    (of_files (codes "play") (codes "config") (codes "script")).top)
-    (of_files (codes "audit") (codes "config") (codes "journal")).top)
-    (of_file (codes "serve") (codes "config")).top
+    asm_app.top) dis_app.top) verify_app.top) play_app.top) audit_app.top) serve_app.top
 
 -- ---- what they ask for
 

@@ -2,17 +2,17 @@
 ghost use Rattle.std.specs.Prelude.{◌≡◌, false, IfOk, codes};
 ghost use Rattle.clap.specs.Words.{app_of, with_rule, new_app, rule_of};
 ghost use Rattle.clap.specs.declared.builder.command.Command.TheViews.{out-Command};
-ghost use Rattle.command_line.specs.Asked.{file_rule, mask_rule, of_file, of_files, verify_app, fc_app};
+ghost use Rattle.command_line.specs.Asked.{file_rule, mask_rule, of_file, asm_app, dis_app, verify_app, play_app, audit_app, serve_app, fc_app};
 
 use clap::{Arg, Command, value_parser};
 use std::alloc::{AllocError, Global};
 
 /// A file that is wanted.
-fn file_arg<'a>(alloc: Global, name: &'a str) -> Arg<'a>
+fn file_arg<'a>(alloc: Global, name: &'a str, help: &'a str) -> Arg<'a>
     ensures rule { rule_of result ≡ file_rule name.entry.now }
     ensures local { result.global ≡ false }
 {
-    Arg::new(alloc, name).required(true)
+    Arg::new(alloc, name).help(help).required(true)
 }
 
 /// The counters that a program declares.
@@ -35,30 +35,52 @@ fn with_file<'a>(
     about: &'a str,
     example: &'a str,
     file: &'a str,
+    help: &'a str,
 ) -> Result<Command<'a>, AllocError>
     ensures app { IfOk result (λ c. app_of c ≡ of_file name.entry.now file.entry.now) }
     ensures local { IfOk result (λ c. (out-Command c).has_globals ≡ false) }
 {
     let told = Command::new(alloc, name).about(about).after_help(example);
-    let command = told.arg(file_arg(alloc, file))?;
+    let command = told.arg(file_arg(alloc, file, help))?;
     Ok(command)
 }
 
-/// A subcommand that wants two files.
-fn with_files<'a>(
-    alloc: Global,
-    name: &'a str,
-    about: &'a str,
-    example: &'a str,
-    first: &'a str,
-    second: &'a str,
-) -> Result<Command<'a>, AllocError>
-    ensures app { IfOk result (λ c. app_of c ≡ of_files name.entry.now first.entry.now second.entry.now) }
+const CONFIG: &str = "the site's configuration, as TOML";
+
+const SCRIPT: &str = "requests, events and loads, one a line";
+
+const JOURNAL: &str = "what a play or a served site printed of its entries";
+
+const PROGRAM: &str = "the program's bytes, as hexadecimal digits";
+
+/// The subcommand that assembles.
+fn asm<'a>(alloc: Global) -> Result<Command<'a>, AllocError>
+    ensures app { IfOk result (λ c. app_of c ≡ asm_app) }
     ensures local { IfOk result (λ c. (out-Command c).has_globals ≡ false) }
 {
-    let some = with_file(alloc, name, about, example, first)?;
-    let command = some.arg(file_arg(alloc, second))?;
-    Ok(command)
+    with_file(
+        alloc,
+        "asm",
+        "Prints the units of a rule",
+        "Example: fc asm rule.bpf",
+        "file",
+        "the rule, as assembler text",
+    )
+}
+
+/// The subcommand that disassembles.
+fn dis<'a>(alloc: Global) -> Result<Command<'a>, AllocError>
+    ensures app { IfOk result (λ c. app_of c ≡ dis_app) }
+    ensures local { IfOk result (λ c. (out-Command c).has_globals ≡ false) }
+{
+    with_file(
+        alloc,
+        "dis",
+        "Prints a program as text",
+        "Example: fc dis rule.hex",
+        "file",
+        PROGRAM,
+    )
 }
 
 /// The subcommand that verifies.
@@ -72,9 +94,64 @@ fn verify<'a>(alloc: Global) -> Result<Command<'a>, AllocError>
         "Tells whether a program file is accepted",
         "Example: fc verify --counters 3 rule.hex",
         "file",
+        PROGRAM,
     )?;
     let command = some.arg(mask_arg(alloc))?;
     Ok(command)
+}
+
+/// The subcommand that plays.
+fn play<'a>(alloc: Global) -> Result<Command<'a>, AllocError>
+    ensures app { IfOk result (λ c. app_of c ≡ play_app) }
+    ensures local { IfOk result (λ c. (out-Command c).has_globals ≡ false) }
+{
+    let some = with_file(
+        alloc,
+        "play",
+        "Answers each line of a script",
+        "Example: fc play site.toml day.script",
+        "config",
+        CONFIG,
+    )?;
+    let command = some.arg(file_arg(alloc, "script", SCRIPT))?;
+    Ok(command)
+}
+
+/// The subcommand that audits.
+fn audit<'a>(alloc: Global) -> Result<Command<'a>, AllocError>
+    ensures app { IfOk result (λ c. app_of c ≡ audit_app) }
+    ensures local { IfOk result (λ c. (out-Command c).has_globals ≡ false) }
+{
+    let some = with_file(
+        alloc,
+        "audit",
+        "Tells whether a journal is a legal history",
+        "Example: fc audit site.toml day.journal",
+        "config",
+        CONFIG,
+    )?;
+    let journal = file_arg(
+        alloc,
+        "journal",
+        "the journal of a play, or of a served site",
+    );
+    let command = some.arg(journal)?;
+    Ok(command)
+}
+
+/// The subcommand that serves.
+fn serve<'a>(alloc: Global) -> Result<Command<'a>, AllocError>
+    ensures app { IfOk result (λ c. app_of c ≡ serve_app) }
+    ensures local { IfOk result (λ c. (out-Command c).has_globals ≡ false) }
+{
+    with_file(
+        alloc,
+        "serve",
+        "Serves a site on 127.0.0.1, then prints its journal",
+        "Example: fc serve site.toml > day.journal",
+        "config",
+        CONFIG,
+    )
 }
 
 const ABOUT: &str =
@@ -91,44 +168,12 @@ Status: 0 done, 1 the input is refused, 2 the words are wrong, 3 a device failed
 pub fn fc<'a>(alloc: Global) -> Result<Command<'a>, AllocError>
     ensures { IfOk result (λ c. app_of c ≡ fc_app) }
 {
-    let asm = with_file(
-        alloc,
-        "asm",
-        "Prints the units of a rule",
-        "Example: fc asm rule.bpf",
-        "file",
-    )?;
-    let dis = with_file(
-        alloc,
-        "dis",
-        "Prints a program as text",
-        "Example: fc dis rule.hex",
-        "file",
-    )?;
+    let asm = asm(alloc)?;
+    let dis = dis(alloc)?;
     let verify = verify(alloc)?;
-    let play = with_files(
-        alloc,
-        "play",
-        "Answers each line of a script",
-        "Example: fc play site.toml day.script",
-        "config",
-        "script",
-    )?;
-    let audit = with_files(
-        alloc,
-        "audit",
-        "Tells whether a journal is a legal history",
-        "Example: fc audit site.toml day.journal",
-        "config",
-        "journal",
-    )?;
-    let serve = with_file(
-        alloc,
-        "serve",
-        "Serves a site on 127.0.0.1, then prints its journal",
-        "Example: fc serve site.toml > day.journal",
-        "config",
-    )?;
+    let play = play(alloc)?;
+    let audit = audit(alloc)?;
+    let serve = serve(alloc)?;
     let top = Command::new(alloc, "fc")
         .version("0.1.0")
         .about(ABOUT)
