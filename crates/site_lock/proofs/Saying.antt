@@ -1,5 +1,5 @@
 -- What a desk says of a call.
-use Rattle.std.proofs.Common.{◌≡◌, ℕ, ◌≤◌, length, IfOk, OnErr, Result, Ok, Err, sym, subst}
+use Rattle.std.proofs.Common.{◌≡◌, ℕ, ◌≤◌, length, IfOk, IfErr, OnErr, Result, Ok, Err, sym, subst}
 use Rattle.till_request.specs.declared.act.Act.{Act}
 use Rattle.till_request.specs.declared.act.Answer.{Answer}
 use Rattle.site_core.specs.declared.events.Answered.{Answered}
@@ -9,7 +9,7 @@ use Rattle.site_core.specs.Limits.{ConfigValue}
 use Rattle.site_core.specs.Step.{entered_moment}
 use Rattle.site_core.specs.Audit.{IsGoodAct}
 use Rattle.site_lock.specs.Passes.{PassView}
-use Rattle.site_lock.specs.Calls.{Gains, FitsIn}
+use Rattle.site_lock.specs.Calls.{Gains, FitsIn, Excuses}
 use Rattle.site_lock.specs.Desks.{DeskAnswers, said_of}
 
 -- what a call of the act at the moment says of its pass
@@ -17,11 +17,12 @@ pub record Called (config : ConfigValue) (old new : PassView) (moment : ℕ) (ac
   pub gains : IfOk r (λ (a : Answered). Gains old new moment act a)
   pub number : IfOk r (λ (a : Answered). length new.receipts ≤ a.number)
   pub fits : IfOk r (λ (a : Answered). FitsIn config old.id moment act a.reply)
+  pub excuse : IfErr r (Excuses config)
   pub same : OnErr r (new ≡ old)
 
 said-so : (config : ConfigValue) (old new : PassView) (act : Act) (moment : ℕ) (r : Result Answered CallFault) → Called config old new (entered_moment act moment) act r → IsGoodAct act → DeskAnswers config old new act moment (said_of r)
 said-so config old new act moment (Ok a) called good = record { gains = called.gains; number_is = called.number; fits = called.fits; good = good }
-said-so config old new act moment (Err fault.JournalFull) called good = called.same
+said-so config old new act moment (Err fault.JournalFull) called good = (called.same, called.excuse)
 said-so config old new act moment (Err fault.OutOfMemory) called good = called.same
 
 pub answers : (kept config : ConfigValue) (old new : PassView) (act : Act) (moment : ℕ) (r : Result Answered CallFault) (answer : Answer) → kept ≡ config → answer ≡ said_of r → Called kept old new (entered_moment act moment) act r → IsGoodAct act → DeskAnswers config old new act moment answer

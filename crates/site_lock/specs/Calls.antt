@@ -1,13 +1,15 @@
--- Definitions: what an answered call gives its pass, and which replies fit an event.
-use Rattle.std.specs.Prelude.{◌≡◌, ℕ, ◌+◌, List, [], ◌∷◌, ◌++◌}
+-- Definitions: what an answered call gives its pass, which replies fit an event, and when a call is refused.
+use Rattle.std.specs.Prelude.{◌≡◌, ℕ, ◌+◌, List, [], ◌∷◌, ◌++◌, length}
 use Rattle.decision_journal.specs.declared.entries.Entry.{Entry}
 use Rattle.till_request.specs.declared.act.Act.{Act}
 use Rattle.till_request.specs.declared.act.Reply.{Reply}
 use Rattle.site_core.specs.declared.events.Answered.{Answered}
+use Rattle.site_core.specs.declared.events.CallFault.{CallFault}
+use Rattle.site_core.specs.declared.events.CallFault.TheVariants.{JournalFull, OutOfMemory}
 use Rattle.site_core.specs.Limits.{ConfigValue}
 use Rattle.site_core.specs.State.{SiteState}
 use Rattle.site_core.specs.Legal.{LegalHistory}
-use Rattle.site_core.specs.Site.{act_of}
+use Rattle.site_core.specs.Site.{SiteValue, Upholds, act_of}
 use Rattle.site_lock.specs.declared.pass.Receipt.{Receipt}
 use Rattle.site_lock.specs.Passes.{PassView}
 
@@ -32,3 +34,15 @@ pub record FitsIn (config : ConfigValue) (pass moment : ℕ) (act : Act) (reply 
   pub at : last.moment ≡ moment
   pub does : last.act ≡ act
   pub answers : last.reply ≡ reply
+
+-- Some legal history of this configuration has all the entries that there can be.
+pub record IsFull (config : ConfigValue) : Type 0 where
+  pub site : SiteValue
+  pub config_is : site.config ≡ config
+  pub legal : Upholds site
+  pub entries : length site.history ≡ 1048576
+
+-- a refusal comes of a full journal, or of want of memory
+abbrev pub Excuses : ConfigValue → CallFault → Type 0
+Excuses config JournalFull = IsFull config
+Excuses config OutOfMemory = Unit {0}

@@ -13,7 +13,7 @@ use Rattle.site_core.specs.Limits.{ConfigValue}
 use Rattle.site_core.specs.Step.{entered_moment}
 use Rattle.site_core.specs.Audit.{IsGoodAct, IsRefusedAct}
 use Rattle.site_lock.specs.Passes.{PassView}
-use Rattle.site_lock.specs.Calls.{Gains, FitsIn}
+use Rattle.site_lock.specs.Calls.{Gains, FitsIn, IsFull}
 
 -- The act was entered: the pass gained the receipt of this number and reply, of the act at its moment (a till's request has its own, all else has 0).
 -- The reply fits, and a program that was loaded is good.
@@ -33,7 +33,7 @@ pub record DeskRefuses (before now : PassView) (act : Act) (number : ℕ) (unit 
 -- after any answer without a number the pass is as before
 abbrev pub DeskAnswers : ConfigValue → PassView → PassView → Act → ℕ → Answer → Type 0
 DeskAnswers config before now act moment (Entered number reply) = DeskEnters config before now act moment number reply
-DeskAnswers config before now act moment JournalFull = now ≡ before
+DeskAnswers config before now act moment JournalFull = (now ≡ before) × IsFull config
 DeskAnswers config before now act moment OutOfMemory = now ≡ before
 DeskAnswers config before now act moment (Line fault) = ⊥
 DeskAnswers config before now act moment (Program number unit part) = DeskRefuses before now act number unit part
