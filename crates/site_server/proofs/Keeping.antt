@@ -17,7 +17,7 @@ use Rattle.site_server.specs.Posts.{pass_answers, tells}
 module _ (config : ConfigValue) where
   answer_keeps : (a : Answer) (p q : PassView) (act : Act) (moment : ℕ) → DeskAnswers config p q act moment a → q.id ≡ p.id
   answer_keeps (answer.Entered number reply) p q act moment h = h.gains.id
-  answer_keeps answer.JournalFull p q act moment h = ap (λ (x : PassView). x.id) h
+  answer_keeps answer.JournalFull p q act moment h = ap (λ (x : PassView). x.id) h.0
   answer_keeps answer.OutOfMemory p q act moment h = ap (λ (x : PassView). x.id) h
   answer_keeps (answer.Line fault) p q act moment h = absurd h
   answer_keeps (answer.Program number unit part) p q act moment h = ap (λ (x : PassView). x.id) h.same
