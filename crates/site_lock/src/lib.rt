@@ -15,5 +15,5 @@ pub use check::{are_all, fault};
 pub use close::{CloseFault, Closed, Why};
 pub use desk::PassDesk;
 pub use forecourt::Forecourt;
-pub use line_session::{Clock, Desk, session};
+pub use line_session::{Clock, Desk, Doors, Ended, SessionFault, session, worker};
 pub use pass::{Pass, Receipt, Yard};
