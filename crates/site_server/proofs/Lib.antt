@@ -1,3 +1,4 @@
 pub mod Keeping
 pub mod Numbering
 pub mod Posting
+pub mod Working

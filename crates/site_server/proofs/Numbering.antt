@@ -1,12 +1,15 @@
 -- Passes with the numbers 1, 2, 3 and so on are all passes, each once.
-use Rattle.std.proofs.Common.{◌≡◌, ℕ, ◌+◌, ◌<◌, ◌≤◌, List, [], ◌∷◌, length, map, slice_index_or, Bool, true, false, refl, sym, ◌∙◌, ap, arith, rules, suc}
+use Rattle.std.proofs.Common.{◌≡◌, ℕ, ◌+◌, ◌<◌, ◌≤◌, List, [], ◌∷◌, length, map, slice_index_or, Bool, true, false, refl, sym, ◌∙◌, ap, subst, arith, rules, zero, suc}
 use Rattle.std.specs.Prelude.{count_by, cond, ◌==◌}
 use Rattle.std.proofs.lemmas.Bool.{eqb-true, eqb-false}
 use Rattle.std.proofs.lemmas.List.{length-map}
 use Rattle.std.proofs.lemmas.List.Recursion.{is_count_by}
-use Rattle.site_lock.specs.Passes.{PassView}
+use Rattle.site_lock.specs.Passes.{PassView, new_pass}
 use Rattle.site_lock.specs.Merge.{AreAll}
-use Rattle.site_server.specs.Ending.{HandsBack}
+use Rattle.site_core.specs.Limits.{ConfigValue}
+use Rattle.site_server.specs.Crews.{role_of}
+use Rattle.site_server.specs.Posts.{Worked}
+use Rattle.site_server.specs.Ending.{HandedBack, HandsBack, HaveWorked}
 
 -- the numbers from `before` + 1 on
 abbrev Numbers : ℕ → List ℕ → Type 0
@@ -52,24 +55,41 @@ tally_is (p ∷ ps) j = ap (λ k. cond (p.id == j) (1 + k) k) (tally_is ps j)
 counted : (ps : List PassView) (j : ℕ) → count_by (λ (p : PassView). p.id == j) ps ≡ tally j ps
 counted ps j = sym (is_count_by (tally j) (λ (p : PassView). p.id == j) refl (λ p qs. refl) ps)
 
-numbers_of : (before : ℕ) (done : List (PassView × ℕ)) → ((k : ℕ) (d : PassView × ℕ) → k < length done → (slice_index_or done k d).0.id ≡ before + k + 1)
-    → Numbers before (map (λ (x : PassView × ℕ). x.0.id) done)
+numbers_of : (before : ℕ) (ps : List PassView) → ((k : ℕ) (d : PassView) → k < length ps → (slice_index_or ps k d).id ≡ before + k + 1)
+    → Numbers before (map (λ (p : PassView). p.id) ps)
 numbers_of before [] h = tt
-numbers_of before (x ∷ xs) h = (
-  (let first = h 0 x (omega arith) in omega arith),
-  numbers_of (before + 1) xs (λ k d lt. let next = h (suc k) d (omega arith) in omega arith),
+numbers_of before (p ∷ ps) h = (
+  (let first = h 0 p (omega arith) in omega arith),
+  numbers_of (before + 1) ps (λ k d lt. let next = h (suc k) d (omega arith) in omega arith),
 )
 
-same_length : (ps : List PassView) (done : List (PassView × ℕ)) → map (λ (p : PassView). p.id) ps ≡ map (λ (x : PassView × ℕ). x.0.id) done → length ps ≡ length done
-same_length ps done e = sym (length-map ps (λ (p : PassView). p.id)) ∙ ap length e ∙ length-map done (λ (x : PassView × ℕ). x.0.id)
-
--- the numbers of what was handed back
-abbrev ids : List (PassView × ℕ) → List ℕ
-ids done = map (λ (x : PassView × ℕ). x.0.id) done
-
-pub all_handed_back : (ps : List PassView) (done : List (PassView × ℕ)) (n : ℕ) → map (λ (p : PassView). p.id) ps ≡ ids done → n ≡ length done → HandsBack done → AreAll n ps
-all_handed_back ps done n e is h = (
-  same_length ps done e ∙ sym is,
-  λ k lt. counted ps (k + 1) ∙ tally_is ps (k + 1) ∙ ap (count (k + 1)) e
-      ∙ once 0 (ids done) (k + 1) (numbers_of 0 done (λ j d l. h j d l ∙ omega arith)) (omega arith) (omega (arith, length-map done (λ (x : PassView × ℕ). x.0.id))),
+pub all_numbered : (ps : List PassView) (n : ℕ) → length ps ≡ n → ((k : ℕ) (d : PassView) → k < length ps → (slice_index_or ps k d).id ≡ k + 1) → AreAll n ps
+all_numbered ps n is h = (
+  is,
+  λ k lt. counted ps (k + 1) ∙ tally_is ps (k + 1)
+      ∙ once 0 (map (λ (p : PassView). p.id) ps) (k + 1) (numbers_of 0 ps (λ j d l. h j d l ∙ omega arith)) (omega arith) (omega (arith, length-map ps (λ (p : PassView). p.id))),
 )
+
+module _ (config : ConfigValue) (tills dispensers connections : ℕ) where
+  first_of : (done : List (PassView × ℕ)) (k : ℕ) (d : PassView) → slice_index_or (map (λ (x : PassView × ℕ). x.0) done) k d ≡ (slice_index_or done k (d, 0)).0
+  first_of [] k d = refl
+  first_of (x ∷ xs) zero d = refl
+  first_of (x ∷ xs) (suc k) d = first_of xs k d
+
+  pub handed_back : (own : ConfigValue) → config ≡ own → (k : ℕ) (job : PassView) (r : PassView × ℕ) → job ≡ new_pass (k + 1) → r.0.id ≡ job.id
+      → Worked own (role_of tills dispensers job.id) connections r.1 job r.0 → HandedBack config tills dispensers connections k r
+  handed_back own same k job r is id w = (
+    id ∙ ap (λ (p : PassView). p.id) is,
+    subst (λ (c : ConfigValue). Worked c (role_of tills dispensers (k + 1)) connections r.1 (new_pass (k + 1)) r.0) (sym same)
+        (subst (λ (p : PassView). Worked own (role_of tills dispensers p.id) connections r.1 p r.0) is w),
+  )
+
+  pub have_worked : (ps : List PassView) (done : List (PassView × ℕ)) → ps ≡ map (λ (x : PassView × ℕ). x.0) done
+      → HandsBack config tills dispensers connections done → HaveWorked config tills dispensers connections ps
+  have_worked ps done e h k d lt = (
+    (slice_index_or done k (d, 0)).1,
+    rw (e, first_of done k d) (h k (d, 0) (omega (arith, ap length e, length-map done (λ (x : PassView × ℕ). x.0)))),
+  )
+
+  pub all_worked : (ps : List PassView) (n : ℕ) → length ps ≡ n → HaveWorked config tills dispensers connections ps → AreAll n ps
+  all_worked ps n is h = all_numbered ps n is (λ k d lt. (h k d lt).1.0)

@@ -2,25 +2,41 @@
 use Rattle.std.specs.Prelude.{◌≡◌, ℕ, ◌+◌, ◌<◌, List, length, slice_index_or}
 use Rattle.site_core.specs.Limits.{ConfigValue}
 use Rattle.site_core.specs.Site.{SiteValue}
-use Rattle.site_lock.specs.Passes.{PassView, Opened}
+use Rattle.site_lock.specs.Passes.{PassView, Opened, new_pass}
 use Rattle.site_lock.specs.Closing.{Closes, Refuses}
 use Rattle.site_lock.specs.Merge.{AreAll}
+use Rattle.site_server.specs.Crews.{passes_of, role_of}
+use Rattle.site_server.specs.Posts.{Worked}
 use Rattle.site_server.specs.declared.serving.ServeFault.{ServeFault}
 use Rattle.site_server.specs.declared.serving.ServeFault.TheVariants.{OutOfMemory, NotClosed}
 
--- a forecourt of this configuration, with so many passes
-abbrev pub opened : ConfigValue → ℕ → Opened
-opened config n = record { config = config; passes = n }
+-- a forecourt of this configuration, with a pass for each worker
+abbrev pub opened : ConfigValue → ℕ → ℕ → Opened
+opened config tills dispensers = record { config = config; passes = passes_of tills dispensers }
 
--- The site has this configuration and is what some passes, 1 to n, were answered.
-abbrev pub Leaves : ConfigValue → ℕ → SiteValue → Type 0
-Leaves config n site = (passes : List PassView) × Closes (opened config n) passes site
+-- what the worker with pass k + 1 hands back: that pass, after so many connections in its role
+abbrev pub HandedBack : ConfigValue → ℕ → ℕ → ℕ → ℕ → PassView × ℕ → Type 0
+HandedBack config tills dispensers connections k done =
+    (done.0.id ≡ k + 1) × Worked config (role_of tills dispensers (k + 1)) connections done.1 (new_pass (k + 1)) done.0
 
--- what workers hand back: pass 1, pass 2 and so on
-abbrev pub HandsBack : List (PassView × ℕ) → Type 0
-HandsBack done = (k : ℕ) (d : PassView × ℕ) → k < length done → (slice_index_or done k d).0.id ≡ k + 1
+-- what all workers hand back, in their order
+abbrev pub HandsBack : ConfigValue → ℕ → ℕ → ℕ → List (PassView × ℕ) → Type 0
+HandsBack config tills dispensers connections done =
+    (k : ℕ) (d : PassView × ℕ) → k < length done → HandedBack config tills dispensers connections k (slice_index_or done k d)
 
--- A fault other than want of memory is one that the passes 1 to n had at a close: so neither that one is missing, nor another configuration.
-abbrev pub Spoils : ConfigValue → ℕ → ServeFault → Type 0
-Spoils config n OutOfMemory = Unit {0}
-Spoils config n (NotClosed why) = (passes : List PassView) × AreAll n passes × Refuses (opened config n) passes why
+-- each pass served so many connections in its role
+abbrev pub HaveWorked : ConfigValue → ℕ → ℕ → ℕ → List PassView → Type 0
+HaveWorked config tills dispensers connections passes =
+    (k : ℕ) (d : PassView) → k < length passes → (well : ℕ) × HandedBack config tills dispensers connections k (slice_index_or passes k d, well)
+
+-- The site has this configuration and is what all passes were answered, each of which served so many connections in its role.
+pub record Leaves (config : ConfigValue) (tills dispensers connections : ℕ) (site : SiteValue) : Type 0 where
+  pub passes : List PassView
+  pub closes : Closes (opened config tills dispensers) passes site
+  pub worked : HaveWorked config tills dispensers connections passes
+
+-- A fault other than want of memory is one that all passes had at a close, after such work: so neither is one missing, nor is it another configuration.
+abbrev pub Spoils : ConfigValue → ℕ → ℕ → ℕ → ServeFault → Type 0
+Spoils config tills dispensers connections OutOfMemory = Unit {0}
+Spoils config tills dispensers connections (NotClosed why) =
+    (passes : List PassView) × AreAll (passes_of tills dispensers) passes × HaveWorked config tills dispensers connections passes × Refuses (opened config tills dispensers) passes why

@@ -1,7 +1,13 @@
 -- Definitions: what a worker's desk and clock do, as a caller sees them (this profile): the pass that answers, and the moment told last.
-use Rattle.std.specs.Prelude.{◌≡◌, ℕ}
+use Rattle.std.specs.Prelude.{◌≡◌, ℕ, List, [], ◌∷◌, length, Some, None}
+use Rattle.std.specs.List.{AllByRecursion}
+use Rattle.till_request.specs.Line.{IsLine}
 use Rattle.till_request.specs.declared.act.Act.{Act}
 use Rattle.till_request.specs.declared.act.Answer.{Answer}
+use Rattle.till_request.specs.declared.act.Role.{Role}
+use Rattle.line_session.specs.Session.{desk_says}
+use Rattle.line_session.specs.Serving.{Outcome, good}
+use Rattle.line_session.specs.Talk.{SaysAll}
 use Rattle.site_core.specs.Limits.{ConfigValue}
 use Rattle.site_lock.specs.Passes.{PassView}
 use Rattle.site_lock.specs.Desks.{DeskAnswers}
@@ -13,3 +19,21 @@ pass_answers config before act moment answer now = DeskAnswers config before now
 -- the moment told is the one told last
 abbrev pub tells : ℕ → ℕ → ℕ → Type 0
 tells before moment now = now ≡ moment
+
+-- One connection: its door did not open, or lines of somebody of this role were answered, one after another.
+abbrev pub Talked : ConfigValue → Role → Outcome → ℕ × PassView → ℕ × PassView → Type 0
+Talked config role None s s' = s' ≡ s
+Talked config role (Some result) s s' = (lines : List (List ℕ)) × (texts : List (List ℕ)) × AllByRecursion IsLine lines × SaysAll (desk_says (pass_answers config) tells role) lines s texts s'
+
+-- connections that went so, one after another
+abbrev pub TalkedAll : ConfigValue → Role → List Outcome → ℕ × PassView → ℕ × PassView → Type 0
+TalkedAll config role [] s s' = s' ≡ s
+TalkedAll config role (outcome ∷ outcomes) s s' = (m : ℕ × PassView) × Talked config role outcome s m × TalkedAll config role outcomes m s'
+
+-- The pass served so many connections in this role, and so many of them ended without fault.
+pub record Worked (config : ConfigValue) (role : Role) (connections well : ℕ) (before now : PassView) : Type 0 where
+  pub moment : ℕ
+  pub outcomes : List Outcome
+  pub each : TalkedAll config role outcomes (0, before) (moment, now)
+  pub all_asked : length outcomes ≡ connections
+  pub counted : well ≡ good outcomes

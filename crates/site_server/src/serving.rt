@@ -1,11 +1,10 @@
 //! Serving a site.
-ghost use Rattle.std.specs.Prelude.{◌≡◌, ℕ, [], IfErr, IfOk, vec_len};
+ghost use Rattle.std.specs.Prelude.{◌≡◌, ℕ, [], IfErr, IfOk, map};
 ghost use Rattle.line_session.specs.Session.{desk_says};
 ghost use Rattle.line_session.specs.Serving.{Serves, Sits, Visits};
-ghost use Rattle.site_server.specs.Crews.{passes_of};
-ghost use Rattle.site_lock.specs.Merge.{AreAll};
-ghost use Rattle.site_server.specs.Ending.{HandsBack, Leaves, Spoils};
-ghost use Rattle.site_server.specs.Posts.{pass_answers, tells};
+ghost use Rattle.site_server.specs.Crews.{passes_of, role_of};
+ghost use Rattle.site_server.specs.Ending.{Leaves, Spoils};
+ghost use Rattle.site_server.specs.Posts.{Worked, pass_answers, tells};
 
 use crate::clock::MachineClock;
 use crate::crew::Crew;
@@ -63,6 +62,7 @@ pub fn serve_pass<L: Yard, S: Doors, R: Wait + Clock>(
 ) -> (Pass<L>, u64)
     ensures served { (moment : ℕ) × Serves (Visits S.opens S.fails (Sits (desk_says (pass_answers L.config) tells role) S.In.remaining S.In.reads S.In.failures S.Out.written S.Out.failures))
         connections result.1 doors.old (0, pass) doors.new (moment, result.0) }
+    ensures worked { Worked L.config role connections result.1 pass result.0 }
     ensures id { result.0.id ≡ pass.id }
 {
     let mut clock = MachineClock::new(rt);
@@ -81,7 +81,8 @@ fn serve_post<L: Yard, R: Wait + Clock>(
     listeners: &Listeners,
     connections: u32,
 ) -> (Pass<L>, u64)
-    ensures { result.0.id ≡ pass.id }
+    ensures worked { Worked L.config (role_of crew.tills crew.dispensers pass.id) connections result.1 pass result.0 }
+    ensures id { result.0.id ≡ pass.id }
 {
     let role = crew.role(pass.id());
     let mut doors = TcpDoors::new(alloc, listeners.of(role));
@@ -93,9 +94,8 @@ fn gathered<L: Yard>(
     room: Vec<Pass<L>>,
     done: Vec<(Pass<L>, u64)>,
 ) -> Result<(Vec<Pass<L>>, u64), AllocError>
-    requires empty { room.items ≡ [] }
-    requires back { HandsBack done.items }
-    ensures { IfOk result (λ r. AreAll (vec_len done) r.0.items) }
+    requires { room.items ≡ [] }
+    ensures { IfOk result (λ r. r.0.items ≡ map (λ x. x.0) done.items) }
 {
     let mut passes = room;
     let mut well = 0u64;
@@ -120,8 +120,8 @@ pub fn serve<L: Yard + Send + Sync, R: Threads + Wait + Clock + Sync>(
     requires parts { blank.parts ≡ L.parts }
     requires config { config ≡ L.config }
     requires passes { blank.parts ≡ passes_of crew.tills crew.dispensers }
-    ensures ok { IfOk result (λ served. Leaves config (passes_of crew.tills crew.dispensers) served.site) }
-    ensures err { IfErr result (λ fault. Spoils config (passes_of crew.tills crew.dispensers) fault) }
+    ensures ok { IfOk result (λ served. Leaves config crew.tills crew.dispensers connections served.site) }
+    ensures err { IfErr result (λ fault. Spoils config crew.tills crew.dispensers connections fault) }
 {
     let (yard, passes) = Forecourt::<L>::start(alloc, config, crew.passes(), blank)?;
     // Room for the end is taken before anything is served: the history isn't lost for want of it.
@@ -131,7 +131,8 @@ pub fn serve<L: Yard + Send + Sync, R: Threads + Wait + Clock + Sync>(
         rt,
         passes,
         &|pass: Pass<L>| -> (Pass<L>, u64)
-            ensures { result.0.id ≡ pass.id }
+            ensures worked { Worked L.config (role_of crew.tills crew.dispensers pass.id) connections result.1 pass result.0 }
+            ensures id { result.0.id ≡ pass.id }
         { serve_post(rt, alloc, shared, pass, crew, listeners, connections) },
     )?;
     let (passes, well) = gathered(room, done)?;
@@ -153,8 +154,8 @@ pub fn serve_site<R: Threads + Wait + Clock + Sync>(
     listeners: &Listeners,
     connections: u32,
 ) -> Result<Served, ServeFault>
-    ensures ok { IfOk result (λ served. Leaves config (passes_of crew.tills crew.dispensers) served.site) }
-    ensures err { IfErr result (λ fault. Spoils config (passes_of crew.tills crew.dispensers) fault) }
+    ensures ok { IfOk result (λ served. Leaves config crew.tills crew.dispensers connections served.site) }
+    ensures err { IfErr result (λ fault. Spoils config crew.tills crew.dispensers connections fault) }
 {
     let blank = Blank::new(u64::from(crew.passes()));
     serve::<Brand, R>(rt, alloc, config, blank, crew, listeners, connections)

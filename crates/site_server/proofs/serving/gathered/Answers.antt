@@ -1,10 +1,9 @@
 use Rattle.std.proofs.Common.{rules, map, map-id, ◌∙◌, ap, sym}
 use Rattle.std.proofs.lemmas.Iterator.Adapters.{YieldsList-from_vec}
 use Rattle.std.proofs.lemmas.Iterator.Consumers.{YieldsList-end}
-use Rattle.site_server.proofs.Numbering.{all_handed_back}
 use Rattle.site_server.proofs.serving.gathered.Goals as goal
 
 pub returns : goal.returns
 returns g c =
     let end = YieldsList-end (YieldsList-from_vec {s = c.into_iter-pass-iterator.result} c.args.done.items (search rules) (search rules)) c.loop-pass.yielded c.loop-pass.pass-iterator c.loop-pass.yielded_by c.next.result c.next.new.self c.in-None.is c.next.ensures.steps in
-    all_handed_back c.loop-pass.passes.items c.args.done.items _ (c.loop-pass.invariant ∙ ap (map (λ x. x.0.id)) (sym (map-id c.loop-pass.yielded) ∙ end.0)) (search rules) c.requires.back
+    c.loop-pass.invariant ∙ ap (map (λ x. x.0)) (sym (map-id c.loop-pass.yielded) ∙ end.0)

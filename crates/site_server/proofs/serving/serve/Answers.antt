@@ -1,17 +1,33 @@
-use Rattle.std.proofs.Common.{rules, ◌+◌, ◌∙◌, ap, sym, subst}
+use Rattle.std.proofs.Common.{rules, ◌+◌, ◌∙◌, ap, length, sym}
+use Rattle.std.proofs.lemmas.List.{length-map}
 use Rattle.std.proofs.lemmas.Option.{get_or_from_slice_get}
-use Rattle.site_lock.specs.Passes.{PassView, new_pass}
-use Rattle.site_lock.specs.Merge.{AreAll}
+use Rattle.site_lock.specs.Passes.{new_pass}
+use Rattle.site_server.proofs.Numbering.{handed_back, have_worked, all_worked}
 use Rattle.site_server.proofs.serving.serve.Goals as goal
 
-pub gathered-requires-clause-back : goal.gathered-requires-clause-back
-gathered-requires-clause-back g c = λ k d lt.
-    let given = (c.in_ok-done.ensures.each k d (search rules)).1 in
-    given.call.met ∙ ap (λ (p : PassView). p.id) (sym (given.job_is (new_pass (k + 1))) ∙ get_or_from_slice_get c.in_ok-yard.passes.items k (new_pass (k + 1)) (new_pass (k + 1)) (c.in_ok-yard.ensures.passes.1 k (search rules)))
+pub returns-in-Ok-clause-ok : goal.returns-in-Ok-clause-ok
+returns-in-Ok-clause-ok g c = record {
+  passes = c.in_ok-passes.passes.items;
+  closes = search rules;
+  worked = have_worked c.args.config c.args.crew.tills c.args.crew.dispensers c.args.connections c.in_ok-passes.passes.items c.in_ok-done.done.items c.in_ok-passes.ensures
+      (λ k d lt.
+      let given = (c.in_ok-done.ensures.each k d (search rules)).1 in
+      handed_back c.args.config c.args.crew.tills c.args.crew.dispensers c.args.connections g.L.Yard.config c.requires.config k given.job _
+      (sym (given.job_is (new_pass (k + 1))) ∙ get_or_from_slice_get c.in_ok-yard.passes.items k (new_pass (k + 1)) (new_pass (k + 1)) (c.in_ok-yard.ensures.passes.1 k (search rules)))
+      given.call.met.1 given.call.met.0);
+}
 
 pub returns-in-Err-clause-err : goal.returns-in-Err-clause-err
-returns-in-Err-clause-err g c = (
-  c.in_ok-passes.passes.items,
-  subst (λ n. AreAll n c.in_ok-passes.passes.items) (search rules) c.in_ok-passes.ensures,
-  search rules,
-)
+returns-in-Err-clause-err g c =
+    let worked = have_worked c.args.config c.args.crew.tills c.args.crew.dispensers c.args.connections c.in_ok-passes.passes.items c.in_ok-done.done.items c.in_ok-passes.ensures
+    (λ k d lt.
+    let given = (c.in_ok-done.ensures.each k d (search rules)).1 in
+    handed_back c.args.config c.args.crew.tills c.args.crew.dispensers c.args.connections g.L.Yard.config c.requires.config k given.job _
+    (sym (given.job_is (new_pass (k + 1))) ∙ get_or_from_slice_get c.in_ok-yard.passes.items k (new_pass (k + 1)) (new_pass (k + 1)) (c.in_ok-yard.ensures.passes.1 k (search rules)))
+    given.call.met.1 given.call.met.0) in (
+      c.in_ok-passes.passes.items,
+      all_worked c.args.config c.args.crew.tills c.args.crew.dispensers c.args.connections c.in_ok-passes.passes.items _
+          (ap length c.in_ok-passes.ensures ∙ length-map c.in_ok-done.done.items (λ x. x.0) ∙ (search rules)) worked,
+      worked,
+      search rules,
+    )

@@ -1,5 +1,6 @@
 use Rattle.site_server.proofs.Keeping.{serves_keep}
 use Rattle.site_server.proofs.Posting.{serves_as_pass}
+use Rattle.site_server.proofs.Working.{worked}
 use Rattle.site_server.proofs.serving.serve_pass.Goals as goal
 
 pub returns-clause-served : goal.returns-clause-served
@@ -12,3 +13,7 @@ returns-clause-served g c = (
 pub returns-clause-id : goal.returns-clause-id
 returns-clause-id g c =
     let served = returns-clause-served g c in serves_keep g.L.Yard.config c.args.role _ _ _ _ _ _ _ _ _ _ _ _ _ served.1
+
+pub returns-clause-worked : goal.returns-clause-worked
+returns-clause-worked g c =
+    let served = returns-clause-served g c in worked g.L.Yard.config c.args.role _ _ _ _ _ _ _ _ _ _ _ _ _ _ served.1
