@@ -372,12 +372,10 @@ fn random_programs(rt: HostRuntime) {
                 let _answer = run(&program, &release(), &world(), &mut counters);
                 assert_eq!(rt; counters.get(9), 1);
             }
-            Err(refusal) => {
-                let Some((number, _, _)) = refusal.shown() else {
-                    panic!(rt; "memory ran out");
-                };
-                assert!(rt; 1 <= number && number <= 20);
-            }
+            Err(refusal) => match refusal.shown() {
+                Some((number, _, _)) => assert!(rt; 1 <= number && number <= 20),
+                None => assert!(rt; false, "memory ran out"),
+            },
         }
     }
     assert!(rt;
