@@ -1,20 +1,19 @@
 -- The rules accept plain programs.
-use Rattle.std.proofs.Common.{◌≡◌, ◌≢◌, ℕ, zero, suc, ◌+◌, ◌-◌, ◌*◌, ◌^◌, ◌<◌, ◌≤◌, ◌⊎◌, List, [], ◌∷◌, ◌++◌, Option, Some, None, Bool, true, false, refl, sym, ap, ◌∙◌, subst, inl, inr, arith, length}
-use Rattle.std.specs.Prelude.{Result, Ok, Err, IsSome, OnOk, OnErr, ℤ, pos, neg_ℤ, nat_le, slice_get, slice_set, slice_index_or, ◌==◌, cond, ⊤}
+use Rattle.std.proofs.Common.{◌≡◌, ℕ, zero, suc, ◌+◌, ◌-◌, ◌*◌, ◌^◌, ◌<◌, ◌≤◌, List, [], ◌∷◌, Option, Some, None, Bool, true, false, refl, sym, ap, ◌∙◌, subst, inl, inr, arith, length}
+use Rattle.std.specs.Prelude.{Result, Ok, Err, IsSome, ℤ, nat_le, slice_get, slice_set, ◌==◌, cond, ⊤}
 use Rattle.std.specs.Int.{cast_unsigned, w32}
-use Rattle.std.proofs.lemmas.Bool.{cases_eq, cases_lt}
+use Rattle.std.proofs.lemmas.Bool.{cond_both, eqb-true}
 use Rattle.std.proofs.lemmas.Bool.Decides.{nat_tests}
 use Rattle.std.proofs.lemmas.Option.{slice_get_within}
-use Rattle.std.proofs.lemmas.List.{get_or-set_other, get_or-set_same, get_or_default, length-set}
+use Rattle.std.proofs.lemmas.List.{get_or-set_other, get_or-set_same, length-set}
 use Rattle.bpf_model.specs.declared.instruction.Inst.{Inst}
 use Rattle.bpf_model.specs.declared.instruction.Unit.{Unit as ProgramUnit}
 use Rattle.bpf_model.specs.declared.instruction.Unit.TheVariants.{First, Second}
 use Rattle.bpf_model.specs.declared.instruction.Width.{Width}
 use Rattle.bpf_model.specs.declared.instruction.Width.TheVariants.{Narrow, Full}
-use Rattle.bpf_model.specs.declared.instruction.Source.{Source}
 use Rattle.bpf_model.specs.declared.instruction.Source.TheVariants.{Immediate, Register}
 use Rattle.bpf_model.specs.declared.instruction.Operator.{Operator}
-use Rattle.bpf_model.specs.declared.instruction.Operator.TheVariants.{Sum, Difference, Product, Quotient, Or, And, ShiftLeft, ShiftRight, Negate, Remainder, Xor, Move, ShiftSigned, SwapBytes}
+use Rattle.bpf_model.specs.declared.instruction.Operator.TheVariants.{Sum, Difference, Negate, Move, SwapBytes}
 use Rattle.bpf_model.specs.declared.instruction.Size.{Size}
 use Rattle.bpf_model.specs.declared.instruction.Form.{Form}
 use Rattle.bpf_model.specs.declared.instruction.Form.TheVariants.{Arithmetic, Wide, Load, LoadSigned, StoreImmediate, StoreRegister, Goto, GotoLong, Branch, Call, Exit}
@@ -28,11 +27,12 @@ use Rattle.reg_types.specs.declared.types.Flaw.{Flaw}
 use Rattle.reg_types.specs.declared.types.Flaw.TheVariants.{FallsOff, NotANumber}
 use Rattle.reg_types.specs.declared.types.Fact.{Fact}
 use Rattle.reg_types.specs.declared.types.Effect.{Effect}
-use Rattle.reg_types.specs.Rules.{type_at, is_numeric, is_plain, one_number, two_numbers, alu_type, operand_type, unmarked, set_type, load_type, number_at, compared, exited, effect, falls_off, judged, join_type}
-use Rattle.reg_types.specs.Facts.{entry_types, Facts, table}
+use Rattle.reg_types.specs.Rules.{type_at, is_numeric, is_plain, one_number, two_numbers, alu_type, unmarked, set_type, load_type, number_at, compared, exited, effect, falls_off, judged, join_type}
+use Rattle.reg_types.specs.Inference.{leads, upper_of, join_types, entry_fact, fact_after, instruction_at, ruled, flaw_in, flaw_of, flaw_under, taken_in, arrived, arrived_all, passed_by, passed_from, passed, known, inferred, or_else, first_flaw_below}
 use Rattle.reg_types.specs.Plain.{IsPlainForm, SetsFirst, LoadsArgument, ArePlainUnits}
-use Rattle.reg_types.specs.Accepting.{ArePlain, PlainOption, PlainAbove, PlainAt, PlainHere, PlainFrom, PlainTypesAt, AcceptsAll}
-use Rattle.reg_types.proofs.Tables.{table_same, table_other}
+use Rattle.reg_types.specs.Accepting.{ArePlain, PlainOption, PlainTypesAt, AcceptsAll}
+use Rattle.reg_types.proofs.Inference.{type_at-joined}
+use Rattle.reg_types.proofs.Accepted.{instruction_is}
 
 abbrev ok_of : Effect → Result Effect Flaw
 ok_of e = Ok e
@@ -259,43 +259,85 @@ pub plain_accepts : (bytes : List ℕ) (us : List ProgramUnit) (declared : ℕ) 
 plain_accepts bytes us declared reads plain =
     record { each = λ pc i fact at types upper form is. plain_here bytes us reads plain pc i at declared fact upper form is types }
 
--- ---- the table
+-- ---- what is known of a plain program
 
-plain_there : (pc to : ℕ) (facts : List (Option Fact)) (o : Option Fact) → pc < to → slice_index_or facts to None ≡ o → PlainAbove pc (table facts) → PlainOption o
-plain_there pc to facts None l e p = tt
-plain_there pc to facts (Some g) l e p = p to g l e
+long_joined : (a b : List RegType) → 2 ≤ length a → 2 ≤ length b → 2 ≤ length (join_types a b)
+long_joined [] b la lb = absurd (omega arith)
+long_joined (x ∷ []) b la lb = absurd (omega arith)
+long_joined (x ∷ y ∷ a) [] la lb = absurd (omega arith)
+long_joined (x ∷ y ∷ a) (z ∷ []) la lb = absurd (omega arith)
+long_joined (x ∷ y ∷ a) (z ∷ w ∷ b) la lb = omega arith
 
-pub plain_merged : (facts : List (Option Fact)) (pc to : ℕ) (f : Fact) (d : Option Fact) → pc < to → to < length facts → (PlainOption (slice_index_or facts to d) → ArePlain f.types) → PlainAbove pc (table facts) → PlainAbove pc (table (slice_set facts to (Some f)))
-plain_merged facts pc to f d l inside merged p q fact after h =
-    elim (cases_eq q to) [
-      | inl at ↦ let e : Some f ≡ Some fact = sym (table_same facts to f inside) ∙ subst (λ k. table (slice_set facts to (Some f)) k ≡ Some fact) at h in
-          let t : f ≡ fact = cc in
-          subst (λ x. ArePlain x.types) t (merged (plain_there pc to facts (slice_index_or facts to d) l (get_or_default facts to None d inside) p))
-      | inr other ↦ p q fact after (sym (table_other facts to q f other) ∙ h)
-    ]
+plain_taken : (o : Option Fact) (fact : Fact) → PlainOption o → ArePlain fact.types → ArePlain (taken_in o fact).types
+plain_taken None fact p q = q
+plain_taken (Some old) fact p q =
+    plain_join old.types fact.types (join_types old.types fact.types) (long_joined old.types fact.types p.long q.long) (type_at-joined old.types fact.types) p q
 
--- ---- the pass
+plain_arrived : (q to : ℕ) (fact : Fact) (o : Option Fact) → ArePlain fact.types → PlainOption o → PlainOption (arrived q fact to o)
+plain_arrived q to fact o plain p = cond_both (q == to) (Some (taken_in o fact)) o PlainOption (λ e. plain_taken o fact p plain) (λ e. p)
 
-above_of : (pc k : ℕ) (types : List RegType) → pc < k → PlainTypesAt k types → ArePlain types
-above_of pc k types l (inl z) = absurd (omega (arith, z.0))
-above_of pc k types l (inr p) = p
+plain_all : (q : ℕ) (fact : Fact) (tos : List ℕ) (o : Option Fact) → ArePlain fact.types → PlainOption o → PlainOption (arrived_all q fact tos o)
+plain_all q fact [] o plain p = p
+plain_all q fact (to ∷ tos) o plain p = plain_all q fact tos (arrived q fact to o) plain (plain_arrived q to fact o plain p)
 
--- the next unit
-pub from_more : (pc : ℕ) (old new : Facts) → PlainFrom pc old → (PlainAbove pc old → PlainAbove pc new) → PlainFrom (pc + 1) new
-from_more pc old new p keeps q fact l h =
-    inr (keeps (λ k f after e. above_of pc k f.types after (p k f (omega arith) e)) q fact (omega arith) h)
+plain_by : (q : ℕ) (fact : Fact) (e : Effect) (tos : Option (List ℕ)) (o : Option Fact) → ArePlain e.types → PlainOption o → PlainOption (passed_by q fact (Ok e) tos o)
+plain_by q fact e None o plain p = p
+plain_by q fact e (Some tos) o plain p = plain_all q (fact_after fact e) tos o plain p
 
-pub here_from : (us : List ProgramUnit) (declared pc : ℕ) (facts : Facts) → AcceptsAll us declared → PlainFrom pc facts → PlainHere us pc declared facts
-here_from us declared pc facts a p i fact at h = a.each pc i fact at (p pc fact (omega arith) h)
+above_of : (pc q : ℕ) (types : List RegType) → pc < q → PlainTypesAt q types → ArePlain types
+above_of pc q types l (inl z) = absurd (omega (arith, z.0))
+above_of pc q types l (inr p) = p
 
-pub begins_plain : (facts : List (Option Fact)) (f : Fact) → ((q : ℕ) → table facts q ≡ None) → 0 < length facts → f.types ≡ entry_types → PlainFrom 0 (table (slice_set facts 0 (Some f)))
-begins_plain facts f is l e q fact after h =
-    elim (cases_eq q 0) [
-      | inl at ↦ let x : Some f ≡ Some fact = sym (table_same facts 0 f l) ∙ subst (λ k. table (slice_set facts 0 (Some f)) k ≡ Some fact) at h in
-          let t : f ≡ fact = cc in
-          inl (at, ap (λ y. y.types) (sym t) ∙ e)
-      | inr other ↦
-          let gone : table facts q ≡ None = is q in
-          let never : None ≡ Some fact = sym gone ∙ sym (table_other facts 0 q f other) ∙ h in
-          absurd (cc)
-    ]
+-- what may be known of a unit
+abbrev PlainKnown : ℕ → Option Fact → Type 0
+PlainKnown q None = ⊤
+PlainKnown q (Some fact) = PlainTypesAt q fact.types
+
+plain_option : (pc q : ℕ) (o : Option Fact) → pc < q → PlainKnown q o → PlainOption o
+plain_option pc q None l p = tt
+plain_option pc q (Some fact) l p = above_of pc q fact.types l p
+
+known_option : (q : ℕ) (o : Option Fact) → PlainOption o → PlainKnown q o
+known_option q None p = tt
+known_option q (Some fact) p = inr p
+
+module _ (us : List ProgramUnit) (declared : ℕ) (all : AcceptsAll us declared) where
+  ruled_plain : (pc : ℕ) (fact : Fact) (x : Inst × Form) → PlainTypesAt pc fact.types → instruction_at us pc ≡ Some x → Accepted (ruled us declared pc fact x)
+  ruled_plain pc fact x p at =
+      let is = instruction_is (slice_get us pc) x at in
+      all.each pc x.0 fact is.0 p (upper_of us pc) x.1 is.1
+
+  passed_plain : (pc q : ℕ) (fact : Fact) (o : Option (Inst × Form)) (old : Option Fact) → PlainTypesAt pc fact.types → instruction_at us pc ≡ o → PlainOption old → PlainOption (passed_from us declared pc fact o q old)
+  passed_plain pc q fact None old p at before = before
+  passed_plain pc q fact (Some x) old p at before =
+      let r = ruled_plain pc fact x p at in
+      subst (λ e. PlainOption (passed_by q fact e (leads pc x.0 x.1) old)) (sym r.1) (plain_by q fact r.0 (leads pc x.0 x.1) old r.2 before)
+
+  plain_past : (pc q : ℕ) (here old : Option Fact) → PlainKnown pc here → PlainOption old → PlainOption (passed us declared pc here q old)
+  plain_past pc q None old p before = before
+  plain_past pc q (Some fact) old p before = passed_plain pc q fact (instruction_at us pc) old p refl before
+
+  plain_start : (q : ℕ) → PlainKnown q (known us declared 0 q)
+  unfolding known
+  plain_start q = cond_both (q == 0) (Some entry_fact) None (PlainKnown q) (λ e. inl (eqb-true q 0 e, refl)) (λ e. tt)
+
+  plain_known : (n q : ℕ) → n ≤ q → PlainKnown q (known us declared n q)
+  unfolding known
+  plain_known zero q l = plain_start q
+  plain_known (suc n) q l =
+      known_option q (known us declared (suc n) q)
+      (plain_past n q (known us declared n n) (known us declared n q) (plain_known n n (omega arith)) (plain_option n q (known us declared n q) (omega arith) (plain_known n q (omega arith))))
+
+  no_flaw_of : (pc : ℕ) (fact : Fact) (o : Option (Inst × Form)) → PlainTypesAt pc fact.types → instruction_at us pc ≡ o → flaw_of us declared pc fact o ≡ None
+  no_flaw_of pc fact None p at = refl
+  no_flaw_of pc fact (Some x) p at = ap (flaw_in pc) (ruled_plain pc fact x p at).1
+
+  no_flaw_under : (pc : ℕ) (o : Option Fact) → PlainKnown pc o → flaw_under us declared pc o ≡ None
+  no_flaw_under pc None p = refl
+  no_flaw_under pc (Some fact) p = no_flaw_of pc fact (instruction_at us pc) p refl
+
+  pub plain_flawless : (n : ℕ) → first_flaw_below us declared n ≡ None
+  unfolding first_flaw_below
+  plain_flawless zero = refl
+  plain_flawless (suc n) =
+      ap (λ o. or_else o (flaw_under us declared n (inferred us declared n))) (plain_flawless n) ∙ no_flaw_under n (inferred us declared n) (plain_known n n (omega arith))

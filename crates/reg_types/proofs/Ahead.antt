@@ -1,6 +1,6 @@
 -- Where the instructions of a program lead: to units further on at which instructions begin.
-use Rattle.std.proofs.Common.{◌≡◌, ◌≢◌, ℕ, zero, suc, ◌+◌, ◌-◌, ◌<◌, ◌≤◌, ◌⊎◌, List, [], ◌∷◌, Option, Some, None, Bool, true, false, refl, sym, ap, ◌∙◌, subst, inl, inr, arith, add-one, length}
-use Rattle.std.specs.Prelude.{ℤ, pos, ◌/◌, ◌&&◌, not, nat_le, cond, slice_get, IsSome, is_some, ⊤}
+use Rattle.std.proofs.Common.{◌≡◌, ℕ, zero, suc, ◌+◌, ◌<◌, ◌≤◌, List, [], ◌∷◌, Some, Bool, true, false, refl, sym, ap, ◌∙◌, arith, add-one, length}
+use Rattle.std.specs.Prelude.{ℤ, ◌&&◌, not, nat_le, cond, slice_get, IsSome, is_some}
 use Rattle.std.specs.List.{AllByRecursion}
 use Rattle.std.proofs.lemmas.Bool.Decides.{nat_tests}
 use Rattle.std.proofs.lemmas.Option.{slice_get_within}
@@ -9,12 +9,12 @@ use Rattle.bpf_model.specs.declared.instruction.Unit.{Unit as ProgramUnit}
 use Rattle.bpf_model.specs.declared.instruction.Unit.TheVariants.{First, Second}
 use Rattle.bpf_model.specs.declared.instruction.Form.{Form}
 use Rattle.bpf_model.specs.declared.instruction.Form.TheVariants.{Arithmetic, Wide, Load, LoadSigned, StoreImmediate, StoreRegister, Goto, GotoLong, Branch, Call, Exit}
-use Rattle.bpf_model.specs.Reading.{form_of, units, unit_at, begins, fields_at, imm_at, opcode_at, is_wide}
-use Rattle.bpf_model.specs.Machine.{and_then, shifted}
+use Rattle.bpf_model.specs.Reading.{form_of, units, begins, fields_at, imm_at, opcode_at, is_wide}
+use Rattle.bpf_model.specs.Machine.{and_then}
 use Rattle.bpf_model.specs.Flow.{IsAhead, GoesForward, distance_at, distance_of, distance_by}
-use Rattle.bpf_model.proofs.Reading.{units_at, inst_at, small_registers, count_of_units, wide_at}
+use Rattle.bpf_model.proofs.Reading.{units_at, inst_at, small_registers, count_of_units}
 use Rattle.reg_types.specs.Rules.{falls_off}
-use Rattle.reg_types.specs.Facts.{IsSound, leads, option_cons}
+use Rattle.reg_types.specs.Inference.{leads, option_cons}
 
 first_unit : (b : Bool) (i j : Inst) (v : ℤ) → cond b (First i) (Second v) ≡ First j → (b ≡ true) × (i ≡ j)
 first_unit true i j v e = (refl, cc)
@@ -102,11 +102,6 @@ there bytes us pc i reads at =
 -- an instruction begins at the first unit
 pub first_there : (bytes : List ℕ) (us : List ProgramUnit) → units bytes ≡ Some us → (i : Inst) × (slice_get us 0 ≡ Some (First i))
 first_there bytes us reads = let n = count_of_units bytes us reads in begins_first bytes us 0 reads refl n.0
-
--- all of these units lie further on
-pub all_forward : (us : List ProgramUnit) (pc : ℕ) (tos : List ℕ) → AllByRecursion (IsAhead us pc) tos → AllByRecursion (λ to. pc < to) tos
-all_forward us pc [] h = tt
-all_forward us pc (to ∷ tos) h = (h.0.ahead, all_forward us pc tos h.1)
 
 pub all_inside : (us : List ProgramUnit) (pc n : ℕ) (tos : List ℕ) → n ≡ length us → AllByRecursion (IsAhead us pc) tos → AllByRecursion (λ to. to < n) tos
 all_inside us pc n [] e h = tt

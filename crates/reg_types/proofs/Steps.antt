@@ -1,40 +1,36 @@
 -- A well typed instruction isn't stuck, and leads to a state that fits its result.
 use Rattle.std.proofs.Common.{◌≡◌, ◌≢◌, ℕ, zero, suc, ◌+◌, ◌-◌, ◌*◌, ◌<◌, ◌≤◌, ◌⊎◌, List, [], ◌∷◌, Option, Some, None, Bool, true, false, refl, sym, ap, ◌∙◌, subst, inl, inr, arith, length}
-use Rattle.std.specs.Prelude.{Result, Ok, Err, ℤ, pos, ◌^◌, ◌/◌, ◌%◌, ◌==◌, ◌&&◌, cond, drop, nat_le, is_some, slice_get, slice_set, slice_index_or, ⊤}
-use Rattle.std.specs.List.{AllByRecursion}
+use Rattle.std.specs.Prelude.{Result, Ok, Err, ℤ, ◌^◌, ◌==◌, cond, drop, slice_set}
 use Rattle.std.specs.Int.{cast_unsigned, w32, w64}
 use Rattle.std.proofs.lemmas.Bool.{cases_lt}
-use Rattle.std.proofs.lemmas.Bool.Decides.{nat_tests}
 use Rattle.std.proofs.lemmas.List.{get_or-set_other, length-set, get_or-drop, length-drop}
 use Rattle.byteorder.specs.Endian.{little_bytes}
 use Rattle.bpf_model.specs.declared.instruction.Inst.{Inst}
 use Rattle.bpf_model.specs.declared.instruction.Width.{Width}
-use Rattle.bpf_model.specs.declared.instruction.Width.TheVariants.{Narrow, Full}
 use Rattle.bpf_model.specs.declared.instruction.Source.{Source}
 use Rattle.bpf_model.specs.declared.instruction.Source.TheVariants.{Immediate, Register}
-use Rattle.bpf_model.specs.declared.instruction.Condition.{Condition}
 use Rattle.bpf_model.specs.declared.instruction.Form.{Form}
 use Rattle.bpf_model.specs.declared.instruction.Form.TheVariants.{Arithmetic, Wide, Load, LoadSigned, StoreImmediate, StoreRegister, Goto, GotoLong, Branch, Call, Exit}
 use Rattle.bpf_model.specs.declared.machine.Value.{Value}
 use Rattle.bpf_model.specs.declared.machine.Value.TheVariants.{Unset, Number, Context, Stack}
-use Rattle.bpf_model.specs.declared.machine.Cell.{Cell}
 use Rattle.bpf_model.specs.declared.machine.View.{View}
 use Rattle.bpf_model.specs.declared.machine.State.{State}
 use Rattle.bpf_model.specs.Reading.{bytes_in}
 use Rattle.bpf_model.specs.Arithmetic.{holds, extended}
-use Rattle.bpf_model.specs.Machine.{Counters, Next, Goes, Exits, Stuck, Place, InContext, InStack, where_some, shifted, number, immediate, map_option, mem, read, register, operand, alu_value, sets, jumps, branches, stores, stack_place, cell_at, written, after_call as call_state, Answer, answer, helper, helper_of, act}
-use Rattle.stack_map.specs.Places.{Has, Within}
+use Rattle.bpf_model.specs.Machine.{Next, Goes, Exits, Stuck, Place, InContext, InStack, where_some, shifted, number, map_option, mem, read, register, operand, alu_value, sets, jumps, branches, stores, stack_place, cell_at, written, after_call as call_state, Answer, helper_of, act}
+use Rattle.stack_map.specs.Places.{Within}
 use Rattle.reg_types.specs.declared.types.RegType.{RegType}
 use Rattle.reg_types.specs.declared.types.RegType.TheVariants.{Unset as Anything, Num, Const, Ctx, Stk}
 use Rattle.reg_types.specs.declared.types.Fact.{Fact}
 use Rattle.reg_types.specs.declared.types.Effect.{Effect}
 use Rattle.reg_types.specs.declared.types.Flaw.{Flaw}
-use Rattle.reg_types.specs.declared.types.Flaw.TheVariants.{FallsOff, WriteR10, NotANumber, NotAPointer, OutOfRange, UnsetBytes, StoreToContext, StorePointer, PointerArithmetic}
-use Rattle.reg_types.specs.Rules.{type_at, is_numeric, is_unset, is_pointer, operand_type, alu_type, unmarked, put_type, set_type, natural, lowest, number_at, number_set, all_in, load_type, marks, store_type, unless_pointer, store_register, compared, exited, after_call, effect}
-use Rattle.reg_types.specs.Facts.{FitsType, HasByte, Covered, Fits, Changes, IsAfter, option_cons, leads}
+use Rattle.reg_types.specs.declared.types.Flaw.TheVariants.{WriteR10, NotANumber, UnsetBytes}
+use Rattle.reg_types.specs.Rules.{type_at, is_numeric, is_unset, is_pointer, operand_type, alu_type, unmarked, put_type, set_type, natural, lowest, number_at, number_set, all_in, load_type, marks, store_type, unless_pointer, after_call, effect}
+use Rattle.reg_types.specs.Facts.{FitsType, HasByte, Covered, Fits, Changes, IsAfter}
+use Rattle.reg_types.specs.Inference.{option_cons, leads}
 use Rattle.reg_types.proofs.Values.{Gives, arithmetic}
 use Rattle.reg_types.proofs.Stack.{covered_load, keeps_bytes, sets_bytes, length-written, length-little, store_inside, size_small}
-use Rattle.reg_types.proofs.Calls.{Changes-refl, Answered, called}
+use Rattle.reg_types.proofs.Calls.{Changes-refl, called}
 
 abbrev pub IsIn : ℕ → List ℕ → Type 0
 IsIn x [] = ⊥

@@ -1,16 +1,16 @@
 -- Promises: how the verifier goes through a plain program.
-use Rattle.std.specs.Prelude.{◌≡◌, ℕ, ◌<◌, ◌≤◌, ◌⊎◌, true, ℤ, List, length, Option, Some, None, Result, Ok, Err, slice_get, ⊤}
+use Rattle.std.specs.Prelude.{◌≡◌, ℕ, ◌≤◌, ◌⊎◌, true, ℤ, List, length, Option, Some, None, Ok, slice_get, ⊤}
 use Rattle.bpf_model.specs.declared.instruction.Inst.{Inst}
 use Rattle.bpf_model.specs.declared.instruction.Form.{Form}
 use Rattle.bpf_model.specs.declared.instruction.Unit.{Unit as ProgramUnit}
-use Rattle.bpf_model.specs.declared.instruction.Unit.TheVariants.{First, Second}
+use Rattle.bpf_model.specs.declared.instruction.Unit.TheVariants.{First}
 use Rattle.bpf_model.specs.Reading.{form_of}
 use Rattle.reg_types.specs.declared.types.RegType.{RegType}
 use Rattle.reg_types.specs.declared.types.RegType.TheVariants.{Ctx}
 use Rattle.reg_types.specs.declared.types.Fact.{Fact}
 use Rattle.reg_types.specs.declared.types.Effect.{Effect}
 use Rattle.reg_types.specs.Rules.{type_at, is_numeric, judged}
-use Rattle.reg_types.specs.Facts.{Facts, entry_types}
+use Rattle.reg_types.specs.Inference.{entry_types}
 
 -- R1 points to the context, and R0 holds a number
 pub record ArePlain (types : List RegType) : Type 0 where
@@ -22,24 +22,14 @@ abbrev pub PlainOption : Option Fact → Type 0
 PlainOption None = ⊤
 PlainOption (Some fact) = ArePlain fact.types
 
-abbrev pub PlainAbove : ℕ → Facts → Type 0
-PlainAbove pc facts = (q : ℕ) (fact : Fact) → pc < q → facts q ≡ Some fact → ArePlain fact.types
-
 -- the instruction is accepted under this fact, and leaves plain types
 abbrev pub PlainAt : List ProgramUnit → ℕ → ℕ → Inst → Fact → Type 0
 PlainAt us pc declared i fact =
     (upper : ℤ) (form : Form) → form_of i.opcode ≡ Some form → (e : Effect) × (judged (length us) pc declared fact i upper form ≡ Ok e) × ArePlain e.types
 
-abbrev pub PlainHere : List ProgramUnit → ℕ → ℕ → Facts → Type 0
-PlainHere us pc declared facts =
-    (i : Inst) (fact : Fact) → slice_get us pc ≡ Some (First i) → facts pc ≡ Some fact → PlainAt us pc declared i fact
-
 -- the types that a plain program can have at a unit
 abbrev pub PlainTypesAt : ℕ → List RegType → Type 0
 PlainTypesAt pc types = ((pc ≡ 0) × (types ≡ entry_types)) ⊎ ArePlain types
-
-abbrev pub PlainFrom : ℕ → Facts → Type 0
-PlainFrom pc facts = (q : ℕ) (fact : Fact) → pc ≤ q → facts q ≡ Some fact → PlainTypesAt q fact.types
 
 -- every instruction is accepted under such types
 pub record AcceptsAll (us : List ProgramUnit) (declared : ℕ) : Type 0 where

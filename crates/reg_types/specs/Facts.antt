@@ -1,29 +1,28 @@
 -- Promises: what facts mean, and when they cover a program.
-use Rattle.std.specs.Prelude.{◌≡◌, ℕ, zero, suc, ◌+◌, ◌/◌, ◌%◌, ◌^◌, ◌<◌, ◌≤◌, ◌⊎◌, ◌↔◌, Bool, ℤ, pos, ◌+ℤ◌, List, [], ◌∷◌, length, Option, Some, None, Result, Ok, Err, IsSome, slice_get, slice_index_or, ⊤}
+use Rattle.std.specs.Prelude.{◌≡◌, ℕ, ◌/◌, ◌%◌, ◌^◌, ◌⊎◌, ◌↔◌, Bool, pos, ◌+ℤ◌, List, [], ◌∷◌, length, Option, Some, None, Ok, slice_get, slice_index_or, ⊤}
 use Rattle.std.specs.List.{AllByRecursion}
 use Rattle.bpf_model.specs.declared.instruction.Inst.{Inst}
 use Rattle.bpf_model.specs.declared.instruction.Unit.{Unit as ProgramUnit}
-use Rattle.bpf_model.specs.declared.instruction.Unit.TheVariants.{First, Second}
+use Rattle.bpf_model.specs.declared.instruction.Unit.TheVariants.{First}
 use Rattle.bpf_model.specs.declared.instruction.Form.{Form}
-use Rattle.bpf_model.specs.declared.instruction.Form.TheVariants.{Arithmetic, Wide, Load, LoadSigned, StoreImmediate, StoreRegister, Goto, GotoLong, Branch, Call, Exit}
 use Rattle.bpf_model.specs.declared.machine.Value.{Value}
-use Rattle.bpf_model.specs.declared.machine.Value.TheVariants.{Unset, Number, Context, Stack}
+use Rattle.bpf_model.specs.declared.machine.Value.TheVariants.{Number, Context, Stack}
 use Rattle.bpf_model.specs.declared.machine.Cell.{Cell}
 use Rattle.bpf_model.specs.declared.machine.Cell.TheVariants.{Byte}
 use Rattle.bpf_model.specs.declared.machine.State.{State}
 use Rattle.bpf_model.specs.Reading.{form_of, units}
 use Rattle.bpf_model.specs.Flow.{IsAhead, GoesForward}
-use Rattle.bpf_model.specs.Machine.{Counters, counter, shifted, register, cell_at}
+use Rattle.bpf_model.specs.Machine.{Counters, counter, register, cell_at}
 use Rattle.bpf_model.specs.Runs.{AreCounters}
 use Rattle.stack_map.specs.Places.{Has, Within}
 use Rattle.reg_types.specs.declared.types.RegType.{RegType}
 use Rattle.reg_types.specs.declared.types.RegType.TheVariants.{Unset as Anything, Num, Const, Ctx, Stk}
 use Rattle.reg_types.specs.declared.types.Fact.{Fact}
 use Rattle.reg_types.specs.declared.types.Effect.{Effect}
-use Rattle.reg_types.specs.declared.types.Flaw.{Flaw}
 use Rattle.reg_types.specs.declared.types.Successors.{Successors}
 use Rattle.reg_types.specs.declared.types.Successors.TheVariants.{End, One, Two}
 use Rattle.reg_types.specs.Rules.{type_at, judged}
+use Rattle.reg_types.specs.Inference.{leads, upper_of, entry_types}
 
 -- ---- states that fit
 
@@ -61,33 +60,11 @@ pub record Changes (declared : ℕ) (old new : Counters) : Type 0 where
 
 -- ---- where instructions lead
 
-abbrev pub option_cons : Option ℕ → List ℕ → Option (List ℕ)
-option_cons None tos = None
-option_cons (Some to) tos = Some (to ∷ tos)
-
--- the units that an instruction can lead to
-abbrev pub leads : ℕ → Inst → Form → Option (List ℕ)
-leads pc i Wide = Some ((pc + 2) ∷ [])
-leads pc i Goto = option_cons (shifted (pc + 1) i.offset 512) []
-leads pc i GotoLong = option_cons (shifted (pc + 1) i.imm 512) []
-leads pc i (Branch c w s) = option_cons (shifted (pc + 1) i.offset 512) ((pc + 1) ∷ [])
-leads pc i Exit = Some []
-leads pc i form = Some ((pc + 1) ∷ [])
-
 -- the units in a choice of none, one or two
 abbrev pub list_of : Successors → List ℕ
 list_of End = []
 list_of (One to) = to ∷ []
 list_of (Two to other) = to ∷ other ∷ []
-
-abbrev pub second_of : Option ProgramUnit → ℤ
-second_of (Some (Second v)) = v
-second_of (Some (First i)) = pos 0
-second_of None = pos 0
-
--- the upper half of a wide load's number
-abbrev pub upper_of : List ProgramUnit → ℕ → ℤ
-upper_of us pc = second_of (slice_get us (pc + 1))
 
 -- ---- tables of facts
 
@@ -123,30 +100,6 @@ pub record IsTyped (us : List ProgramUnit) (declared : ℕ) (facts : Facts) (pc 
   pub ahead : AllByRecursion (IsAhead us pc) tos
   pub enters : AllByRecursion (Enters facts after) tos
 
--- each fact says less afterwards, or the same
-abbrev pub Widens : Facts → Facts → Type 0
-Widens old new = (q : ℕ) (fact : Fact) → old q ≡ Some fact → Enters new fact q
-
--- the facts up to pc stay, and the others come to say less or are new
-pub record Grows (pc : ℕ) (old new : Facts) : Type 0 where
-  pub kept : (q : ℕ) → q ≤ pc → new q ≡ old q
-  pub wider : Widens old new
-
--- the fact takes in the old one, if there was one
-abbrev pub MergesOld : Option Fact → Fact → Type 0
-MergesOld None fact = ⊤
-MergesOld (Some old) fact = IsBelow old fact
-
--- if the unit is reached, its instruction is typed
-abbrev pub IsVisited : List ProgramUnit → ℕ → Facts → Facts → ℕ → Type 0
-IsVisited us declared old new pc =
-    (i : Inst) (fact : Fact) → slice_get us pc ≡ Some (First i) → old pc ≡ Some fact → IsTyped us declared new pc i fact
-
--- the types on entry
-abbrev pub entry_types : List RegType
-entry_types =
-    Anything ∷ Ctx 0 ∷ Anything ∷ Anything ∷ Anything ∷ Anything ∷ Anything ∷ Anything ∷ Anything ∷ Anything ∷ Stk (pos 0) ∷ []
-
 -- what is known on entry: where R1 and R10 point, and no byte of the stack
 pub record IsEntry (fact : Fact) : Type 0 where
   pub types : fact.types ≡ entry_types
@@ -174,13 +127,6 @@ pub record IsCovered (bytes : List ℕ) (declared : ℕ) (us : List ProgramUnit)
   pub reads : units bytes ≡ Some us
   pub facts : Facts
   pub covers : Covers us declared facts
-
--- how far the verifier has come: each reached unit below pc is well typed
-pub record IsDone (us : List ProgramUnit) (declared : ℕ) (facts : Facts) (pc : ℕ) : Type 0 where
-  pub start : Fact
-  pub start_is : IsEntry start
-  pub entered : Enters facts start 0
-  pub each : (q : ℕ) (i : Inst) (fact : Fact) → q < pc → slice_get us q ≡ Some (First i) → facts q ≡ Some fact → IsTyped us declared facts q i fact
 
 -- units of a program whose jumps all go forward to instructions
 pub record IsSound (us : List ProgramUnit) : Type 0 where

@@ -1,5 +1,7 @@
 pub mod Rules
 pub mod Facts
+pub mod Inference
+pub mod Passing
 pub mod Plain
 pub mod Accepting
 pub mod Refusals

@@ -1,5 +1,4 @@
--- Promises: the typing rules, as functions (this profile, type rules). The code computes them; what they are for is
--- that a program which they accept is good.
+-- Definitions: the typing rules, as functions (this profile, type rules). A program which they accept is good.
 use Rattle.std.specs.Prelude.{ℕ, zero, suc, ◌+◌, ◌*◌, ◌/◌, ◌%◌, ◌-◌, ◌^◌, ◌==◌, nat_le, Bool, true, false, not, ◌&&◌, ◌||◌, if◌then◌else◌, ℤ, pos, negsuc, neg_ℤ, ◌+ℤ◌, int_le, List, [], ◌∷◌, drop, slice_set, slice_index_or, Option, Some, None, is_some, Result, Ok, Err}
 use Rattle.std.specs.Ordering.{int_eq}
 use Rattle.std.specs.Int.{cast_unsigned, w32}

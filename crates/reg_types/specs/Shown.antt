@@ -1,33 +1,33 @@
 -- Definitions: what a refusal shows of the bytes (this profile, V faults).
-use Rattle.std.specs.Prelude.{◌≡◌, ℕ, ◌+◌, ◌≤◌, ◌<◌, ◌⊎◌, ℤ, pos, Bool, List, length, Option, Some, None, IsSome, Result, Ok, Err, slice_get, ⊤}
+use Rattle.std.specs.Prelude.{◌≡◌, ◌≢◌, ℕ, ◌+◌, ◌/◌, ◌≤◌, ◌⊎◌, if◌then◌else◌, pos, List, length, Option, Some, None, slice_get, ⊤, Result, Ok, Err}
 use Rattle.bpf_model.specs.declared.instruction.Inst.{Inst}
-use Rattle.bpf_model.specs.declared.instruction.Width.{Width}
-use Rattle.bpf_model.specs.declared.instruction.Width.TheVariants.{Narrow, Full}
+use Rattle.bpf_model.specs.declared.instruction.Width.TheVariants.{Full}
 use Rattle.bpf_model.specs.declared.instruction.Source.{Source}
 use Rattle.bpf_model.specs.declared.instruction.Source.TheVariants.{Immediate, Register}
-use Rattle.bpf_model.specs.declared.instruction.Operator.{Operator}
 use Rattle.bpf_model.specs.declared.instruction.Operator.TheVariants.{Sum, Difference, Move, Negate, SwapBytes}
 use Rattle.bpf_model.specs.declared.instruction.Form.{Form}
 use Rattle.bpf_model.specs.declared.instruction.Form.TheVariants.{Arithmetic, Wide, Load, LoadSigned, StoreImmediate, StoreRegister, Goto, GotoLong, Branch, Call, Exit}
 use Rattle.bpf_model.specs.declared.instruction.Unit.{Unit as ProgramUnit}
-use Rattle.bpf_model.specs.declared.instruction.Unit.TheVariants.{First, Second}
+use Rattle.bpf_model.specs.declared.instruction.Unit.TheVariants.{First}
 use Rattle.bpf_model.specs.declared.machine.Helper.{Helper}
 use Rattle.bpf_model.specs.declared.machine.Helper.TheVariants.{CounterGet, CounterAdd, CounterTake, PointState, PointRecord, PriceOf}
-use Rattle.bpf_model.specs.Reading.{form_of, units}
+use Rattle.bpf_model.specs.Reading.{form_of, units, has_right_length, fault_below}
 use Rattle.bpf_model.specs.Machine.{helper_of}
+use Rattle.bpf_model.specs.Program.{ProgramText}
 use Rattle.bpf_model.specs.Flow.{flow_fault}
-use Rattle.bpf_decode.specs.Faults.{IsRefusedFor}
+use Rattle.bpf_model.specs.declared.instruction.UnitFault.{UnitFault}
+use Rattle.bpf_model.specs.declared.instruction.JumpFault.{JumpFault}
+use Rattle.bpf_decode.specs.declared.DecodeFault.TheVariants.{Length}
+use Rattle.bpf_decode.specs.Faults.{IsRefusedFor, numbered as decode_numbered}
 use Rattle.flow_check.specs.declared.FlowFault.{FlowFault}
-use Rattle.flow_check.specs.Faults.{IsShown as IsFlowShown}
-use Rattle.reg_types.specs.declared.types.Fact.{Fact}
+use Rattle.flow_check.specs.Faults.{IsShown as IsFlowShown, numbered as flow_numbered}
 use Rattle.reg_types.specs.declared.types.Flaw.{Flaw}
 use Rattle.reg_types.specs.declared.types.Flaw.TheVariants.{FallsOff, WriteR10, NotANumber, NotAPointer, OutOfRange, UnsetBytes, StoreToContext, StorePointer, PointerArithmetic, NoSuchHelper, BadArgument, UndeclaredCounter}
 use Rattle.reg_types.specs.declared.refusal.TypeFault.{TypeFault}
 use Rattle.reg_types.specs.declared.refusal.Refusal.{Refusal}
 use Rattle.reg_types.specs.declared.refusal.Refusal.TheVariants.{Decode, Flow, «Type» as TypeRefusal, OutOfMemory}
 use Rattle.reg_types.specs.Refusals.{located}
-use Rattle.reg_types.specs.Rules.{judged}
-use Rattle.reg_types.specs.Facts.{Facts, IsDone, upper_of}
+use Rattle.reg_types.specs.Inference.{first_flaw}
 
 -- it goes on to the next instruction, and no unit follows it
 abbrev pub FallsOffEnd : ℕ → ℕ → Form → Type 0
@@ -163,36 +163,48 @@ IsRefused bytes declared (Flow fault) = IsFlowRefused bytes fault
 IsRefused bytes declared (TypeRefusal fault) = IsTypeShown bytes fault
 IsRefused bytes declared OutOfMemory = ⊤
 
--- ---- which unit is named: the first that the rules refuse
+-- ---- which refusal it is
 
-pub record IsFlawed (us : List ProgramUnit) (declared pc : ℕ) (facts : Facts) (fault : TypeFault) : Type 0 where
-  pub unit : Inst
-  pub begins : slice_get us pc ≡ Some (First unit)
-  pub fact : Fact
-  pub is : facts pc ≡ Some fact
-  pub form : Form
-  pub form_is : form_of unit.opcode ≡ Some form
-  pub flaw : Flaw
-  pub judged_is : judged (length us) pc declared fact unit (upper_of us pc) form ≡ Err flaw
-  pub fault_is : fault ≡ located pc flaw
+-- the first of two
+abbrev pub or_refused : Option Refusal → Option Refusal → Option Refusal
+or_refused None b = b
+or_refused (Some refusal) b = Some refusal
 
--- each reached unit before it is well typed
-pub record IsFirstFlaw (us : List ProgramUnit) (declared : ℕ) (fault : TypeFault) : Type 0 where
-  pub pc : ℕ
-  pub facts : Facts
-  pub done : IsDone us declared facts pc
-  pub flawed : IsFlawed us declared pc facts fault
+abbrev pub unit_refusal : Option (ℕ × UnitFault) → Option Refusal
+unit_refusal None = None
+unit_refusal (Some x) = Some (Decode (decode_numbered x.1 x.0))
 
--- a refusal of the pass over the units
-abbrev pub IsPassRefused : List ProgramUnit → ℕ → Refusal → Type 0
-IsPassRefused us declared (Decode fault) = ⊥
-IsPassRefused us declared (Flow fault) = ⊥
-IsPassRefused us declared (TypeRefusal fault) = IsFirstFlaw us declared fault
-IsPassRefused us declared OutOfMemory = ⊤
+abbrev pub decode_refusal : List ℕ → Option Refusal
+decode_refusal bytes = if has_right_length bytes then unit_refusal (fault_below bytes (length bytes / 8)) else Some (Decode Length)
 
--- the first reached unit that the rules refuse
-abbrev pub IsFirstRefused : List ℕ → ℕ → Refusal → Type 0
-IsFirstRefused bytes declared (TypeRefusal fault) = (code : List ProgramUnit) × (units bytes ≡ Some code) × IsFirstFlaw code declared fault
-IsFirstRefused bytes declared (Decode fault) = ⊤
-IsFirstRefused bytes declared (Flow fault) = ⊤
-IsFirstRefused bytes declared OutOfMemory = ⊤
+abbrev pub flow_refusal : Option (ℕ × JumpFault) → Option Refusal
+flow_refusal None = None
+flow_refusal (Some x) = Some (Flow (flow_numbered x.1 x.0))
+
+abbrev pub type_refusal : Option TypeFault → Option Refusal
+type_refusal None = None
+type_refusal (Some fault) = Some (TypeRefusal fault)
+
+abbrev pub code_refusal : ℕ → Option (List ProgramUnit) → Option Refusal
+code_refusal declared None = None
+code_refusal declared (Some us) = or_refused (flow_refusal (flow_fault us)) (type_refusal (first_flaw us declared))
+
+-- the first fault of decoding, else of the jumps, else of the types; None where the bytes are a program
+unfoldable pub refusal_of : List ℕ → ℕ → Option Refusal
+refusal_of bytes declared = or_refused (decode_refusal bytes) (code_refusal declared (units bytes))
+
+-- the refusal is this one, or memory was wanting
+abbrev pub IsRefusal : Option Refusal → Refusal → Type 0
+IsRefusal wanted OutOfMemory = ⊤
+IsRefusal wanted (Decode fault) = wanted ≡ Some (Decode fault)
+IsRefusal wanted (Flow fault) = wanted ≡ Some (Flow fault)
+IsRefusal wanted (TypeRefusal fault) = wanted ≡ Some (TypeRefusal fault)
+
+-- the answer to bytes and a mask: the program where nothing is wrong, else the refusal; or memory was wanting
+abbrev pub Answers : List ℕ → ℕ → Result ProgramText Refusal → Type 0
+Answers bytes declared (Ok p) = (p ≡ record { bytes = bytes; declared = declared }) × (refusal_of bytes declared ≡ None)
+Answers bytes declared (Err refusal) = IsRefusal (refusal_of bytes declared) refusal
+
+-- two answers to the same bytes and mask are the same, unless memory was wanting
+abbrev pub OneAnswer : Type 0
+OneAnswer = (bytes : List ℕ) (declared : ℕ) (a b : Result ProgramText Refusal) → Answers bytes declared a → Answers bytes declared b → a ≢ Err OutOfMemory → b ≢ Err OutOfMemory → a ≡ b

@@ -2,8 +2,9 @@
 
 ghost use Rattle.std.specs.Prelude.{◌≡◌, ◌≤◌, ◌+◌};
 ghost use Rattle.reg_types.specs.Rules.{type_at, is_unset, is_pointer, is_numeric, join_type};
-ghost use Rattle.reg_types.specs.Facts.{IsBelow, IsAfter, IsEntry};
-ghost use Rattle.reg_types.specs.Accepting.{ArePlain};
+ghost use Rattle.reg_types.specs.Facts.{IsAfter, IsEntry};
+ghost use Rattle.reg_types.specs.Inference.{join_fact};
+ghost use Rattle.reg_types.specs.Passing.{IsSame};
 
 use stack_map::StackMap;
 
@@ -120,9 +121,7 @@ impl Fact {
 
     /// What both facts say.
     pub fn join(&self, other: &Fact) -> Fact
-        ensures left { IsBelow self.now result }
-        ensures right { IsBelow other.now result }
-        ensures plain { ArePlain self.now.types → ArePlain other.now.types → ArePlain result.types }
+        ensures { IsSame result (join_fact self.now other.now) }
     {
         let mut types = self.types;
         for r in 0..11 {

@@ -1,28 +1,59 @@
-use Rattle.std.proofs.Common.{◌≡◌, ◌≤◌, ◌<◌, length, arith, refl, sym, ap, subst, ◌∙◌, Some}
-use Rattle.reg_types.specs.Facts.{table, Covers}
-use Rattle.reg_types.specs.Plain.{ArePlainUnits}
-use Rattle.reg_types.specs.Shown.{IsPassRefused}
-use Rattle.reg_types.proofs.Accepting.{plain_accepts}
-use Rattle.reg_types.proofs.Visiting.{pass_shown}
-use Rattle.reg_types.proofs.Good.{good, covered}
+use Rattle.std.proofs.Common.{◌≡◌, sym, subst, ◌∙◌, None, ap}
+use Rattle.bpf_model.specs.Flow.{GoesForward}
+use Rattle.reg_types.specs.Inference.{first_flaw}
+use Rattle.reg_types.specs.Passing.{IsPassRefused, IsToldAlone, decode_told}
+use Rattle.reg_types.specs.Shown.{IsRefusal, IsRefused, refusal_of}
+use Rattle.reg_types.proofs.Accepted.{good_by}
+use Rattle.reg_types.proofs.Answering.{accepted, pass_shown, pass_exact, exact_plain, decode_exact, decode_shown, decode_alone, flow_exact}
 use Rattle.reg_types.proofs.verifier.verify.Goals as goal
 
-pub returns-clause-good : goal.returns-clause-good
-returns-clause-good c =
+pub returns-in-Err : goal.returns-in-Err
+returns-in-Err c =
+    let exact = decode_exact c.args.bytes.now c.args.declared c.in-Err.fault c.in-Err.ensures.refused in
+    let told = c.refused_for.ensures in
+    record {
+      same = tt;
+      good = tt;
+      answers = subst (IsRefusal (refusal_of c.args.bytes.now c.args.declared)) (sym told) exact;
+      alone = subst IsToldAlone (sym told) (decode_alone c.in-Err.fault);
+      refused = subst (IsRefused c.args.bytes.now c.args.declared) (sym told) (decode_shown c.args.bytes.now c.args.declared c.in-Err.fault c.in-Err.ensures.refused);
+      plain = λ p. told ∙ exact_plain c.args.bytes.now c.args.declared (decode_told c.in-Err.fault) exact p;
+    }
+
+pub returns-in-Err-check_flow-clause-answers : goal.returns-in-Err-check_flow-clause-answers
+returns-in-Err-check_flow-clause-answers c =
+    flow_exact c.args.bytes.now c.args.declared c.in-Ok.code c.in-Err-check_flow.fault c.in-Ok.ensures.ok c.in-Err-check_flow.ensures.refused
+
+pub returns-in-Err-infer-clause-answers : goal.returns-in-Err-infer-clause-answers
+returns-in-Err-infer-clause-answers c =
     let same = c.units.ensures.same ∙ c.code.ensures.same ∙ c.in-Ok-check_flow.ensures.ok.0 in
-    good c.args.bytes.now c.in-Ok.code c.args.declared
-    (covered c.args.bytes.now c.in-Ok.code c.args.declared (table c.in-Ok-infer.facts.items) c.in-Ok.ensures.ok (subst (λ us. Covers us c.args.declared (table c.in-Ok-infer.facts.items)) same c.in-Ok-infer.ensures.covers))
+    pass_exact c.args.bytes.now c.in-Ok.code c.args.declared c.in-Ok.ensures.ok c.in-Ok-check_flow.ensures.ok.1 c.in-Err-infer.refusal
+    (subst (λ us. IsPassRefused us c.args.declared c.in-Err-infer.refusal) same c.in-Err-infer.ensures.refused)
 
 pub returns-in-Err-infer-clause-refused : goal.returns-in-Err-infer-clause-refused
 returns-in-Err-infer-clause-refused c =
     let same = c.units.ensures.same ∙ c.code.ensures.same ∙ c.in-Ok-check_flow.ensures.ok.0 in
-    pass_shown c.args.bytes.now c.in-Ok.code c.args.declared c.in-Err-infer.refusal c.in-Ok.ensures.ok c.in-Ok-check_flow.ensures.ok.1
+    pass_shown c.args.bytes.now c.in-Ok.code c.args.declared c.in-Ok.ensures.ok c.in-Ok-check_flow.ensures.ok.1 c.in-Err-infer.refusal
     (subst (λ us. IsPassRefused us c.args.declared c.in-Err-infer.refusal) same c.in-Err-infer.ensures.refused)
 
 pub returns-in-Err-infer-clause-plain : goal.returns-in-Err-infer-clause-plain
-returns-in-Err-infer-clause-plain c p =
+returns-in-Err-infer-clause-plain c =
     let same = c.units.ensures.same ∙ c.code.ensures.same ∙ c.in-Ok-check_flow.ensures.ok.0 in
-    let both : Some p.code ≡ Some c.in-Ok.code = sym p.reads ∙ c.in-Ok.ensures.ok in
-    let code : p.code ≡ c.units.result.now = cc in
-    c.in-Err-infer.ensures.accepts
-    (plain_accepts c.args.bytes.now c.units.result.now c.args.declared (p.reads ∙ ap Some code) (subst ArePlainUnits code p.plain))
+    exact_plain c.args.bytes.now c.args.declared c.in-Err-infer.refusal
+    (pass_exact c.args.bytes.now c.in-Ok.code c.args.declared c.in-Ok.ensures.ok c.in-Ok-check_flow.ensures.ok.1 c.in-Err-infer.refusal
+    (subst (λ us. IsPassRefused us c.args.declared c.in-Err-infer.refusal) same c.in-Err-infer.ensures.refused))
+
+pub returns-clause-good : goal.returns-clause-good
+returns-clause-good c =
+    let flow = c.in-Ok-check_flow.ensures.ok.0 in
+    let same = c.units.ensures.same ∙ c.code.ensures.same ∙ flow in
+    good_by c.args.bytes.now c.args.declared c.in-Ok.code c.in-Ok.ensures.ok (subst GoesForward flow c.code.ensures.forward)
+    (subst (λ us. first_flaw us c.args.declared ≡ None) same c.in-Ok-infer.ensures.flawless)
+
+pub returns-clause-answers : goal.returns-clause-answers
+returns-clause-answers c =
+    let same = c.units.ensures.same ∙ c.code.ensures.same ∙ c.in-Ok-check_flow.ensures.ok.0 in (
+      ap (λ bytes. record { bytes = bytes; declared = c.args.declared }) c.in-Ok-from_slice.ensures.items,
+      accepted c.args.bytes.now c.in-Ok.code c.args.declared c.in-Ok.ensures.ok c.in-Ok-check_flow.ensures.ok.1
+          (subst (λ us. first_flaw us c.args.declared ≡ None) same c.in-Ok-infer.ensures.flawless),
+    )

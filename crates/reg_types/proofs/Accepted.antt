@@ -1,0 +1,257 @@
+-- A program without a flaw is covered by what is inferred of it.
+use Rattle.std.proofs.Common.{◌≡◌, ◌≢◌, ℕ, zero, suc, ◌<◌, ◌≤◌, List, [], ◌∷◌, Option, Some, None, refl, sym, ap, ◌∙◌, subst, inl, inr, arith, length}
+use Rattle.std.specs.Prelude.{Result, Ok, Err, IsSome, ◌==◌, slice_get, ⊤}
+use Rattle.std.specs.List.{AllByRecursion}
+use Rattle.std.proofs.lemmas.Bool.{cases_eq, eq-eqb, ne_eqb, cond-true, cond-false, cond_both}
+use Rattle.bpf_model.specs.declared.instruction.Inst.{Inst}
+use Rattle.bpf_model.specs.declared.instruction.Form.{Form}
+use Rattle.bpf_model.specs.declared.instruction.Unit.{Unit as ProgramUnit}
+use Rattle.bpf_model.specs.declared.instruction.Unit.TheVariants.{First, Second}
+use Rattle.bpf_model.specs.Reading.{form_of, units}
+use Rattle.bpf_model.specs.Flow.{IsAhead, GoesForward}
+use Rattle.bpf_model.specs.Runs.{IsGood}
+use Rattle.reg_types.specs.declared.types.Fact.{Fact}
+use Rattle.reg_types.specs.declared.types.Effect.{Effect}
+use Rattle.reg_types.specs.declared.types.Flaw.{Flaw}
+use Rattle.reg_types.specs.declared.refusal.TypeFault.{TypeFault}
+use Rattle.reg_types.specs.Facts.{IsBelow, IsSound, IsTyped, Enters, Covers, IsCovered}
+use Rattle.reg_types.specs.Inference.{leads, upper_of, join_fact, entry_fact, fact_after, form_with, instruction_of, instruction_at, ruled, flaw_in, flaw_of, flaw_under, taken_in, arrived, arrived_all, passed_by, passed_from, passed, known, inferred, or_else, first_flaw_below, first_flaw}
+use Rattle.reg_types.proofs.Good.{judged_is, good}
+use Rattle.reg_types.proofs.Ahead.{leads_ahead, there, first_there}
+use Rattle.reg_types.proofs.Tables.{below_left, below_right, IsBelow-refl, IsBelow-trans}
+use Rattle.reg_types.proofs.Inference.{common_has, type_at-joined, after_is, entry_is}
+
+-- ---- instructions
+
+form_is : (i : Inst) (o : Option Form) (x : Inst × Form) → form_with i o ≡ Some x → (i ≡ x.0) × (o ≡ Some x.1)
+form_is i None x e = absurd (cc)
+form_is i (Some form) x e =
+    let same : (i, form) ≡ x = cc in
+    (ap (λ y. y.0) same, ap (λ y. Some y.1) same)
+
+pub instruction_is : (o : Option ProgramUnit) (x : Inst × Form) → instruction_of o ≡ Some x → (o ≡ Some (First x.0)) × (form_of x.0.opcode ≡ Some x.1)
+instruction_is None x e = absurd (cc)
+instruction_is (Some (Second v)) x e = absurd (cc)
+instruction_is (Some (First i)) x e =
+    let p = form_is i (form_of i.opcode) x e in
+    (ap (λ j. Some (First j)) p.0, subst (λ j. form_of j.opcode ≡ Some x.1) p.0 p.1)
+
+pub instruction_from : (us : List ProgramUnit) (pc : ℕ) (i : Inst) (form : Form) → slice_get us pc ≡ Some (First i) → form_of i.opcode ≡ Some form → instruction_at us pc ≡ Some (i, form)
+instruction_from us pc i form at is = ap instruction_of at ∙ ap (form_with i) is
+
+some_is : (o : Option Form) → IsSome o → (form : Form) × (o ≡ Some form)
+some_is None h = absurd (cc)
+some_is (Some form) h = (form, refl)
+
+-- ---- facts only come to say less
+
+-- the second says less than the first, if that is there
+abbrev pub IsWider : Option Fact → Option Fact → Type 0
+IsWider None o = ⊤
+IsWider (Some fact) o = (wider : Fact) × (o ≡ Some wider) × IsBelow fact wider
+
+IsWider-refl : (o : Option Fact) → IsWider o o
+IsWider-refl None = tt
+IsWider-refl (Some fact) = (fact, refl, IsBelow-refl fact)
+
+IsWider-trans : (a b c : Option Fact) → IsWider a b → IsWider b c → IsWider a c
+IsWider-trans None b c f g = tt
+IsWider-trans (Some a) None c f g = absurd (let e = f.1 in cc)
+IsWider-trans (Some a) (Some b) c f g =
+    let same : Some b ≡ Some f.0 = f.1 in
+    let b_is : f.0 ≡ b = cc in
+    (g.0, g.1, IsBelow-trans a b g.0 (subst (IsBelow a) b_is f.2) g.2)
+
+join_left : (a b : Fact) → IsBelow a (join_fact a b)
+join_left a b = below_left a b (join_fact a b) (type_at-joined a.types b.types) (λ p h. ((common_has a.stack b.stack p).0 h).0)
+
+join_right : (a b : Fact) → IsBelow b (join_fact a b)
+join_right a b = below_right a b (join_fact a b) (type_at-joined a.types b.types) (λ p h. ((common_has a.stack b.stack p).0 h).1)
+
+taken_left : (o : Option Fact) (fact : Fact) → IsWider o (Some (taken_in o fact))
+taken_left None fact = tt
+taken_left (Some old) fact = (join_fact old fact, refl, join_left old fact)
+
+taken_right : (o : Option Fact) (fact : Fact) → IsBelow fact (taken_in o fact)
+taken_right None fact = IsBelow-refl fact
+taken_right (Some old) fact = join_right old fact
+
+arrived_wider : (q to : ℕ) (fact : Fact) (o : Option Fact) → IsWider o (arrived q fact to o)
+arrived_wider q to fact o = cond_both (q == to) (Some (taken_in o fact)) o (IsWider o) (λ e. taken_left o fact) (λ e. IsWider-refl o)
+
+all_wider : (q : ℕ) (fact : Fact) (tos : List ℕ) (o : Option Fact) → IsWider o (arrived_all q fact tos o)
+all_wider q fact [] o = IsWider-refl o
+all_wider q fact (to ∷ tos) o =
+    IsWider-trans o (arrived q fact to o) (arrived_all q fact tos (arrived q fact to o)) (arrived_wider q to fact o) (all_wider q fact tos (arrived q fact to o))
+
+by_wider : (q : ℕ) (fact : Fact) (r : Result Effect Flaw) (tos : Option (List ℕ)) (o : Option Fact) → IsWider o (passed_by q fact r tos o)
+by_wider q fact (Err flaw) tos o = IsWider-refl o
+by_wider q fact (Ok e) None o = IsWider-refl o
+by_wider q fact (Ok e) (Some tos) o = all_wider q (fact_after fact e) tos o
+
+-- the fact comes to each of the units
+arrived_here : (to : ℕ) (fact : Fact) (o : Option Fact) → IsWider (Some fact) (arrived to fact to o)
+arrived_here to fact o = (taken_in o fact, cond-true (to == to) (Some (taken_in o fact)) o (eq-eqb to to refl), taken_right o fact)
+
+all_come : (fact : Fact) (tos : List ℕ) (old : ℕ → Option Fact) → AllByRecursion (λ to. IsWider (Some fact) (arrived_all to fact tos (old to))) tos
+all_come fact [] old = tt
+all_come fact (to ∷ tos) old = (
+  IsWider-trans (Some fact) (arrived to fact to (old to)) (arrived_all to fact tos (arrived to fact to (old to))) (arrived_here to fact (old to)) (all_wider to fact tos (arrived to fact to (old to))),
+  all_come fact tos (λ q. arrived q fact to (old q)),
+)
+
+-- ---- units behind stay as they are
+
+behind : (us : List ProgramUnit) (pc q : ℕ) (fact : Fact) → q ≤ pc → (tos : List ℕ) → AllByRecursion (IsAhead us pc) tos → (o : Option Fact) → arrived_all q fact tos o ≡ o
+behind us pc q fact l [] all o = refl
+behind us pc q fact l (to ∷ tos) all o =
+    let further = all.0.ahead in
+    let other : q ≢ to = omega (arith, further, l) in
+    ap (arrived_all q fact tos) (cond-false (q == to) (Some (taken_in o fact)) o (ne_eqb q to other)) ∙ behind us pc q fact l tos all.1 o
+
+-- ---- flaws
+
+flawless_is : (pc : ℕ) (r : Result Effect Flaw) → flaw_in pc r ≡ None → (e : Effect) × (r ≡ Ok e)
+flawless_is pc (Ok e) h = (e, refl)
+flawless_is pc (Err flaw) h = absurd (cc)
+
+none_left : (a b : Option TypeFault) → or_else a b ≡ None → (a ≡ None) × (b ≡ None)
+none_left None b e = (refl, e)
+none_left (Some f) b e = absurd (cc)
+
+module _ (us : List ProgramUnit) (declared : ℕ) where
+  pub no_flaw_below : (n k : ℕ) → first_flaw_below us declared n ≡ None → k < n → flaw_under us declared k (inferred us declared k) ≡ None
+  unfolding first_flaw_below
+  no_flaw_below zero k e l = absurd (omega arith)
+  no_flaw_below (suc n) k e l =
+      let both = none_left (first_flaw_below us declared n) (flaw_under us declared n (inferred us declared n)) e in
+      elim (cases_eq k n) [
+        | inl same ↦ ap (λ q. flaw_under us declared q (inferred us declared q)) same ∙ both.1
+        | inr other ↦ no_flaw_below n k both.0 (omega arith)
+      ]
+
+  pub flaw_stays : (m n : ℕ) (fault : TypeFault) → first_flaw_below us declared m ≡ Some fault → m ≤ n → first_flaw_below us declared n ≡ Some fault
+  unfolding first_flaw_below
+  flaw_stays zero n fault e l = absurd (cc)
+  flaw_stays (suc m) zero fault e l = absurd (omega arith)
+  flaw_stays (suc m) (suc n) fault e l =
+      elim (cases_eq m n) [
+        | inl same ↦ subst (λ k. first_flaw_below us declared (suc k) ≡ Some fault) same e
+        | inr other ↦ ap (λ o. or_else o (flaw_under us declared n (inferred us declared n))) (flaw_stays (suc m) n fault e (omega arith))
+      ]
+
+  -- ---- the recursion
+
+  from_wider : (pc : ℕ) (fact : Fact) (o : Option (Inst × Form)) (q : ℕ) (old : Option Fact) → IsWider old (passed_from us declared pc fact o q old)
+  from_wider pc fact None q old = IsWider-refl old
+  from_wider pc fact (Some x) q old = by_wider q fact (ruled us declared pc fact x) (leads pc x.0 x.1) old
+
+  passed_wider : (pc : ℕ) (here : Option Fact) (q : ℕ) (old : Option Fact) → IsWider old (passed us declared pc here q old)
+  passed_wider pc None q old = IsWider-refl old
+  passed_wider pc (Some fact) q old = from_wider pc fact (instruction_at us pc) q old
+
+  known_wider : (n m q : ℕ) → n ≤ m → IsWider (known us declared n q) (known us declared m q)
+  unfolding known
+  known_wider zero zero q l = IsWider-refl (known us declared 0 q)
+  known_wider (suc n) zero q l = absurd (omega arith)
+  known_wider n (suc m) q l =
+      elim (cases_eq n (suc m)) [
+        | inl same ↦ subst (λ k. IsWider (known us declared n q) (known us declared k q)) same (IsWider-refl (known us declared n q))
+        | inr other ↦ IsWider-trans (known us declared n q) (known us declared m q) (known us declared (suc m) q) (known_wider n m q (omega arith)) (passed_wider m (known us declared m m) q (known us declared m q))
+      ]
+
+  module _ (sound : IsSound us) where
+    ahead_of : (pc : ℕ) (fact : Fact) (x : Inst × Form) (e : Effect) → instruction_at us pc ≡ Some x → ruled us declared pc fact x ≡ Ok e → (tos : List ℕ) × (leads pc x.0 x.1 ≡ Some tos) × AllByRecursion (IsAhead us pc) tos
+    ahead_of pc fact x e at j =
+        let is = instruction_is (slice_get us pc) x at in
+        leads_ahead sound.bytes us sound.reads pc x.0 is.0 sound.forward x.1 is.1 (judged_is (length us) pc declared fact x.0 (upper_of us pc) x.1 e j).0
+
+    behind_by : (pc q : ℕ) (fact : Fact) (x : Inst × Form) (r : Result Effect Flaw) → q ≤ pc → instruction_at us pc ≡ Some x → ruled us declared pc fact x ≡ r → (old : Option Fact) → passed_by q fact r (leads pc x.0 x.1) old ≡ old
+    behind_by pc q fact x (Err flaw) l at j old = refl
+    behind_by pc q fact x (Ok e) l at j old =
+        let a = ahead_of pc fact x e at j in
+        ap (λ o. passed_by q fact (Ok e) o old) a.1 ∙ behind us pc q (fact_after fact e) l a.0 a.2 old
+
+    behind_from : (pc q : ℕ) (fact : Fact) (o : Option (Inst × Form)) → q ≤ pc → instruction_at us pc ≡ o → (old : Option Fact) → passed_from us declared pc fact o q old ≡ old
+    behind_from pc q fact None l at old = refl
+    behind_from pc q fact (Some x) l at old = behind_by pc q fact x (ruled us declared pc fact x) l at refl old
+
+    pub passed_behind : (pc q : ℕ) (here : Option Fact) → q ≤ pc → (old : Option Fact) → passed us declared pc here q old ≡ old
+    passed_behind pc q None l old = refl
+    passed_behind pc q (Some fact) l old = behind_from pc q fact (instruction_at us pc) l refl old
+
+    -- ---- each reached unit is well typed
+
+    -- what is known of unit q past a unit whose instruction is accepted
+    past_is : (pc q : ℕ) (fact : Fact) (x : Inst × Form) (e : Effect) (tos : List ℕ) → inferred us declared pc ≡ Some fact → instruction_at us pc ≡ Some x → ruled us declared pc fact x ≡ Ok e → leads pc x.0 x.1 ≡ Some tos → known us declared (suc pc) q ≡ arrived_all q (fact_after fact e) tos (known us declared pc q)
+    unfolding known
+    past_is pc q fact x e tos h at j to =
+        ap (λ o. passed us declared pc o q (known us declared pc q)) h
+        ∙ ap (λ o. passed_from us declared pc fact o q (known us declared pc q)) at
+        ∙ ap (λ r. passed_by q fact r (leads pc x.0 x.1) (known us declared pc q)) j
+        ∙ ap (λ o. passed_by q fact (Ok e) o (known us declared pc q)) to
+
+    enters_from : (fact : Fact) (to : ℕ) → IsWider (Some fact) (inferred us declared to) → Enters (inferred us declared) fact to
+    enters_from fact to w = record { wider = w.0; is = w.1; below = w.2 }
+
+    all_enter : (pc : ℕ) (after : Fact) (known_past : ℕ → Option Fact) (tos : List ℕ) → AllByRecursion (IsAhead us pc) tos → ((q : ℕ) → known us declared (suc pc) q ≡ known_past q) → AllByRecursion (λ to. IsWider (Some after) (known_past to)) tos → AllByRecursion (Enters (inferred us declared) after) tos
+    all_enter pc after known_past [] ahead same come = tt
+    all_enter pc after known_past (to ∷ tos) ahead same come = (
+      let further = ahead.0.ahead in
+          enters_from after to
+          (IsWider-trans (Some after) (known us declared (suc pc) to) (inferred us declared to) (subst (IsWider (Some after)) (sym (same to)) come.0)
+          (known_wider (suc pc) to to (omega (arith, further)))),
+      all_enter pc after known_past tos ahead.1 same come.1,
+    )
+
+    typed_at : (pc : ℕ) (i : Inst) (fact : Fact) (form : Form) (e : Effect) → inferred us declared pc ≡ Some fact → slice_get us pc ≡ Some (First i) → form_of i.opcode ≡ Some form → ruled us declared pc fact (i, form) ≡ Ok e → IsTyped us declared (inferred us declared) pc i fact
+    typed_at pc i fact form e h at is j =
+        let x = instruction_from us pc i form at is in
+        let a = ahead_of pc fact (i, form) e x j in
+        let old : ℕ → Option Fact = known us declared pc in
+        record {
+          form = form;
+          form_is = is;
+          effect = e;
+          typed = j;
+          after = fact_after fact e;
+          after_is = after_is fact e;
+          tos = a.0;
+          leads_to = a.1;
+          ahead = a.2;
+          enters = all_enter pc (fact_after fact e) (λ q. arrived_all q (fact_after fact e) a.0 (old q)) a.0 a.2 (λ q. past_is pc q fact (i, form) e a.0 h x j a.1) (all_come (fact_after fact e) a.0 old);
+        }
+
+    typed_flawless : (pc : ℕ) (i : Inst) (fact : Fact) → slice_get us pc ≡ Some (First i) → inferred us declared pc ≡ Some fact → flaw_under us declared pc (inferred us declared pc) ≡ None → IsTyped us declared (inferred us declared) pc i fact
+    typed_flawless pc i fact at h none =
+        let f = some_is (form_of i.opcode) (there sound.bytes us pc i sound.reads at).form in
+        let x = instruction_from us pc i f.0 at f.1 in
+        let under : flaw_under us declared pc (Some fact) ≡ None = ap (flaw_under us declared pc) (sym h) ∙ none in
+        let of : flaw_of us declared pc fact (Some (i, f.0)) ≡ None = ap (flaw_of us declared pc fact) (sym x) ∙ under in
+        let ok = flawless_is pc (ruled us declared pc fact (i, f.0)) of in
+        typed_at pc i fact f.0 ok.0 h at f.1 ok.1
+
+    entered : known us declared 0 0 ≡ Some entry_fact
+    unfolding known
+    entered = refl
+
+    pub accepted_covers : first_flaw us declared ≡ None → Covers us declared (inferred us declared)
+    accepted_covers none =
+        let first = first_there sound.bytes us sound.reads in
+        record {
+          unit = first.0;
+          begins = first.1;
+          start = entry_fact;
+          start_is = entry_is;
+          entered = record { wider = entry_fact; is = entered; below = IsBelow-refl entry_fact };
+          each =
+              λ pc i fact at h. typed_flawless pc i fact at h
+              (no_flaw_below (length us) pc none (there sound.bytes us pc i sound.reads at).inside);
+        }
+
+pub covered_by : (bytes : List ℕ) (declared : ℕ) (us : List ProgramUnit) → units bytes ≡ Some us → GoesForward us → first_flaw us declared ≡ None → IsCovered bytes declared us
+covered_by bytes declared us reads forward none =
+    record { reads = reads; facts = inferred us declared; covers = accepted_covers us declared (record { bytes = bytes; reads = reads; forward = forward }) none }
+
+pub good_by : (bytes : List ℕ) (declared : ℕ) (us : List ProgramUnit) → units bytes ≡ Some us → GoesForward us → first_flaw us declared ≡ None → IsGood bytes declared
+good_by bytes declared us reads forward none = good bytes us declared (covered_by bytes declared us reads forward none)

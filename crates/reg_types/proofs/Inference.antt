@@ -1,0 +1,249 @@
+-- Facts that say the same are treated alike.
+use Rattle.std.proofs.Common.{◌≡◌, ℕ, zero, suc, ◌-◌, ◌<◌, ◌⊎◌, ◌↔◌, List, [], ◌∷◌, Option, Some, None, Bool, true, false, refl, sym, ap, ◌∙◌, subst, inl, inr, arith, length}
+use Rattle.std.specs.Prelude.{Result, Ok, Err, ℤ, ◌==◌, ◌&&◌, cond, drop, slice_set, slice_index_or}
+use Rattle.std.proofs.lemmas.Bool.{eqb-true, eqb-false, and_parts, and_from, cond_both}
+use Rattle.std.proofs.lemmas.List.{ext_get_or, get_or_default}
+use Rattle.bpf_model.specs.declared.instruction.Inst.{Inst}
+use Rattle.bpf_model.specs.declared.instruction.Unit.{Unit as ProgramUnit}
+use Rattle.bpf_model.specs.declared.instruction.Form.{Form}
+use Rattle.bpf_model.specs.declared.instruction.Form.TheVariants.{Load, LoadSigned}
+use Rattle.bpf_model.specs.Reading.{bytes_in}
+use Rattle.bpf_model.specs.Machine.{shifted}
+use Rattle.stack_map.specs.Places.{Has, Within}
+use Rattle.reg_types.specs.declared.types.RegType.{RegType}
+use Rattle.reg_types.specs.declared.types.RegType.TheVariants.{Unset, Num, Const, Ctx, Stk}
+use Rattle.reg_types.specs.declared.types.Fact.{Fact}
+use Rattle.reg_types.specs.declared.types.Effect.{Effect}
+use Rattle.reg_types.specs.declared.types.Flaw.{Flaw}
+use Rattle.reg_types.specs.declared.types.Flaw.TheVariants.{FallsOff, UnsetBytes}
+use Rattle.reg_types.specs.Rules.{type_at, join_type, all_in, load_type, number_set, lowest, set_type, effect, falls_off, judged}
+use Rattle.reg_types.specs.Facts.{IsAfter, IsEntry, table}
+use Rattle.reg_types.specs.Inference.{leads, upper_of, common, marked, join_types, join_fact, entry_fact, fact_after, instruction_at, ruled, flaw_in, flaw_of, flaw_under, taken_in, arrived, arrived_all, passed_by, passed_from, passed}
+use Rattle.reg_types.specs.Passing.{IsSame, AreSame}
+use Rattle.reg_types.proofs.Tables.{table_same, table_other}
+
+-- ---- sets
+
+pub common_has : (a b : List Bool) (p : ℕ) → Has (common a b) p ↔ (Has a p × Has b p)
+common_has [] b p = (λ h. absurd (cc), λ h. h.0)
+common_has (x ∷ a) [] p = (λ h. absurd (cc), λ h. h.1)
+common_has (x ∷ a) (y ∷ b) zero = (λ h. and_parts x y h, λ h. and_from x y h.0 h.1)
+common_has (x ∷ a) (y ∷ b) (suc p) = common_has a b p
+
+-- a set without its lowest byte
+dropped : (set : List Bool) (p : ℕ) → slice_index_or (drop 1 set) p false ≡ slice_index_or set (suc p) false
+dropped [] zero = refl
+dropped [] (suc p) = refl
+dropped (b ∷ set) p = refl
+
+past_one : (b : Bool) (xs : List Bool) (set : List Bool) (at len p : ℕ) → (Has xs p ↔ (Has (drop 1 set) p ⊎ Within at len p)) → Has (b ∷ xs) (suc p) ↔ (Has set (suc p) ⊎ Within (suc at) len (suc p))
+past_one b xs set at len p h = (
+  λ has. elim (h.0 has) [ inl old ↦ inl (sym (dropped set p) ∙ old) | inr w ↦ inr (omega (arith, w.0), omega (arith, w.1)) ],
+  λ e. elim e [ inl old ↦ h.1 (inl (dropped set p ∙ old)) | inr w ↦ h.1 (inr (omega (arith, w.0), omega (arith, w.1))) ],
+)
+
+past_none : (xs : List Bool) (set : List Bool) (len p : ℕ) → (Has xs p ↔ (Has (drop 1 set) p ⊎ Within 0 len p)) → Has (true ∷ xs) (suc p) ↔ (Has set (suc p) ⊎ Within 0 (suc len) (suc p))
+past_none xs set len p h = (
+  λ has. elim (h.0 has) [ inl old ↦ inl (sym (dropped set p) ∙ old) | inr w ↦ inr (omega arith, omega (arith, w.1)) ],
+  λ e. elim e [ inl old ↦ h.1 (inl (dropped set p ∙ old)) | inr w ↦ h.1 (inr (omega arith, omega (arith, w.1))) ],
+)
+
+lowest_has : (set : List Bool) (xs : List Bool) (at len : ℕ) → Has (slice_index_or set 0 false ∷ xs) zero ↔ (Has set zero ⊎ Within (suc at) len zero)
+lowest_has set xs at len = (λ has. inl has, λ e. elim e [ inl old ↦ old | inr w ↦ absurd (omega (arith, w.0)) ])
+
+pub marked_has : (at len : ℕ) (set : List Bool) (p : ℕ) → Has (marked at len set) p ↔ (Has set p ⊎ Within at len p)
+marked_has zero zero set p = (λ has. inl has, λ e. elim e [ inl old ↦ old | inr w ↦ absurd (omega (arith, w.1)) ])
+marked_has zero (suc len) set zero = (λ has. inr (omega arith, omega arith), λ e. refl)
+marked_has zero (suc len) set (suc p) = past_none (marked zero len (drop 1 set)) set len p (marked_has zero len (drop 1 set) p)
+marked_has (suc at) len set zero = lowest_has set (marked at len (drop 1 set)) at len
+marked_has (suc at) len set (suc p) = past_one (slice_index_or set 0 false) (marked at len (drop 1 set)) set at len p (marked_has at len (drop 1 set) p)
+
+-- ---- types
+
+nothing_joined : (t : RegType) → join_type t Unset ≡ Unset
+nothing_joined Unset = refl
+nothing_joined Num = refl
+nothing_joined (Const c) = refl
+nothing_joined (Ctx k) = refl
+nothing_joined (Stk k) = refl
+
+pub type_at-joined : (a b : List RegType) (r : ℕ) → type_at (join_types a b) r ≡ join_type (type_at a r) (type_at b r)
+type_at-joined [] b r = refl
+type_at-joined (x ∷ a) [] r = sym (nothing_joined (type_at (x ∷ a) r))
+type_at-joined (x ∷ a) (y ∷ b) zero = refl
+type_at-joined (x ∷ a) (y ∷ b) (suc r) = type_at-joined a b r
+
+length-joined : (a b : List RegType) → length a ≡ length b → length (join_types a b) ≡ length b
+length-joined [] [] e = refl
+length-joined [] (y ∷ b) e = absurd (omega (arith, e))
+length-joined (x ∷ a) [] e = absurd (omega (arith, e))
+length-joined (x ∷ a) (y ∷ b) e = ap suc (length-joined a b (omega (arith, e)))
+
+pub joined_types : (a b j : List RegType) → length a ≡ length b → length j ≡ length b → ((r : ℕ) → type_at j r ≡ join_type (type_at a r) (type_at b r)) → j ≡ join_types a b
+joined_types a b j la lj e =
+    ext_get_or Unset j (join_types a b) (lj ∙ sym (length-joined a b la)) (λ r l. e r ∙ sym (type_at-joined a b r))
+
+-- ---- the relation
+
+pub IsSame-refl : (a : Fact) → IsSame a a
+IsSame-refl a = record { types = refl; places = λ p. (λ h. h, λ h. h) }
+
+pub IsSame-trans : (a b c : Fact) → IsSame a b → IsSame b c → IsSame a c
+IsSame-trans a b c f g =
+    record { types = f.types ∙ g.types; places = λ p. (λ h. (g.places p).0 ((f.places p).0 h), λ h. (f.places p).1 ((g.places p).1 h)) }
+
+pub AreSame-refl : (a : Option Fact) → AreSame a a
+AreSame-refl None = tt
+AreSame-refl (Some a) = IsSame-refl a
+
+pub AreSame-trans : (a b c : Option Fact) → AreSame a b → AreSame b c → AreSame a c
+AreSame-trans None None None f g = tt
+AreSame-trans None None (Some c) f g = absurd g
+AreSame-trans None (Some b) c f g = absurd f
+AreSame-trans (Some a) None c f g = absurd f
+AreSame-trans (Some a) (Some b) None f g = absurd g
+AreSame-trans (Some a) (Some b) (Some c) f g = IsSame-trans a b c f g
+
+join_same : (a b c d : Fact) → IsSame a b → IsSame c d → IsSame (join_fact a c) (join_fact b d)
+join_same a b c d f g =
+    record {
+      types = ap (λ t. join_types t c.types) f.types ∙ ap (join_types b.types) g.types;
+      places =
+          λ p. (
+            λ h. let both = (common_has a.stack c.stack p).0 h in (common_has b.stack d.stack p).1 ((f.places p).0 both.0, (g.places p).0 both.1),
+            λ h. let both = (common_has b.stack d.stack p).0 h in (common_has a.stack c.stack p).1 ((f.places p).1 both.0, (g.places p).1 both.1),
+          );
+    }
+
+taken_same : (a b : Option Fact) (c d : Fact) → AreSame a b → IsSame c d → IsSame (taken_in a c) (taken_in b d)
+taken_same None None c d f g = g
+taken_same None (Some b) c d f g = absurd f
+taken_same (Some a) None c d f g = absurd f
+taken_same (Some a) (Some b) c d f g = join_same a b c d f g
+
+arrived_by : (t : Bool) (a b : Option Fact) (c d : Fact) → AreSame a b → IsSame c d → AreSame (cond t (Some (taken_in a c)) a) (cond t (Some (taken_in b d)) b)
+arrived_by true a b c d f g = taken_same a b c d f g
+arrived_by false a b c d f g = f
+
+pub arrived_same : (q to : ℕ) (a b : Option Fact) (c d : Fact) → AreSame a b → IsSame c d → AreSame (arrived q c to a) (arrived q d to b)
+arrived_same q to a b c d f g = arrived_by (q == to) a b c d f g
+
+pub arrived_all_same : (q : ℕ) (tos : List ℕ) (a b : Option Fact) (c d : Fact) → AreSame a b → IsSame c d → AreSame (arrived_all q c tos a) (arrived_all q d tos b)
+arrived_all_same q [] a b c d f g = f
+arrived_all_same q (to ∷ tos) a b c d f g = arrived_all_same q tos (arrived q c to a) (arrived q d to b) c d (arrived_same q to a b c d f g) g
+
+pub after_same : (a b : Fact) (e : Effect) → IsSame a b → IsSame (fact_after a e) (fact_after b e)
+after_same a b e f =
+    record {
+      types = refl;
+      places =
+          λ p. (
+            λ h. (marked_has e.at e.len b.stack p).1 (elim ((marked_has e.at e.len a.stack p).0 h) [ inl old ↦ inl ((f.places p).0 old) | inr w ↦ inr w ]),
+            λ h. (marked_has e.at e.len a.stack p).1 (elim ((marked_has e.at e.len b.stack p).0 h) [ inl old ↦ inl ((f.places p).1 old) | inr w ↦ inr w ]),
+          );
+    }
+
+-- what the code's own functions leave
+pub same_after : (fact : Fact) (e : Effect) (after : Fact) → IsAfter fact e after → IsSame after (fact_after fact e)
+same_after fact e after is =
+    record {
+      types = is.types;
+      places = λ p. (λ h. (marked_has e.at e.len fact.stack p).1 ((is.places p).0 h), λ h. (is.places p).1 ((marked_has e.at e.len fact.stack p).0 h));
+    }
+
+pub after_is : (fact : Fact) (e : Effect) → IsAfter fact e (fact_after fact e)
+after_is fact e = record { types = refl; places = λ p. marked_has e.at e.len fact.stack p }
+
+pub same_entry : (fact : Fact) → IsEntry fact → IsSame fact entry_fact
+same_entry fact is = record { types = is.types; places = λ p. (λ h. absurd (is.places p h), λ h. absurd (cc)) }
+
+pub entry_is : IsEntry entry_fact
+entry_is = record { types = refl; places = λ p h. absurd (cc) }
+
+pub same_join : (a b j : Fact) → length a.types ≡ length b.types → length j.types ≡ length b.types → ((r : ℕ) → type_at j.types r ≡ join_type (type_at a.types r) (type_at b.types r)) → ((p : ℕ) → Has j.stack p ↔ (Has a.stack p × Has b.stack p)) → IsSame j (join_fact a b)
+same_join a b j la lj e h =
+    record {
+      types = joined_types a.types b.types j.types la lj e;
+      places = λ p. (λ has. (common_has a.stack b.stack p).1 ((h p).0 has), λ has. (h p).1 ((common_has a.stack b.stack p).0 has));
+    }
+
+-- a fact is written where an edge leads
+pub written_same : (facts : List (Option Fact)) (to : ℕ) (d : Option Fact) (f fact : Fact) → to < length facts → IsSame f (taken_in (slice_index_or facts to d) fact) → (q : ℕ) → AreSame (table (slice_set facts to (Some f)) q) (arrived q fact to (table facts q))
+written_same facts to d f fact l same q =
+    cond_both (q == to) (Some (taken_in (table facts q) fact)) (table facts q) (AreSame (table (slice_set facts to (Some f)) q))
+    (λ e. let at : q ≡ to = eqb-true q to e in
+    let here : table facts q ≡ slice_index_or facts to d = ap (table facts) at ∙ get_or_default facts to None d l in
+    let set : table (slice_set facts to (Some f)) q ≡ Some f = ap (table (slice_set facts to (Some f))) at ∙ table_same facts to f l in
+    subst (λ o. AreSame o (Some (taken_in (table facts q) fact))) (sym set) (subst (λ o. IsSame f (taken_in o fact)) (sym here) same))
+    (λ e. subst (λ o. AreSame o (table facts q)) (sym (table_other facts to q f (eqb-false q to e))) (AreSame-refl (table facts q)))
+
+-- ---- one instruction
+
+same_bit : (a b : Bool) → ((a ≡ true) ↔ (b ≡ true)) → a ≡ b
+same_bit true true h = refl
+same_bit false false h = refl
+same_bit true false h = absurd (let e = h.0 refl in cc)
+same_bit false true h = absurd (let e = h.1 refl in cc)
+
+all_in_same : (a b : List Bool) → ((p : ℕ) → Has a p ↔ Has b p) → (at n : ℕ) → all_in a at n ≡ all_in b at n
+all_in_same a b h at zero = refl
+all_in_same a b h at (suc n) =
+    ap (λ t. t && all_in a (suc at) n) (same_bit (slice_index_or a at false) (slice_index_or b at false) (h at))
+    ∙ ap (λ t. slice_index_or b at false && t) (all_in_same a b h (suc at) n)
+
+number_same : (a b : List Bool) → ((p : ℕ) → Has a p ↔ Has b p) → (size : ℕ) (o : Option ℕ) → number_set a size o ≡ number_set b size o
+number_same a b h size None = refl
+number_same a b h size (Some at) = ap (λ t. cond t (Ok Num) (Err UnsetBytes)) (all_in_same a b h at size)
+
+load_same : (a b : List Bool) → ((p : ℕ) → Has a p ↔ Has b p) → (base : RegType) (i : Inst) (size : ℕ) → load_type a base i size ≡ load_type b base i size
+load_same a b h Unset i size = refl
+load_same a b h Num i size = refl
+load_same a b h (Const c) i size = refl
+load_same a b h (Ctx k) i size = refl
+load_same a b h (Stk k) i size = number_same a b h size (shifted (lowest k) i.offset (512 - size))
+
+set_same : (declared : ℕ) (types : List RegType) (a b : List Bool) → ((p : ℕ) → Has a p ↔ Has b p) → (i : Inst) (upper : ℤ) (form : Form) → effect declared (record { types = types; stack = a }) i upper form ≡ effect declared (record { types = types; stack = b }) i upper form
+set_same declared types a b h i upper (Load size) = ap (set_type types i.dst) (load_same a b h (type_at types i.src) i (bytes_in size))
+set_same declared types a b h i upper (LoadSigned size) = ap (set_type types i.dst) (load_same a b h (type_at types i.src) i (bytes_in size))
+set_same declared types a b h i upper form = refl
+
+effect_same : (declared : ℕ) (a b : Fact) → IsSame a b → (i : Inst) (upper : ℤ) (form : Form) → effect declared a i upper form ≡ effect declared b i upper form
+effect_same declared a b f i upper form =
+    set_same declared a.types a.stack b.stack f.places i upper form
+    ∙ ap (λ types. effect declared (record { types = types; stack = b.stack }) i upper form) f.types
+
+pub judged_same : (count pc declared : ℕ) (a b : Fact) → IsSame a b → (i : Inst) (upper : ℤ) (form : Form) → judged count pc declared a i upper form ≡ judged count pc declared b i upper form
+judged_same count pc declared a b f i upper form = ap (λ r. cond (falls_off count pc form) (Err FallsOff) r) (effect_same declared a b f i upper form)
+
+-- ---- one unit
+
+passed_by_same : (q : ℕ) (a b : Fact) (r : Result Effect Flaw) (tos : Option (List ℕ)) (x y : Option Fact) → IsSame a b → AreSame x y → AreSame (passed_by q a r tos x) (passed_by q b r tos y)
+passed_by_same q a b (Err flaw) tos x y f g = g
+passed_by_same q a b (Ok e) None x y f g = g
+passed_by_same q a b (Ok e) (Some tos) x y f g = arrived_all_same q tos x y (fact_after a e) (fact_after b e) g (after_same a b e f)
+
+module _ (us : List ProgramUnit) (declared pc : ℕ) where
+  ruled_same : (a b : Fact) → IsSame a b → (x : Inst × Form) → ruled us declared pc a x ≡ ruled us declared pc b x
+  ruled_same a b f x = judged_same (length us) pc declared a b f x.0 (upper_of us pc) x.1
+
+  passed_from_same : (a b : Fact) (o : Option (Inst × Form)) (q : ℕ) (x y : Option Fact) → IsSame a b → AreSame x y → AreSame (passed_from us declared pc a o q x) (passed_from us declared pc b o q y)
+  passed_from_same a b None q x y f g = g
+  passed_from_same a b (Some i) q x y f g =
+      subst (λ r. AreSame (passed_by q a (ruled us declared pc a i) (leads pc i.0 i.1) x) (passed_by q b r (leads pc i.0 i.1) y)) (ruled_same a b f i)
+      (passed_by_same q a b (ruled us declared pc a i) (leads pc i.0 i.1) x y f g)
+
+  pub passed_same : (a b : Option Fact) (q : ℕ) (x y : Option Fact) → AreSame a b → AreSame x y → AreSame (passed us declared pc a q x) (passed us declared pc b q y)
+  passed_same None None q x y f g = g
+  passed_same None (Some b) q x y f g = absurd f
+  passed_same (Some a) None q x y f g = absurd f
+  passed_same (Some a) (Some b) q x y f g = passed_from_same a b (instruction_at us pc) q x y f g
+
+  flaw_of_same : (a b : Fact) (o : Option (Inst × Form)) → IsSame a b → flaw_of us declared pc a o ≡ flaw_of us declared pc b o
+  flaw_of_same a b None f = refl
+  flaw_of_same a b (Some i) f = ap (flaw_in pc) (ruled_same a b f i)
+
+  pub flaw_same : (a b : Option Fact) → AreSame a b → flaw_under us declared pc a ≡ flaw_under us declared pc b
+  flaw_same None None f = refl
+  flaw_same None (Some b) f = absurd f
+  flaw_same (Some a) None f = absurd f
+  flaw_same (Some a) (Some b) f = flaw_of_same a b (instruction_at us pc) f

@@ -1,0 +1,10 @@
+use Rattle.std.proofs.Common.{subst}
+use Rattle.reg_types.specs.Facts.{IsCovered}
+use Rattle.reg_types.proofs.Accepted.{covered_by}
+use Rattle.reg_types.proofs.verifier.Program.flow.Goals as goal
+
+pub returns : goal.returns
+returns c =
+    let p = c.self.inside in
+    let is = c.self.invariant in
+    subst (λ t. IsCovered t.bytes t.declared p.flow) c.self.view_is (covered_by p.bytes.items p.declared p.flow is.reads is.forward is.flawless)

@@ -1,0 +1,163 @@
+-- Definitions: what is known before each unit of a program, and the first unit that the rules refuse (this profile,
+-- type rules).
+use Rattle.std.specs.Prelude.{ℕ, zero, suc, ◌+◌, ℤ, pos, ◌==◌, ◌&&◌, if◌then◌else◌, Bool, true, false, List, [], ◌∷◌, length, drop, slice_get, slice_index_or, Option, Some, None, Result, Ok, Err}
+use Rattle.bpf_model.specs.declared.instruction.Inst.{Inst}
+use Rattle.bpf_model.specs.declared.instruction.Form.{Form}
+use Rattle.bpf_model.specs.declared.instruction.Form.TheVariants.{Wide, Goto, GotoLong, Branch, Exit}
+use Rattle.bpf_model.specs.declared.instruction.Unit.{Unit as ProgramUnit}
+use Rattle.bpf_model.specs.declared.instruction.Unit.TheVariants.{First, Second}
+use Rattle.bpf_model.specs.Reading.{form_of}
+use Rattle.bpf_model.specs.Machine.{shifted}
+use Rattle.reg_types.specs.declared.types.RegType.{RegType}
+use Rattle.reg_types.specs.declared.types.RegType.TheVariants.{Unset as Anything, Ctx, Stk}
+use Rattle.reg_types.specs.declared.types.Fact.{Fact}
+use Rattle.reg_types.specs.declared.types.Effect.{Effect}
+use Rattle.reg_types.specs.declared.types.Flaw.{Flaw}
+use Rattle.reg_types.specs.declared.refusal.TypeFault.{TypeFault}
+use Rattle.reg_types.specs.Refusals.{located}
+use Rattle.reg_types.specs.Rules.{join_type, judged}
+
+-- ---- sets of stack bytes: truth values from the lowest byte on; a byte past their end isn't in the set
+
+-- the bytes that are in both sets
+abbrev pub common : List Bool → List Bool → List Bool
+common [] bs = []
+common (a ∷ rest) [] = []
+common (a ∷ rest) (b ∷ bs) = (a && b) ∷ common rest bs
+
+-- the set, and `len` bytes from `at` on
+abbrev pub marked : ℕ → ℕ → List Bool → List Bool
+marked zero zero set = set
+marked zero (suc len) set = true ∷ marked zero len (drop 1 set)
+marked (suc at) len set = slice_index_or set 0 false ∷ marked at len (drop 1 set)
+
+-- ---- facts
+
+abbrev pub join_types : List RegType → List RegType → List RegType
+join_types [] bs = []
+join_types (a ∷ rest) [] = []
+join_types (a ∷ rest) (b ∷ bs) = join_type a b ∷ join_types rest bs
+
+-- what two facts both say
+abbrev pub join_fact : Fact → Fact → Fact
+join_fact a b = record { types = join_types a.types b.types; stack = common a.stack b.stack }
+
+-- the types on entry
+abbrev pub entry_types : List RegType
+entry_types =
+    Anything ∷ Ctx 0 ∷ Anything ∷ Anything ∷ Anything ∷ Anything ∷ Anything ∷ Anything ∷ Anything ∷ Anything ∷ Stk (pos 0) ∷ []
+
+-- on entry no byte is set
+abbrev pub entry_fact : Fact
+entry_fact = record { types = entry_types; stack = [] }
+
+-- what is known after an instruction with this effect
+abbrev pub fact_after : Fact → Effect → Fact
+fact_after fact effect = record { types = effect.types; stack = marked effect.at effect.len fact.stack }
+
+-- ---- one unit
+
+abbrev pub option_cons : Option ℕ → List ℕ → Option (List ℕ)
+option_cons None tos = None
+option_cons (Some to) tos = Some (to ∷ tos)
+
+-- the units that an instruction can lead to
+abbrev pub leads : ℕ → Inst → Form → Option (List ℕ)
+leads pc i Wide = Some ((pc + 2) ∷ [])
+leads pc i Goto = option_cons (shifted (pc + 1) i.offset 512) []
+leads pc i GotoLong = option_cons (shifted (pc + 1) i.imm 512) []
+leads pc i (Branch c w s) = option_cons (shifted (pc + 1) i.offset 512) ((pc + 1) ∷ [])
+leads pc i Exit = Some []
+leads pc i form = Some ((pc + 1) ∷ [])
+
+abbrev pub second_of : Option ProgramUnit → ℤ
+second_of (Some (Second v)) = v
+second_of (Some (First i)) = pos 0
+second_of None = pos 0
+
+-- the upper half of a wide load's number
+abbrev pub upper_of : List ProgramUnit → ℕ → ℤ
+upper_of us pc = second_of (slice_get us (pc + 1))
+
+-- the instruction that begins at a unit, with its form
+abbrev pub form_with : Inst → Option Form → Option (Inst × Form)
+form_with i None = None
+form_with i (Some form) = Some (i, form)
+
+abbrev pub instruction_of : Option ProgramUnit → Option (Inst × Form)
+instruction_of None = None
+instruction_of (Some (Second v)) = None
+instruction_of (Some (First i)) = form_with i (form_of i.opcode)
+
+abbrev pub instruction_at : List ProgramUnit → ℕ → Option (Inst × Form)
+instruction_at us pc = instruction_of (slice_get us pc)
+
+-- what the rules say of the instruction at a unit under a fact
+abbrev pub ruled : List ProgramUnit → ℕ → ℕ → Fact → Inst × Form → Result Effect Flaw
+ruled us declared pc fact x = judged (length us) pc declared fact x.0 (upper_of us pc) x.1
+
+-- the flaw of the unit's instruction; a unit that isn't reached has no fact and no flaw
+abbrev pub flaw_in : ℕ → Result Effect Flaw → Option TypeFault
+flaw_in pc (Ok effect) = None
+flaw_in pc (Err flaw) = Some (located pc flaw)
+
+abbrev pub flaw_of : List ProgramUnit → ℕ → ℕ → Fact → Option (Inst × Form) → Option TypeFault
+flaw_of us declared pc fact None = None
+flaw_of us declared pc fact (Some x) = flaw_in pc (ruled us declared pc fact x)
+
+abbrev pub flaw_under : List ProgramUnit → ℕ → ℕ → Option Fact → Option TypeFault
+flaw_under us declared pc None = None
+flaw_under us declared pc (Some fact) = flaw_of us declared pc fact (instruction_at us pc)
+
+-- ---- edges
+
+-- what a unit's fact becomes where an edge brings this one
+abbrev pub taken_in : Option Fact → Fact → Fact
+taken_in None fact = fact
+taken_in (Some old) fact = join_fact old fact
+
+-- what is known of unit q once a fact has come to a unit
+abbrev pub arrived : ℕ → Fact → ℕ → Option Fact → Option Fact
+arrived q fact to old = if q == to then Some (taken_in old fact) else old
+
+abbrev pub arrived_all : ℕ → Fact → List ℕ → Option Fact → Option Fact
+arrived_all q fact [] old = old
+arrived_all q fact (to ∷ tos) old = arrived_all q fact tos (arrived q fact to old)
+
+-- the edges of an instruction: a refused one has none
+abbrev pub passed_by : ℕ → Fact → Result Effect Flaw → Option (List ℕ) → Option Fact → Option Fact
+passed_by q fact (Err flaw) tos old = old
+passed_by q fact (Ok effect) None old = old
+passed_by q fact (Ok effect) (Some tos) old = arrived_all q (fact_after fact effect) tos old
+
+abbrev pub passed_from : List ProgramUnit → ℕ → ℕ → Fact → Option (Inst × Form) → ℕ → Option Fact → Option Fact
+passed_from us declared pc fact None q old = old
+passed_from us declared pc fact (Some x) q old = passed_by q fact (ruled us declared pc fact x) (leads pc x.0 x.1) old
+
+-- what is known of unit q once unit pc has been passed, before which this was known
+abbrev pub passed : List ProgramUnit → ℕ → ℕ → Option Fact → ℕ → Option Fact → Option Fact
+passed us declared pc None q old = old
+passed us declared pc (Some fact) q old = passed_from us declared pc fact (instruction_at us pc) q old
+
+-- ---- the whole program
+
+-- what is known of unit q by the entry and by the edges from the units below n: nothing where none reaches it
+unfoldable pub known : List ProgramUnit → ℕ → ℕ → ℕ → Option Fact
+known us declared zero q = if q == 0 then Some entry_fact else None
+known us declared (suc n) q = passed us declared n (known us declared n n) q (known us declared n q)
+
+-- the fact of a unit: the join over the edges from the reached units before it
+abbrev pub inferred : List ProgramUnit → ℕ → ℕ → Option Fact
+inferred us declared q = known us declared q q
+
+abbrev pub or_else : Option TypeFault → Option TypeFault → Option TypeFault
+or_else None b = b
+or_else (Some fault) b = Some fault
+
+-- the first among the first n units that is reached and that the rules refuse, with its flaw of the least number
+unfoldable pub first_flaw_below : List ProgramUnit → ℕ → ℕ → Option TypeFault
+first_flaw_below us declared zero = None
+first_flaw_below us declared (suc n) = or_else (first_flaw_below us declared n) (flaw_under us declared n (inferred us declared n))
+
+abbrev pub first_flaw : List ProgramUnit → ℕ → Option TypeFault
+first_flaw us declared = first_flaw_below us declared (length us)
