@@ -4,9 +4,8 @@ use Rattle.decision_journal.specs.declared.entries.Entry.{Entry}
 use Rattle.till_request.specs.declared.act.Reply.{Reply}
 use Rattle.bpf_model.specs.Machine.{Counters}
 use Rattle.bpf_model.specs.Runs.{Ended}
-use Rattle.bpf_model.specs.Program.{ProgramText, outcome}
-use Rattle.program_slots.specs.Value.{SlotsValue}
-use Rattle.program_slots.specs.Slots.{Version, number_in, program_of, version_of, version_in}
+use Rattle.bpf_model.specs.Program.{outcome}
+use Rattle.program_slots.specs.Slots.{Version}
 use Rattle.site_core.specs.declared.question.Question.{Question}
 use Rattle.site_core.specs.State.{SiteState, view_of}
 use Rattle.site_core.specs.Context.{context}
@@ -27,13 +26,3 @@ decided-some past s till moment q v some = rw (some, decided)
 
 pub decided-ended : (past : List Entry) (s : SiteState) (till moment : ℕ) (q : Question) (v : Version) (r : ℕ) (counters : Counters) → in_force q.slot past ≡ Some v → outcome v.program (context s till moment q) (view_of s) s.counters ≡ Ended r counters → decided past s till moment (Ok q) ≡ verdict s till moment q v r counters
 decided-ended past s till moment q v r counters some ended = decided-some past s till moment q v some ∙ ap (λ o. verdict s till moment q v (ran o s.counters).0 (ran o s.counters).1) ended
-
--- the version in a slot, by its number and its program
-pub version-some : (v : SlotsValue) (slot n : ℕ) (p : ProgramText) → number_in v slot ≡ Some n → program_of v n ≡ Some p → version_in v slot ≡ Some (record { number = n; program = p })
-version-some v slot n p named held = ap (version_of v) named ∙ rw (held, version_of) refl
-
-pub version-unnamed : (v : SlotsValue) (slot : ℕ) → number_in v slot ≡ None → version_in v slot ≡ None
-version-unnamed v slot none = ap (version_of v) none
-
-pub version-unheld : (v : SlotsValue) (slot n : ℕ) → number_in v slot ≡ Some n → program_of v n ≡ None → version_in v slot ≡ None
-version-unheld v slot n named none = ap (version_of v) named ∙ rw (none, version_of) refl

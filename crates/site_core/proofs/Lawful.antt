@@ -37,16 +37,17 @@ pub record Asks (config : ConfigValue) (s : SiteState) (n amount : ℕ) (q : Que
   pub point : PointState
   pub is_point : at_number s.points n ≡ Some point
   pub question : q ≡ record { kind = kind.Release; point = n; product = 0; asked = amount; slot = (slots_of config n).0 }
+  pub within : is_within 1 amount 999999999 ≡ true
   pub ready : IsTrue (is_ready point.state)
   pub room : length point.unpaid < 2
 
-abbrev Asked : Type 0
+abbrev pub Asked : Type 0
 Asked = Result Question Reply
 
-ok-same : (p q : Question) → ◌≡◌ {A = Asked} (Ok p) (Ok q) → q ≡ p
+pub ok-same : (p q : Question) → ◌≡◌ {A = Asked} (Ok p) (Ok q) → q ≡ p
 ok-same p q h = cc
 
-err-ok : (r : Reply) (q : Question) → ◌≡◌ {A = Asked} (Err r) (Ok q) → ⊥
+pub err-ok : (r : Reply) (q : Question) → ◌≡◌ {A = Asked} (Err r) (Ok q) → ⊥
 err-ok r q h = cc
 
 three-ok : (a b c : Bool) (x y z : Reply) (p q : Question) → need a x (need b y (need c z (Ok p))) ≡ Ok q → (a ≡ true) × (b ≡ true) × (c ≡ true) × (q ≡ p)
@@ -55,12 +56,12 @@ three-ok true true false x y z p q h = absurd (err-ok z q h)
 three-ok true false c x y z p q h = absurd (err-ok y q h)
 three-ok false b c x y z p q h = absurd (err-ok x q h)
 
-asks : (config : ConfigValue) (s : SiteState) (n amount : ℕ) (q : Question) (o : Option PointState) → at_number s.points n ≡ o → release_question config s n amount ≡ Ok q → Asks config s n amount q
+pub asks : (config : ConfigValue) (s : SiteState) (n amount : ℕ) (q : Question) (o : Option PointState) → at_number s.points n ≡ o → release_question config s n amount ≡ Ok q → Asks config s n amount q
 asks config s n amount q None at h = absurd (err-ok no_such_point q (sym (release-none config s n amount at) ∙ h))
 asks config s n amount q (Some p) at h =
     let asked : Question = record { kind = kind.Release; point = n; product = 0; asked = amount; slot = (slots_of config n).0 } in
     let all = three-ok (is_within 1 amount 999999999) (is_ready p.state) (nat_lt (length p.unpaid) 2) bad_amount (wrong_state p.state) transactions_full asked q (sym (release-some config s n amount p at) ∙ h) in
-    record { point = p; is_point = at; question = all.3; ready = all.1; room = ltb-true (length p.unpaid) 2 all.2 }
+    record { point = p; is_point = at; question = all.3; within = all.0; ready = all.1; room = ltb-true (length p.unpaid) 2 all.2 }
 
 -- is a grant
 abbrev is_grant : Reply → Bool

@@ -7,3 +7,8 @@ pub mod Shown
 pub mod Grants
 pub mod Filling
 pub mod Pairs
+pub mod Counted
+pub mod Contexts
+pub mod Asking
+pub mod StillAsked
+pub mod Outside

@@ -1,5 +1,5 @@
 -- What `==` says of lists of pairs of numbers.
-use Rattle.std.proofs.Common.{rules, arith, ℕ, List, ◌≡◌, ap, ◌&&◌, nat_eq}
+use Rattle.std.proofs.Common.{arith, ℕ, ◌≡◌, ap, ◌&&◌, nat_eq}
 use Rattle.std.specs.Bool.{Decides}
 use Rattle.std.proofs.lemmas.Bool.Decides.{nat_tests}
 

@@ -41,7 +41,7 @@ unfolding commanded
 commanded-none s till n command none = rw (none, commanded)
 
 -- a command at a point
-commanded-some : (s : SiteState) (till n : ℕ) (command : Command) (p : PointState) → at_number s.points n ≡ Some p → commanded s till n command ≡ command_effect s n (command_step p till command)
+pub commanded-some : (s : SiteState) (till n : ℕ) (command : Command) (p : PointState) → at_number s.points n ≡ Some p → commanded s till n command ≡ command_effect s n (command_step p till command)
 unfolding commanded
 commanded-some s till n command p some = rw (some, commanded)
 

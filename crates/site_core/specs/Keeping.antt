@@ -1,5 +1,5 @@
 -- Representation: how the fields of a site hang together, and what the steps inside a call say. No reader has to believe it.
-use Rattle.std.specs.Prelude.{◌≡◌, ℕ, ◌≤◌, List, ◌∷◌, length, reverse}
+use Rattle.std.specs.Prelude.{◌≡◌, ℕ, ◌+◌, ◌≤◌, List, ◌∷◌, length, reverse}
 use Rattle.decision_journal.specs.declared.entries.Entry.{Entry}
 use Rattle.till_request.specs.declared.act.Act.{Act}
 use Rattle.till_request.specs.declared.act.Act.TheVariants as act
@@ -41,3 +41,7 @@ pub record Performs (config : ConfigValue) (past : List Entry) (old : SiteState)
 pub record Loads (old : SlotsValue) (slot : ℕ) (program : ProgramText) (past : List Entry) (reply : Reply) (new : SlotsValue) : Type 0 where
   pub reply_is : load_reply slot past ≡ reply
   pub agrees : (entry : Entry) → entry.act ≡ act.Load slot program.declared program.bytes → entry.reply ≡ reply → Agrees new (entry ∷ past)
+
+-- the entry that a performed event makes
+abbrev pub made : List Entry → ℕ → Performed → Entry
+made history pass p = record { number = length history + 1; pass = pass; moment = p.moment; act = p.act; reply = p.reply; run = p.run }

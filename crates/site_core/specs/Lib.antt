@@ -9,3 +9,7 @@ pub mod Bounds
 pub mod Keeping
 pub mod Site
 pub mod Audit
+pub mod Draft
+pub mod Differences
+pub mod Asked
+pub mod Outside

@@ -1,8 +1,9 @@
 //! The configuration.
 
-ghost use Rattle.std.specs.Prelude.{◌≡◌, ◌↔◌, IfOk, IfSome, IsTrue, is_some};
+ghost use Rattle.std.specs.Prelude.{◌≡◌, ◌<◌, ◌↔◌, IfOk, IfSome, IsTrue, is_some};
 ghost use Rattle.site_core.specs.Limits.{ConfigValue, IsConfig};
-ghost use Rattle.site_core.specs.Decide.{slots_of};
+ghost use Rattle.std.specs.Bool.{OnTrue};
+ghost use Rattle.site_core.specs.Decide.{is_till, slots_of};
 
 use std::alloc::{AllocError, Global};
 use std::marker::Model;
@@ -93,11 +94,12 @@ impl Config {
             && is_same_counters(self.counters.as_slice(), other.counters.as_slice())
     }
 
-    /// How many tills there are.
-    pub(crate) fn tills(&self) -> u32
-        ensures { result ≡ self.now.tills }
+    /// Whether there is a till of this number.
+    pub(crate) fn has_till(&self, till: u32) -> bool
+        ensures there { result ≡ is_till self.now till }
+        ensures numbered { OnTrue result (0 < till) }
     {
-        self.tills
+        till >= 1 && till <= self.tills
     }
 
     pub(crate) fn price_slot(&self) -> u32

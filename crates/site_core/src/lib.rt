@@ -2,9 +2,13 @@
 #![tactic(auto)]
 
 mod auditing;
+mod comparing;
 mod config;
 mod context;
 mod decision;
+mod draft;
+#[cfg(test)]
+mod draft_tests;
 mod events;
 mod perform;
 mod question;
@@ -13,8 +17,12 @@ mod site;
 mod station;
 #[cfg(test)]
 mod tests;
+mod why;
 
 pub use auditing::{AuditFault, audit, event_of};
+pub use comparing::fresh_differs_nowhere;
 pub use config::Config;
+pub use draft::{Begin, Commit, Draft, Ready};
 pub use events::{Answered, CallFault, Event, What};
 pub use site::Site;
+pub use why::Why;

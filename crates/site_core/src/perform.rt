@@ -6,13 +6,16 @@ ghost use Rattle.decision_journal.specs.declared.entries.Entry.{Entry};
 ghost use Rattle.till_request.specs.declared.act.Act.TheVariants as act;
 ghost use Rattle.site_core.specs.Bounds.{Bounded};
 ghost use Rattle.site_core.specs.Decide.{decided, WellAsked};
+ghost use Rattle.site_core.specs.Asked.{asked_question};
+ghost use Rattle.site_core.specs.Draft.{at_point, routed};
 ghost use Rattle.site_core.specs.Keeping.{Agrees, Performs, Loads};
 ghost use Rattle.site_core.specs.Site.{act_of};
 ghost use Rattle.site_core.specs.Step.{effect};
 
+use crate::comparing::look_up;
 use crate::config::Config;
 use crate::events::What;
-use crate::question::Question;
+use crate::question::{Kind, Question};
 use crate::replies::{NO_SUCH_SLOT, NO_SUCH_TILL, VERSIONS_FULL, no_program};
 use crate::station::Station;
 use decision_journal::Run;
@@ -113,7 +116,7 @@ fn ask(
     ensures bounded { (k : ℕ) → Bounded k station.old → Bounded (k + 1) station.new }
     ensures points { length station.new.points ≡ length station.old.points }
 {
-    if till < 1 || till > config.tills() {
+    if !config.has_till(till) {
         return (NO_SUCH_TILL, None);
     }
     match request {
@@ -141,6 +144,70 @@ fn ask(
     }
 }
 
+/// The question that a request puts to a program, where nothing refuses it before.
+pub fn asked_question(
+    config: &Config,
+    station: &Station,
+    till: u32,
+    request: &Request,
+) -> Option<Question>
+    requires { length station.now.points ≡ length config.now.points }
+    ensures { result ≡ asked_question config.now station.now till request.now }
+{
+    if !config.has_till(till) {
+        return None;
+    }
+    match *request {
+        Request::Release(n, amount) => station.release_question(config, n, amount).ok(),
+        Request::Preset(n, amount) => station.preset_question(config, n, amount).ok(),
+        Request::Price(product, price) => station.price_question(config, product, price).ok(),
+        _ => None,
+    }
+}
+
+/// The question that a request puts to a program, whatever refuses it: none where there is no such till or point.
+pub fn routed(config: &Config, station: &Station, till: u32, request: &Request) -> Option<Question>
+    ensures { result ≡ routed config.now station.now till request.now }
+{
+    if !config.has_till(till) {
+        return None;
+    }
+    match *request {
+        Request::Release(n, amount) => {
+            let slot = config.release_slot(n);
+            routed_to(station, Kind::Release, n, amount, slot)
+        }
+        Request::Preset(n, amount) => {
+            let slot = config.preset_slot(n);
+            routed_to(station, Kind::Preset, n, amount, slot)
+        }
+        Request::Price(product, price) => Some(Question {
+            kind: Kind::Price,
+            point: 0,
+            product,
+            asked: price,
+            slot: config.price_slot(),
+        }),
+        _ => None,
+    }
+}
+
+/// A question at a point, where there is one.
+#[tactic(auto, unfolding(crate::specs::Draft::at_point))]
+fn routed_to(station: &Station, kind: Kind, n: u32, asked: u64, slot: u32) -> Option<Question>
+    ensures { let question : Question = record { kind = kind; point = n; product = 0; asked = asked; slot = slot } in
+        result ≡ at_point station.now n question }
+{
+    let _point = station.point(n)?;
+    Some(Question {
+        kind,
+        point: n,
+        product: 0,
+        asked,
+        slot,
+    })
+}
+
 /// Runs the program in force, and enters what it answered.
 fn decide(
     station: &mut Station,
@@ -161,16 +228,13 @@ fn decide(
         Ok(question) => question,
         Err(refusal) => return (refusal, None),
     };
-    let Some(number) = slots.installed(question.slot) else {
-        return (no_program(question.slot), None);
-    };
-    let Some(program) = slots.version(number) else {
+    let Some((number, program)) = look_up(slots, question.slot) else {
         return (no_program(question.slot), None);
     };
     let context = station.context(till, moment, &question);
     let view = station.view();
     let mut counters = station.counters();
     let r0 = run(program, &context, &view, &mut counters);
-    let (reply, run) = station.settle(till, moment, &question, number, program, r0, counters);
+    let (reply, run) = station.settle(till, &question, context, number, program, r0, counters);
     (reply, Some(run))
 }

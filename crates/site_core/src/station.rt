@@ -5,6 +5,7 @@ ghost use Rattle.std.specs.Bool.{OnTrue, OnFalse};
 ghost use Rattle.site_core.specs.State.{opening_state, at_number, price_of, busy_points, first_busy, view_of, counter_of};
 ghost use Rattle.site_core.specs.Bounds.{Bounded};
 ghost use Rattle.site_core.specs.Context.{context, product_of, told};
+ghost use Rattle.site_core.specs.Asked.{FitsContext};
 ghost use Rattle.site_core.specs.Decide.{replied, verdict, grant, WellAsked, release_question, preset_question, price_question};
 ghost use Rattle.site_core.specs.Step.{commanded, reported, show_reply};
 ghost use Rattle.program_slots.specs.Slots.{Version};
@@ -124,7 +125,7 @@ impl Station {
     }
 
     /// The point of this number.
-    fn point(&self, n: u32) -> Option<&Point>
+    pub fn point(&self, n: u32) -> Option<&Point>
         ensures { option_copied result ≡ at_number self.now.points n }
     {
         if n == 0 {
@@ -249,7 +250,8 @@ impl Station {
 
     /// The 64 bytes that a program is given.
     pub fn context(&self, till: u32, moment: u64, question: &Question) -> [u8; 64]
-        ensures { result ≡ context self.now till moment question.now }
+        ensures context { result ≡ context self.now till moment question.now }
+        ensures fits { FitsContext self.now question.now }
     {
         let (state, nozzle, unpaid) = self.told_of(question.point);
         let product = self.product_of(question);
@@ -283,12 +285,12 @@ impl Station {
         }
     }
 
-    /// Enters what a version answered.
+    /// Enters what a version answered on the bytes of this question's context.
     pub fn settle(
         &mut self,
         till: u32,
-        moment: u64,
         question: &Question,
+        bytes: [u8; 64],
         version: u32,
         program: &Program,
         r0: u64,
@@ -297,17 +299,16 @@ impl Station {
         requires bounded { Bounded 1048575 self.old }
         requires till { 0 < till }
         requires asked { WellAsked self.old question.now }
-        ensures effect { (v : Version) → v.number ≡ version → v.program ≡ program.now →
+        ensures effect { (moment : ℕ) (v : Version) → context self.old till moment question.now ≡ bytes → v.number ≡ version → v.program ≡ program.now →
             verdict self.old till moment question.now v r0 counters ≡ record { reply = result.0; run = Some result.1; after = self.new } }
         ensures bounded { (k : ℕ) → Bounded k self.old → Bounded (k + 1) self.new }
         ensures points { length self.new.points ≡ length self.old.points }
     {
-        let context = self.context(till, moment, question);
         let run = Run {
             slot: question.slot,
             version,
             r0,
-            context,
+            context: bytes,
             counts: counts(program.declared(), &self.counters, &counters),
         };
         self.counters = counters;

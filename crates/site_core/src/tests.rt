@@ -10,10 +10,10 @@ use std::sync::Arc;
 use std::test::Fail;
 use till_request::{Act, Bytes, Reply, Request};
 
-const EXIT: [u8; 8] = [0x95, 0, 0, 0, 0, 0, 0, 0];
+pub(crate) const EXIT: [u8; 8] = [0x95, 0, 0, 0, 0, 0, 0, 0];
 
 /// R0 is the amount asked.
-const ASKED: [u8; 8] = [0x79, 0x10, 0x18, 0, 0, 0, 0, 0];
+pub(crate) const ASKED: [u8; 8] = [0x79, 0x10, 0x18, 0, 0, 0, 0, 0];
 
 /// R0 is the moment.
 const MOMENT: [u8; 8] = [0x79, 0x10, 0x20, 0, 0, 0, 0, 0];
@@ -25,10 +25,10 @@ const PRODUCT: [u8; 8] = [0x61, 0x10, 0x14, 0, 0, 0, 0, 0];
 const PRICE: [u8; 8] = [0x61, 0x10, 0x28, 0, 0, 0, 0, 0];
 
 /// R0 is 5,000.
-const FIVE_THOUSAND: [u8; 8] = [0xb7, 0, 0, 0, 0x88, 0x13, 0, 0];
+pub(crate) const FIVE_THOUSAND: [u8; 8] = [0xb7, 0, 0, 0, 0x88, 0x13, 0, 0];
 
 #[derive(Clone, Copy, Debug, Drop)]
-enum Does {
+pub(crate) enum Does {
     Till(u32, Request),
     Disp(u32, DispenserEvent),
 }
@@ -42,12 +42,12 @@ fn config(alloc: Global) -> Result<Option<Config>, AllocError> {
     Ok(Config::new(2, 2, prices, points, counters))
 }
 
-fn start(alloc: Global) -> Result<Site, Fail> {
+pub(crate) fn start(alloc: Global) -> Result<Site, Fail> {
     let config = config(alloc)?.ok_or("no configuration")?;
     Ok(Site::start(alloc, config)?)
 }
 
-fn enter(rt: &impl Abort, site: &mut Site, moment: u64, what: What, want: Reply) {
+pub(crate) fn enter(rt: &impl Abort, site: &mut Site, moment: u64, what: What, want: Reply) {
     let event = Event {
         pass: 1,
         moment,
@@ -61,7 +61,7 @@ fn enter(rt: &impl Abort, site: &mut Site, moment: u64, what: What, want: Reply)
     assert_eq!(rt; got, Some((number, want)));
 }
 
-fn play(rt: &impl Abort, site: &mut Site, moment: u64, steps: &[(Does, Reply)]) {
+pub(crate) fn play(rt: &impl Abort, site: &mut Site, moment: u64, steps: &[(Does, Reply)]) {
     for (does, want) in steps {
         let what = match *does {
             Does::Till(till, request) => What::Till { till, request },
@@ -72,7 +72,7 @@ fn play(rt: &impl Abort, site: &mut Site, moment: u64, steps: &[(Does, Reply)]) 
 }
 
 /// Loads a program that ends by EXIT.
-fn load(
+pub(crate) fn load(
     rt: &impl Abort,
     alloc: Global,
     site: &mut Site,
@@ -128,7 +128,7 @@ const DELIVERY: [(Does, Reply); 6] = [
     (Does::Disp(1, DispenserEvent::Down), Reply::Done),
 ];
 
-const OPEN: (Does, Reply) = (Does::Till(1, Request::OpenPoint(1)), Reply::Done);
+pub(crate) const OPEN: (Does, Reply) = (Does::Till(1, Request::OpenPoint(1)), Reply::Done);
 
 #[test]
 fn a_replaced_version_decides_no_more(rt: HostRuntime) -> Result<(), Fail> {

@@ -2,11 +2,11 @@ use Rattle.std.proofs.Common.{◌≡◌, Some, None, ◌∙◌, sym, refl}
 use Rattle.std.specs.Arc.{arc_value}
 use Rattle.bpf_model.specs.Runs.{Ended}
 use Rattle.bpf_model.specs.Program.{ProgramText, outcome}
-use Rattle.program_slots.specs.Slots.{Version, number_in, program_of}
+use Rattle.program_slots.specs.Slots.{Version}
 use Rattle.site_core.specs.State.{view_of}
 use Rattle.site_core.specs.Context.{context}
 use Rattle.site_core.specs.History.{in_force}
-use Rattle.site_core.proofs.Decisions.{decided-refused, decided-none, decided-ended, version-some, version-unnamed, version-unheld}
+use Rattle.site_core.proofs.Decisions.{decided-refused, decided-none, decided-ended}
 use Rattle.site_core.proofs.perform.decide.Goals as goal
 
 pub returns-in-Err-clause-effect : goal.returns-in-Err-clause-effect
@@ -15,27 +15,16 @@ returns-in-Err-clause-effect c = λ past agrees. rw c.in-Err.is (decided-refused
 pub returns-in_default-clause-effect : goal.returns-in_default-clause-effect
 returns-in_default-clause-effect c = λ past agrees.
     let q = c.in-Ok.question in
-    let unnamed : number_in c.args.slots.now q.slot ≡ None = sym c.installed.ensures ∙ c.in_default.is in
-    let none : in_force q.slot past ≡ None = agrees.in_force q.slot ∙ version-unnamed c.args.slots.now q.slot unnamed in
+    let none : in_force q.slot past ≡ None = agrees.in_force q.slot ∙ c.in_default.ensures in
     rw (c.in-Ok.is, c.no_program.ensures) (decided-none past c.args.station.now c.args.till c.args.moment q none)
-
-pub returns-in_default-version-clause-effect : goal.returns-in_default-version-clause-effect
-returns-in_default-version-clause-effect c = λ past agrees.
-    let q = c.in-Ok.question in
-    let named : number_in c.args.slots.now q.slot ≡ Some c.in-Some.number = sym c.installed.ensures ∙ c.in-Some.is in
-    let unheld : program_of c.args.slots.now c.in-Some.number ≡ None = c.in_default-version.ensures in
-    let none : in_force q.slot past ≡ None = agrees.in_force q.slot ∙ version-unheld c.args.slots.now q.slot c.in-Some.number named unheld in
-    rw (c.in-Ok.is, c.no_program-in_default-version.ensures) (decided-none past c.args.station.now c.args.till c.args.moment q none)
 
 pub returns-clause-effect : goal.returns-clause-effect
 returns-clause-effect c = λ past agrees.
     let q = c.in-Ok.question in
-    let p : ProgramText = arc_value c.in-Some-version.program.now in
+    let p : ProgramText = arc_value c.in-Some.program.now in
     let v : Version = record { number = c.in-Some.number; program = p } in
-    let named : number_in c.args.slots.now q.slot ≡ Some c.in-Some.number = sym c.installed.ensures ∙ c.in-Some.is in
-    let held : program_of c.args.slots.now c.in-Some.number ≡ Some p = c.in-Some-version.ensures in
-    let some : in_force q.slot past ≡ Some v = agrees.in_force q.slot ∙ version-some c.args.slots.now q.slot c.in-Some.number p named held in
+    let some : in_force q.slot past ≡ Some v = agrees.in_force q.slot ∙ c.in-Some.ensures in
     let ended : outcome p (context c.args.station.now c.args.till c.args.moment q) (view_of c.args.station.now) c.args.station.now.counters ≡ Ended c.run-r0.result c.run-r0.new.counters =
-    rw (← c.deref.ensures, ← c.context-context.ensures, ← c.view-view.ensures, ← c.counters-counters.ensures) c.run-r0.ensures in
-    let settled = c.settle-reply.ensures.effect v refl (sym c.deref-2.ensures) in
+    rw (← c.deref.ensures, ← c.context-context.ensures.context, ← c.view-view.ensures, ← c.counters-counters.ensures) c.run-r0.ensures in
+    let settled = c.settle-reply.ensures.effect c.args.moment v (sym c.context-context.ensures.context) refl (sym c.deref-2.ensures) in
     rw c.in-Ok.is (decided-ended past c.args.station.now c.args.till c.args.moment q v c.run-r0.result c.run-r0.new.counters some ended ∙ settled)

@@ -1,0 +1,172 @@
+-- What two equal contexts say of the states that they were made in.
+use Rattle.std.proofs.Common.{◌≡◌, ℕ, ◌+◌, ◌/◌, ◌%◌, ◌<◌, Bool, true, false, List, [], ◌∷◌, ◌++◌, length, map, replicate, Option, Some, None, refl, ap, ◌∙◌, sym, arith, get_or, zero, suc, cond}
+use Rattle.std.specs.Prelude.{◌==◌, ◌||◌, ◌-◌, count_by, find, option_map}
+use Rattle.std.proofs.lemmas.List.Recursion.{is_count_by}
+use Rattle.fuelling_point.specs.Table.{PointState}
+use Rattle.fuelling_point.specs.declared.kinds.State.{State}
+use Rattle.fuelling_point.specs.declared.kinds.State.TheVariants as state
+use Rattle.fuelling_point.specs.States.{is_ready, is_busy, state_number}
+use Rattle.bpf_model.specs.declared.machine.PointView.{PointView}
+use Rattle.bpf_model.specs.declared.machine.View.{View}
+use Rattle.bpf_model.specs.Machine.{no_point}
+use Rattle.site_core.specs.declared.question.Question.{Question}
+use Rattle.site_core.specs.State.{SiteState, at_number, busy_points, first_busy, price_of, seen, view_of}
+use Rattle.site_core.specs.Context.{context, packed, le4, kind_number, told, of_point, product_of}
+
+-- ---- fields
+
+-- a field of four bytes
+four : List ℕ → ℕ → List ℕ
+four bytes at = get_or bytes at 0 ∷ get_or bytes (at + 1) 0 ∷ get_or bytes (at + 2) 0 ∷ get_or bytes (at + 3) 0 ∷ []
+
+le4-same : (x y : ℕ) → x < 4294967296 → y < 256 → le4 x ≡ le4 y → x ≡ y
+le4-same x y fits small h =
+    let first : x % 256 ≡ y % 256 = ap (λ bytes. get_or bytes 0 0) h in
+    let second : x / 256 % 256 ≡ y / 256 % 256 = ap (λ bytes. get_or bytes 1 0) h in
+    let third : x / 65536 % 256 ≡ y / 65536 % 256 = ap (λ bytes. get_or bytes 2 0) h in
+    let fourth : x / 16777216 % 256 ≡ y / 16777216 % 256 = ap (λ bytes. get_or bytes 3 0) h in
+    omega (arith, first, second, third, fourth)
+
+packed-state : (till point kind x nozzle product asked moment price busy unpaid slot cleared : ℕ) → get_or (packed till point kind x nozzle product asked moment price busy unpaid slot cleared) 12 0 ≡ x % 256
+unfolding packed
+packed-state till point kind x nozzle product asked moment price busy unpaid slot cleared = refl
+
+packed-busy : (till point kind x nozzle product asked moment price busy unpaid slot cleared : ℕ) → four (packed till point kind x nozzle product asked moment price busy unpaid slot cleared) 44 ≡ le4 busy
+unfolding packed four
+packed-busy till point kind x nozzle product asked moment price busy unpaid slot cleared = refl
+
+packed-unpaid : (till point kind x nozzle product asked moment price busy unpaid slot cleared : ℕ) → four (packed till point kind x nozzle product asked moment price busy unpaid slot cleared) 48 ≡ le4 unpaid
+unfolding packed four
+packed-unpaid till point kind x nozzle product asked moment price busy unpaid slot cleared = refl
+
+context-state : (s : SiteState) (till moment : ℕ) (q : Question) → get_or (context s till moment q) 12 0 ≡ of_point s q (λ p. state_number p.state) % 256
+unfolding context
+context-state s till moment q = packed-state till q.point (kind_number q.kind) (of_point s q (λ p. state_number p.state)) (of_point s q (λ p. p.nozzle)) (product_of s q) q.asked moment (price_of s (product_of s q)) (busy_points s) (of_point s q (λ p. length p.unpaid)) q.slot s.cleared
+
+context-busy : (s : SiteState) (till moment : ℕ) (q : Question) → four (context s till moment q) 44 ≡ le4 (busy_points s)
+unfolding context
+context-busy s till moment q = packed-busy till q.point (kind_number q.kind) (of_point s q (λ p. state_number p.state)) (of_point s q (λ p. p.nozzle)) (product_of s q) q.asked moment (price_of s (product_of s q)) (busy_points s) (of_point s q (λ p. length p.unpaid)) q.slot s.cleared
+
+context-unpaid : (s : SiteState) (till moment : ℕ) (q : Question) → four (context s till moment q) 48 ≡ le4 (of_point s q (λ p. length p.unpaid))
+unfolding context
+context-unpaid s till moment q = packed-unpaid till q.point (kind_number q.kind) (of_point s q (λ p. state_number p.state)) (of_point s q (λ p. p.nozzle)) (product_of s q) q.asked moment (price_of s (product_of s q)) (busy_points s) (of_point s q (λ p. length p.unpaid)) q.slot s.cleared
+
+-- ---- the question's point
+
+ready-byte : ℕ → Bool
+ready-byte x = x == 3 || x == 4
+
+by-byte : (a : State) → is_ready a ≡ ready-byte (state_number a % 256)
+unfolding ready-byte
+by-byte state.Inoperative = refl
+by-byte state.Closed = refl
+by-byte state.Idle = refl
+by-byte state.Calling = refl
+by-byte state.Authorised = refl
+by-byte state.Started = refl
+by-byte state.SuspendedStarted = refl
+by-byte state.Fuelling = refl
+by-byte state.SuspendedFuelling = refl
+
+of-point : (s : SiteState) (q : Question) (n : ℕ) (p : PointState) (field : PointState → ℕ) → q.point ≡ n → at_number s.points n ≡ Some p → of_point s q field ≡ field p
+of-point s q n p field is at = ap (λ m. told (at_number s.points m) field) is ∙ ap (λ o. told o field) at
+
+-- both points are ready, or none
+pub same-ready : (s t : SiteState) (till moment n m : ℕ) (q r : Question) (p o : PointState) → q.point ≡ n → at_number s.points n ≡ Some p → r.point ≡ m → at_number t.points m ≡ Some o → context s till moment q ≡ context t till moment r → is_ready p.state ≡ is_ready o.state
+same-ready s t till moment n m q r p o at here there_at there same =
+    let mine : get_or (context s till moment q) 12 0 ≡ state_number p.state % 256 = context-state s till moment q ∙ ap (λ x. x % 256) (of-point s q n p (λ x. state_number x.state) at here) in
+    let theirs : get_or (context t till moment r) 12 0 ≡ state_number o.state % 256 = context-state t till moment r ∙ ap (λ x. x % 256) (of-point t r m o (λ x. state_number x.state) there_at there) in
+    by-byte p.state ∙ ap ready-byte (sym mine ∙ ap (λ bytes. get_or bytes 12 0) same ∙ theirs) ∙ sym (by-byte o.state)
+
+-- both have as many transactions
+pub same-unpaid : (s t : SiteState) (till moment n m : ℕ) (q r : Question) (p o : PointState) → q.point ≡ n → at_number s.points n ≡ Some p → r.point ≡ m → at_number t.points m ≡ Some o → of_point s q (λ x. length x.unpaid) < 4294967296 → length o.unpaid < 2 → context s till moment q ≡ context t till moment r → length p.unpaid ≡ length o.unpaid
+same-unpaid s t till moment n m q r p o at here there_at there fits few same =
+    let mine : of_point s q (λ x. length x.unpaid) ≡ length p.unpaid = of-point s q n p (λ x. length x.unpaid) at here in
+    let theirs : of_point t r (λ x. length x.unpaid) ≡ length o.unpaid = of-point t r m o (λ x. length x.unpaid) there_at there in
+    let bytes : le4 (of_point s q (λ x. length x.unpaid)) ≡ le4 (of_point t r (λ x. length x.unpaid)) = sym (context-unpaid s till moment q) ∙ ap (λ l. four l 48) same ∙ context-unpaid t till moment r in
+    sym mine ∙ le4-same (of_point s q (λ x. length x.unpaid)) (of_point t r (λ x. length x.unpaid)) fits (omega (arith, theirs)) bytes ∙ theirs
+
+-- ---- busy points
+
+abbrev busy : PointState → Bool
+busy p = is_busy p.state
+
+abbrev count : List PointState → ℕ
+count [] = 0
+count (x ∷ xs) = cond (busy x) (1 + count xs) (count xs)
+
+counted : (xs : List PointState) → count xs ≡ count_by busy xs
+counted xs = is_count_by count busy refl (λ y ys. refl) xs
+
+none-step : (b : Bool) (x : PointState) (rest : Option PointState) (n : ℕ) → (rest ≡ None → n ≡ 0) → cond b (Some x) rest ≡ None → cond b (1 + n) n ≡ 0
+none-step true x rest n more h = absurd (cc)
+none-step false x rest n more h = more h
+
+none-found : (xs : List PointState) → find busy xs ≡ None → count xs ≡ 0
+none-found [] h = refl
+none-found (x ∷ xs) h = none-step (busy x) x (find busy xs) (count xs) (none-found xs) h
+
+zero-step : (b : Bool) (x : PointState) (rest : Option PointState) (n : ℕ) → (n ≡ 0 → rest ≡ None) → cond b (1 + n) n ≡ 0 → cond b (Some x) rest ≡ None
+zero-step true x rest n more h = absurd (omega (arith, h))
+zero-step false x rest n more h = more h
+
+none-counted : (xs : List PointState) → count xs ≡ 0 → find busy xs ≡ None
+none-counted [] h = refl
+none-counted (x ∷ xs) h = zero-step (busy x) x (find busy xs) (count xs) (none-counted xs) h
+
+no-state : (o : Option PointState) → option_map (λ (p : PointState). p.state) o ≡ None → o ≡ None
+no-state None h = refl
+no-state (Some p) h = absurd (cc)
+
+none-busy : (s : SiteState) → first_busy s ≡ None → busy_points s ≡ 0
+unfolding first_busy busy_points
+none-busy s h = sym (counted s.points) ∙ none-found s.points (no-state (find busy s.points) h)
+
+first-none : (s : SiteState) → busy_points s ≡ 0 → first_busy s ≡ None
+unfolding first_busy busy_points
+first-none s h = ap (option_map (λ (p : PointState). p.state)) (none-counted s.points (counted s.points ∙ h))
+
+-- no point is busy in either
+pub same-busy : (s t : SiteState) (till moment : ℕ) (q r : Question) → busy_points s < 4294967296 → first_busy t ≡ None → context s till moment q ≡ context t till moment r → first_busy s ≡ None
+same-busy s t till moment q r fits none same =
+    let zero_there : busy_points t ≡ 0 = none-busy t none in
+    let bytes : le4 (busy_points s) ≡ le4 (busy_points t) = sym (context-busy s till moment q) ∙ ap (λ l. four l 44) same ∙ context-busy t till moment r in
+    first-none s (le4-same (busy_points s) (busy_points t) fits (omega (arith, zero_there)) bytes ∙ zero_there)
+
+-- ---- views
+
+there : List PointView → ℕ
+there [] = 0
+there (p ∷ ps) = cond (p.state == 0) (there ps) (suc (there ps))
+
+is-there : (a : State) → (state_number a == 0) ≡ false
+is-there state.Inoperative = refl
+is-there state.Closed = refl
+is-there state.Idle = refl
+is-there state.Calling = refl
+is-there state.Authorised = refl
+is-there state.Started = refl
+is-there state.SuspendedStarted = refl
+is-there state.Fuelling = refl
+is-there state.SuspendedFuelling = refl
+
+there-none : (n : ℕ) → there (replicate n no_point) ≡ 0
+unfolding there
+there-none zero = refl
+there-none (suc n) = there-none n
+
+there-seen : (xs : List PointState) (n : ℕ) → there (map seen xs ++ replicate n no_point) ≡ length xs
+unfolding there
+there-seen [] n = there-none n
+there-seen (x ∷ xs) n = rw (is-there x.state, there-seen xs n) refl
+
+view-there : (s : SiteState) → there (view_of s).points ≡ (view_of s).count
+unfolding view_of
+view-there s = there-seen s.points (32 - length s.points)
+
+-- views of the same points and prices have as many points
+pub same-view : (s t : SiteState) (now view : View) → now ≡ view_of s → view ≡ view_of t → now.points ≡ view.points → now.prices ≡ view.prices → now ≡ view
+same-view s t now view mine theirs points prices =
+    let many : now.count ≡ view.count =
+    ap (λ (v : View). v.count) mine ∙ sym (view-there s) ∙ ap (λ (v : View). there v.points) (sym mine) ∙ ap there points ∙ ap (λ (v : View). there v.points) theirs ∙ view-there t ∙ ap (λ (v : View). v.count) (sym theirs) in
+    λ i. record { count = many i; points = points i; prices = prices i }

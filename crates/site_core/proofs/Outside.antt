@@ -1,0 +1,159 @@
+-- What a run made outside the site says of the site's own step.
+use Rattle.std.proofs.Common.{◌≡◌, ℕ, List, ◌∷◌, Bool, true, false, Option, Some, None, Ok, Err, refl, ap, ◌∙◌, sym, subst}
+use Rattle.std.specs.Prelude.{◌⊎◌, reverse, ◌==◌, if◌then◌else◌, IsSome}
+use Rattle.std.proofs.Common.{inl, inr}
+use Rattle.std.specs.Result.{result_ok}
+use Rattle.fuelling_point.specs.Table.{PointState, Answer, command_step}
+use Rattle.fuelling_point.specs.declared.kinds.Command.{Command}
+use Rattle.fuelling_point.specs.declared.kinds.Command.TheVariants as command
+use Rattle.decision_journal.specs.declared.entries.Entry.{Entry}
+use Rattle.decision_journal.specs.declared.entries.Run.{Run}
+use Rattle.till_request.specs.declared.act.Request.{Request}
+use Rattle.till_request.specs.declared.act.Request.TheVariants as request
+use Rattle.till_request.specs.declared.act.Act.TheVariants as act
+use Rattle.bpf_model.specs.Machine.{Counters, counter}
+use Rattle.bpf_model.specs.Runs.{Ended}
+use Rattle.bpf_model.specs.Program.{outcome}
+use Rattle.till_request.specs.declared.act.Reply.{Reply}
+use Rattle.program_slots.specs.Value.{SlotsValue}
+use Rattle.program_slots.specs.Slots.{Version}
+use Rattle.site_core.specs.declared.question.Question.{Question}
+use Rattle.site_core.specs.Limits.{ConfigValue}
+use Rattle.site_core.specs.State.{SiteState, at_number, view_of}
+use Rattle.site_core.specs.Context.{context}
+use Rattle.site_core.specs.History.{loaded, in_force, versions}
+use Rattle.site_core.specs.Decide.{Effect, replied, no_such_till, is_till, decided, verdict, ran, grant, release_question, preset_question, price_question}
+use Rattle.site_core.specs.Step.{effect, asked, commanded, command_effect}
+use Rattle.site_core.specs.Keeping.{Agrees, Performs}
+use Rattle.site_core.specs.Draft.{DraftValue, basis_of, routed}
+use Rattle.site_core.specs.Asked.{asked_question, question_of, StillAsked, IsDraft, Drafts, basis_in}
+use Rattle.site_core.specs.Outside.{run_now, Begun, basis}
+use Rattle.site_core.proofs.Points.{commanded-none, commanded-some}
+use Rattle.site_core.proofs.Decisions.{decided-refused, decided-none, decided-some, decided-ended}
+use Rattle.site_core.proofs.Grants.{verdict-deny, verdict-grant}
+use Rattle.site_core.proofs.Lawful.{Asked}
+use Rattle.site_core.proofs.Asking.{ok-is, none-some, asked-routed}
+
+-- ---- the step of a request that asks a program
+
+asked-request : (config : ConfigValue) (past : List Entry) (s : SiteState) (till moment : ℕ) (r : Request) (q : Question) → question_of config s r ≡ Some q → asked config past s till moment r ≡ decided past s till moment (Ok q)
+asked-request config past s till moment (request.Release n a) q h = ap (decided past s till moment) (ok-is (release_question config s n a) q h)
+asked-request config past s till moment (request.Preset n a) q h = ap (decided past s till moment) (ok-is (preset_question config s n a) q h)
+asked-request config past s till moment (request.Price n a) q h = ap (decided past s till moment) (ok-is (price_question config s n a) q h)
+asked-request config past s till moment _ q h = absurd (none-some q h)
+
+asked-till : (config : ConfigValue) (past : List Entry) (s : SiteState) (till moment : ℕ) (r : Request) (q : Question) (b : Bool) → (if b then question_of config s r else None) ≡ Some q → (if b then asked config past s till moment r else replied no_such_till s) ≡ decided past s till moment (Ok q)
+asked-till config past s till moment r q true h = asked-request config past s till moment r q h
+asked-till config past s till moment r q false h = absurd (none-some q h)
+
+pub effect-decided : (config : ConfigValue) (past : List Entry) (s : SiteState) (till moment : ℕ) (r : Request) (q : Question) → asked_question config s till r ≡ Some q → effect config past s moment (act.Till till r) ≡ decided past s till moment (Ok q)
+effect-decided config past s till moment r q h = asked-till config past s till moment r q (is_till config till) h
+
+-- a till's entry loads nothing
+pub agrees-till : (slots : SlotsValue) (past : List Entry) (entry : Entry) (till : ℕ) (r : Request) → Agrees slots past → entry.act ≡ act.Till till r → Agrees slots (entry ∷ past)
+agrees-till slots past entry till r a is =
+    let none : loaded entry.act entry.reply ≡ None = ap (λ x. loaded x entry.reply) is in
+    record {
+      in_force = λ slot. rw (none, in_force) (a.in_force slot);
+      versions = rw (none, versions) a.versions;
+    }
+
+-- a settled run is the step's
+pub performs-settled : (config : ConfigValue) (past : List Entry) (s new : SiteState) (slots : SlotsValue) (draft : DraftValue) (q : Question) (r0 : ℕ) (after : Counters) (reply : Reply) (run : Run) → StillAsked config s slots draft q → Agrees slots past → outcome draft.version.program draft.context draft.view s.counters ≡ Ended r0 after → verdict s draft.till draft.moment q draft.version r0 after ≡ record { reply = reply; run = Some run; after = new } → Performs config past s draft.moment (act.Till draft.till draft.request) (record { moment = draft.moment; act = act.Till draft.till draft.request; reply = reply; run = Some run }) new slots
+performs-settled config past s new slots draft q r0 after reply run still agrees ran settled =
+    let ended : outcome draft.version.program (context s draft.till draft.moment q) (view_of s) s.counters ≡ Ended r0 after =
+    (λ i. outcome draft.version.program (still.context_is i) (still.view_is i) s.counters) ∙ ran in
+    record {
+      act_is = refl;
+      moment_is = refl;
+      effect_is =
+          effect-decided config past s draft.till draft.moment draft.request q still.asked
+          ∙ decided-ended past s draft.till draft.moment q draft.version r0 after (agrees.in_force q.slot ∙ still.version_is) ended
+          ∙ settled;
+      agrees = λ entry is replied_is. agrees-till slots past entry draft.till draft.request agrees is;
+      good = tt;
+    }
+
+-- ---- whether it runs one
+
+answer-run : (s : SiteState) (n : ℕ) (a : Answer (Option ℕ)) → (command_effect s n a).run ≡ None
+answer-run s n (Ok (p, cleared)) = refl
+answer-run s n (Err fault) = refl
+
+point-run : (s : SiteState) (till n : ℕ) (c : Command) (o : Option PointState) → at_number s.points n ≡ o → (commanded s till n c).run ≡ None
+point-run s till n c None at = ap (λ (e : Effect). e.run) (commanded-none s till n c at)
+point-run s till n c (Some p) at = ap (λ (e : Effect). e.run) (commanded-some s till n c p at) ∙ answer-run s n (command_step p till c)
+
+commanded-run : (s : SiteState) (till n : ℕ) (c : Command) → (commanded s till n c).run ≡ None
+commanded-run s till n c = point-run s till n c (at_number s.points n) refl
+
+refused-run : (past : List Entry) (s : SiteState) (till moment : ℕ) (x : Asked) → result_ok x ≡ None → (decided past s till moment x).run ≡ None
+refused-run past s till moment (Ok q) h = absurd (none-some q (sym h))
+refused-run past s till moment (Err r) h = ap (λ (e : Effect). e.run) (decided-refused past s till moment r)
+
+request-run : (config : ConfigValue) (past : List Entry) (s : SiteState) (till moment : ℕ) (r : Request) → question_of config s r ≡ None → (asked config past s till moment r).run ≡ None
+request-run config past s till moment (request.Release n a) h = refused-run past s till moment (release_question config s n a) h
+request-run config past s till moment (request.Preset n a) h = refused-run past s till moment (preset_question config s n a) h
+request-run config past s till moment (request.Price n a) h = refused-run past s till moment (price_question config s n a) h
+request-run config past s till moment (request.OpenPoint n) h = commanded-run s till n command.OpenPoint
+request-run config past s till moment (request.ClosePoint n) h = commanded-run s till n command.ClosePoint
+request-run config past s till moment (request.Suspend n) h = commanded-run s till n command.Suspend
+request-run config past s till moment (request.Resume n) h = commanded-run s till n command.Resume
+request-run config past s till moment (request.Stop n) h = commanded-run s till n command.Stop
+request-run config past s till moment (request.Lock n x) h = commanded-run s till n (command.Lock x)
+request-run config past s till moment (request.Unlock n x) h = commanded-run s till n (command.Unlock x)
+request-run config past s till moment (request.Clear n x) h = commanded-run s till n (command.Clear x)
+request-run config past s till moment (request.Show n) h = refl
+
+till-run : (config : ConfigValue) (past : List Entry) (s : SiteState) (till moment : ℕ) (r : Request) (b : Bool) → (if b then question_of config s r else None) ≡ None → (if b then asked config past s till moment r else replied no_such_till s).run ≡ None
+till-run config past s till moment r true h = request-run config past s till moment r h
+till-run config past s till moment r false h = refl
+
+-- no program is run where none is asked, or where none is installed
+pub runs-none : (config : ConfigValue) (past : List Entry) (s : SiteState) (till moment : ℕ) (r : Request) → (asked_question config s till r ≡ None) ⊎ ((q : Question) × (asked_question config s till r ≡ Some q) × (in_force q.slot past ≡ None)) → (effect config past s moment (act.Till till r)).run ≡ None
+runs-none config past s till moment r (inl h) = till-run config past s till moment r (is_till config till) h
+runs-none config past s till moment r (inr h) =
+    ap (λ (e : Effect). e.run) (effect-decided config past s till moment r h.0 h.1 ∙ decided-none past s till moment h.0 h.2)
+
+verdict-run : (s : SiteState) (till moment : ℕ) (q : Question) (v : Version) (r : ℕ) (c : Counters) (b : Bool) → (r == 0) ≡ b → IsSome (verdict s till moment q v r c).run
+verdict-run s till moment q v r c true zero = subst (λ (e : Effect). IsSome e.run) (sym (verdict-deny s till moment r q v c zero)) refl
+verdict-run s till moment q v r c false some =
+    let g = grant (record s { counters = c }) till q r in
+    subst (λ (e : Effect). IsSome e.run) (sym (verdict-grant s till moment r g.0 q v c g.1 some refl)) refl
+
+-- else the version in force is run
+pub runs-some : (config : ConfigValue) (past : List Entry) (s : SiteState) (till moment : ℕ) (r : Request) (q : Question) (v : Version) → asked_question config s till r ≡ Some q → in_force q.slot past ≡ Some v → IsSome (effect config past s moment (act.Till till r)).run
+runs-some config past s till moment r q v h some =
+    let x : ℕ × Counters = ran (outcome v.program (context s till moment q) (view_of s) s.counters) s.counters in
+    subst (λ (e : Effect). IsSome e.run) (sym (effect-decided config past s till moment r q h ∙ decided-some past s till moment q v some)) (verdict-run s till moment q v x.0 x.1 (x.0 == 0) refl)
+
+-- ---- a draft
+
+pub begins-none : (config : ConfigValue) (history : List Entry) (s : SiteState) (slots : SlotsValue) (till moment : ℕ) (r : Request) → Agrees slots (reverse history) → Drafts config s slots till moment r None → run_now (record { config = config; history = history; state = s }) till moment r ≡ None
+begins-none config history s slots till moment r agrees (inl h) = runs-none config (reverse history) s till moment r (inl h)
+begins-none config history s slots till moment r agrees (inr h) = runs-none config (reverse history) s till moment r (inr (h.0, h.1, agrees.in_force h.0.slot ∙ h.2))
+
+pub begun : (config : ConfigValue) (history : List Entry) (s : SiteState) (slots : SlotsValue) (till moment : ℕ) (r : Request) (draft : DraftValue) → Agrees slots (reverse history) → IsDraft config s slots till moment r draft → Begun (record { config = config; history = history; state = s }) till moment r draft
+begun config history s slots till moment r draft agrees d =
+    let q = d.question in
+    let some : in_force q.slot (reverse history) ≡ Some draft.version = agrees.in_force q.slot ∙ d.version_is in
+    let again : asked_question config s draft.till draft.request ≡ Some q = (λ i. asked_question config s (d.till_is i) (d.request_is i)) ∙ d.asked in
+    let routed_is : routed config s draft.till draft.request ≡ Some q = asked-routed config s draft.till draft.request q again in
+    record {
+      till_is = d.till_is;
+      moment_is = d.moment_is;
+      request_is = d.request_is;
+      runs = runs-some config (reverse history) s till moment r q draft.version d.asked some;
+      fresh = rw routed_is (record {
+        version = some;
+        context = (λ i. context s (d.till_is i) (d.moment_is i) q) ∙ sym d.context_is;
+        view = sym d.view_is;
+        counters = λ k bit. ap (λ c. counter c k) d.counters_are;
+      });
+      counters_are = d.counters_are;
+    }
+
+-- the slots show what the history shows
+pub basis-is : (config : ConfigValue) (history : List Entry) (s : SiteState) (slots : SlotsValue) (draft : DraftValue) → Agrees slots (reverse history) → basis_in config s slots draft ≡ basis (record { config = config; history = history; state = s }) draft
+basis-is config history s slots draft agrees =
+    λ i. basis_of (λ slot. sym (agrees.in_force slot) i) s draft.till draft.moment (routed config s draft.till draft.request)

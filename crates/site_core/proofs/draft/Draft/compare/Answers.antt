@@ -1,0 +1,43 @@
+use Rattle.std.proofs.Common.{Some, ◌∙◌, sym}
+use Rattle.std.specs.Arc.{arc_value}
+use Rattle.interp.specs.Depends.{Agrees}
+use Rattle.site_core.specs.Draft.{DraftValue}
+use Rattle.site_core.specs.Differences.{CounterDiffers}
+use Rattle.site_core.proofs.StillAsked.{SameBasis, differs-counter, still-asked}
+use Rattle.site_core.proofs.draft.Draft.compare.Goals as goal
+
+pub returns-in-Some-first_counter : goal.returns-in-Some-first_counter
+returns-in-Some-first_counter c =
+    let s = c.args.station.now in
+    let q = c.in-Some.question in
+    let d = c.self.inside in
+    let draft : DraftValue = record { till = d.till; moment = d.moment; request = d.request; version = record { number = d.version; program = arc_value d.program }; context = d.context; view = d.view; counters = d.counters } in
+    let same : SameBasis c.args.config.now s c.args.slots.now draft q = record {
+      routed_is = sym c.routed.ensures ∙ c.in-Some.is;
+      version = c.in_default-is_version.ensures ∙ (λ i. Some (record { number = d.version; program = c.deref.ensures i }));
+      context_is = sym c.context-context.ensures.context ∙ c.in_default-first_byte.ensures;
+      points = (λ i. (sym c.view-view.ensures i).points) ∙ c.in_default-first_point.ensures;
+      prices = (λ i. (sym c.view-view.ensures i).prices) ∙ c.in_default-first_price.ensures;
+      was = c.self.invariant;
+    } in
+    let differs : CounterDiffers (arc_value d.program).declared s.counters d.counters c.in-Some-first_counter.c =
+    rw (← c.deref-2.ensures, ← c.declared.ensures, ← c.counters-counters.ensures) c.in-Some-first_counter.ensures in
+    rw (← c.self.view_is) (differs-counter c.args.config.now s c.args.slots.now draft q c.in-Some-first_counter.c c.get.result same differs (rw (← c.counters-counters.ensures) c.get.ensures.value))
+
+pub returns : goal.returns
+returns c =
+    let s = c.args.station.now in
+    let q = c.in-Some.question in
+    let d = c.self.inside in
+    let draft : DraftValue = record { till = d.till; moment = d.moment; request = d.request; version = record { number = d.version; program = arc_value d.program }; context = d.context; view = d.view; counters = d.counters } in
+    let same : SameBasis c.args.config.now s c.args.slots.now draft q = record {
+      routed_is = sym c.routed.ensures ∙ c.in-Some.is;
+      version = c.in_default-is_version.ensures ∙ (λ i. Some (record { number = d.version; program = c.deref.ensures i }));
+      context_is = sym c.context-context.ensures.context ∙ c.in_default-first_byte.ensures;
+      points = (λ i. (sym c.view-view.ensures i).points) ∙ c.in_default-first_point.ensures;
+      prices = (λ i. (sym c.view-view.ensures i).prices) ∙ c.in_default-first_price.ensures;
+      was = c.self.invariant;
+    } in
+    let agree : Agrees (arc_value d.program).declared d.counters s.counters =
+    rw (← c.deref-2.ensures, ← c.declared.ensures, ← c.counters-counters.ensures) c.in_default-first_counter.ensures in
+    rw (← c.self.view_is) (still-asked c.args.config.now s c.args.slots.now draft q same c.context-context.ensures.fits agree)

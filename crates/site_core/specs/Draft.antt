@@ -1,0 +1,64 @@
+-- Definitions: a decision that is run outside the site.
+use Rattle.std.specs.Prelude.{◌≡◌, ℕ, if◌then◌else◌, List, [], Option, Some, None}
+use Rattle.till_request.specs.declared.act.Request.{Request}
+use Rattle.till_request.specs.declared.act.Request.TheVariants as request
+use Rattle.bpf_model.specs.declared.machine.View.{View}
+use Rattle.bpf_model.specs.Machine.{Counters}
+use Rattle.bpf_model.specs.Runs.{Ended}
+use Rattle.bpf_model.specs.Program.{outcome}
+use Rattle.program_slots.specs.Slots.{Version}
+use Rattle.site_core.specs.declared.question.Kind.TheVariants.{Release, Preset, Price}
+use Rattle.site_core.specs.declared.question.Question.{Question}
+use Rattle.site_core.specs.Limits.{ConfigValue}
+use Rattle.site_core.specs.State.{SiteState, at_number, view_of}
+use Rattle.site_core.specs.Context.{context}
+use Rattle.site_core.specs.Decide.{is_till, slots_of}
+
+-- What a run is made from: who asks what at which moment, and the version, context, view and counters that it is made on.
+pub record DraftValue : Type 0 where
+  pub till : ℕ
+  pub moment : ℕ
+  pub request : Request
+  pub version : Version
+  pub context : List ℕ
+  pub view : View
+  pub counters : Counters
+
+-- A draft that was run: what its program answered, and the counters after.
+pub record ReadyValue : Type 0 where
+  pub draft : DraftValue
+  pub r0 : ℕ
+  pub after : Counters
+
+-- the draft's own program, context, view and counters give this answer and these counters
+abbrev pub Ran : DraftValue → ℕ → Counters → Type 0
+Ran draft r0 after = outcome draft.version.program draft.context draft.view draft.counters ≡ Ended r0 after
+
+-- a question at a point, where there is one
+unfoldable pub at_point : SiteState → ℕ → Question → Option Question
+at_point s n q = elim (at_number s.points n) [ None ↦ None | Some _ ↦ Some q ]
+
+-- the question that a request puts to a program, whatever refuses it in this state; none where there is no such point, and for all that no program decides
+abbrev pub routed_request : ConfigValue → SiteState → Request → Option Question
+routed_request config s (request.Release n amount) =
+    at_point s n (record { kind = Release; point = n; product = 0; asked = amount; slot = (slots_of config n).0 })
+routed_request config s (request.Preset n amount) =
+    at_point s n (record { kind = Preset; point = n; product = 0; asked = amount; slot = (slots_of config n).1 })
+routed_request config s (request.Price product price) =
+    Some (record { kind = Price; point = 0; product = product; asked = price; slot = config.price_slot })
+routed_request config s _ = None
+
+-- the same of a till, which has to be there
+abbrev pub routed : ConfigValue → SiteState → ℕ → Request → Option Question
+routed config s till request = if is_till config till then routed_request config s request else None
+
+-- What a run would be made on now. There is no version where the till or the point isn't there.
+pub record Basis : Type 0 where
+  pub version : Option Version
+  pub context : List ℕ
+  pub view : View
+  pub counters : Counters
+
+abbrev pub basis_of : (ℕ → Option Version) → SiteState → ℕ → ℕ → Option Question → Basis
+basis_of installed s till moment None = record { version = None; context = []; view = view_of s; counters = s.counters }
+basis_of installed s till moment (Some q) = record { version = installed q.slot; context = context s till moment q; view = view_of s; counters = s.counters }

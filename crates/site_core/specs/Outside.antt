@@ -1,0 +1,47 @@
+-- Promises: what `begin` and `commit` say.
+--
+-- For a caller. `run_now` is the run that the site's step would make for a till's request as the site stands. `begin` answers Direct exactly
+-- where there is none or the history is full; else a draft, which `Begun` ties to the site. `commit` is Done exactly where `IsFresh`: nothing
+-- that the draft's run depends on differs; it is then one step of the site at the draft's moment. Else it is Stale, with the first difference,
+-- and nothing has changed.
+use Rattle.std.specs.Prelude.{◌≡◌, ℕ, ◌<◌, ◌⊎◌, IsSome, length, reverse, Option, None}
+use Rattle.decision_journal.specs.declared.entries.Run.{Run}
+use Rattle.till_request.specs.declared.act.Request.{Request}
+use Rattle.till_request.specs.declared.act.Act.TheVariants as act
+use Rattle.site_core.specs.declared.draft.Begin.{Begin}
+use Rattle.site_core.specs.declared.draft.Begin.TheVariants as begin
+use Rattle.site_core.specs.declared.draft.Commit.{Commit}
+use Rattle.site_core.specs.declared.draft.Commit.TheVariants as commit
+use Rattle.site_core.specs.History.{in_force}
+use Rattle.site_core.specs.Step.{effect}
+use Rattle.site_core.specs.Draft.{DraftValue, ReadyValue, Basis, basis_of, routed}
+use Rattle.site_core.specs.Differences.{IsFresh, Differs}
+use Rattle.site_core.specs.Site.{SiteValue, Enters}
+
+-- what the draft's run would be made on now
+abbrev pub basis : SiteValue → DraftValue → Basis
+basis site draft =
+    basis_of (λ slot. in_force slot (reverse site.history)) site.state draft.till draft.moment (routed site.config site.state draft.till draft.request)
+
+-- the run that the step would make for a till's request now, if any
+abbrev pub run_now : SiteValue → ℕ → ℕ → Request → Option Run
+run_now site till moment request = (effect site.config (reverse site.history) site.state moment (act.Till till request)).run
+
+-- The draft of a request for which the step would run a program now: it keeps the request, and all that this run would be made on.
+pub record Begun (site : SiteValue) (till moment : ℕ) (request : Request) (draft : DraftValue) : Type 0 where
+  pub till_is : draft.till ≡ till
+  pub moment_is : draft.moment ≡ moment
+  pub request_is : draft.request ≡ request
+  pub runs : IsSome (run_now site till moment request)
+  pub fresh : IsFresh (basis site draft) draft
+  pub counters_are : draft.counters ≡ site.state.counters
+
+abbrev pub Begins : SiteValue → ℕ → ℕ → Request → Begin → Type 0
+Begins site till moment request begin.Direct = (length site.history ≡ 1048576) ⊎ (run_now site till moment request ≡ None)
+Begins site till moment request (begin.Run draft) = (length site.history < 1048576) × Begun site till moment request draft
+
+abbrev pub Commits : SiteValue → ℕ → ReadyValue → Commit → SiteValue → Type 0
+Commits old pass ready (commit.Done answered) new =
+    IsFresh (basis old ready.draft) ready.draft
+    × Enters old pass ready.draft.moment (act.Till ready.draft.till ready.draft.request) answered.number answered.reply new
+Commits old pass ready (commit.Stale why) new = (new ≡ old) × Differs (basis old ready.draft) ready.draft why

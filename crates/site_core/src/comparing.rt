@@ -1,0 +1,117 @@
+//! The first places at which what a run is made on differs.
+
+ghost use Rattle.std.specs.Prelude.{◌≡◌, ◌≢◌, ◌↔◌, ◌<◌, IsTrue, MatchOption, MatchResult, Some, None, option_map};
+ghost use Rattle.std.specs.Arc.{arc_value};
+ghost use Rattle.interp.specs.Depends.{Agrees};
+ghost use Rattle.program_slots.specs.Slots.{Version, version_in};
+ghost use Rattle.bpf_model.specs.Machine.{counter};
+ghost use Rattle.site_core.specs.Decide.{is_declared};
+ghost use Rattle.site_core.specs.Draft.{Basis, DraftValue};
+ghost use Rattle.site_core.specs.Differences.{FirstDiffers, CounterDiffers, IsFresh, Differs};
+ghost use Rattle.site_core.specs.declared.why.Why.{Why};
+
+use crate::events::is_same_bytes;
+use counters::Counters;
+use helpers::PointView;
+use program_slots::Slots;
+use reg_types::Program;
+use std::sync::Arc;
+
+/// The version in a slot: its number and its program.
+pub fn look_up(slots: &Slots, slot: u32) -> Option<(u32, &Arc<Program>)>
+    ensures { MatchOption result (version_in slots.now slot ≡ None) (λ v. version_in slots.now slot ≡ Some (record { number = v.0; program = arc_value v.1.now })) }
+{
+    let number = slots.installed(slot)?;
+    let program = slots.version(number)?;
+    Some((number, program))
+}
+
+pub fn first_byte(a: &[u8; 64], b: &[u8; 64]) -> Option<u32>
+    ensures { MatchOption result (a.now ≡ b.now) (FirstDiffers a.now b.now) }
+{
+    for i in 0..64 {
+        if a[i] != b[i] {
+            return Some(i as u32);
+        }
+    }
+    None
+}
+
+pub fn first_point(a: &[PointView; 32], b: &[PointView; 32]) -> Option<u32>
+    ensures { MatchOption result (a.now ≡ b.now) (FirstDiffers a.now b.now) }
+{
+    for i in 0..32 {
+        if a[i] != b[i] {
+            return Some(i as u32);
+        }
+    }
+    None
+}
+
+pub fn first_price(a: &[u32; 8], b: &[u32; 8]) -> Option<u32>
+    ensures { MatchOption result (a.now ≡ b.now) (FirstDiffers a.now b.now) }
+{
+    for i in 0..8 {
+        if a[i] != b[i] {
+            return Some(i as u32);
+        }
+    }
+    None
+}
+
+/// Whether the counter isn't declared, or is the same in value and bound.
+fn is_same_counter(declared: u32, a: &Counters, b: &Counters, c: u32) -> bool
+    requires { c < 32 }
+    ensures { IsTrue result ↔ (IsTrue (is_declared declared c) → counter a.now c ≡ counter b.now c) }
+{
+    if declared / 2u32.pow(c) % 2 != 1 {
+        return true;
+    }
+    a.get(c) == b.get(c) && a.bound(c) == b.bound(c)
+}
+
+pub fn first_counter(declared: u32, a: &Counters, b: &Counters) -> Option<u32>
+    ensures { MatchOption result (Agrees declared b.now a.now) (CounterDiffers declared a.now b.now) }
+{
+    let _counters = (a.get(0), b.get(0));
+    for c in 0..32 {
+        if !is_same_counter(declared, a, b, c) {
+            return Some(c);
+        }
+    }
+    None
+}
+
+fn is_same_program(a: &Program, b: &Program) -> bool
+    ensures { IsTrue result ↔ (a.now ≡ b.now) }
+{
+    a.declared() == b.declared() && is_same_bytes(a.bytes(), b.bytes())
+}
+
+/// Whether this is the version in the slot; the error is the number that is in it now.
+pub fn is_version(
+    slots: &Slots,
+    slot: u32,
+    number: u32,
+    program: &Program,
+) -> Result<(), Option<u32>>
+    ensures { let version : Version = record { number = number; program = program.now } in
+        MatchResult result (λ _. version_in slots.now slot ≡ Some version)
+        (λ now. (version_in slots.now slot ≢ Some version) × (now ≡ option_map (λ (v : Version). v.number) (version_in slots.now slot))) }
+{
+    match look_up(slots, slot) {
+        None => Err(None),
+        Some((installed, held)) => {
+            if installed == number && is_same_program(held, program) {
+                Ok(())
+            } else {
+                Err(Some(installed))
+            }
+        }
+    }
+}
+
+/// Where nothing differs, no first difference is told: a commit is done exactly where it isn't stale.
+pub fn fresh_differs_nowhere()
+    ensures { (now : Basis) (draft : DraftValue) (why : Why) → IsFresh now draft → Differs now draft why → ⊥ }
+{}

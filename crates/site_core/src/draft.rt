@@ -1,0 +1,218 @@
+//! A decision whose program is run outside the site.
+
+ghost use Rattle.std.specs.Prelude.{◌≡◌, IfOk, length};
+
+use crate::comparing::{first_byte, first_counter, first_point, first_price, is_version, look_up};
+use crate::config::Config;
+use crate::events::Answered;
+use crate::perform::{Performed, asked_question, routed};
+use crate::question::Question;
+use crate::station::Station;
+use crate::why::Why;
+use counters::Counters;
+use helpers::View;
+use interp::{rebase, run};
+use program_slots::Slots;
+use reg_types::Program;
+use std::alloc::AllocError;
+use std::marker::Model;
+use std::sync::Arc;
+use till_request::{Act, Request};
+
+/// What a run needs of a site, as it stood when the decision began. It keeps that nothing refused the request there.
+#[derive(Drop)]
+pub struct Draft {
+    till: u32,
+    moment: u64,
+    request: Request,
+    version: u32,
+    program: Arc<Program>,
+    context: [u8; 64],
+    view: View,
+    counters: Counters,
+}
+
+impl Model for Draft {
+    ghost use Rattle.std.specs.Arc.{arc_value};
+    ghost use Rattle.site_core.specs.Draft.{DraftValue};
+    ghost use Rattle.site_core.specs.Asked.{WasAsked};
+
+    ghost Value = { DraftValue };
+
+    ghost view = { λ d. record { till = d.till; moment = d.moment; request = d.request; version = record { number = d.version; program = arc_value d.program }; context = d.context; view = d.view; counters = d.counters } };
+
+    ghost invariant = { λ d. WasAsked (record { till = d.till; moment = d.moment; request = d.request; version = record { number = d.version; program = arc_value d.program }; context = d.context; view = d.view; counters = d.counters }) };
+}
+
+impl Draft {
+    ghost use Rattle.site_core.specs.Asked.{Drafts, Compares};
+
+    /// The draft of a request as the site stands, or none where no program would be run. The error is want of memory.
+    pub(crate) fn of(
+        config: &Config,
+        station: &Station,
+        slots: &Slots,
+        till: u32,
+        moment: u64,
+        request: &Request,
+    ) -> Result<Option<Draft>, AllocError>
+        requires { length station.now.points ≡ length config.now.points }
+        ensures { IfOk result (Drafts config.now station.now slots.now till moment request.now) }
+    {
+        let Some(question) = asked_question(config, station, till, request) else {
+            return Ok(None);
+        };
+        let Some((version, program)) = look_up(slots, question.slot) else {
+            return Ok(None);
+        };
+        let program = Arc::try_clone(program)?;
+        Ok(Some(Draft {
+            till,
+            moment,
+            request: *request,
+            version,
+            program,
+            context: station.context(till, moment, &question),
+            view: station.view(),
+            counters: station.counters(),
+        }))
+    }
+
+    /// Runs the program. It takes no memory.
+    pub fn run(self) -> Ready
+        ensures { result.draft ≡ self }
+    {
+        let mut after = self.counters;
+        let r0 = run(&self.program, &self.context, &self.view, &mut after);
+        Ready {
+            draft: self,
+            r0,
+            after,
+        }
+    }
+
+    /// The question, where a run would be made on the same version, context, view and declared counters now; else the first difference.
+    fn compare(&self, config: &Config, station: &Station, slots: &Slots) -> Result<Question, Why>
+        requires { length station.now.points ≡ length config.now.points }
+        ensures { Compares config.now station.now slots.now self.now result }
+    {
+        let Some(question) = routed(config, station, self.till, &self.request) else {
+            return Err(Why::Version(None));
+        };
+        if let Err(now) = is_version(slots, question.slot, self.version, &self.program) {
+            return Err(Why::Version(now));
+        }
+        let context = station.context(self.till, self.moment, &question);
+        if let Some(at) = first_byte(&context, &self.context) {
+            return Err(Why::Context(at));
+        }
+        let view = station.view();
+        if let Some(place) = first_point(&view.points, &self.view.points) {
+            return Err(Why::PointDiffers(place + 1));
+        }
+        if let Some(place) = first_price(&view.prices, &self.view.prices) {
+            return Err(Why::PriceDiffers(place + 1));
+        }
+        let counters = station.counters();
+        if let Some(c) = first_counter(self.program.declared(), &counters, &self.counters) {
+            return Err(Why::Counter(c, counters.get(c)));
+        }
+        Ok(question)
+    }
+}
+
+/// A draft that was run. It keeps that its answer and the counters after are the program's, on the draft's own context, view and counters.
+#[derive(Drop)]
+pub struct Ready {
+    draft: Draft,
+    r0: u64,
+    after: Counters,
+}
+
+impl Model for Ready {
+    ghost use Rattle.site_core.specs.Draft.{ReadyValue, Ran};
+
+    ghost Value = { ReadyValue };
+
+    ghost view = { λ r. record { draft = r.draft; r0 = r.r0; after = r.after } };
+
+    ghost invariant = { λ r. Ran r.draft r.r0 r.after };
+}
+
+impl Ready {
+    ghost use Rattle.std.specs.Prelude.{MatchResult, OnErr, ◌≡◌, ℕ, ◌+◌, List};
+    ghost use Rattle.decision_journal.specs.declared.entries.Entry.{Entry};
+    ghost use Rattle.till_request.specs.declared.act.Act.TheVariants as act;
+    ghost use Rattle.site_core.specs.Bounds.{Bounded};
+    ghost use Rattle.site_core.specs.Keeping.{Agrees, Performs};
+    ghost use Rattle.site_core.specs.Differences.{IsFresh, Differs};
+    ghost use Rattle.site_core.specs.Asked.{basis_in};
+
+    /// Does what the program answered, where nothing that its run depends on differs now; else the first difference, and nothing changes.
+    /// Counters that the program doesn't declare stay as they are now, and a release is bounded by the preset of now.
+    pub(crate) fn settle(
+        self,
+        config: &Config,
+        station: &mut Station,
+        slots: &Slots,
+    ) -> Result<Performed, Why>
+        requires points { length station.old.points ≡ length config.now.points }
+        requires bounded { Bounded 1048575 station.old }
+        ensures performed { MatchResult result
+            (λ p. IsFresh (basis_in config.now station.old slots.now self.draft) self.draft
+            × ((past : List Entry) → Agrees slots.now past →
+            Performs config.now past station.old self.draft.moment (act.Till self.draft.till self.draft.request) p station.new slots.now))
+            (Differs (basis_in config.now station.old slots.now self.draft) self.draft) }
+        ensures unchanged { OnErr result (station.new ≡ station.old) }
+        ensures bounded { (k : ℕ) → Bounded k station.old → Bounded (k + 1) station.new }
+        ensures points { length station.new.points ≡ length station.old.points }
+    {
+        let draft = self.draft;
+        let question = match draft.compare(config, station, slots) {
+            Ok(question) => question,
+            Err(why) => return Err(why),
+        };
+        let mut counters = station.counters();
+        rebase(
+            &draft.program,
+            &draft.context,
+            &draft.view,
+            &draft.counters,
+            self.r0,
+            &self.after,
+            &mut counters,
+        );
+        let (reply, run) = station.settle(
+            draft.till,
+            &question,
+            draft.context,
+            draft.version,
+            &draft.program,
+            self.r0,
+            counters,
+        );
+        Ok(Performed {
+            moment: draft.moment,
+            act: Act::Till {
+                till: draft.till,
+                request: draft.request,
+            },
+            reply,
+            run: Some(run),
+        })
+    }
+}
+
+/// How a decision begins: where no program would be run it is made under the lock.
+#[derive(Drop)]
+pub enum Begin {
+    Direct,
+    Run(Draft),
+}
+
+/// What became of a decision that was run outside. A stale one has changed nothing.
+#[derive(Clone, Copy, Debug, PartialEq, Eq, Drop)]
+pub enum Commit {
+    Done(Answered),
+    Stale(Why),
+}

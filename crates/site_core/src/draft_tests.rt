@@ -1,0 +1,214 @@
+//! Decisions that are run outside the site, and what happens in between.
+
+use crate::tests::{ASKED, Does, FIVE_THOUSAND, OPEN, load, play, start};
+use crate::{Begin, Commit, Config, Ready, Site, Why};
+use fuelling_point::DispenserEvent;
+use std::alloc::{AllocError, Global};
+use std::process::Abort;
+use std::test::Fail;
+use till_request::{Reply, Request};
+
+/// Adds one to counter 0, where its bound allows; R0 is 1, or else 0.
+const COUNTED: [u8; 24] = [
+    0xb7, 1, 0, 0, 0, 0, 0, 0, 0xb7, 2, 0, 0, 1, 0, 0, 0, 0x85, 0, 0, 0, 2, 0, 0, 0,
+];
+
+const RELEASE: Request = Request::Release(1, 8000);
+
+/// The run that a draft gives, or none where there is no draft.
+fn ran(begin: Begin) -> Option<Ready> {
+    match begin {
+        Begin::Direct => None,
+        Begin::Run(draft) => Some(draft.run()),
+    }
+}
+
+fn decide(site: &Site, till: u32, request: Request) -> Result<Ready, Fail> {
+    let begin = site.begin(till, 0, &request)?;
+    Ok(ran(begin).ok_or("no program would be run")?)
+}
+
+/// Commits by pass 2: the entry's reply, or why it is stale.
+fn commit(rt: &impl Abort, site: &mut Site, ready: Ready, want: Result<(u32, Reply), Why>) {
+    let got = match site.commit(2, ready) {
+        Ok(Commit::Done(answered)) => Some(Ok((answered.number, answered.reply))),
+        Ok(Commit::Stale(why)) => Some(Err(why)),
+        Err(_) => None,
+    };
+    assert!(rt; got == Some(want));
+}
+
+/// What is shown of an idle point without amounts.
+fn idle() -> Reply {
+    Reply::Point {
+        state: 3,
+        nozzle: 0,
+        amount: 0,
+        volume: 0,
+        limit: 0,
+        preset: 0,
+        unpaid: 0,
+    }
+}
+
+fn open(point: u32) -> (Does, Reply) {
+    (Does::Till(1, Request::OpenPoint(point)), Reply::Done)
+}
+
+/// A site whose slot 0 grants what is asked, with point 1 open.
+fn opened(rt: &impl Abort, alloc: Global) -> Result<Site, Fail> {
+    let mut site = start(alloc)?;
+    load(rt, alloc, &mut site, 0, 0, &ASKED, Reply::Version(1))?;
+    play(rt, &mut site, 0, &[OPEN]);
+    Ok(site)
+}
+
+#[test]
+fn a_version_that_was_replaced_meanwhile_decides_nothing(rt: HostRuntime) -> Result<(), Fail> {
+    let alloc = rt.alloc();
+    let mut site = start(alloc)?;
+    load(
+        &rt,
+        alloc,
+        &mut site,
+        0,
+        0,
+        &FIVE_THOUSAND,
+        Reply::Version(1),
+    )?;
+    play(&rt, &mut site, 0, &[OPEN]);
+    let ready = decide(&site, 1, RELEASE)?;
+    load(&rt, alloc, &mut site, 0, 0, &ASKED, Reply::Version(2))?;
+    let now = Why::Version(Some(2));
+    commit(&rt, &mut site, ready, Err(now));
+    assert_eq!(rt; site.history().len(), 3);
+    let ready = decide(&site, 1, RELEASE)?;
+    commit(&rt, &mut site, ready, Ok((4, Reply::Granted(8000, 2))));
+    Ok(())
+}
+
+#[test]
+fn a_run_on_another_context_is_stale(rt: HostRuntime) -> Result<(), Fail> {
+    let mut site = opened(&rt, rt.alloc())?;
+    let ready = decide(&site, 1, RELEASE)?;
+    let lifted = Does::Disp(1, DispenserEvent::Up(1));
+    play(&rt, &mut site, 0, &[(lifted, Reply::Done)]);
+    commit(&rt, &mut site, ready, Err(Why::Context(12)));
+    assert_eq!(rt; site.history().len(), 3);
+    Ok(())
+}
+
+#[test]
+fn a_run_on_another_view_is_stale(rt: HostRuntime) -> Result<(), Fail> {
+    let mut site = opened(&rt, rt.alloc())?;
+    let ready = decide(&site, 1, RELEASE)?;
+    let other = Does::Till(2, Request::OpenPoint(2));
+    play(&rt, &mut site, 0, &[(other, Reply::Done)]);
+    commit(&rt, &mut site, ready, Err(Why::PointDiffers(2)));
+    assert_eq!(rt; site.history().len(), 3);
+    Ok(())
+}
+
+#[test]
+fn a_run_on_other_prices_is_stale(rt: HostRuntime) -> Result<(), Fail> {
+    let alloc = rt.alloc();
+    let mut site = opened(&rt, alloc)?;
+    load(&rt, alloc, &mut site, 2, 0, &ASKED, Reply::Version(2))?;
+    let ready = decide(&site, 1, RELEASE)?;
+    let priced = Reply::Granted(1899, 2);
+    play(
+        &rt,
+        &mut site,
+        0,
+        &[(Does::Till(2, Request::Price(2, 1899)), priced)],
+    );
+    commit(&rt, &mut site, ready, Err(Why::PriceDiffers(2)));
+    Ok(())
+}
+
+#[test]
+fn what_a_run_does_not_depend_on_may_change(rt: HostRuntime) -> Result<(), Fail> {
+    let alloc = rt.alloc();
+    let mut site = opened(&rt, alloc)?;
+    let ready = decide(&site, 1, RELEASE)?;
+    let shown = Does::Till(2, Request::Show(1));
+    play(&rt, &mut site, 0, &[(shown, idle())]);
+    commit(&rt, &mut site, ready, Ok((4, Reply::Granted(8000, 1))));
+    Ok(())
+}
+
+#[test]
+fn a_run_on_another_declared_counter_is_stale(rt: HostRuntime) -> Result<(), Fail> {
+    let alloc = rt.alloc();
+    let mut site = start(alloc)?;
+    load(&rt, alloc, &mut site, 1, 1, &COUNTED, Reply::Version(1))?;
+    play(&rt, &mut site, 0, &[OPEN, open(2)]);
+    let ready = decide(&site, 1, Request::Preset(1, 100))?;
+    let counted = Reply::Granted(1, 1);
+    play(
+        &rt,
+        &mut site,
+        0,
+        &[(Does::Till(2, Request::Preset(2, 100)), counted)],
+    );
+    commit(&rt, &mut site, ready, Err(Why::Counter(0, 1)));
+    let ready = decide(&site, 1, Request::Preset(1, 100))?;
+    commit(&rt, &mut site, ready, Ok((5, counted)));
+    assert_eq!(rt; site.counter(0), Some((2, 2)));
+    Ok(())
+}
+
+#[test]
+fn the_preset_of_now_bounds_a_release(rt: HostRuntime) -> Result<(), Fail> {
+    let alloc = rt.alloc();
+    let mut site = start(alloc)?;
+    load(&rt, alloc, &mut site, 0, 0, &ASKED, Reply::Version(1))?;
+    load(&rt, alloc, &mut site, 1, 0, &ASKED, Reply::Version(2))?;
+    play(&rt, &mut site, 0, &[OPEN]);
+    let ready = decide(&site, 1, RELEASE)?;
+    let preset = Does::Till(2, Request::Preset(1, 3000));
+    play(&rt, &mut site, 0, &[(preset, Reply::Granted(3000, 2))]);
+    commit(&rt, &mut site, ready, Ok((5, Reply::Granted(3000, 1))));
+    Ok(())
+}
+
+/// One till and one point, otherwise as the others.
+fn small(alloc: Global) -> Result<Option<Config>, AllocError> {
+    let points = vec![in alloc; (0, 1)]?;
+    let prices = [1799, 1849, 0, 0, 0, 0, 0, 0];
+    Ok(Config::new(1, 2, prices, points, [(0, 0); 32]))
+}
+
+#[test]
+fn a_site_without_the_till_or_the_point_has_no_version(rt: HostRuntime) -> Result<(), Fail> {
+    let alloc = rt.alloc();
+    let mut site = opened(&rt, alloc)?;
+    play(&rt, &mut site, 0, &[open(2)]);
+    let mut other = Site::start(alloc, small(alloc)?.ok_or("no configuration")?)?;
+    load(&rt, alloc, &mut other, 0, 0, &ASKED, Reply::Version(1))?;
+    play(&rt, &mut other, 0, &[OPEN]);
+    let nowhere = Why::Version(None);
+    let ready = decide(&site, 2, RELEASE)?;
+    commit(&rt, &mut other, ready, Err(nowhere));
+    let ready = decide(&site, 1, Request::Release(2, 8000))?;
+    commit(&rt, &mut other, ready, Err(nowhere));
+    let ready = decide(&site, 1, RELEASE)?;
+    commit(&rt, &mut other, ready, Err(Why::PointDiffers(2)));
+    Ok(())
+}
+
+fn is_direct(site: &Site, till: u32, request: Request) -> Result<bool, Fail> {
+    let begin = site.begin(till, 0, &request)?;
+    Ok(ran(begin).is_none())
+}
+
+#[test]
+fn where_no_program_would_be_run_there_is_no_draft(rt: HostRuntime) -> Result<(), Fail> {
+    let site = opened(&rt, rt.alloc())?;
+    assert!(rt; is_direct(&site, 1, Request::Show(1))?);
+    assert!(rt; is_direct(&site, 3, RELEASE)?);
+    assert!(rt; is_direct(&site, 1, Request::Release(1, 0))?);
+    assert!(rt; is_direct(&site, 1, Request::Release(2, 8000))?);
+    assert!(rt; is_direct(&site, 1, Request::Preset(1, 100))?);
+    Ok(())
+}
