@@ -2,7 +2,7 @@
 # Lines per second and the time that an answer takes, of a site served over loopback: a preset, which runs a program, and
 # a `show`, on 1 and on 8 connections, each of which sends a line and waits for its answer. Takes under a minute.
 #
-#     bench/serve.sh [LINES]      LINES of each connection, 20000 where it isn't said
+#     bench/serve.sh [LINES [--journal]]      LINES of each connection, 20000 where it isn't said; --journal: kept in a file
 set -eu
 here=$(CDPATH='' cd -- "$(dirname -- "$0")" && pwd -P)
 fc=$here/../crates/fc/out/fc
@@ -10,6 +10,7 @@ fc=$here/../crates/fc/out/fc
 work=$(mktemp -d)
 trap 'kill "$served" 2>/dev/null || true; rm -rf "$work"' EXIT
 served=
+kept=${2:-}
 cc -O2 -pthread -o "$work/driver" "$here/serve.c"
 
 # Starts a site on ports that are free, with so many workers for tills; each serves one connection.
@@ -31,7 +32,9 @@ dispenser_workers = 1
 connections = 1
 END
         : >"$work/said"
-        "$fc" serve "$work/site.toml" </dev/null >"$work/journal" 2>"$work/said" &
+        rm -f "$work/day.journal"
+        # shellcheck disable=SC2086 # no word where no journal is kept
+        "$fc" serve ${kept:+--journal "$work/day.journal"} "$work/site.toml" </dev/null >"$work/journal" 2>"$work/said" &
         served=$!
         for _ in 1 2 3 4 5 6 7 8 9 10 11 12 13 14 15 16 17 18 19 20; do
             grep -q serving "$work/said" && return

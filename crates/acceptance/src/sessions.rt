@@ -1,5 +1,5 @@
 //! Sessions of tills, dispensers and the owner at desks over one site.
-ghost use Rattle.std.specs.Prelude.{◌≡◌};
+ghost use Rattle.std.specs.Prelude.{◌≡◌, [], None};
 
 use crate::sites::STATION;
 use console::read_config;
@@ -38,6 +38,7 @@ fn sat<L: Yard, R: Wait>(
     requires name { blank.name ≡ L.name }
     requires parts { blank.parts ≡ L.parts }
     requires config { config ≡ L.config }
+    requires new { (L.base ≡ []) × (L.taken ≡ None) }
     requires one { blank.parts ≡ 1 }
 {
     let (yard, mut passes) = Forecourt::<L>::start(alloc, config, 1, blank)?;

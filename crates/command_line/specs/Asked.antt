@@ -23,6 +23,10 @@ mask_rule =
       required = true;
     }
 
+-- --journal FILE
+abbrev pub journal_rule : Rule
+journal_rule = record (new_rule (codes "journal")) { long = Some (codes "journal"); value_names = 1 }
+
 abbrev pub of_file : Text → Text → App
 of_file name file = with_rule (new_app name) (file_rule file)
 
@@ -45,12 +49,12 @@ abbrev pub audit_app : App
 audit_app = of_files (codes "audit") (codes "config") (codes "journal")
 
 abbrev pub serve_app : App
-serve_app = of_file (codes "serve") (codes "config")
+serve_app = with_rule (of_file (codes "serve") (codes "config")) journal_rule
 
 abbrev pub top_app : App
 top_app = record (new_app (codes "fc")) { top = record (new_app (codes "fc")).top { has_version = true } }
 
--- asm FILE, dis FILE, verify --counters MASK FILE, play CONFIG SCRIPT, audit CONFIG JOURNAL, serve CONFIG
+-- asm FILE, dis FILE, verify --counters MASK FILE, play CONFIG SCRIPT, audit CONFIG JOURNAL, serve [--journal FILE] CONFIG
 abbrev pub fc_app : App
 fc_app =
     with_subcommand (with_subcommand (with_subcommand (with_subcommand (with_subcommand (with_subcommand top_app
@@ -65,7 +69,7 @@ pub data Asked : Type 0 where
   verify : ℕ → Text → Asked
   play : Text → Text → Asked
   audit : Text → Text → Asked
-  serve : Text → Asked
+  serve : Option Text → Text → Asked
 
 abbrev pub file_in : Text → (Text → Asked) → List Row → Option Asked
 file_in id ask rows = option_map ask (first_of id rows)
@@ -81,6 +85,10 @@ mask_in rows = option_map (λ (t : Text). digits_value 10 (without_leading_plus 
 abbrev pub verify_in : List Row → Option Asked
 verify_in rows = option_and_then (λ (n : ℕ). option_map (verify n) (first_of (codes "file") rows)) (mask_in rows)
 
+-- a file to serve, and the file of its journal where one is named
+abbrev pub serve_in : List Row → Option Asked
+serve_in rows = option_map (serve (first_of (codes "journal") rows)) (first_of (codes "config") rows)
+
 -- what a subcommand's name and values ask for
 abbrev pub asked_by : Text → List Row → Option Asked
 asked_by name rows =
@@ -89,7 +97,7 @@ asked_by name rows =
     else if bytes_eq name (codes "verify") then verify_in rows
     else if bytes_eq name (codes "play") then files_in (codes "config") (codes "script") play rows
     else if bytes_eq name (codes "audit") then files_in (codes "config") (codes "journal") audit rows
-    else if bytes_eq name (codes "serve") then file_in (codes "config") serve rows
+    else if bytes_eq name (codes "serve") then serve_in rows
     else None
 
 abbrev pub asked_of : Option (Text × List Row) → Option Asked
@@ -104,5 +112,5 @@ asked (job.Dis file) = Some (dis (string_bytes file))
 asked (job.Verify counters file) = Some (verify counters (string_bytes file))
 asked (job.Play config script) = Some (play (string_bytes config) (string_bytes script))
 asked (job.Audit config journal) = Some (audit (string_bytes config) (string_bytes journal))
-asked (job.Serve config) = Some (serve (string_bytes config))
+asked (job.Serve config journal) = Some (serve (option_map string_bytes journal) (string_bytes config))
 asked (job.Show text) = None

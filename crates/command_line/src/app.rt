@@ -2,7 +2,7 @@
 ghost use Rattle.std.specs.Prelude.{◌≡◌, false, IfOk, codes};
 ghost use Rattle.clap.specs.Words.{app_of, with_rule, new_app, rule_of};
 ghost use Rattle.clap.specs.declared.builder.command.Command.TheViews.{out-Command};
-ghost use Rattle.command_line.specs.Asked.{file_rule, mask_rule, of_file, asm_app, dis_app, verify_app, play_app, audit_app, serve_app, fc_app};
+ghost use Rattle.command_line.specs.Asked.{file_rule, journal_rule, mask_rule, of_file, asm_app, dis_app, verify_app, play_app, audit_app, serve_app, fc_app};
 
 use clap::{Arg, Command, value_parser};
 use std::alloc::{AllocError, Global};
@@ -26,6 +26,17 @@ fn mask_arg<'a>(alloc: Global) -> Arg<'a>
         .help("the declared counters: bit c of this number for counter c")
         .required(true)
         .value_parser(value_parser!(u32))
+}
+
+/// The file in which a served site keeps its journal.
+fn journal_arg<'a>(alloc: Global) -> Arg<'a>
+    ensures rule { rule_of result ≡ journal_rule }
+    ensures local { result.global ≡ false }
+{
+    Arg::new(alloc, "journal")
+        .long("journal")
+        .value_name("FILE")
+        .help("keep the journal in this file as it happens, and go on from what it holds")
 }
 
 /// A subcommand that wants a file.
@@ -144,14 +155,16 @@ fn serve<'a>(alloc: Global) -> Result<Command<'a>, AllocError>
     ensures app { IfOk result (λ c. app_of c ≡ serve_app) }
     ensures local { IfOk result (λ c. (out-Command c).has_globals ≡ false) }
 {
-    with_file(
+    let some = with_file(
         alloc,
         "serve",
         "Serves a site on 127.0.0.1, then prints its journal",
-        "Example: fc serve site.toml > day.journal",
+        "Examples: fc serve site.toml > day.journal, fc serve --journal day.journal site.toml",
         "config",
         CONFIG,
-    )
+    )?;
+    let command = some.arg(journal_arg(alloc))?;
+    Ok(command)
 }
 
 const ABOUT: &str =

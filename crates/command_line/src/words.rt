@@ -1,5 +1,5 @@
 //! Reading the words of a command line.
-ghost use Rattle.std.specs.Prelude.{◌≡◌, ◌≢◌, IsSome, Some, None, false, IfOk, OnOk, map, codes, string_bytes};
+ghost use Rattle.std.specs.Prelude.{◌≡◌, ◌≢◌, IsSome, Some, None, false, IfOk, OnOk, map, codes, option_map, string_bytes};
 ghost use Rattle.std.specs.Bool.{OnTrue};
 ghost use Rattle.clap.specs.Words.{first_of, rows_of, found_of, subcommand_of, subcommand_rows_of, takes};
 ghost use Rattle.clap.specs.Values.{kind_of};
@@ -18,6 +18,19 @@ fn file_of(alloc: Global, matches: &ArgMatches, id: &str) -> Result<String, Comm
     match matches.get_str(id) {
         Some(text) => Ok(String::from_str(alloc, text)?),
         None => Err(CommandFault::Usage(String::new(alloc))),
+    }
+}
+
+/// The text of a file's name, where it is there.
+fn named_file(alloc: Global, matches: &ArgMatches, id: &str) -> Result<Option<String>, CommandFault>
+    ensures { IfOk result (λ s. first_of id.now (rows_of (found_of matches.now)) ≡ option_map string_bytes s) }
+{
+    match matches.get_str(id) {
+        Some(text) => {
+            let name = String::from_str(alloc, text)?;
+            Ok(Some(name))
+        }
+        None => Ok(None),
     }
 }
 
@@ -58,6 +71,15 @@ fn verify_of(alloc: Global, matches: &ArgMatches) -> Result<Job, CommandFault>
     Ok(Job::Verify { counters, file })
 }
 
+fn serve_of(alloc: Global, matches: &ArgMatches) -> Result<Job, CommandFault>
+    ensures asked { IfOk result (λ job. asked_by (codes "serve") (rows_of (found_of matches.now)) ≡ asked job) }
+    ensures some { IfOk result (λ job. IsSome (asked job)) }
+{
+    let config = file_of(alloc, matches, "config")?;
+    let journal = named_file(alloc, matches, "journal")?;
+    Ok(Job::Serve { config, journal })
+}
+
 /// The job of a subcommand.
 fn named_job(alloc: Global, name: &str, matches: &ArgMatches) -> Result<Job, CommandFault>
     ensures asked { IfOk result (λ job. asked_by name.now (rows_of (found_of matches.now)) ≡ asked job) }
@@ -74,7 +96,7 @@ fn named_job(alloc: Global, name: &str, matches: &ArgMatches) -> Result<Job, Com
     } else if name == "audit" {
         audit_of(alloc, matches)
     } else if name == "serve" {
-        Ok(Job::Serve(file_of(alloc, matches, "config")?))
+        serve_of(alloc, matches)
     } else {
         Err(CommandFault::Usage(String::new(alloc)))
     }

@@ -39,7 +39,7 @@ pub fn do_job<H: Net<Listener = TcpListener, Stream = TcpStream> + Threads + Wai
         Job::Verify { counters, file } => tell_of(rt, &file, Tell::Verify(counters)),
         Job::Play { config, script } => play_files(rt, &config, &script),
         Job::Audit { config, journal } => audit_files(rt, &config, &journal),
-        Job::Serve(config) => serve_file(rt, host, &config),
+        Job::Serve { config, journal } => serve_file(rt, host, &config, journal),
     };
     match done {
         Ok(status) => status,
@@ -51,7 +51,7 @@ pub fn do_job<H: Net<Listener = TcpListener, Stream = TcpStream> + Threads + Wai
 }
 
 /// Prints a text, and answers the status.
-fn say(rt: &HostRuntime, text: String, status: u8) -> io::Result<u8> {
+pub fn say(rt: &HostRuntime, text: String, status: u8) -> io::Result<u8> {
     print!(rt; "{text}")?;
     Ok(status)
 }
@@ -60,9 +60,10 @@ fn serve_file<H: Net<Listener = TcpListener, Stream = TcpStream> + Threads + Wai
     rt: &HostRuntime,
     host: &H,
     config: &str,
+    journal: Option<String>,
 ) -> io::Result<u8> {
     match settings_of(rt, config)? {
-        Ok(settings) => serve_settings(rt, host, settings),
+        Ok(settings) => serve_settings(rt, host, settings, journal),
         Err(status) => Ok(status),
     }
 }
@@ -95,7 +96,7 @@ pub fn refuse(rt: &HostRuntime, fault: &str) -> io::Result<u8> {
     Ok(REFUSED)
 }
 
-fn cannot_read(rt: &HostRuntime, path: &str, error: io::Error) -> io::Result<u8> {
+pub fn cannot_read(rt: &HostRuntime, path: &str, error: io::Error) -> io::Result<u8> {
     eprintln!(rt; "fc: {path}: {error}")?;
     Ok(FAILED)
 }
@@ -239,7 +240,7 @@ fn audit_files(rt: &HostRuntime, config: &str, journal: &str) -> io::Result<u8> 
     }
 }
 
-fn tell_journal_fault(rt: &HostRuntime, journal: &str, fault: JournalFault) -> io::Result<u8> {
+pub fn tell_journal_fault(rt: &HostRuntime, journal: &str, fault: JournalFault) -> io::Result<u8> {
     match journal_fault_line(rt.alloc(), fault)? {
         Some(told) => say(rt, told.text, told.status),
         None => {

@@ -3,6 +3,7 @@
 
 mod files;
 mod jobs;
+mod kept;
 mod progress;
 mod serve;
 

@@ -6,6 +6,11 @@ use crate::speaker::{SpeakFault, Speaker};
 use std::alloc::Global;
 use till_request::{Answer, LineFault, LineOut, Role, WriteFault, parse_line, write_answer};
 
+// Whether an answer has no line and ends the session.
+fn ends_unsaid(answer: &Answer) -> bool {
+    matches!(answer, Answer::Line(LineFault::OutOfMemory))
+}
+
 /// Answers the lines of a role by a desk, at the moments of a clock.
 #[derive(Clone, Copy, Debug, Drop)]
 pub struct AtDesk {
@@ -28,7 +33,12 @@ impl<C: Clock, D: Desk> Speaker<C, D> for AtDesk {
         let answer = match parse_line(alloc, self.role, line) {
             Ok(act) => {
                 let moment = first.now();
-                second.answer(act, moment)
+                let answer = second.answer(act, moment);
+                // Want of memory at a line has no answer, whoever tells it.
+                if ends_unsaid(&answer) {
+                    return Err(SpeakFault::OutOfMemory);
+                }
+                answer
             }
             Err(LineFault::OutOfMemory) => return Err(SpeakFault::OutOfMemory),
             Err(fault) => Answer::Line(fault),

@@ -3,3 +3,4 @@ pub mod Loops
 pub mod Ends
 pub mod Fitting
 pub mod Saying
+pub mod Standing

@@ -1,5 +1,5 @@
 -- Definitions: what an answered call gives its pass, which replies fit an event, and when a call is refused.
-use Rattle.std.specs.Prelude.{◌≡◌, ℕ, ◌+◌, List, [], ◌∷◌, ◌++◌, length}
+use Rattle.std.specs.Prelude.{◌≡◌, ℕ, ◌+◌, List, [], ◌∷◌, ◌++◌, length, Result, Ok, Err}
 use Rattle.decision_journal.specs.declared.entries.Entry.{Entry}
 use Rattle.till_request.specs.declared.act.Act.{Act}
 use Rattle.till_request.specs.declared.act.Reply.{Reply}
@@ -10,6 +10,8 @@ use Rattle.site_core.specs.Limits.{ConfigValue}
 use Rattle.site_core.specs.State.{SiteState}
 use Rattle.site_core.specs.Legal.{LegalHistory}
 use Rattle.site_core.specs.Site.{SiteValue, Upholds, act_of}
+use Rattle.site_lock.specs.declared.enter_fault.EnterFault.{EnterFault}
+use Rattle.site_lock.specs.declared.enter_fault.EnterFault.TheVariants.{Call, Journal}
 use Rattle.site_lock.specs.declared.pass.Receipt.{Receipt}
 use Rattle.site_lock.specs.Passes.{PassView}
 
@@ -46,3 +48,14 @@ pub record IsFull (config : ConfigValue) : Type 0 where
 abbrev pub Excuses : ConfigValue → CallFault → Type 0
 Excuses config JournalFull = IsFull config
 Excuses config OutOfMemory = Unit {0}
+
+-- the same where a journal is kept, which may fail
+abbrev pub Halts : ConfigValue → Type 0 → EnterFault → Type 0
+Halts config may_fail (Call fault) = Excuses config fault
+Halts config may_fail Journal = may_fail
+
+-- a call's answer where no journal can fail
+abbrev pub unjournalled_of : Result Answered EnterFault → Result Answered CallFault
+unjournalled_of (Ok a) = Ok a
+unjournalled_of (Err (Call fault)) = Err fault
+unjournalled_of (Err Journal) = Err OutOfMemory

@@ -7,8 +7,10 @@ use Rattle.till_request.specs.declared.act.Reply.{Reply}
 use Rattle.till_request.specs.declared.act.Answer.{Answer}
 use Rattle.till_request.specs.declared.act.Answer.TheVariants.{Entered, JournalFull, OutOfMemory, Line, Program}
 use Rattle.site_core.specs.declared.events.Answered.{Answered}
-use Rattle.site_core.specs.declared.events.CallFault.{CallFault}
 use Rattle.site_core.specs.declared.events.CallFault.TheVariants as fault
+use Rattle.till_request.specs.declared.act.LineFault.TheVariants as line
+use Rattle.site_lock.specs.declared.enter_fault.EnterFault.{EnterFault}
+use Rattle.site_lock.specs.declared.enter_fault.EnterFault.TheVariants as enter
 use Rattle.site_core.specs.Limits.{ConfigValue}
 use Rattle.site_core.specs.Step.{entered_moment}
 use Rattle.site_core.specs.Audit.{IsGoodAct, IsRefusedAct}
@@ -30,16 +32,21 @@ pub record DeskRefuses (before now : PassView) (act : Act) (number : ℕ) (unit 
   pub shown : shown_by refusal ≡ Some (number, unit, part)
   pub same : now ≡ before
 
--- after any answer without a number the pass is as before
-abbrev pub DeskAnswers : ConfigValue → PassView → PassView → Act → ℕ → Answer → Type 0
-DeskAnswers config before now act moment (Entered number reply) = DeskEnters config before now act moment number reply
-DeskAnswers config before now act moment JournalFull = (now ≡ before) × IsFull config
-DeskAnswers config before now act moment OutOfMemory = now ≡ before
-DeskAnswers config before now act moment (Line fault) = ⊥
-DeskAnswers config before now act moment (Program number unit part) = DeskRefuses before now act number unit part
+-- after any answer without a number the pass is as before; where a journal may fail, what ends a session without a line stands for that
+abbrev pub DeskAnswers : ConfigValue → Type 0 → PassView → PassView → Act → ℕ → Answer → Type 0
+DeskAnswers config may_fail before now act moment (Entered number reply) = DeskEnters config before now act moment number reply
+DeskAnswers config may_fail before now act moment JournalFull = (now ≡ before) × IsFull config
+DeskAnswers config may_fail before now act moment OutOfMemory = now ≡ before
+DeskAnswers config may_fail before now act moment (Line line.OutOfMemory) = (now ≡ before) × may_fail
+DeskAnswers config may_fail before now act moment (Line line.TooLong) = ⊥
+DeskAnswers config may_fail before now act moment (Line line.BadLine) = ⊥
+DeskAnswers config may_fail before now act moment (Line line.BadNumber) = ⊥
+DeskAnswers config may_fail before now act moment (Line line.CutLine) = ⊥
+DeskAnswers config may_fail before now act moment (Program number unit part) = DeskRefuses before now act number unit part
 
 -- a call's answer as a desk says it
-abbrev pub said_of : Result Answered CallFault → Answer
+abbrev pub said_of : Result Answered EnterFault → Answer
 said_of (Ok a) = Entered a.number a.reply
-said_of (Err fault.JournalFull) = JournalFull
-said_of (Err fault.OutOfMemory) = OutOfMemory
+said_of (Err (enter.Call fault.JournalFull)) = JournalFull
+said_of (Err (enter.Call fault.OutOfMemory)) = OutOfMemory
+said_of (Err enter.Journal) = Line line.OutOfMemory

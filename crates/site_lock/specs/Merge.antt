@@ -1,5 +1,5 @@
 -- Definitions: a history as the merge of what the passes were answered.
-use Rattle.std.specs.Prelude.{◌≡◌, ℕ, ◌+◌, ◌-◌, ◌==◌, ◌<◌, ◌≤◌, ◌⊎◌, List, [], ◌∷◌, length, IsSomeAnd, count_by, All, Any, slice_get}
+use Rattle.std.specs.Prelude.{◌≡◌, ℕ, ◌+◌, ◌-◌, ◌==◌, ◌<◌, ◌≤◌, ◌⊎◌, List, [], ◌∷◌, length, IsSomeAnd, count_by, All, Any, slice_get, drop}
 use Rattle.decision_journal.specs.declared.entries.Entry.{Entry}
 use Rattle.site_core.specs.Site.{act_of}
 use Rattle.site_lock.specs.declared.pass.Receipt.{Receipt}
@@ -46,6 +46,16 @@ abbrev pub IsFault : List Entry → List PassView → ℕ → ℕ → Type 0
 IsFault history passes id n =
     Any (λ p. (p.id ≡ id) × FailsFrom history p.id 0 p.receipts n) passes
     ⊎ Any (λ e. (e.pass ≡ id) × (e.number ≡ n) × ¬ Covered passes e) history
+
+-- The same of a history that went on from its first `base` entries: the receipts' numbers are above them, and each entry behind them stands in the receipts of its pass.
+abbrev pub IsMergeSince : ℕ → List Entry → List PassView → Type 0
+IsMergeSince base history passes = All (λ p. StandsFrom history p.id base p.receipts) passes × All (Covered passes) (drop base history)
+
+-- the same of a fault
+abbrev pub IsFaultSince : ℕ → List Entry → List PassView → ℕ → ℕ → Type 0
+IsFaultSince base history passes id n =
+    Any (λ p. (p.id ≡ id) × FailsFrom history p.id base p.receipts n) passes
+    ⊎ Any (λ e. (e.pass ≡ id) × (e.number ≡ n) × ¬ Covered passes e) (drop base history)
 
 -- the passes are 1 to n, each once
 abbrev pub AreAll : ℕ → List PassView → Type 0

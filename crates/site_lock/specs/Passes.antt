@@ -1,5 +1,6 @@
 -- Definitions: a pass and a forecourt, as contracts see them.
-use Rattle.std.specs.Prelude.{◌≡◌, ℕ, ◌+◌, ◌<◌, List, [], length, Some, slice_get}
+use Rattle.std.specs.Prelude.{◌≡◌, ℕ, ◌+◌, ◌<◌, List, [], length, Option, Some, slice_get}
+use Rattle.decision_journal.specs.declared.entries.Entry.{Entry}
 use Rattle.site_core.specs.Limits.{ConfigValue}
 use Rattle.site_lock.specs.declared.pass.Receipt.{Receipt}
 
@@ -9,10 +10,12 @@ pub record PassView : Type 0 where
   pub amount : ℕ
   pub receipts : List Receipt
 
--- A forecourt's configuration and the number of its passes.
+-- A forecourt's configuration, the number of its passes, the history that it goes on from, and what its journal had taken then.
 pub record Opened : Type 0 where
   pub config : ConfigValue
   pub passes : ℕ
+  pub base : List Entry
+  pub taken : Option (List ℕ)
 
 -- a pass without receipts
 abbrev pub new_pass : ℕ → PassView

@@ -1,6 +1,7 @@
 //! Whether a history is what the passes were answered.
 ghost use Rattle.std.specs.Prelude.{◌≡◌, ◌↔◌, IsTrue, IfNone, IfSome, All, Any, count_by, ◌==◌};
-ghost use Rattle.site_lock.specs.Merge.{Matches, IsEntryOf, StandsFrom, FailsFrom, HasNumber, Covers, Covered, IsMerge, IsFault, AreAll};
+ghost use Rattle.std.specs.Prelude.{◌≤◌, ℕ, length, drop};
+ghost use Rattle.site_lock.specs.Merge.{Matches, IsEntryOf, StandsFrom, FailsFrom, HasNumber, Covers, Covered, IsMerge, IsMergeSince, IsFault, IsFaultSince, AreAll};
 
 use super::pass::{Pass, Receipt, Yard};
 use decision_journal::Entry;
@@ -34,12 +35,12 @@ fn stands(history: &[Entry], id: u32, receipt: &Receipt) -> bool
     }
 }
 
-// The number of the first receipt that is wrong.
-fn wrong_receipt(history: &[Entry], id: u32, receipts: &[Receipt]) -> Option<u32>
-    ensures none { IfNone result (StandsFrom history.now id 0 receipts.now) }
-    ensures some { IfSome result (λ n. FailsFrom history.now id 0 receipts.now n) }
+// The number of the first receipt that is wrong, where so many entries stood before any call.
+fn wrong_receipt(history: &[Entry], base: u32, id: u32, receipts: &[Receipt]) -> Option<u32>
+    ensures none { IfNone result (StandsFrom history.now id base receipts.now) }
+    ensures some { IfSome result (λ n. FailsFrom history.now id base receipts.now n) }
 {
-    let mut last = 0;
+    let mut last = base;
     let mut rest = receipts;
     while let Some((receipt, tail)) = rest.split_first() {
         if receipt.number <= last || !stands(history, id, receipt) {
@@ -51,12 +52,12 @@ fn wrong_receipt(history: &[Entry], id: u32, receipts: &[Receipt]) -> Option<u32
     None
 }
 
-fn wrong_pass<L: Yard>(history: &[Entry], passes: &[Pass<L>]) -> Option<(u32, u32)>
-    ensures none { IfNone result (All (λ p. StandsFrom history.now p.id 0 p.receipts) passes.now) }
-    ensures some { IfSome result (λ x. Any (λ p. (p.id ≡ x.0) × FailsFrom history.now p.id 0 p.receipts x.1) passes.now) }
+fn wrong_pass<L: Yard>(history: &[Entry], base: u32, passes: &[Pass<L>]) -> Option<(u32, u32)>
+    ensures none { IfNone result (All (λ p. StandsFrom history.now p.id base p.receipts) passes.now) }
+    ensures some { IfSome result (λ x. Any (λ p. (p.id ≡ x.0) × FailsFrom history.now p.id base p.receipts x.1) passes.now) }
 {
     for pass in passes {
-        if let Some(number) = wrong_receipt(history, pass.id(), pass.receipts()) {
+        if let Some(number) = wrong_receipt(history, base, pass.id(), pass.receipts()) {
             return Some((pass.id(), number));
         }
     }
@@ -126,6 +127,22 @@ fn uncovered<L: Yard>(history: &[Entry], passes: &[Pass<L>]) -> Option<(u32, u32
     None
 }
 
+// The entries behind so many.
+pub(super) fn behind(base: u32, history: &[Entry]) -> &[Entry]
+    requires { base ≤ length history.now }
+    ensures { result.now ≡ drop base history.now }
+{
+    &history[base as usize..]
+}
+
+fn uncovered_since<L: Yard>(base: u32, history: &[Entry], passes: &[Pass<L>]) -> Option<(u32, u32)>
+    requires { base ≤ length history.now }
+    ensures none { IfNone result (All (Covered passes.now) (drop base history.now)) }
+    ensures some { IfSome result (λ x. Any (λ e. (e.pass ≡ x.0) × (e.number ≡ x.1) × ¬ Covered passes.now e) (drop base history.now)) }
+{
+    uncovered(behind(base, history), passes)
+}
+
 /// What keeps a history from being what the passes were answered: a pass and a number. Either the first receipt of the pass that is
 /// wrong has this number: it isn't the entry there by pass, event, moment and reply, or isn't above the receipt before it. Or the
 /// entry of this pass and number stands in no receipt of that pass.
@@ -133,9 +150,19 @@ pub fn fault<L: Yard>(history: &[Entry], passes: &[Pass<L>]) -> Option<(u32, u32
     ensures none { IfNone result (IsMerge history.now passes.now) }
     ensures some { IfSome result (λ x. IsFault history.now passes.now x.0 x.1) }
 {
-    match wrong_pass(history, passes) {
+    fault_since(0, history, passes)
+}
+
+/// The same of a history that went on from its first `base` entries, which no pass was answered: a receipt's number is above them, and
+/// each entry behind them stands in the receipts of its pass.
+pub fn fault_since<L: Yard>(base: u32, history: &[Entry], passes: &[Pass<L>]) -> Option<(u32, u32)>
+    requires within { base ≤ length history.now }
+    ensures none { IfNone result (IsMergeSince base history.now passes.now) }
+    ensures some { IfSome result (λ x. IsFaultSince base history.now passes.now x.0 x.1) }
+{
+    match wrong_pass(history, base, passes) {
         Some(x) => Some(x),
-        None => uncovered(history, passes),
+        None => uncovered_since(base, history, passes),
     }
 }
 

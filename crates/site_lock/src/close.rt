@@ -1,5 +1,6 @@
 //! Closing a forecourt.
 use super::forecourt::Forecourt;
+use super::journal::{Journal, NoJournal};
 use super::pass::{Pass, Yard};
 use site_core::Site;
 
@@ -8,7 +9,8 @@ use site_core::Site;
 pub enum Why {
     /// C1: the passes handed in aren't all of the forecourt's, each once.
     PassMissing,
-    /// C2: the receipt of this pass with this number isn't the entry there, or the entry there has no receipt.
+    /// C2: the receipt of this pass with this number isn't the entry there, or the entry there has no receipt, as that at which a
+    /// journal failed.
     NotInHistory(u32, u32),
     /// C3: the site has another configuration.
     OtherConfig,
@@ -16,14 +18,15 @@ pub enum Why {
 
 /// A forecourt that was not closed, with the passes that were handed in.
 #[derive(Drop)]
-pub struct CloseFault<L: Yard> {
+pub struct CloseFault<L: Yard, J: Journal = NoJournal> {
     pub why: Why,
-    pub forecourt: Forecourt<L>,
+    pub forecourt: Forecourt<L, J>,
     pub passes: Vec<Pass<L>>,
 }
 
-/// What a closed forecourt leaves.
+/// What a closed forecourt leaves: its site, and the journal that it kept.
 #[derive(Drop)]
-pub struct Closed {
+pub struct Closed<J: Journal = NoJournal> {
     pub site: Site,
+    pub journal: J,
 }

@@ -5,15 +5,19 @@
 mod check;
 mod close;
 mod desk;
+mod enter_fault;
 mod forecourt;
 mod ground;
+mod journal;
 mod pass;
 #[cfg(test)]
 mod tests;
 
-pub use check::{are_all, fault};
+pub use check::{are_all, fault, fault_since};
 pub use close::{CloseFault, Closed, Why};
 pub use desk::PassDesk;
+pub use enter_fault::EnterFault;
 pub use forecourt::Forecourt;
+pub use journal::{Journal, LineJournal, NoJournal};
 pub use line_session::{Clock, Desk, Doors, Ended, SessionFault, session, worker};
 pub use pass::{Pass, Receipt, Yard};

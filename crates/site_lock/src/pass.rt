@@ -1,5 +1,5 @@
 //! Passes: who may call a forecourt, and what he was answered.
-ghost use Rattle.std.specs.Prelude.{◌≡◌, length, []};
+ghost use Rattle.std.specs.Prelude.{◌≡◌, length, [], None};
 
 use site_core::What;
 use std::alloc::Global;
@@ -7,19 +7,31 @@ use std::marker::{Brand, Model};
 use std::sync::ledger::{Ledger, Share};
 use till_request::Reply;
 
-/// The call ledger of a forecourt: one part for each pass, and the configuration of its site.
+/// The call ledger of a forecourt: one part for each pass, the configuration of its site, and what it goes on from.
 ///
 /// A forecourt lives and ends in one function that is generic over its ledger, and which is called with `Brand` for it; the call's proof
 /// picks name, parts and configuration. So a pass of another forecourt doesn't compile.
 pub trait Yard: Ledger {
+    ghost use Rattle.std.specs.Prelude.{List, Option, ℕ};
+    ghost use Rattle.decision_journal.specs.declared.entries.Entry.{Entry};
     ghost use Rattle.site_core.specs.Limits.{ConfigValue};
 
     /// The configuration of its site.
     ghost config: { ConfigValue };
+
+    /// The history that it goes on from: that of an audited site, or none.
+    ghost base: { List Entry };
+
+    /// The bytes that its journal had taken when it was started, where the journal tells.
+    ghost taken: { Option (List ℕ) };
 }
 
 impl Yard for Brand {
     ghost config = { record { tills = 1; price_slot = 0; prices = []; points = []; counters = [] } };
+
+    ghost base = { [] };
+
+    ghost taken = { None };
 }
 
 /// An answer: the entry's number, its moment (0 for a dispenser's event and a load), the event asked, and the reply.

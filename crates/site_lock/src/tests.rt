@@ -1,5 +1,5 @@
 //! Threads, desks and closings over one forecourt.
-ghost use Rattle.std.specs.Prelude.{◌≡◌};
+ghost use Rattle.std.specs.Prelude.{◌≡◌, [], None};
 
 use crate::{Clock, Forecourt, Pass, PassDesk, Receipt, Why, Yard, are_all, fault, session};
 use fuelling_point::DispenserEvent;
@@ -67,6 +67,7 @@ fn two<L: Yard + Send + Sync, R: Threads + Wait + Sync>(
     requires name { blank.name ≡ L.name }
     requires parts { blank.parts ≡ L.parts }
     requires config { config ≡ L.config }
+    requires new { (L.base ≡ []) × (L.taken ≡ None) }
     requires two { blank.parts ≡ 2 }
 {
     let (yard, mut passes) = Forecourt::<L>::start(alloc, config, 2, blank)?;
@@ -142,6 +143,7 @@ fn desk<L: Yard, R: Wait>(
     requires name { blank.name ≡ L.name }
     requires parts { blank.parts ≡ L.parts }
     requires config { config ≡ L.config }
+    requires new { (L.base ≡ []) × (L.taken ≡ None) }
     requires one { blank.parts ≡ 1 }
 {
     let (yard, mut passes) = Forecourt::<L>::start(alloc, config, 1, blank)?;
@@ -231,6 +233,7 @@ fn calls<L: Yard, R: Wait>(
     requires name { blank.name ≡ L.name }
     requires parts { blank.parts ≡ L.parts }
     requires config { config ≡ L.config }
+    requires new { (L.base ≡ []) × (L.taken ≡ None) }
     requires two { blank.parts ≡ 2 }
 {
     let (yard, mut passes) = Forecourt::<L>::start(alloc, config, 2, blank)?;

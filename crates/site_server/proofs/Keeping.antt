@@ -5,6 +5,7 @@ use Rattle.till_request.specs.declared.act.Role.{Role}
 use Rattle.till_request.specs.declared.act.LineFault.{LineFault}
 use Rattle.till_request.specs.declared.act.Answer.{Answer}
 use Rattle.till_request.specs.declared.act.Answer.TheVariants as answer
+use Rattle.till_request.specs.declared.act.LineFault.TheVariants as line
 use Rattle.till_request.specs.Grammar.{act_of}
 use Rattle.line_session.specs.Session.{AnswersAct, desk_says}
 use Rattle.line_session.specs.Talk.{SaysAll}
@@ -14,21 +15,25 @@ use Rattle.site_lock.specs.Passes.{PassView}
 use Rattle.site_lock.specs.Desks.{DeskAnswers}
 use Rattle.site_server.specs.Posts.{pass_answers, tells}
 
-module _ (config : ConfigValue) where
-  answer_keeps : (a : Answer) (p q : PassView) (act : Act) (moment : ℕ) → DeskAnswers config p q act moment a → q.id ≡ p.id
+module _ (config : ConfigValue) (may_fail : Type 0) where
+  answer_keeps : (a : Answer) (p q : PassView) (act : Act) (moment : ℕ) → DeskAnswers config may_fail p q act moment a → q.id ≡ p.id
   answer_keeps (answer.Entered number reply) p q act moment h = h.gains.id
   answer_keeps answer.JournalFull p q act moment h = ap (λ (x : PassView). x.id) h.0
   answer_keeps answer.OutOfMemory p q act moment h = ap (λ (x : PassView). x.id) h
-  answer_keeps (answer.Line fault) p q act moment h = absurd h
+  answer_keeps (answer.Line line.OutOfMemory) p q act moment h = ap (λ (x : PassView). x.id) h.0
+  answer_keeps (answer.Line line.TooLong) p q act moment h = absurd h
+  answer_keeps (answer.Line line.BadLine) p q act moment h = absurd h
+  answer_keeps (answer.Line line.BadNumber) p q act moment h = absurd h
+  answer_keeps (answer.Line line.CutLine) p q act moment h = absurd h
   answer_keeps (answer.Program number unit part) p q act moment h = ap (λ (x : PassView). x.id) h.same
 
-  act_keeps : (act : Result Act LineFault) (c : ℕ) (p : PassView) (a : Answer) (d : ℕ) (q : PassView) → AnswersAct (pass_answers config) tells act c p a d q → q.id ≡ p.id
+  act_keeps : (act : Result Act LineFault) (c : ℕ) (p : PassView) (a : Answer) (d : ℕ) (q : PassView) → AnswersAct (pass_answers config may_fail) tells act c p a d q → q.id ≡ p.id
   act_keeps (Ok act) c p a d q h = answer_keeps a p q act h.0 h.2
   act_keeps (Err fault) c p a d q h = ap (λ (x : PassView). x.id) h.2
 
   module _ (role : Role) where
     all_keep : (lines : List (List ℕ)) (s : ℕ × PassView) (texts : List (List ℕ)) (t : ℕ × PassView)
-        → SaysAll (desk_says (pass_answers config) tells role) lines s texts t → t.1.id ≡ s.1.id
+        → SaysAll (desk_says (pass_answers config may_fail) tells role) lines s texts t → t.1.id ≡ s.1.id
     all_keep [] s [] t h = ap (λ (x : ℕ × PassView). x.1.id) h
     all_keep (line ∷ lines) s (text ∷ texts) t h = all_keep lines h.0 texts t h.2 ∙ act_keeps (act_of role line) s.0 s.1 h.1.answer h.0.0 h.0.1 h.1.answers
     all_keep [] s (text ∷ texts) t h = absurd h
@@ -37,16 +42,16 @@ module _ (config : ConfigValue) where
     module _ {I O D : Type 0} (remaining : I → Option (List ℕ)) (reads read_failures : I → ℕ) (written : O → Option (List ℕ)) (write_failures : O → ℕ)
         (opens : D → I → O → D → Type 0) (fails : D → D → Type 0) where
       visit_keeps : (outcome : Outcome) (d : D) (s : ℕ × PassView) (e : D) (t : ℕ × PassView)
-          → Visits opens fails (Sits (desk_says (pass_answers config) tells role) remaining reads read_failures written write_failures) outcome d s e t → t.1.id ≡ s.1.id
+          → Visits opens fails (Sits (desk_says (pass_answers config may_fail) tells role) remaining reads read_failures written write_failures) outcome d s e t → t.1.id ≡ s.1.id
       visit_keeps None d s e t v = ap (λ (x : ℕ × PassView). x.1.id) v.1
       visit_keeps (Some (Ok ended)) d s e t v = let talks = v.3.said.talks in all_keep talks.lines s talks.texts t talks.said
       visit_keeps (Some (Err fault)) d s e t v = let breaks = v.3.broken in all_keep breaks.lines s breaks.texts t breaks.said
 
       visits_keep : (outcomes : List Outcome) (d : D) (s : ℕ × PassView) (e : D) (t : ℕ × PassView)
-          → VisitsAll (Visits opens fails (Sits (desk_says (pass_answers config) tells role) remaining reads read_failures written write_failures)) outcomes d s e t → t.1.id ≡ s.1.id
+          → VisitsAll (Visits opens fails (Sits (desk_says (pass_answers config may_fail) tells role) remaining reads read_failures written write_failures)) outcomes d s e t → t.1.id ≡ s.1.id
       visits_keep [] d s e t h = ap (λ (x : ℕ × PassView). x.1.id) h.1
       visits_keep (outcome ∷ outcomes) d s e t h = visits_keep outcomes h.0 h.1 e t h.3 ∙ visit_keeps outcome d s h.0 h.1 h.2
 
       pub serves_keep : (asked well : ℕ) (d : D) (s : ℕ × PassView) (e : D) (t : ℕ × PassView)
-          → Serves (Visits opens fails (Sits (desk_says (pass_answers config) tells role) remaining reads read_failures written write_failures)) asked well d s e t → t.1.id ≡ s.1.id
+          → Serves (Visits opens fails (Sits (desk_says (pass_answers config may_fail) tells role) remaining reads read_failures written write_failures)) asked well d s e t → t.1.id ≡ s.1.id
       serves_keep asked well d s e t h = visits_keep h.outcomes d s e t h.each

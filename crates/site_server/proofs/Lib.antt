@@ -2,3 +2,4 @@ pub mod Keeping
 pub mod Numbering
 pub mod Posting
 pub mod Working
+pub mod Opening

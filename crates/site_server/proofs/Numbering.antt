@@ -70,26 +70,26 @@ all_numbered ps n is h = (
       ∙ once 0 (map (λ (p : PassView). p.id) ps) (k + 1) (numbers_of 0 ps (λ j d l. h j d l ∙ omega arith)) (omega arith) (omega (arith, length-map ps (λ (p : PassView). p.id))),
 )
 
-module _ (config : ConfigValue) (tills dispensers connections : ℕ) where
+module _ (config : ConfigValue) (may_fail : Type 0) (tills dispensers connections : ℕ) where
   first_of : (done : List (PassView × ℕ)) (k : ℕ) (d : PassView) → slice_index_or (map (λ (x : PassView × ℕ). x.0) done) k d ≡ (slice_index_or done k (d, 0)).0
   first_of [] k d = refl
   first_of (x ∷ xs) zero d = refl
   first_of (x ∷ xs) (suc k) d = first_of xs k d
 
   pub handed_back : (own : ConfigValue) → config ≡ own → (k : ℕ) (job : PassView) (r : PassView × ℕ) → job ≡ new_pass (k + 1) → r.0.id ≡ job.id
-      → Worked own (role_of tills dispensers job.id) connections r.1 job r.0 → HandedBack config tills dispensers connections k r
+      → Worked own may_fail (role_of tills dispensers job.id) connections r.1 job r.0 → HandedBack config may_fail tills dispensers connections k r
   handed_back own same k job r is id w = (
     id ∙ ap (λ (p : PassView). p.id) is,
-    subst (λ (c : ConfigValue). Worked c (role_of tills dispensers (k + 1)) connections r.1 (new_pass (k + 1)) r.0) (sym same)
-        (subst (λ (p : PassView). Worked own (role_of tills dispensers p.id) connections r.1 p r.0) is w),
+    subst (λ (c : ConfigValue). Worked c may_fail (role_of tills dispensers (k + 1)) connections r.1 (new_pass (k + 1)) r.0) (sym same)
+        (subst (λ (p : PassView). Worked own may_fail (role_of tills dispensers p.id) connections r.1 p r.0) is w),
   )
 
   pub have_worked : (ps : List PassView) (done : List (PassView × ℕ)) → ps ≡ map (λ (x : PassView × ℕ). x.0) done
-      → HandsBack config tills dispensers connections done → HaveWorked config tills dispensers connections ps
+      → HandsBack config may_fail tills dispensers connections done → HaveWorked config may_fail tills dispensers connections ps
   have_worked ps done e h k d lt = (
     (slice_index_or done k (d, 0)).1,
     rw (e, first_of done k d) (h k (d, 0) (omega (arith, ap length e, length-map done (λ (x : PassView × ℕ). x.0)))),
   )
 
-  pub all_worked : (ps : List PassView) (n : ℕ) → length ps ≡ n → HaveWorked config tills dispensers connections ps → AreAll n ps
+  pub all_worked : (ps : List PassView) (n : ℕ) → length ps ≡ n → HaveWorked config may_fail tills dispensers connections ps → AreAll n ps
   all_worked ps n is h = all_numbered ps n is (λ k d lt. (h k d lt).1.0)

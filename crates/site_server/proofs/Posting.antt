@@ -11,9 +11,9 @@ use Rattle.site_lock.specs.Passes.{PassView}
 use Rattle.site_lock.specs.Desks.{DeskAnswers}
 use Rattle.site_server.specs.Posts.{pass_answers, tells}
 
-module _ {C P D I O : Type 0} (last : C → ℕ) (pass : P → PassView) (config : ConfigValue)
+module _ {C P D I O : Type 0} (last : C → ℕ) (pass : P → PassView) (config : ConfigValue) (may_fail : Type 0)
     (step : P → Act → ℕ → Answer → P → Type 0) (tick : C → ℕ → C → Type 0)
-    (steps : (d : P) (act : Act) (moment : ℕ) (a : Answer) (e : P) → step d act moment a e → DeskAnswers config (pass d) (pass e) act moment a)
+    (steps : (d : P) (act : Act) (moment : ℕ) (a : Answer) (e : P) → step d act moment a e → DeskAnswers config may_fail (pass d) (pass e) act moment a)
     (ticks : (c : C) (moment : ℕ) (e : C) → tick c moment e → last e ≡ moment)
     (role : Role) (remaining : I → Option (List ℕ)) (reads read_failures : I → ℕ) (written : O → Option (List ℕ)) (write_failures : O → ℕ)
     (opens : D → I → O → D → Type 0) (fails : D → D → Type 0) where
@@ -22,11 +22,11 @@ module _ {C P D I O : Type 0} (last : C → ℕ) (pass : P → PassView) (config
 
   serves_so : (asked well : ℕ) (d : D) (s : C × P) (d' : D) (s' : C × P)
       → Serves (Visits opens fails (Sits (desk_says step tick role) remaining reads read_failures written write_failures)) asked well d s d' s'
-      → Serves (Visits opens fails (Sits (desk_says (pass_answers config) tells role) remaining reads read_failures written write_failures)) asked well d (see s) d' (see s')
-  serves_so = serves_seen {S = C × P} {T = ℕ × PassView} see (desk_says step tick role) (desk_says (pass_answers config) tells role)
-      (desk_seen last pass step (pass_answers config) tick tells steps ticks role) remaining reads read_failures written write_failures opens fails
+      → Serves (Visits opens fails (Sits (desk_says (pass_answers config may_fail) tells role) remaining reads read_failures written write_failures)) asked well d (see s) d' (see s')
+  serves_so = serves_seen {S = C × P} {T = ℕ × PassView} see (desk_says step tick role) (desk_says (pass_answers config may_fail) tells role)
+      (desk_seen last pass step (pass_answers config may_fail) tick tells steps ticks role) remaining reads read_failures written write_failures opens fails
 
   pub serves_as_pass : (asked well : ℕ) (d : D) (c : C) (p : P) (d' : D) (c' : C) (p' : P) (m : ℕ) (q r : PassView) → last c ≡ m → pass p ≡ q → r ≡ pass p'
       → Serves (Visits opens fails (Sits (desk_says step tick role) remaining reads read_failures written write_failures)) asked well d (c, p) d' (c', p')
-      → Serves (Visits opens fails (Sits (desk_says (pass_answers config) tells role) remaining reads read_failures written write_failures)) asked well d (m, q) d' (last c', r)
+      → Serves (Visits opens fails (Sits (desk_says (pass_answers config may_fail) tells role) remaining reads read_failures written write_failures)) asked well d (m, q) d' (last c', r)
   serves_as_pass asked well d c p d' c' p' m q r is_last is_first is_now h = rw (← is_last, ← is_first, is_now) (serves_so asked well d (c, p) d' (c', p') h)

@@ -13,27 +13,27 @@ use Rattle.site_lock.specs.Passes.{PassView}
 use Rattle.site_lock.specs.Desks.{DeskAnswers}
 
 -- what a pass of a forecourt of this configuration may be answered, and what it goes on to
-abbrev pub pass_answers : ConfigValue → PassView → Act → ℕ → Answer → PassView → Type 0
-pass_answers config before act moment answer now = DeskAnswers config before now act moment answer
+abbrev pub pass_answers : ConfigValue → Type 0 → PassView → Act → ℕ → Answer → PassView → Type 0
+pass_answers config may_fail before act moment answer now = DeskAnswers config may_fail before now act moment answer
 
 -- the moment told is the one told last
 abbrev pub tells : ℕ → ℕ → ℕ → Type 0
 tells before moment now = now ≡ moment
 
 -- One connection: its door did not open, or lines of somebody of this role were answered, one after another.
-abbrev pub Talked : ConfigValue → Role → Outcome → ℕ × PassView → ℕ × PassView → Type 0
-Talked config role None s s' = s' ≡ s
-Talked config role (Some result) s s' = (lines : List (List ℕ)) × (texts : List (List ℕ)) × AllByRecursion IsLine lines × SaysAll (desk_says (pass_answers config) tells role) lines s texts s'
+abbrev pub Talked : ConfigValue → Type 0 → Role → Outcome → ℕ × PassView → ℕ × PassView → Type 0
+Talked config may_fail role None s s' = s' ≡ s
+Talked config may_fail role (Some result) s s' = (lines : List (List ℕ)) × (texts : List (List ℕ)) × AllByRecursion IsLine lines × SaysAll (desk_says (pass_answers config may_fail) tells role) lines s texts s'
 
 -- connections that went so, one after another
-abbrev pub TalkedAll : ConfigValue → Role → List Outcome → ℕ × PassView → ℕ × PassView → Type 0
-TalkedAll config role [] s s' = s' ≡ s
-TalkedAll config role (outcome ∷ outcomes) s s' = (m : ℕ × PassView) × Talked config role outcome s m × TalkedAll config role outcomes m s'
+abbrev pub TalkedAll : ConfigValue → Type 0 → Role → List Outcome → ℕ × PassView → ℕ × PassView → Type 0
+TalkedAll config may_fail role [] s s' = s' ≡ s
+TalkedAll config may_fail role (outcome ∷ outcomes) s s' = (m : ℕ × PassView) × Talked config may_fail role outcome s m × TalkedAll config may_fail role outcomes m s'
 
 -- The pass served so many connections in this role, and so many of them ended without fault.
-pub record Worked (config : ConfigValue) (role : Role) (connections well : ℕ) (before now : PassView) : Type 0 where
+pub record Worked (config : ConfigValue) (may_fail : Type 0) (role : Role) (connections well : ℕ) (before now : PassView) : Type 0 where
   pub moment : ℕ
   pub outcomes : List Outcome
-  pub each : TalkedAll config role outcomes (0, before) (moment, now)
+  pub each : TalkedAll config may_fail role outcomes (0, before) (moment, now)
   pub all_asked : length outcomes ≡ connections
   pub counted : well ≡ good outcomes

@@ -13,5 +13,5 @@ pub use clock::MachineClock;
 pub use crew::Crew;
 pub use doors::TcpDoors;
 pub use listeners::{ListenFault, Listeners};
-pub use serving::{ServeFault, Served, serve, serve_pass, serve_site};
-pub use site_lock::Why;
+pub use serving::{ServeFault, Served, resume_site, serve_on, serve_pass, serve_site};
+pub use site_lock::{Journal, LineJournal, NoJournal, Why};

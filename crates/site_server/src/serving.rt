@@ -3,7 +3,7 @@ ghost use Rattle.std.specs.Prelude.{◌≡◌, ℕ, [], IfErr, IfOk, map};
 ghost use Rattle.line_session.specs.Session.{desk_says};
 ghost use Rattle.line_session.specs.Serving.{Serves, Sits, Visits};
 ghost use Rattle.site_server.specs.Crews.{passes_of, role_of};
-ghost use Rattle.site_server.specs.Ending.{Leaves, Spoils};
+ghost use Rattle.site_server.specs.Ending.{Leaves, LeavesSince, Spoils, SpoilsSince, from_site};
 ghost use Rattle.site_server.specs.Posts.{Worked, pass_answers, tells};
 
 use crate::clock::MachineClock;
@@ -12,7 +12,7 @@ use crate::doors::TcpDoors;
 use crate::listeners::Listeners;
 use line_session::{Doors, worker};
 use site_core::{Config, Site};
-use site_lock::{Forecourt, Pass, PassDesk, Why, Yard};
+use site_lock::{Forecourt, Journal, NoJournal, Pass, PassDesk, Why, Yard};
 use std::alloc::{AllocError, Global};
 use std::marker::Brand;
 use std::sync::Wait;
@@ -24,9 +24,11 @@ use till_request::Role;
 
 /// What serving leaves.
 #[derive(Drop)]
-pub struct Served {
+pub struct Served<J: Journal = NoJournal> {
     /// The site, closed.
     pub site: Site,
+    /// The journal that was kept.
+    pub journal: J,
     /// How many connections ended without fault.
     pub well: u64,
 }
@@ -35,6 +37,8 @@ pub struct Served {
 #[derive(Clone, Copy, Debug, PartialEq, Eq, Drop)]
 pub enum ServeFault {
     OutOfMemory,
+    /// The journal failed: the last entry isn't answered.
+    Journal,
     /// C1, C2 or C3: what the workers were answered isn't the site's history.
     NotClosed(Why),
 }
@@ -51,18 +55,18 @@ impl From<AllocError> for ServeFault {
 
 /// Serves so many connections of a role for one pass, and answers the pass, with the receipts that it gained, and how many
 /// connections ended without fault.
-pub fn serve_pass<L: Yard, S: Doors, R: Wait + Clock>(
+pub fn serve_pass<L: Yard, J: Journal, S: Doors, R: Wait + Clock>(
     rt: &R,
     alloc: Global,
-    yard: &Forecourt<L>,
+    yard: &Forecourt<L, J>,
     pass: Pass<L>,
     role: Role,
     doors: &mut S,
     connections: u32,
 ) -> (Pass<L>, u64)
-    ensures served { (moment : ℕ) × Serves (Visits S.opens S.fails (Sits (desk_says (pass_answers L.config) tells role) S.In.remaining S.In.reads S.In.failures S.Out.written S.Out.failures))
+    ensures served { (moment : ℕ) × Serves (Visits S.opens S.fails (Sits (desk_says (pass_answers L.config J.may_fail) tells role) S.In.remaining S.In.reads S.In.failures S.Out.written S.Out.failures))
         connections result.1 doors.old (0, pass) doors.new (moment, result.0) }
-    ensures worked { Worked L.config role connections result.1 pass result.0 }
+    ensures worked { Worked L.config J.may_fail role connections result.1 pass result.0 }
     ensures id { result.0.id ≡ pass.id }
 {
     let mut clock = MachineClock::new(rt);
@@ -72,16 +76,16 @@ pub fn serve_pass<L: Yard, S: Doors, R: Wait + Clock>(
 }
 
 /// Serves so many connections of the listener that is the pass's.
-fn serve_post<L: Yard, R: Wait + Clock>(
+fn serve_post<L: Yard, J: Journal, R: Wait + Clock>(
     rt: &R,
     alloc: Global,
-    yard: &Forecourt<L>,
+    yard: &Forecourt<L, J>,
     pass: Pass<L>,
     crew: Crew,
     listeners: &Listeners,
     connections: u32,
 ) -> (Pass<L>, u64)
-    ensures worked { Worked L.config (role_of crew.tills crew.dispensers pass.id) connections result.1 pass result.0 }
+    ensures worked { Worked L.config J.may_fail (role_of crew.tills crew.dispensers pass.id) connections result.1 pass result.0 }
     ensures id { result.0.id ≡ pass.id }
 {
     let role = crew.role(pass.id());
@@ -106,24 +110,28 @@ fn gathered<L: Yard>(
     Ok((passes, well))
 }
 
-/// Serves a site of this configuration: each worker of the crew serves so many connections, one after another, and then the site is closed.
-pub fn serve<L: Yard + Send + Sync, R: Threads + Wait + Clock + Sync>(
+/// Serves a site from where it stands: each worker of the crew serves so many connections, one after another, and then the site is
+/// closed. Each entry's line is handed to the journal before the entry is answered.
+pub fn serve_on<L: Yard + Send + Sync, J: Journal + Send, R: Threads + Wait + Clock + Sync>(
     rt: &R,
     alloc: Global,
-    config: Config,
+    site: Site,
+    journal: J,
     blank: Blank,
     crew: Crew,
     listeners: &Listeners,
     connections: u32,
-) -> Result<Served, ServeFault>
+) -> Result<Served<J>, ServeFault>
     requires name { blank.name ≡ L.name }
     requires parts { blank.parts ≡ L.parts }
-    requires config { config ≡ L.config }
+    requires config { site.config ≡ L.config }
+    requires base { site.history ≡ L.base }
+    requires taken { J.written journal ≡ L.taken }
     requires passes { blank.parts ≡ passes_of crew.tills crew.dispensers }
-    ensures ok { IfOk result (λ served. Leaves config crew.tills crew.dispensers connections served.site) }
-    ensures err { IfErr result (λ fault. Spoils config crew.tills crew.dispensers connections fault) }
+    ensures ok { IfOk result (λ served. LeavesSince (from_site site (J.written journal) crew.tills crew.dispensers) J.may_fail crew.tills crew.dispensers connections served.site (J.written served.journal)) }
+    ensures err { IfErr result (λ fault. SpoilsSince (from_site site (J.written journal) crew.tills crew.dispensers) J.may_fail crew.tills crew.dispensers connections fault) }
 {
-    let (yard, passes) = Forecourt::<L>::start(alloc, config, crew.passes(), blank)?;
+    let (yard, passes) = Forecourt::<L, J>::go_on(alloc, site, journal, crew.passes(), blank)?;
     // Room for the end is taken before anything is served: the history isn't lost for want of it.
     let room = Vec::with_capacity(alloc, crew.passes() as usize)?;
     let shared = &yard;
@@ -131,21 +139,25 @@ pub fn serve<L: Yard + Send + Sync, R: Threads + Wait + Clock + Sync>(
         rt,
         passes,
         &|pass: Pass<L>| -> (Pass<L>, u64)
-            ensures worked { Worked L.config (role_of crew.tills crew.dispensers pass.id) connections result.1 pass result.0 }
+            ensures worked { Worked L.config J.may_fail (role_of crew.tills crew.dispensers pass.id) connections result.1 pass result.0 }
             ensures id { result.0.id ≡ pass.id }
         { serve_post(rt, alloc, shared, pass, crew, listeners, connections) },
     )?;
     let (passes, well) = gathered(room, done)?;
+    if yard.has_stopped(rt) {
+        return Err(ServeFault::Journal);
+    }
     match yard.close(rt, passes) {
         Ok(closed) => Ok(Served {
             site: closed.site,
+            journal: closed.journal,
             well,
         }),
         Err(fault) => Err(ServeFault::NotClosed(fault.why)),
     }
 }
 
-/// As `serve`, with a ledger of its own.
+/// Serves a new site of this configuration, as `serve_on`, with a ledger of its own; no journal is kept.
 pub fn serve_site<R: Threads + Wait + Clock + Sync>(
     rt: &R,
     alloc: Global,
@@ -157,6 +169,32 @@ pub fn serve_site<R: Threads + Wait + Clock + Sync>(
     ensures ok { IfOk result (λ served. Leaves config crew.tills crew.dispensers connections served.site) }
     ensures err { IfErr result (λ fault. Spoils config crew.tills crew.dispensers connections fault) }
 {
+    let site = Site::start(alloc, config)?;
+    resume_site(rt, alloc, site, NoJournal, crew, listeners, connections)
+}
+
+/// Serves a site from where it stands, as `serve_on`, with a ledger of its own.
+pub fn resume_site<J: Journal + Send, R: Threads + Wait + Clock + Sync>(
+    rt: &R,
+    alloc: Global,
+    site: Site,
+    journal: J,
+    crew: Crew,
+    listeners: &Listeners,
+    connections: u32,
+) -> Result<Served<J>, ServeFault>
+    ensures ok { IfOk result (λ served. LeavesSince (from_site site (J.written journal) crew.tills crew.dispensers) J.may_fail crew.tills crew.dispensers connections served.site (J.written served.journal)) }
+    ensures err { IfErr result (λ fault. SpoilsSince (from_site site (J.written journal) crew.tills crew.dispensers) J.may_fail crew.tills crew.dispensers connections fault) }
+{
     let blank = Blank::new(u64::from(crew.passes()));
-    serve::<Brand, R>(rt, alloc, config, blank, crew, listeners, connections)
+    serve_on::<Brand, J, R>(
+        rt,
+        alloc,
+        site,
+        journal,
+        blank,
+        crew,
+        listeners,
+        connections,
+    )
 }

@@ -4,8 +4,8 @@ use Rattle.site_lock.proofs.check.wrong_receipt.Given as goal
 
 abbrev pub invariant-loop-receipt : goal.invariant-loop-receipt
 invariant-loop-receipt l =
-    (StandsFrom l.history l.id l.last l.rest → StandsFrom l.history l.id 0 l.receipts)
-    × ((n : ℕ) → FailsFrom l.history l.id l.last l.rest n → FailsFrom l.history l.id 0 l.receipts n)
+    (StandsFrom l.history l.id l.last l.rest → StandsFrom l.history l.id l.base l.receipts)
+    × ((n : ℕ) → FailsFrom l.history l.id l.last l.rest n → FailsFrom l.history l.id l.base l.receipts n)
 
 abbrev pub decreases-loop-receipt : goal.decreases-loop-receipt
 decreases-loop-receipt l = length l.rest
