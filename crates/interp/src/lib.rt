@@ -2,6 +2,8 @@
 #![tactic(auto)]
 
 mod arithmetic;
+mod kind;
+mod kinds;
 mod rebasing;
 mod running;
 mod words;
