@@ -102,7 +102,7 @@ all_come fact (to ∷ tos) old = (
 
 -- ---- units behind stay as they are
 
-behind : (us : List ProgramUnit) (pc q : ℕ) (fact : Fact) → q ≤ pc → (tos : List ℕ) → AllByRecursion (IsAhead us pc) tos → (o : Option Fact) → arrived_all q fact tos o ≡ o
+pub behind : (us : List ProgramUnit) (pc q : ℕ) (fact : Fact) → q ≤ pc → (tos : List ℕ) → AllByRecursion (IsAhead us pc) tos → (o : Option Fact) → arrived_all q fact tos o ≡ o
 behind us pc q fact l [] all o = refl
 behind us pc q fact l (to ∷ tos) all o =
     let further = all.0.ahead in

@@ -17,10 +17,9 @@ use Rattle.reg_types.specs.declared.types.Effect.{Effect}
 use Rattle.reg_types.specs.declared.types.Flaw.{Flaw}
 use Rattle.reg_types.specs.declared.types.Flaw.TheVariants.{FallsOff, UnsetBytes}
 use Rattle.reg_types.specs.Rules.{type_at, join_type, all_in, load_type, number_set, lowest, set_type, effect, falls_off, judged}
-use Rattle.reg_types.specs.Facts.{IsAfter, IsEntry, table}
+use Rattle.reg_types.specs.Facts.{IsAfter, IsEntry}
 use Rattle.reg_types.specs.Inference.{leads, upper_of, common, marked, join_types, join_fact, entry_fact, fact_after, instruction_at, ruled, flaw_in, flaw_of, flaw_under, taken_in, arrived, arrived_all, passed_by, passed_from, passed}
 use Rattle.reg_types.specs.Passing.{IsSame, AreSame}
-use Rattle.reg_types.proofs.Tables.{table_same, table_other}
 
 -- ---- sets
 
@@ -166,16 +165,6 @@ same_join a b j la lj e h =
       types = joined_types a.types b.types j.types la lj e;
       places = λ p. (λ has. (common_has a.stack b.stack p).1 ((h p).0 has), λ has. (h p).1 ((common_has a.stack b.stack p).0 has));
     }
-
--- a fact is written where an edge leads
-pub written_same : (facts : List (Option Fact)) (to : ℕ) (d : Option Fact) (f fact : Fact) → to < length facts → IsSame f (taken_in (slice_index_or facts to d) fact) → (q : ℕ) → AreSame (table (slice_set facts to (Some f)) q) (arrived q fact to (table facts q))
-written_same facts to d f fact l same q =
-    cond_both (q == to) (Some (taken_in (table facts q) fact)) (table facts q) (AreSame (table (slice_set facts to (Some f)) q))
-    (λ e. let at : q ≡ to = eqb-true q to e in
-    let here : table facts q ≡ slice_index_or facts to d = ap (table facts) at ∙ get_or_default facts to None d l in
-    let set : table (slice_set facts to (Some f)) q ≡ Some f = ap (table (slice_set facts to (Some f))) at ∙ table_same facts to f l in
-    subst (λ o. AreSame o (Some (taken_in (table facts q) fact))) (sym set) (subst (λ o. IsSame f (taken_in o fact)) (sym here) same))
-    (λ e. subst (λ o. AreSame o (table facts q)) (sym (table_other facts to q f (eqb-false q to e))) (AreSame-refl (table facts q)))
 
 -- ---- one instruction
 

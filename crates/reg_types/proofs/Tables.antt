@@ -13,7 +13,7 @@ use Rattle.reg_types.specs.declared.types.RegType.{RegType}
 use Rattle.reg_types.specs.declared.types.RegType.TheVariants.{Unset as Anything, Num, Const, Ctx, Stk}
 use Rattle.reg_types.specs.declared.types.Fact.{Fact}
 use Rattle.reg_types.specs.Rules.{type_at, join_type}
-use Rattle.reg_types.specs.Facts.{FitsType, IsBelow, table}
+use Rattle.reg_types.specs.Facts.{FitsType, IsBelow}
 
 -- ---- the order
 
@@ -108,18 +108,3 @@ joined_all a b j n la lb lj le h k =
       | inl l ↦ h k l
       | inr g ↦ let pa : length a ≤ k = omega arith in let pb : length b ≤ k = omega arith in let pj : length j ≤ k = omega arith in get_or_past j k Anything pj ∙ sym (ap (λ t. join_type t (type_at b k)) (get_or_past a k Anything pa) ∙ ap (join_type Anything) (get_or_past b k Anything pb))
     ]
-
--- ---- tables
-
--- one fact is written
-pub table_same : (facts : List (Option Fact)) (to : ℕ) (f : Fact) → to < length facts → table (slice_set facts to (Some f)) to ≡ Some f
-table_same facts to f l = get_or-set_same facts to (Some f) None l
-
-pub table_other : (facts : List (Option Fact)) (to q : ℕ) (f : Fact) → q ≢ to → table (slice_set facts to (Some f)) q ≡ table facts q
-table_other facts to q f n = get_or-set_other facts to q (Some f) None n
-
-pub none_more : (facts : List (Option Fact)) → ((q : ℕ) → table facts q ≡ None) → (q : ℕ) → table (facts ++ None ∷ []) q ≡ None
-none_more [] h zero = refl
-none_more [] h (suc q) = refl
-none_more (f ∷ fs) h zero = h zero
-none_more (f ∷ fs) h (suc q) = none_more fs (λ k. h (suc k)) q

@@ -1,28 +1,34 @@
--- One unit of the pass.
-use Rattle.std.proofs.Common.{◌≡◌, ℕ, suc, ◌+◌, ◌<◌, ◌≤◌, List, Option, Some, None, refl, sym, ap, ◌∙◌, subst, inl, inr, arith, add-one, length}
-use Rattle.std.specs.Prelude.{Result, Ok, IsSome, ℤ, slice_get, slice_set, ◌==◌}
-use Rattle.std.proofs.lemmas.Bool.{cases_eq, eqb-true, eqb-false, cond_both}
+-- One unit of the pass, and the whole of it.
+use Rattle.std.proofs.Common.{◌≡◌, ◌≢◌, ℕ, suc, ◌+◌, ◌<◌, ◌≤◌, List, [], ◌∷◌, Option, Some, None, Bool, true, false, refl, sym, ap, ◌∙◌, subst, inl, inr, arith, add-one, length}
+use Rattle.std.specs.Prelude.{Result, Ok, Err, IfOk, IfErr, IsSome, ℤ, slice_get, ◌==◌, cond}
+use Rattle.std.proofs.lemmas.Bool.{cases_eq, eq-eqb, cond-true}
 use Rattle.std.specs.List.{AllByRecursion}
 use Rattle.bpf_model.specs.declared.instruction.Inst.{Inst}
 use Rattle.bpf_model.specs.declared.instruction.Form.{Form}
 use Rattle.bpf_model.specs.declared.instruction.Unit.{Unit as ProgramUnit}
-use Rattle.bpf_model.specs.declared.instruction.Unit.TheVariants.{First}
-use Rattle.bpf_model.specs.Reading.{form_of}
+use Rattle.bpf_model.specs.declared.instruction.Unit.TheVariants.{First, Second}
+use Rattle.bpf_model.specs.Reading.{form_of, imm_at}
 use Rattle.bpf_model.specs.Flow.{IsAhead}
+use Rattle.bpf_model.proofs.Reading.{wide_at}
 use Rattle.reg_types.specs.declared.types.Fact.{Fact}
+use Rattle.reg_types.specs.declared.types.Stored.{Stored}
 use Rattle.reg_types.specs.declared.types.Effect.{Effect}
 use Rattle.reg_types.specs.declared.types.Flaw.{Flaw}
 use Rattle.reg_types.specs.declared.types.Successors.{Successors}
+use Rattle.reg_types.specs.declared.types.Successors.TheVariants.{End, Next, Jump, Either}
 use Rattle.reg_types.specs.declared.refusal.TypeFault.{TypeFault}
+use Rattle.reg_types.specs.declared.refusal.Refusal.{Refusal}
+use Rattle.reg_types.specs.declared.refusal.Refusal.TheVariants.{Decode, Flow as FlowRefusal, «Type» as TypeRefusal, OutOfMemory}
+use Rattle.reg_types.specs.Refusals.{located}
 use Rattle.reg_types.specs.Rules.{judged}
-use Rattle.reg_types.specs.Facts.{Facts, IsSound, IsAfter, IsEntry, table, list_of}
-use Rattle.reg_types.specs.Inference.{leads, upper_of, entry_fact, fact_after, flaw_in, flaw_of, flaw_under, arrived_all, passed_by, passed_from, passed, known, inferred, or_else, first_flaw_below, first_flaw}
-use Rattle.reg_types.specs.Passing.{AreSame, IsPassed, AreInferred}
+use Rattle.reg_types.specs.Facts.{Facts, IsSound, IsAfter, IsEntry, IsNext, stored, list_of, jumps_of, carried_of}
+use Rattle.reg_types.specs.Inference.{leads, upper_of, entry_fact, fact_after, instruction_of, instruction_at, flaw_in, flaw_of, flaw_under, taken_in, arrived, arrived_all, passed_by, passed_from, passed, known, inferred, or_else, first_flaw_below, first_flaw}
+use Rattle.reg_types.specs.Passing.{IsSame, AreSame, AreStored, IsCarriedTo, IsCarriedAt, IsJoined, IsSettled, IsVisited, IsPassed, IsUnitRefused, IsPassRefused, AreInferred, brought, seen}
 use Rattle.reg_types.proofs.Good.{judged_is}
 use Rattle.reg_types.proofs.Ahead.{leads_ahead}
-use Rattle.reg_types.proofs.Tables.{table_same, table_other}
-use Rattle.reg_types.proofs.Inference.{AreSame-refl, AreSame-trans, arrived_all_same, passed_same, flaw_same, same_after, same_entry}
-use Rattle.reg_types.proofs.Accepted.{instruction_from, passed_behind, flaw_stays}
+use Rattle.reg_types.proofs.Inference.{IsSame-refl, AreSame-refl, AreSame-trans, arrived_same, arrived_all_same, passed_same, flaw_same, same_after, same_entry}
+use Rattle.reg_types.proofs.Storing.{same_by, not_arrived}
+use Rattle.reg_types.proofs.Accepted.{instruction_from, behind, flaw_stays}
 
 pub no_form : (o : Option Form) → IsSome o → o ≡ None → ⊥
 no_form None h e = absurd (cc)
@@ -39,6 +45,20 @@ never_none o tos a b = cc
 
 same_tos : (o : Option (List ℕ)) (x y : List ℕ) → some_of x ≡ o → o ≡ some_of y → y ≡ x
 same_tos o x y a b = cc
+
+abbrev err_of : Flaw → Result Effect Flaw
+err_of flaw = Err flaw
+
+-- jumps and the rest together lead where the instruction does
+seen_led : (q : ℕ) (fact : Fact) (next : Successors) (old new : Option Fact) → AreSame new (arrived_all q fact (jumps_of next) old) → AreSame (brought q (carried_of fact next) new) (arrived_all q fact (list_of next) old)
+seen_led q fact End old new h = h
+seen_led q fact (Next to) old new h = arrived_same q to new old fact fact h (IsSame-refl fact)
+seen_led q fact (Jump to) old new h = h
+seen_led q fact (Either to next) old new h = arrived_same q next new (arrived q fact to old) fact fact h (IsSame-refl fact)
+
+entry_by : (t : Bool) (f : Fact) → IsSame f entry_fact → AreSame (cond t (Some f) None) (cond t (Some entry_fact) None)
+entry_by true f h = h
+entry_by false f h = tt
 
 module _ (us : List ProgramUnit) (declared pc : ℕ) (i : Inst) (fact : Fact) (form : Form) (upper : ℤ) (sound : IsSound us) (at : slice_get us pc ≡ Some (First i)) (is : form_of i.opcode ≡ Some form) where
   ahead_of : (e : Effect) → ok_of e ≡ judged (length us) pc declared fact i upper form → (tos : List ℕ) × (leads pc i form ≡ Some tos) × AllByRecursion (IsAhead us pc) tos
@@ -67,39 +87,182 @@ module _ (us : List ProgramUnit) (declared pc : ℕ) (i : Inst) (fact : Fact) (f
   flaw_is : (r : Result Effect Flaw) → upper ≡ upper_of us pc → r ≡ judged (length us) pc declared fact i upper form → flaw_under us declared pc (Some fact) ≡ flaw_in pc r
   flaw_is r up j = ap (flaw_of us declared pc fact) (instruction_from us pc i form at is) ∙ ap (flaw_in pc) (sym (j ∙ ap (λ u. judged (length us) pc declared fact i u form) up))
 
-  -- the table afterwards
-  pub passes : (e : Effect) (after : Fact) (next : Successors) (old new : Facts) → upper ≡ upper_of us pc → ok_of e ≡ judged (length us) pc declared fact i upper form → IsAfter fact e after → some_of (list_of next) ≡ leads pc i form → old pc ≡ Some fact → ((q : ℕ) → AreSame (new q) (arrived_all q after (list_of next) (old q))) → IsPassed us declared pc old new
-  passes e after next old new up j after_is to here same =
+  jumps_ahead : (next : Successors) → AllByRecursion (IsAhead us pc) (list_of next) → AllByRecursion (IsAhead us pc) (jumps_of next)
+  jumps_ahead End h = tt
+  jumps_ahead (Next to) h = tt
+  jumps_ahead (Jump to) h = h
+  jumps_ahead (Either to next) h = (h.0, tt)
+
+  -- where the rest is carried an instruction begins
+  goes_to : (after : Fact) (next : Successors) → IsNext pc form next → AllByRecursion (IsAhead us pc) (list_of next) → IsCarriedTo us (pc + 1) (carried_of after next)
+  goes_to after End n h = tt
+  goes_to after (Jump to) n h = tt
+  goes_to after (Either to next) n h = (h.1.0.first, inl n)
+  goes_to after (Next to) n h = (
+    h.0.first,
+    elim n [
+      | inl e ↦ inl e
+      | inr w ↦ inr (let two = w.0 in omega (arith, two), (imm_at sound.bytes (pc + 1), wide_at sound.bytes us pc i sound.reads at (is ∙ ap Some w.1)))
+    ],
+  )
+
+  -- the stored facts afterwards, and the one that is carried on
+  pub visited : (e : Effect) (after : Fact) (next : Successors) (carried : Option Stored) (old new : Facts) → upper ≡ upper_of us pc → ok_of e ≡ judged (length us) pc declared fact i upper form → IsAfter fact e after → some_of (list_of next) ≡ leads pc i form → IsNext pc form next → carried ≡ carried_of after next → ((q : ℕ) → AreSame (new q) (arrived_all q after (jumps_of next) (old q))) → IsVisited us declared pc fact carried old new
+  visited e after next carried old new up j after_is to n is_carried same =
+      let ahead = next_ahead e next j to in
+      subst (λ c. IsVisited us declared pc fact c old new) (sym is_carried) (record {
+        flawless = flaw_is (Ok e) up j;
+        ahead = λ q l. passed_to e after next up j after_is to q (old q) (seen (carried_of after next) new q) (seen_led q after next (old q) (new q) (same q));
+        behind = λ q l. subst (AreSame (new q)) (behind us pc q after l (jumps_of next) (jumps_ahead next ahead) (old q)) (same q);
+        goes_on = goes_to after next n ahead;
+      })
+
+  pub refused_here : (flaw : Flaw) → upper ≡ upper_of us pc → err_of flaw ≡ judged (length us) pc declared fact i upper form → flaw_under us declared pc (Some fact) ≡ Some (located pc flaw)
+  refused_here flaw up j = flaw_is (Err flaw) up j
+
+-- ---- one unit
+
+brought_elsewhere : (q pc : ℕ) (c : Option Stored) → IsCarriedAt pc c → q ≢ pc → (old : Option Fact) → brought q c old ≡ old
+brought_elsewhere q pc None at n old = refl
+brought_elsewhere q pc (Some s) at n old = not_arrived q s.at s.fact old (λ e. n (e ∙ at))
+
+same_none : (a : Option Fact) → AreSame None a → a ≡ None
+same_none None h = refl
+same_none (Some a) h = absurd h
+
+stored_trans : (a b c d : Option Fact) → AreSame a b → AreStored b c → AreSame c d → AreStored a d
+stored_trans None b c d f g h = tt
+stored_trans (Some a) None c d f g h = absurd f
+stored_trans (Some a) (Some b) c d f g h = AreSame-trans (Some a) (Some b) d f (AreSame-trans (Some b) c d g h)
+
+AreStored-refl : (a : Option Fact) → AreStored a a
+AreStored-refl None = tt
+AreStored-refl (Some a) = AreSame-refl (Some a)
+
+no_two : (i : Inst) (v : ℤ) (o : Option ProgramUnit) → o ≡ Some (First i) → o ≡ Some (Second v) → ⊥
+no_two i v o a b = cc
+
+-- a fact is carried to the unit itself, where an instruction begins there
+pub at_first : (us : List ProgramUnit) (pc : ℕ) (i : Inst) (c : Option Stored) → slice_get us pc ≡ Some (First i) → IsCarriedTo us pc c → IsCarriedAt pc c
+at_first us pc i None first c = tt
+at_first us pc i (Some s) first c = elim c.1 [ inl e ↦ e | inr w ↦ absurd (no_two i w.1.0 (slice_get us pc) first w.1.1) ]
+
+module _ (us : List ProgramUnit) (declared pc : ℕ) (carried : Option Stored) (old : Facts) where
+  pub passes : (fact : Fact) (next : Option Stored) (settled new : Facts) → IsCarriedAt pc carried → IsSettled pc carried (Some fact) old settled → IsVisited us declared pc fact next settled new → IsPassed us declared pc carried next old new
+  passes fact next settled new at s v =
       record {
-        flawless = ap (flaw_under us declared pc) here ∙ flaw_is (Ok e) up j;
-        each = λ q. subst (λ o. AreSame (new q) (passed us declared pc o q (old q))) (sym here) (passed_to e after next up j after_is to q (old q) (new q) (same q));
+        flawless = sym (flaw_same us declared pc (Some fact) (seen carried old pc) s.is) ∙ v.flawless;
+        ahead = λ q l. let other : q ≢ pc = omega (arith, l) in
+            AreSame-trans (seen next new q) (passed us declared pc (Some fact) q (settled q)) (passed us declared pc (seen carried old pc) q (seen carried old q)) (v.ahead q l)
+            (passed_same us declared pc (Some fact) (seen carried old pc) q (settled q) (seen carried old q) s.is (subst (AreSame (settled q)) (sym (brought_elsewhere q pc carried at other (old q))) (s.others q other)));
+        behind = λ q l. AreSame-trans (new q) (settled q) (old q) (v.behind q (omega (arith, l))) (s.others q (omega (arith, l)));
+        here = stored_trans (new pc) (settled pc) (Some fact) (seen carried old pc) (v.behind pc (omega arith)) s.here s.is;
+        goes_on = v.goes_on;
       }
+
+  pub passes_if : (r : Result (Option Stored) Refusal) (fact : Fact) (settled new : Facts) → IsCarriedAt pc carried → IsSettled pc carried (Some fact) old settled → IfOk r (λ next. IsVisited us declared pc fact next settled new) → IfOk r (λ next. IsPassed us declared pc carried next old new)
+  passes_if (Ok next) fact settled new at s v = passes fact next settled new at s v
+  passes_if (Err refusal) fact settled new at s v = tt
+
+  refused_as : (refusal : Refusal) (fact : Fact) → AreSame (Some fact) (seen carried old pc) → IsUnitRefused us declared pc (Some fact) refusal → IsUnitRefused us declared pc (seen carried old pc) refusal
+  refused_as (Decode fault) fact same h = h
+  refused_as (FlowRefusal fault) fact same h = h
+  refused_as (TypeRefusal fault) fact same h = sym (flaw_same us declared pc (Some fact) (seen carried old pc) same) ∙ h
+  refused_as OutOfMemory fact same h = tt
+
+  pub refused_if : (r : Result (Option Stored) Refusal) (fact : Fact) → AreSame (Some fact) (seen carried old pc) → IfErr r (λ refusal. IsUnitRefused us declared pc (Some fact) refusal) → IfErr r (λ refusal. IsUnitRefused us declared pc (seen carried old pc) refusal)
+  refused_if (Ok next) fact same h = tt
+  refused_if (Err refusal) fact same h = refused_as refusal fact same h
+
+  pub unreached : (new : Facts) → IsCarriedAt pc carried → IsSettled pc carried None old new → IsPassed us declared pc carried None old new
+  unreached new at s =
+      let none = same_none (seen carried old pc) s.is in
+      record {
+        flawless = ap (flaw_under us declared pc) none;
+        ahead = λ q l. let other : q ≢ pc = omega (arith, l) in
+            subst (λ o. AreSame (new q) (passed us declared pc o q (seen carried old q))) (sym none) (subst (AreSame (new q)) (sym (brought_elsewhere q pc carried at other (old q))) (s.others q other));
+        behind = λ q l. s.others q (omega (arith, l));
+        here = stored_trans (new pc) (new pc) None (seen carried old pc) (AreSame-refl (new pc)) s.here s.is;
+        goes_on = tt;
+      }
+
+  module _ (v : ℤ) (second : slice_get us pc ≡ Some (Second v)) where
+    nothing_there : instruction_at us pc ≡ None
+    nothing_there = ap instruction_of second
+
+    no_flaw : (o : Option Fact) → flaw_under us declared pc o ≡ None
+    no_flaw None = refl
+    no_flaw (Some fact) = ap (flaw_of us declared pc fact) nothing_there
+
+    no_edge : (o : Option Fact) (q : ℕ) (x : Option Fact) → passed us declared pc o q x ≡ x
+    no_edge None q x = refl
+    no_edge (Some fact) q x = ap (λ i. passed_from us declared pc fact i q x) nothing_there
+
+    further : (c : Option Stored) → IsCarriedTo us pc c → IsCarriedTo us (pc + 1) c × ((x : Option Fact) → brought pc c x ≡ x)
+    further None c = (tt, λ x. refl)
+    further (Some s) c = elim c.1 [
+      | inl e ↦ absurd (no_two c.0.0 v (slice_get us pc) (subst (λ k. slice_get us k ≡ Some (First c.0.0)) e c.0.1) second)
+      | inr w ↦ ((c.0, inl w.0), λ x. not_arrived pc s.at s.fact x (let e = w.0 in omega (arith, e)))
+    ]
+
+    -- nothing happens at the second unit of a wide load
+    pub stays : IsCarriedTo us pc carried → IsPassed us declared pc carried carried old old
+    stays c =
+        let f = further carried c in
+        record {
+          flawless = no_flaw (seen carried old pc);
+          ahead = λ q l. same_by (seen carried old q) (passed us declared pc (seen carried old pc) q (seen carried old q)) (sym (no_edge (seen carried old pc) q (seen carried old q)));
+          behind = λ q l. AreSame-refl (old q);
+          here = subst (AreStored (old pc)) (sym (f.1 (old pc))) (AreStored-refl (old pc));
+          goes_on = f.0;
+        }
+
+-- ---- settling
+
+pub settled_by : (pc : ℕ) (s : Stored) (joined : Fact) (old new : Facts) → s.at ≡ pc → IsJoined pc s.fact joined old new → IsSettled pc (Some s) (Some joined) old new
+settled_by pc s joined old new at j =
+    record {
+      is = subst (λ o. AreSame o (brought pc (Some s) (old pc))) j.is (subst (λ k. AreSame (new pc) (arrived pc s.fact k (old pc))) (sym at) (j.each pc));
+      others = λ q n. subst (AreSame (new q)) (not_arrived q pc s.fact (old q) n) (j.each q);
+      here = subst (λ o. AreStored o (Some joined)) (sym j.is) (AreStored-refl (Some joined));
+    }
+
+pub settled_new : (pc : ℕ) (s : Stored) (old : Facts) → s.at ≡ pc → old pc ≡ None → IsSettled pc (Some s) (Some s.fact) old old
+settled_new pc s old at none =
+    let to : arrived pc s.fact s.at (old pc) ≡ Some (taken_in (old pc) s.fact) = cond-true (pc == s.at) (Some (taken_in (old pc) s.fact)) (old pc) (eq-eqb pc s.at (sym at)) in
+    record {
+      is = same_by (Some s.fact) (brought pc (Some s) (old pc)) (sym (to ∙ ap (λ o. Some (taken_in o s.fact)) none));
+      others = λ q n. AreSame-refl (old q);
+      here = subst (λ o. AreStored o (Some s.fact)) (sym none) tt;
+    }
+
+pub settled_as : (pc : ℕ) (fact : Option Fact) (old : Facts) → old pc ≡ fact → IsSettled pc None fact old old
+settled_as pc fact old e =
+    record { is = same_by fact (old pc) (sym e); others = λ q n. AreSame-refl (old q); here = subst (AreStored (old pc)) e (AreStored-refl (old pc)) }
 
 -- ---- the pass
 
-pub start_same : (us : List ProgramUnit) (declared : ℕ) (facts : List (Option Fact)) (f : Fact) → ((q : ℕ) → table facts q ≡ None) → 0 < length facts → IsEntry f → (q : ℕ) → AreSame (table (slice_set facts 0 (Some f)) q) (known us declared 0 q)
+pub start_same : (us : List ProgramUnit) (declared : ℕ) (f : Fact) → IsEntry f → (q : ℕ) → AreSame (stored (record { at = 0; fact = f } ∷ []) q) (known us declared 0 q)
 unfolding known
-start_same us declared facts f none l entry q =
-    cond_both (q == 0) (Some entry_fact) None (AreSame (table (slice_set facts 0 (Some f)) q))
-    (λ e. subst (λ o. AreSame o (Some entry_fact)) (sym (ap (table (slice_set facts 0 (Some f))) (eqb-true q 0 e) ∙ table_same facts 0 f l)) (same_entry f entry))
-    (λ e. subst (λ o. AreSame o None) (sym (table_other facts 0 q f (eqb-false q 0 e) ∙ none q)) tt)
+start_same us declared f entry q = entry_by (q == 0) f (same_entry f entry)
 
--- the units below pc have their facts, without a flaw, and the others what the edges from below bring
-pub record IsReached (us : List ProgramUnit) (declared : ℕ) (facts : Facts) (pc : ℕ) : Type 0 where
-  pub behind : (q : ℕ) → q < pc → AreSame (facts q) (inferred us declared q)
-  pub ahead : (q : ℕ) → pc ≤ q → AreSame (facts q) (known us declared pc q)
+-- the stored facts of the units below pc are theirs, and none of these has a flaw; from pc on is known what the edges from below bring
+pub record IsReached (us : List ProgramUnit) (declared : ℕ) (carried : Option Stored) (facts : Facts) (pc : ℕ) : Type 0 where
+  pub behind : (q : ℕ) → q < pc → AreStored (facts q) (inferred us declared q)
+  pub ahead : (q : ℕ) → pc ≤ q → AreSame (seen carried facts q) (known us declared pc q)
   pub flawless : first_flaw_below us declared pc ≡ None
+  pub goes_on : IsCarriedTo us pc carried
 
 module _ (us : List ProgramUnit) (declared : ℕ) where
   no_flaw_yet : first_flaw_below us declared 0 ≡ None
   unfolding first_flaw_below
   no_flaw_yet = refl
 
-  pub reached_none : (facts : Facts) → ((q : ℕ) → AreSame (facts q) (known us declared 0 q)) → IsReached us declared facts 0
-  reached_none facts same = record { behind = λ q l. absurd (omega arith); ahead = λ q l. same q; flawless = no_flaw_yet }
+  pub reached_none : (facts : Facts) → ((q : ℕ) → AreSame (facts q) (known us declared 0 q)) → IsReached us declared None facts 0
+  reached_none facts same = record { behind = λ q l. absurd (omega arith); ahead = λ q l. same q; flawless = no_flaw_yet; goes_on = tt }
 
-  flaw_here : (facts : Facts) (pc : ℕ) → IsReached us declared facts pc → flaw_under us declared pc (facts pc) ≡ flaw_under us declared pc (inferred us declared pc)
-  flaw_here facts pc r = flaw_same us declared pc (facts pc) (inferred us declared pc) (r.ahead pc (omega arith))
+  flaw_here : (carried : Option Stored) (facts : Facts) (pc : ℕ) → IsReached us declared carried facts pc → flaw_under us declared pc (seen carried facts pc) ≡ flaw_under us declared pc (inferred us declared pc)
+  flaw_here carried facts pc r = flaw_same us declared pc (seen carried facts pc) (inferred us declared pc) (r.ahead pc (omega arith))
 
   still_none : (pc : ℕ) → first_flaw_below us declared pc ≡ None → flaw_under us declared pc (inferred us declared pc) ≡ None → first_flaw_below us declared (suc pc) ≡ None
   unfolding first_flaw_below
@@ -109,34 +272,40 @@ module _ (us : List ProgramUnit) (declared : ℕ) where
   unfolding first_flaw_below
   first_here pc fault none here = ap (λ o. or_else o (flaw_under us declared pc (inferred us declared pc))) none ∙ here
 
-  known_more : (pc q : ℕ) (old new : Facts) → IsReached us declared old pc → pc ≤ q → AreSame (new q) (passed us declared pc (old pc) q (old q)) → AreSame (new q) (known us declared (suc pc) q)
+  known_more : (pc q : ℕ) (carried next : Option Stored) (old new : Facts) → IsReached us declared carried old pc → pc ≤ q → AreSame (seen next new q) (passed us declared pc (seen carried old pc) q (seen carried old q)) → AreSame (seen next new q) (known us declared (suc pc) q)
   unfolding known
-  known_more pc q old new r l same =
-      AreSame-trans (new q) (passed us declared pc (old pc) q (old q)) (known us declared (suc pc) q) same
-      (passed_same us declared pc (old pc) (known us declared pc pc) q (old q) (known us declared pc q) (r.ahead pc (omega arith)) (r.ahead q l))
+  known_more pc q carried next old new r l same =
+      AreSame-trans (seen next new q) (passed us declared pc (seen carried old pc) q (seen carried old q)) (known us declared (suc pc) q) same
+      (passed_same us declared pc (seen carried old pc) (known us declared pc pc) q (seen carried old q) (known us declared pc q) (r.ahead pc (omega arith)) (r.ahead q l))
 
-  reached_suc : (sound : IsSound us) (old new : Facts) (pc : ℕ) → IsReached us declared old pc → IsPassed us declared pc old new → IsReached us declared new (suc pc)
-  reached_suc sound old new pc r p =
-      let stays : (q : ℕ) → q ≤ pc → AreSame (new q) (old q) = λ q l. subst (AreSame (new q)) (passed_behind us declared sound pc q (old pc) l (old q)) (p.each q) in
+  reached_suc : (carried next : Option Stored) (old new : Facts) (pc : ℕ) → IsReached us declared carried old pc → IsPassed us declared pc carried next old new → IsReached us declared next new (suc pc)
+  reached_suc carried next old new pc r p =
       record {
         behind =
             λ q l. elim (cases_eq q pc) [
-              | inl same ↦ subst (λ k. AreSame (new k) (inferred us declared k)) (sym same) (AreSame-trans (new pc) (old pc) (inferred us declared pc) (stays pc (omega arith)) (r.ahead pc (omega arith)))
-              | inr other ↦ AreSame-trans (new q) (old q) (inferred us declared q) (stays q (omega arith)) (r.behind q (omega arith))
+              | inl same ↦ subst (λ k. AreStored (new k) (inferred us declared k)) (sym same) (stored_trans (new pc) (new pc) (seen carried old pc) (inferred us declared pc) (AreSame-refl (new pc)) p.here (r.ahead pc (omega arith)))
+              | inr other ↦ stored_trans (new q) (old q) (inferred us declared q) (inferred us declared q) (p.behind q (omega arith)) (r.behind q (omega arith)) (AreSame-refl (inferred us declared q))
             ];
-        ahead = λ q l. known_more pc q old new r (omega arith) (p.each q);
-        flawless = still_none pc r.flawless (sym (flaw_here old pc r) ∙ p.flawless);
+        ahead = λ q l. known_more pc q carried next old new r (omega arith) (p.ahead q (omega arith));
+        flawless = still_none pc r.flawless (sym (flaw_here carried old pc r) ∙ p.flawless);
+        goes_on = subst (λ k. IsCarriedTo us k next) (add-one pc) p.goes_on;
       }
 
-  pub reached_more : (sound : IsSound us) (old new : Facts) (pc : ℕ) → IsReached us declared old pc → IsPassed us declared pc old new → IsReached us declared new (pc + 1)
-  reached_more sound old new pc r p = subst (IsReached us declared new) (sym (add-one pc)) (reached_suc sound old new pc r p)
+  pub reached_more : (carried next : Option Stored) (old new : Facts) (pc : ℕ) → IsReached us declared carried old pc → IsPassed us declared pc carried next old new → IsReached us declared next new (pc + 1)
+  reached_more carried next old new pc r p = subst (IsReached us declared next new) (sym (add-one pc)) (reached_suc carried next old new pc r p)
 
-  pub flaw_found : (facts : Facts) (pc : ℕ) (fault : TypeFault) → pc < length us → IsReached us declared facts pc → flaw_under us declared pc (facts pc) ≡ Some fault → first_flaw us declared ≡ Some fault
-  flaw_found facts pc fault l r here =
-      flaw_stays us declared (suc pc) (length us) fault (first_here pc fault r.flawless (sym (flaw_here facts pc r) ∙ here)) (omega arith)
+  pub flaw_found : (carried : Option Stored) (facts : Facts) (pc : ℕ) (fault : TypeFault) → pc < length us → IsReached us declared carried facts pc → flaw_under us declared pc (seen carried facts pc) ≡ Some fault → first_flaw us declared ≡ Some fault
+  flaw_found carried facts pc fault l r here =
+      flaw_stays us declared (suc pc) (length us) fault (first_here pc fault r.flawless (sym (flaw_here carried facts pc r) ∙ here)) (omega arith)
 
-  pub reached_all : (facts : Facts) (pc : ℕ) → length us ≤ pc → IsReached us declared facts pc → AreInferred us declared facts
-  reached_all facts pc l r q inside = r.behind q (omega arith)
+  pub refused_at : (carried : Option Stored) (facts : Facts) (pc : ℕ) (refusal : Refusal) → pc < length us → IsReached us declared carried facts pc → IsUnitRefused us declared pc (seen carried facts pc) refusal → IsPassRefused us declared refusal
+  refused_at carried facts pc (Decode fault) l r h = h
+  refused_at carried facts pc (FlowRefusal fault) l r h = h
+  refused_at carried facts pc (TypeRefusal fault) l r h = flaw_found carried facts pc fault l r h
+  refused_at carried facts pc OutOfMemory l r h = tt
 
-  pub flawless_all : (facts : Facts) (pc : ℕ) → length us ≡ pc → IsReached us declared facts pc → first_flaw us declared ≡ None
-  flawless_all facts pc l r = ap (first_flaw_below us declared) l ∙ r.flawless
+  pub reached_all : (carried : Option Stored) (facts : Facts) (pc : ℕ) → length us ≤ pc → IsReached us declared carried facts pc → AreInferred us declared facts
+  reached_all carried facts pc l r q inside = r.behind q (omega arith)
+
+  pub flawless_all : (carried : Option Stored) (facts : Facts) (pc : ℕ) → length us ≡ pc → IsReached us declared carried facts pc → first_flaw us declared ≡ None
+  flawless_all carried facts pc l r = ap (first_flaw_below us declared) l ∙ r.flawless

@@ -1,10 +1,11 @@
 -- Promises: what facts mean, and when they cover a program.
-use Rattle.std.specs.Prelude.{◌≡◌, ℕ, ◌/◌, ◌%◌, ◌^◌, ◌⊎◌, ◌↔◌, Bool, pos, ◌+ℤ◌, List, [], ◌∷◌, length, Option, Some, None, Ok, slice_get, slice_index_or, ⊤}
+use Rattle.std.specs.Prelude.{◌≡◌, ◌≢◌, ℕ, ◌+◌, ◌<◌, ◌==◌, if◌then◌else◌, ◌/◌, ◌%◌, ◌^◌, ◌⊎◌, ◌↔◌, Bool, pos, ◌+ℤ◌, List, [], ◌∷◌, length, Option, Some, None, Ok, slice_get, slice_index_or, ⊤}
 use Rattle.std.specs.List.{AllByRecursion}
 use Rattle.bpf_model.specs.declared.instruction.Inst.{Inst}
 use Rattle.bpf_model.specs.declared.instruction.Unit.{Unit as ProgramUnit}
 use Rattle.bpf_model.specs.declared.instruction.Unit.TheVariants.{First}
 use Rattle.bpf_model.specs.declared.instruction.Form.{Form}
+use Rattle.bpf_model.specs.declared.instruction.Form.TheVariants.{Wide}
 use Rattle.bpf_model.specs.declared.machine.Value.{Value}
 use Rattle.bpf_model.specs.declared.machine.Value.TheVariants.{Number, Context, Stack}
 use Rattle.bpf_model.specs.declared.machine.Cell.{Cell}
@@ -18,9 +19,10 @@ use Rattle.stack_map.specs.Places.{Has, Within}
 use Rattle.reg_types.specs.declared.types.RegType.{RegType}
 use Rattle.reg_types.specs.declared.types.RegType.TheVariants.{Unset as Anything, Num, Const, Ctx, Stk}
 use Rattle.reg_types.specs.declared.types.Fact.{Fact}
+use Rattle.reg_types.specs.declared.types.Stored.{Stored}
 use Rattle.reg_types.specs.declared.types.Effect.{Effect}
 use Rattle.reg_types.specs.declared.types.Successors.{Successors}
-use Rattle.reg_types.specs.declared.types.Successors.TheVariants.{End, One, Two}
+use Rattle.reg_types.specs.declared.types.Successors.TheVariants.{End, Next, Jump, Either}
 use Rattle.reg_types.specs.Rules.{type_at, judged}
 use Rattle.reg_types.specs.Inference.{leads, upper_of, entry_types}
 
@@ -63,8 +65,30 @@ pub record Changes (declared : ℕ) (old new : Counters) : Type 0 where
 -- the units in a choice of none, one or two
 abbrev pub list_of : Successors → List ℕ
 list_of End = []
-list_of (One to) = to ∷ []
-list_of (Two to other) = to ∷ other ∷ []
+list_of (Next to) = to ∷ []
+list_of (Jump to) = to ∷ []
+list_of (Either to next) = to ∷ next ∷ []
+
+-- the units among them that a jump goes to
+abbrev pub jumps_of : Successors → List ℕ
+jumps_of End = []
+jumps_of (Next to) = []
+jumps_of (Jump to) = to ∷ []
+jumps_of (Either to next) = to ∷ []
+
+-- the fact is carried on to the next instruction
+abbrev pub carried_of : Fact → Successors → Option Stored
+carried_of fact End = None
+carried_of fact (Next to) = Some (record { at = to; fact = fact })
+carried_of fact (Jump to) = None
+carried_of fact (Either to next) = Some (record { at = next; fact = fact })
+
+-- the next instruction begins at the next unit, or behind a wide load's second
+abbrev pub IsNext : ℕ → Form → Successors → Type 0
+IsNext pc form End = ⊤
+IsNext pc form (Next to) = (to ≡ pc + 1) ⊎ ((to ≡ pc + 2) × (form ≡ Wide))
+IsNext pc form (Jump to) = ⊤
+IsNext pc form (Either to next) = next ≡ pc + 1
 
 -- ---- tables of facts
 
@@ -72,9 +96,16 @@ list_of (Two to other) = to ∷ other ∷ []
 abbrev pub Facts : Type 0
 Facts = ℕ → Option Fact
 
--- the facts in a list
-abbrev pub table : List (Option Fact) → Facts
-table facts pc = slice_index_or facts pc None
+-- the facts that are stored
+abbrev pub stored : List Stored → Facts
+stored [] q = None
+stored (s ∷ rest) q = if q == s.at then Some s.fact else stored rest q
+
+-- the first place at which a unit's fact is stored
+pub record IsPlace (facts : List Stored) (at k : ℕ) : Type 0 where
+  pub inside : k < length facts
+  pub earlier : (j : ℕ) (d : Stored) → j < k → (slice_index_or facts j d).at ≢ at
+  pub here : (d : Stored) → (slice_index_or facts k d).at ≡ at
 
 -- the types after an instruction, and the old places with those that it sets
 pub record IsAfter (fact : Fact) (effect : Effect) (after : Fact) : Type 0 where

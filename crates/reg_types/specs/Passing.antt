@@ -1,6 +1,9 @@
 -- Promises: what the pass over the units does, what it leaves, and how its refusal is told.
-use Rattle.std.specs.Prelude.{◌≡◌, ◌≢◌, ℕ, ◌<◌, ◌↔◌, List, length, Option, Some, None, ⊤}
+use Rattle.std.specs.Prelude.{◌≡◌, ◌≢◌, ℕ, ◌+◌, ◌<◌, ◌≤◌, ◌⊎◌, ◌↔◌, ℤ, List, [], ◌∷◌, length, Option, Some, None, slice_get, ⊤}
 use Rattle.bpf_model.specs.declared.instruction.Unit.{Unit as ProgramUnit}
+use Rattle.bpf_model.specs.declared.instruction.Inst.{Inst}
+use Rattle.bpf_model.specs.declared.instruction.Unit.TheVariants.{First, Second}
+use Rattle.reg_types.specs.declared.types.Stored.{Stored}
 use Rattle.bpf_model.specs.Reading.{units}
 use Rattle.bpf_model.specs.Flow.{GoesForward}
 use Rattle.stack_map.specs.Places.{Has}
@@ -10,8 +13,8 @@ use Rattle.flow_check.specs.declared.FlowFault.TheVariants.{OutOfMemory as NoMem
 use Rattle.reg_types.specs.declared.types.Fact.{Fact}
 use Rattle.reg_types.specs.declared.refusal.Refusal.{Refusal}
 use Rattle.reg_types.specs.declared.refusal.Refusal.TheVariants.{Decode, Flow, «Type» as TypeRefusal, OutOfMemory}
-use Rattle.reg_types.specs.Facts.{Facts}
-use Rattle.reg_types.specs.Inference.{flaw_under, passed, inferred, first_flaw}
+use Rattle.reg_types.specs.Facts.{Facts, IsEntry}
+use Rattle.reg_types.specs.Inference.{flaw_under, arrived, passed, inferred, first_flaw}
 
 -- ---- facts that say the same
 
@@ -26,18 +29,67 @@ AreSame (Some a) (Some b) = IsSame a b
 AreSame None (Some b) = ⊥
 AreSame (Some a) None = ⊥
 
--- ---- tables of facts
+-- a unit's stored fact, where one is stored, is this one
+abbrev pub AreStored : Option Fact → Option Fact → Type 0
+AreStored None fact = ⊤
+AreStored (Some a) fact = AreSame (Some a) fact
+
+-- ---- the facts stored, and the one that is carried along
+
+-- what is known of unit q where a fact is carried to some unit
+abbrev pub brought : ℕ → Option Stored → Option Fact → Option Fact
+brought q None old = old
+brought q (Some s) old = arrived q s.fact s.at old
+
+abbrev pub seen : Option Stored → Facts → Facts
+seen carried facts q = brought q carried (facts q)
+
+-- the fact is carried to the unit pc, or past it where that is a wide load's second
+abbrev pub IsCarriedTo : List ProgramUnit → ℕ → Option Stored → Type 0
+IsCarriedTo us pc None = ⊤
+IsCarriedTo us pc (Some s) = ((i : Inst) × (slice_get us s.at ≡ Some (First i))) × ((s.at ≡ pc) ⊎ ((s.at ≡ pc + 1) × ((v : ℤ) × (slice_get us pc ≡ Some (Second v)))))
+
+abbrev pub IsCarriedAt : ℕ → Option Stored → Type 0
+IsCarriedAt pc None = ⊤
+IsCarriedAt pc (Some s) = s.at ≡ pc
+
+-- a fact that comes to a unit with a stored one is taken in there
+pub record IsJoined (at : ℕ) (fact joined : Fact) (old new : Facts) : Type 0 where
+  pub is : new at ≡ Some joined
+  pub each : (q : ℕ) → AreSame (new q) (arrived q fact at (old q))
+
+-- what is known of the unit, and stored there if a fact was
+pub record IsSettled (pc : ℕ) (carried : Option Stored) (fact : Option Fact) (old new : Facts) : Type 0 where
+  pub is : AreSame fact (seen carried old pc)
+  pub others : (q : ℕ) → q ≢ pc → AreSame (new q) (old q)
+  pub here : AreStored (new pc) fact
+
+-- the instruction has no flaw under the fact; its jumps have brought what they bring, and the rest is carried on
+pub record IsVisited (us : List ProgramUnit) (declared pc : ℕ) (fact : Fact) (next : Option Stored) (old new : Facts) : Type 0 where
+  pub flawless : flaw_under us declared pc (Some fact) ≡ None
+  pub ahead : (q : ℕ) → pc < q → AreSame (seen next new q) (passed us declared pc (Some fact) q (old q))
+  pub behind : (q : ℕ) → q ≤ pc → AreSame (new q) (old q)
+  pub goes_on : IsCarriedTo us (pc + 1) next
 
 -- the unit has no flaw, and its edges have brought what they bring
-pub record IsPassed (us : List ProgramUnit) (declared pc : ℕ) (old new : Facts) : Type 0 where
-  pub flawless : flaw_under us declared pc (old pc) ≡ None
-  pub each : (q : ℕ) → AreSame (new q) (passed us declared pc (old pc) q (old q))
+pub record IsPassed (us : List ProgramUnit) (declared pc : ℕ) (carried next : Option Stored) (old new : Facts) : Type 0 where
+  pub flawless : flaw_under us declared pc (seen carried old pc) ≡ None
+  pub ahead : (q : ℕ) → pc < q → AreSame (seen next new q) (passed us declared pc (seen carried old pc) q (seen carried old q))
+  pub behind : (q : ℕ) → q < pc → AreSame (new q) (old q)
+  pub here : AreStored (new pc) (seen carried old pc)
+  pub goes_on : IsCarriedTo us (pc + 1) next
 
--- the table holds the fact of each unit
+-- the entry's fact alone is stored
+pub record IsStarted (facts : List Stored) : Type 0 where
+  pub start : Fact
+  pub entry : IsEntry start
+  pub items : facts ≡ record { at = 0; fact = start } ∷ []
+
+-- each stored fact is the fact of its unit
 abbrev pub AreInferred : List ProgramUnit → ℕ → Facts → Type 0
-AreInferred us declared facts = (q : ℕ) → q < length us → AreSame (facts q) (inferred us declared q)
+AreInferred us declared facts = (q : ℕ) → q < length us → AreStored (facts q) (inferred us declared q)
 
--- the bytes are these units, whose jumps go forward and in which there is no flaw, with the fact of each
+-- the bytes are these units, whose jumps go forward and in which there is no flaw, with facts of some of them
 pub record IsAccepted (bytes : List ℕ) (declared : ℕ) (us : List ProgramUnit) (facts : Facts) : Type 0 where
   pub reads : units bytes ≡ Some us
   pub forward : GoesForward us
@@ -50,6 +102,13 @@ pub record IsAccepted (bytes : List ℕ) (declared : ℕ) (us : List ProgramUnit
 abbrev pub decode_told : DecodeFault → Refusal
 decode_told NoMemoryToDecode = OutOfMemory
 decode_told fault = Decode fault
+
+-- a refusal at a unit before which this is known
+abbrev pub IsUnitRefused : List ProgramUnit → ℕ → ℕ → Option Fact → Refusal → Type 0
+IsUnitRefused us declared pc fact (Decode fault) = ⊥
+IsUnitRefused us declared pc fact (Flow fault) = ⊥
+IsUnitRefused us declared pc fact (TypeRefusal fault) = flaw_under us declared pc fact ≡ Some fault
+IsUnitRefused us declared pc fact OutOfMemory = ⊤
 
 -- a refusal of the pass over the units
 abbrev pub IsPassRefused : List ProgramUnit → ℕ → Refusal → Type 0

@@ -26,6 +26,13 @@ pub struct Fact {
     pub stack: StackMap,
 }
 
+/// What is known before the unit `at`.
+#[derive(Clone, Copy, Debug, PartialEq, Eq)]
+pub struct Stored {
+    pub at: u32,
+    pub fact: Fact,
+}
+
 /// What an instruction leaves: the types, and the bytes of the stack that it sets, `len` of them from `at` on.
 #[derive(Clone, Copy, Debug, PartialEq, Eq)]
 pub struct Effect {
@@ -51,12 +58,13 @@ pub enum Flaw {
     UndeclaredCounter,
 }
 
-/// Where an instruction can lead to.
+/// Where an instruction can lead to: nowhere, to the next one, by a jump, or to either, the jump's target first.
 #[derive(Clone, Copy, Debug, PartialEq, Eq)]
 pub enum Successors {
     End,
-    One(u32),
-    Two(u32, u32),
+    Next(u32),
+    Jump(u32),
+    Either(u32, u32),
 }
 
 impl RegType {
