@@ -1,11 +1,16 @@
 -- Definitions: what words ask for, as `clap` reads them. The first word is the program's name.
-use Rattle.std.specs.Prelude.{◌≡◌, ℕ, List, [], ◌∷◌, codes, Bool, true, false, Option, Some, None, option_and_then, option_map, if◌then◌else◌, string_bytes, pos, ⊤}
+use Rattle.std.specs.Prelude.{◌≡◌, ◌≢◌, ◌⊎◌, ◌<◌, ◌^◌, ℕ, List, [], ◌∷◌, codes, Bool, true, false, Option, Some, None, option_and_then, option_map, if◌then◌else◌, string_bytes, pos, ⊤}
 use Rattle.std.specs.Str.{bytes_eq}
-use Rattle.std.specs.Str.Parse.{digits_value, without_leading_plus}
+use Rattle.std.specs.Str.Parse.{IsNumeral, digits_value, without_leading_plus}
 use Rattle.clap.specs.Words.{App, Row, Rule, Text, new_app, new_rule, with_rule, with_subcommand, first_of, one_of, subcommand_of}
+use Rattle.clap.specs.Kinds.{Kinds, IsAmong}
+use Rattle.clap.specs.declared.error.kind.ErrorKind.{ErrorKind}
+use Rattle.clap.specs.declared.error.kind.ErrorKind.TheVariants as kind
 use Rattle.clap.specs.declared.builder.value_parser.ValueParser.TheVariants as parser
 use Rattle.command_line.specs.declared.job.Job.{Job}
 use Rattle.command_line.specs.declared.job.Job.TheVariants as job
+use Rattle.command_line.specs.declared.job.CommandFault.{CommandFault}
+use Rattle.command_line.specs.declared.job.CommandFault.TheVariants as refusal
 
 -- ---- the words that the program takes
 
@@ -69,7 +74,8 @@ pub data Asked : Type 0 where
   verify : ℕ → Text → Asked
   play : Text → Text → Asked
   audit : Text → Text → Asked
-  serve : Option Text → Text → Asked
+  serve : Text → Asked
+  serve_kept : Text → Text → Asked
 
 abbrev pub file_in : Text → (Text → Asked) → List Row → Option Asked
 file_in id ask rows = option_map ask (first_of id rows)
@@ -85,9 +91,13 @@ mask_in rows = option_map (λ (t : Text). digits_value 10 (without_leading_plus 
 abbrev pub verify_in : List Row → Option Asked
 verify_in rows = option_and_then (λ (n : ℕ). option_map (verify n) (first_of (codes "file") rows)) (mask_in rows)
 
--- a file to serve, and the file of its journal where one is named
+-- a site to serve, and the file that keeps its journal where one is named
+abbrev pub serve_by : Option Text → Text → Asked
+serve_by None config = serve config
+serve_by (Some journal) config = serve_kept config journal
+
 abbrev pub serve_in : List Row → Option Asked
-serve_in rows = option_map (serve (first_of (codes "journal") rows)) (first_of (codes "config") rows)
+serve_in rows = option_map (serve_by (first_of (codes "journal") rows)) (first_of (codes "config") rows)
 
 -- what a subcommand's name and values ask for
 abbrev pub asked_by : Text → List Row → Option Asked
@@ -112,5 +122,35 @@ asked (job.Dis file) = Some (dis (string_bytes file))
 asked (job.Verify counters file) = Some (verify counters (string_bytes file))
 asked (job.Play config script) = Some (play (string_bytes config) (string_bytes script))
 asked (job.Audit config journal) = Some (audit (string_bytes config) (string_bytes journal))
-asked (job.Serve config journal) = Some (serve (option_map string_bytes journal) (string_bytes config))
+asked (job.Serve config) = Some (serve (string_bytes config))
+asked (job.ServeKept config journal) = Some (serve_kept (string_bytes config) (string_bytes journal))
 asked (job.Show text) = None
+
+-- ---- what is refused
+
+-- help or the version
+abbrev pub IsShown : ErrorKind → Type 0
+IsShown k = (k ≡ kind.DisplayHelp) ⊎ (k ≡ kind.DisplayVersion)
+
+-- Help or the version is among what `clap` may tell of the words.
+abbrev pub MayShow : Kinds → Type 0
+MayShow kinds = (k : ErrorKind) × IsAmong k kinds × IsShown k
+
+-- something else is, which is no want of memory
+abbrev pub MayRefuse : Kinds → Type 0
+MayRefuse kinds = (k : ErrorKind) × IsAmong k kinds × ¬ IsShown k × (k ≢ kind.OutOfMemory)
+
+-- the mask is a text that spells no number of 32 bits
+abbrev pub HasNoMask : List Row → Type 0
+HasNoMask rows =
+    (t : Text) × (one_of (codes "counters") rows ≡ Some t)
+    × ¬ (IsNumeral 10 (without_leading_plus t) × (digits_value 10 (without_leading_plus t) < 2 ^ 32))
+
+-- what was read asks for nothing
+abbrev pub IsNothing : Option (Text × List Row) → Type 0
+IsNothing found = (asked_of found ≡ None) ⊎ ((p : Text × List Row) × (found ≡ Some p) × HasNoMask p.1)
+
+-- The usage is told only where `clap` may refuse the words, or what it read of them asks for nothing.
+abbrev pub RefusesBy : Kinds → Option (Text × List Row) → CommandFault → Type 0
+RefusesBy kinds found (refusal.Usage text) = MayRefuse kinds ⊎ IsNothing found
+RefusesBy kinds found refusal.OutOfMemory = Unit {0}

@@ -13,25 +13,15 @@ pub enum Job {
     /// A program file to text of the assembler.
     Dis(String),
     /// Whether a program file is accepted; bit c of `counters` declares counter c.
-    Verify {
-        counters: u32,
-        file: String,
-    },
+    Verify { counters: u32, file: String },
     /// A script's answers.
-    Play {
-        config: String,
-        script: String,
-    },
+    Play { config: String, script: String },
     /// Whether a journal is a legal history.
-    Audit {
-        config: String,
-        journal: String,
-    },
-    /// A site served on loopback, which keeps its journal in a file where one is named.
-    Serve {
-        config: String,
-        journal: Option<String>,
-    },
+    Audit { config: String, journal: String },
+    /// A site served on loopback, whose journal is printed at the end.
+    Serve(String),
+    /// A site served on loopback, whose journal is kept in a file as it happens.
+    ServeKept { config: String, journal: String },
     /// The text that help or the version is answered with.
     Show(String),
 }

@@ -17,6 +17,9 @@ fn job_text(alloc: Global, line: &str) -> Result<String, Fail> {
         Ok(Job::Play { config, script }) => Ok(format!(in alloc; "play {config} {script}")?),
         Ok(Job::Audit { config, journal }) => Ok(format!(in alloc; "audit {config} {journal}")?),
         Ok(Job::Serve(config)) => Ok(format!(in alloc; "serve {config}")?),
+        Ok(Job::ServeKept { config, journal }) => {
+            Ok(format!(in alloc; "serve {config} kept in {journal}")?)
+        }
         Ok(Job::Show(_)) => Ok(String::from_str(alloc, "text")?),
         Err(CommandFault::Usage(text)) => {
             let told = if text.is_empty() {
@@ -49,6 +52,12 @@ fn words_ask_for_jobs(rt: HostRuntime) -> Result<(), Fail> {
             "audit site.toml day.journal",
         ),
         ("fc serve site.toml", "serve site.toml"),
+        (
+            "fc serve --journal day.journal site.toml",
+            "serve site.toml kept in day.journal",
+        ),
+        ("fc serve --journal site.toml", "usage"),
+        ("fc serve --journal a --journal b site.toml", "usage"),
         ("fc --help", "text"),
         ("fc -h", "text"),
         ("fc help", "text"),

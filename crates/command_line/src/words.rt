@@ -1,28 +1,18 @@
 //! Reading the words of a command line.
-ghost use Rattle.std.specs.Prelude.{◌≡◌, ◌≢◌, IsSome, Some, None, false, IfOk, OnOk, map, codes, option_map, string_bytes};
-ghost use Rattle.std.specs.Bool.{OnTrue};
-ghost use Rattle.clap.specs.Words.{first_of, rows_of, found_of, subcommand_of, subcommand_rows_of, takes};
+ghost use Rattle.std.specs.Prelude.{◌≡◌, IsTrue, IsSome, None, false, [], IfOk, IfErr, OnOk, map, codes, option_map, string_bytes, ◌↔◌};
+ghost use Rattle.clap.specs.Words.{first_of, rows_of, found_of, subcommand_of, subcommand_rows_of, takes, fault_of};
 ghost use Rattle.clap.specs.Values.{kind_of};
-ghost use Rattle.clap.specs.declared.error.kind.ErrorKind.TheVariants as kind;
-ghost use Rattle.command_line.specs.Asked.{fc_app, asked, asked_of, asked_by, mask_in};
+ghost use Rattle.command_line.specs.Asked.{fc_app, asked, asked_of, IsShown, MayShow, RefusesBy};
+ghost use Rattle.command_line.specs.Refusing.{Finds, FindsIn, ReadsMask, IsUnasked, IsRefusalOf};
 
 use crate::app::fc;
 use crate::job::{CommandFault, Job};
+use clap::error::ErrorKind;
 use clap::{ArgMatches, Error};
 use std::alloc::{AllocError, Global};
 
-/// The text of a file's name.
-fn file_of(alloc: Global, matches: &ArgMatches, id: &str) -> Result<String, CommandFault>
-    ensures { IfOk result (λ s. first_of id.now (rows_of (found_of matches.now)) ≡ Some (string_bytes s)) }
-{
-    match matches.get_str(id) {
-        Some(text) => Ok(String::from_str(alloc, text)?),
-        None => Err(CommandFault::Usage(String::new(alloc))),
-    }
-}
-
-/// The text of a file's name, where it is there.
-fn named_file(alloc: Global, matches: &ArgMatches, id: &str) -> Result<Option<String>, CommandFault>
+/// The text of a file's name, where there is one.
+fn file_of(alloc: Global, matches: &ArgMatches, id: &str) -> Result<Option<String>, AllocError>
     ensures { IfOk result (λ s. first_of id.now (rows_of (found_of matches.now)) ≡ option_map string_bytes s) }
 {
     match matches.get_str(id) {
@@ -34,61 +24,87 @@ fn named_file(alloc: Global, matches: &ArgMatches, id: &str) -> Result<Option<St
     }
 }
 
-/// The number of the mask.
-fn mask_of(alloc: Global, matches: &ArgMatches) -> Result<u32, CommandFault>
-    ensures { IfOk result (λ n. mask_in (rows_of (found_of matches.now)) ≡ Some n) }
+/// The number of the mask, where there is one.
+fn mask_of(matches: &ArgMatches) -> Option<u32>
+    ensures { ReadsMask (rows_of (found_of matches.now)) result }
 {
-    match matches.get_one::<u32>("counters") {
-        Some(counters) => Ok(counters),
-        None => Err(CommandFault::Usage(String::new(alloc))),
+    matches.get_one::<u32>("counters")
+}
+
+fn asm_of(alloc: Global, matches: &ArgMatches) -> Result<Option<Job>, AllocError>
+    ensures { IfOk result (Finds (codes "asm") (rows_of (found_of matches.now))) }
+{
+    match file_of(alloc, matches, "file")? {
+        Some(file) => Ok(Some(Job::Asm(file))),
+        None => Ok(None),
     }
 }
 
-fn play_of(alloc: Global, matches: &ArgMatches) -> Result<Job, CommandFault>
-    ensures asked { IfOk result (λ job. asked_by (codes "play") (rows_of (found_of matches.now)) ≡ asked job) }
-    ensures some { IfOk result (λ job. IsSome (asked job)) }
+fn dis_of(alloc: Global, matches: &ArgMatches) -> Result<Option<Job>, AllocError>
+    ensures { IfOk result (Finds (codes "dis") (rows_of (found_of matches.now))) }
 {
-    let config = file_of(alloc, matches, "config")?;
-    let script = file_of(alloc, matches, "script")?;
-    Ok(Job::Play { config, script })
+    match file_of(alloc, matches, "file")? {
+        Some(file) => Ok(Some(Job::Dis(file))),
+        None => Ok(None),
+    }
 }
 
-fn audit_of(alloc: Global, matches: &ArgMatches) -> Result<Job, CommandFault>
-    ensures asked { IfOk result (λ job. asked_by (codes "audit") (rows_of (found_of matches.now)) ≡ asked job) }
-    ensures some { IfOk result (λ job. IsSome (asked job)) }
+fn verify_of(alloc: Global, matches: &ArgMatches) -> Result<Option<Job>, AllocError>
+    ensures { IfOk result (Finds (codes "verify") (rows_of (found_of matches.now))) }
 {
-    let config = file_of(alloc, matches, "config")?;
-    let journal = file_of(alloc, matches, "journal")?;
-    Ok(Job::Audit { config, journal })
+    let Some(counters) = mask_of(matches) else {
+        return Ok(None);
+    };
+    match file_of(alloc, matches, "file")? {
+        Some(file) => Ok(Some(Job::Verify { counters, file })),
+        None => Ok(None),
+    }
 }
 
-fn verify_of(alloc: Global, matches: &ArgMatches) -> Result<Job, CommandFault>
-    ensures asked { IfOk result (λ job. asked_by (codes "verify") (rows_of (found_of matches.now)) ≡ asked job) }
-    ensures some { IfOk result (λ job. IsSome (asked job)) }
+fn play_of(alloc: Global, matches: &ArgMatches) -> Result<Option<Job>, AllocError>
+    ensures { IfOk result (Finds (codes "play") (rows_of (found_of matches.now))) }
 {
-    let counters = mask_of(alloc, matches)?;
-    let file = file_of(alloc, matches, "file")?;
-    Ok(Job::Verify { counters, file })
+    let Some(config) = file_of(alloc, matches, "config")? else {
+        return Ok(None);
+    };
+    match file_of(alloc, matches, "script")? {
+        Some(script) => Ok(Some(Job::Play { config, script })),
+        None => Ok(None),
+    }
 }
 
-fn serve_of(alloc: Global, matches: &ArgMatches) -> Result<Job, CommandFault>
-    ensures asked { IfOk result (λ job. asked_by (codes "serve") (rows_of (found_of matches.now)) ≡ asked job) }
-    ensures some { IfOk result (λ job. IsSome (asked job)) }
+fn audit_of(alloc: Global, matches: &ArgMatches) -> Result<Option<Job>, AllocError>
+    ensures { IfOk result (Finds (codes "audit") (rows_of (found_of matches.now))) }
 {
-    let config = file_of(alloc, matches, "config")?;
-    let journal = named_file(alloc, matches, "journal")?;
-    Ok(Job::Serve { config, journal })
+    let Some(config) = file_of(alloc, matches, "config")? else {
+        return Ok(None);
+    };
+    match file_of(alloc, matches, "journal")? {
+        Some(journal) => Ok(Some(Job::Audit { config, journal })),
+        None => Ok(None),
+    }
+}
+
+fn serve_of(alloc: Global, matches: &ArgMatches) -> Result<Option<Job>, AllocError>
+    ensures { IfOk result (Finds (codes "serve") (rows_of (found_of matches.now))) }
+{
+    let Some(config) = file_of(alloc, matches, "config")? else {
+        return Ok(None);
+    };
+    match file_of(alloc, matches, "journal")? {
+        Some(journal) => Ok(Some(Job::ServeKept { config, journal })),
+        None => Ok(Some(Job::Serve(config))),
+    }
 }
 
 /// The job of a subcommand.
-fn named_job(alloc: Global, name: &str, matches: &ArgMatches) -> Result<Job, CommandFault>
-    ensures asked { IfOk result (λ job. asked_by name.now (rows_of (found_of matches.now)) ≡ asked job) }
-    ensures some { IfOk result (λ job. IsSome (asked job)) }
+fn named_job(alloc: Global, name: &str, matches: &ArgMatches) -> Result<Option<Job>, AllocError>
+    ensures { IfOk result (Finds name.now (rows_of (found_of matches.now))) }
 {
     if name == "asm" {
-        Ok(Job::Asm(file_of(alloc, matches, "file")?))
+        asm_of(alloc, matches)
     } else if name == "dis" {
-        Ok(Job::Dis(file_of(alloc, matches, "file")?))
+        dis_of(alloc, matches)
     } else if name == "verify" {
         verify_of(alloc, matches)
     } else if name == "play" {
@@ -98,38 +114,55 @@ fn named_job(alloc: Global, name: &str, matches: &ArgMatches) -> Result<Job, Com
     } else if name == "serve" {
         serve_of(alloc, matches)
     } else {
-        Err(CommandFault::Usage(String::new(alloc)))
+        Ok(None)
     }
 }
 
-/// The job of these matches.
-fn job_of(alloc: Global, matches: &ArgMatches) -> Result<Job, CommandFault>
-    ensures asked { IfOk result (λ job. asked_of (subcommand_rows_of matches.now) ≡ asked job) }
-    ensures some { IfOk result (λ job. IsSome (asked job)) }
+/// The job of these matches, where they ask for one.
+fn job_of(alloc: Global, matches: &ArgMatches) -> Result<Option<Job>, AllocError>
+    ensures { IfOk result (FindsIn (subcommand_rows_of matches.now)) }
 {
     match matches.subcommand() {
-        None => Ok(Job::NoWords),
+        None => Ok(Some(Job::NoWords)),
         Some((name, rest)) => named_job(alloc, name, rest),
+    }
+}
+
+/// The job that was found; where there is none the words are refused, with nothing to tell.
+fn found_job(alloc: Global, matches: &ArgMatches) -> Result<Job, CommandFault>
+    ensures asked { IfOk result (λ job. asked_of (subcommand_rows_of matches.now) ≡ asked job) }
+    ensures some { IfOk result (λ job. IsSome (asked job)) }
+    ensures none { IfErr result (IsUnasked (subcommand_rows_of matches.now)) }
+{
+    match job_of(alloc, matches)? {
+        Some(job) => Ok(job),
+        None => Err(CommandFault::Usage(String::new(alloc))),
     }
 }
 
 /// Whether the error is help or the version, which the words ask for.
 fn is_asked_text(error: &Error) -> bool
-    ensures { OnTrue result (kind_of error.now ≢ kind.OutOfMemory) }
+    ensures { IsTrue result ↔ IsShown (kind_of error.now) }
 {
-    !error.use_stderr()
+    matches!(
+        error.kind(),
+        ErrorKind::DisplayHelp | ErrorKind::DisplayVersion
+    )
 }
 
-/// The text of help or the version; all else is a usage.
-fn text_of(alloc: Global, error: Error) -> Result<String, CommandFault>
-    ensures { OnOk result (kind_of error ≢ kind.OutOfMemory) }
+/// What an error of the words is answered with: the text of help or of the version, or else the usage.
+fn told_of(alloc: Global, error: Error) -> Result<Job, CommandFault>
+    ensures none { IfOk result (λ job. asked job ≡ None) }
+    ensures shown { OnOk result (IsShown (kind_of error)) }
+    ensures refused { IfErr result (IsRefusalOf (kind_of error)) }
 {
-    let is_asked = is_asked_text(&error);
-    let Ok(text) = error.to_string(alloc) else {
+    if error.kind() == ErrorKind::OutOfMemory {
         return Err(CommandFault::OutOfMemory);
-    };
+    }
+    let is_asked = is_asked_text(&error);
+    let text = error.to_string(alloc)?;
     if is_asked {
-        Ok(text)
+        Ok(Job::Show(text))
     } else {
         Err(CommandFault::Usage(text))
     }
@@ -140,10 +173,13 @@ fn text_of(alloc: Global, error: Error) -> Result<String, CommandFault>
 pub fn command(alloc: Global, words: Vec<String>) -> Result<Job, CommandFault>
     ensures asked { IfOk result (λ job. IsSome (asked job) → asked_of (subcommand_of fc_app (map string_bytes words.items)) ≡ asked job) }
     ensures shown { IfOk result (λ job. asked job ≡ None → takes fc_app (map string_bytes words.items) ≡ false) }
+    ensures faultless { IfOk result (λ job. IsSome (asked job) → fault_of fc_app (map string_bytes words.items) ≡ []) }
+    ensures helps { IfOk result (λ job. asked job ≡ None → MayShow (fault_of fc_app (map string_bytes words.items))) }
+    ensures refused { IfErr result (RefusesBy (fault_of fc_app (map string_bytes words.items)) (subcommand_of fc_app (map string_bytes words.items))) }
 {
     let command = fc(alloc)?;
     match command.try_get_matches_from(words.as_slice()) {
-        Ok(matches) => job_of(alloc, &matches),
-        Err(error) => Ok(Job::Show(text_of(alloc, error)?)),
+        Ok(matches) => found_job(alloc, &matches),
+        Err(error) => told_of(alloc, error),
     }
 }

@@ -39,7 +39,8 @@ pub fn do_job<H: Net<Listener = TcpListener, Stream = TcpStream> + Threads + Wai
         Job::Verify { counters, file } => tell_of(rt, &file, Tell::Verify(counters)),
         Job::Play { config, script } => play_files(rt, &config, &script),
         Job::Audit { config, journal } => audit_files(rt, &config, &journal),
-        Job::Serve { config, journal } => serve_file(rt, host, &config, journal),
+        Job::Serve(config) => serve_file(rt, host, &config, None),
+        Job::ServeKept { config, journal } => serve_file(rt, host, &config, Some(journal)),
     };
     match done {
         Ok(status) => status,

@@ -18,7 +18,7 @@ use Rattle.till_request.specs.declared.act.Request.TheVariants as requests
 use Rattle.till_request.specs.declared.act.Role.{Role}
 use Rattle.till_request.specs.declared.act.Role.TheVariants as roles
 use Rattle.till_request.specs.declared.act.LineFault.{LineFault}
-use Rattle.till_request.specs.declared.act.LineFault.TheVariants.{BadLine, BadNumber}
+use Rattle.till_request.specs.declared.act.LineFault.TheVariants.{TooLong, BadLine, BadNumber}
 use Rattle.till_request.specs.declared.form.AmountVerb.{AmountVerb}
 use Rattle.till_request.specs.declared.form.AmountVerb.TheVariants as amounts
 use Rattle.till_request.specs.declared.form.PointVerb.{PointVerb}
@@ -235,3 +235,7 @@ act_of_words role ws = act_by (find (suits role ws) all_forms) ws
 -- what a line stands for that somebody of this role sends
 abbrev pub act_of : Role → List ℕ → Result Act LineFault
 act_of role line = act_of_words role (words line)
+
+-- what a line of any length is read as: one of more than 8,400 bytes is too long, whatever stands in it
+abbrev pub line_read : Role → List ℕ → Result Act LineFault
+line_read role line = if nat_lt 8400 (length line) then Err TooLong else act_of role line

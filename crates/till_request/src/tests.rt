@@ -244,6 +244,7 @@ fn a_line_has_8400_bytes(rt: HostRuntime) -> Result<(), Fail> {
     let alloc = rt.alloc();
     for (length, fault) in [(8400, LineFault::BadLine), (8401, LineFault::TooLong)] {
         let mut bytes = vec![in alloc; b'a'; length]?;
+        assert_eq!(rt; parse_line(alloc, Role::All, &bytes), Err(fault));
         bytes.push(b'\n')?;
         let mut input = MemoryIn::new(bytes, Vec::new(alloc), None);
         let mut left = 10_000;

@@ -1,17 +1,28 @@
-use Rattle.std.proofs.Common.{◌≡◌, sym, subst, Bool, true, false, IfOk, IsSome, Result, Ok, Err, List, String, Global, refl, map, string_bytes}
-use Rattle.clap.specs.Words.{App, HasMatchesOf, Text, app_of, is_simple, subcommand_of, subcommand_rows_of, takes, kind_of}
+use Rattle.std.proofs.Common.{◌≡◌, ◌≢◌, ◌⊎◌, inl, inr, sym, subst, ◌∙◌, Bool, true, false, IfOk, IfErr, OnOk, IsSome, Option, None, Result, Ok, Err, List, [], String, Global, refl, map, string_bytes}
+use Rattle.clap.specs.Words.{App, HasMatchesOf, Row, Text, app_of, is_simple, is_simple_and_free, fault_of, subcommand_of, subcommand_rows_of, takes, kind_of}
+use Rattle.clap.specs.Kinds.{IsAmong, Kinds}
 use Rattle.clap.specs.declared.parser.matches.ArgMatches.{ArgMatches}
 use Rattle.clap.specs.declared.error.kind.ErrorKind.{ErrorKind}
 use Rattle.clap.specs.declared.error.kind.ErrorKind.TheVariants as kind
-use Rattle.command_line.specs.Asked.{fc_app, asked, asked_of}
+use Rattle.command_line.specs.Asked.{IsNothing, IsShown, MayRefuse, MayShow, RefusesBy, fc_app, asked, asked_of}
+use Rattle.command_line.specs.Refusing.{IsRefusalOf, IsUnasked}
 use Rattle.command_line.specs.declared.job.Job.{Job}
 use Rattle.command_line.specs.declared.job.CommandFault.{CommandFault}
+use Rattle.command_line.specs.declared.job.CommandFault.TheVariants.{Usage, OutOfMemory}
 use Rattle.command_line.proofs.words.command.Goals as goal
 
 -- what holds of a result, where more follows from it
 more : (r : Result Job CommandFault) (P Q : Job → Type 0) → ((j : Job) → P j → Q j) → IfOk r P → IfOk r Q
 more (Ok j) P Q f h = f j h
 more (Err e) P Q f h = h
+
+more_on : (r : Result Job CommandFault) (P : Type 0) (Q : Job → Type 0) → ((j : Job) → P → Q j) → OnOk r P → IfOk r Q
+more_on (Ok j) P Q f h = f j h
+more_on (Err e) P Q f h = h
+
+more_err : (r : Result Job CommandFault) (P Q : CommandFault → Type 0) → ((e : CommandFault) → P e → Q e) → IfErr r P → IfErr r Q
+more_err (Ok j) P Q f h = h
+more_err (Err e) P Q f h = f e h
 
 false_unless : (b : Bool) → (b ≡ true → ⊥) → b ≡ false
 false_unless true n = absurd (n refl)
@@ -20,6 +31,9 @@ false_unless false n = refl
 simple : is_simple fc_app ≡ true
 simple = refl
 
+simple_and_free : (a : App) → a ≡ fc_app → is_simple_and_free a ≡ true
+simple_and_free a e = subst (λ (b : App). is_simple_and_free b ≡ true) (sym e) refl
+
 -- the matches of a command whose words are the program's
 found : (a : App) → a ≡ fc_app → (lent words : List (String Global)) → lent ≡ words → (m : ArgMatches) → HasMatchesOf a (map (λ w. string_bytes w) lent) m
     → subcommand_rows_of m ≡ subcommand_of fc_app (map (λ w. string_bytes w) words)
@@ -27,21 +41,84 @@ found a e lent words same m h =
     ((subst (λ (ws : List (String Global)). HasMatchesOf fc_app (map (λ w. string_bytes w) ws) m) same
     (subst (λ (b : App). HasMatchesOf b (map (λ w. string_bytes w) lent) m) e h)) simple).1
 
+-- the faults of the words as lent are those of the words
+faults : (a : App) → a ≡ fc_app → (lent words : List (String Global)) → lent ≡ words
+    → fault_of a (map (λ w. string_bytes w) lent) ≡ fault_of fc_app (map (λ w. string_bytes w) words)
+faults a e lent words same =
+    subst (λ (ws : List (String Global)). fault_of a (map (λ w. string_bytes w) lent) ≡ fault_of fc_app (map (λ w. string_bytes w) ws)) same
+    (subst (λ (b : App). fault_of a (map (λ w. string_bytes w) lent) ≡ fault_of b (map (λ w. string_bytes w) lent)) e refl)
+
 refused : (a : App) → a ≡ fc_app → (lent words : List (String Global)) → lent ≡ words → (k : ErrorKind)
     → (takes a (map (λ w. string_bytes w) lent) ≡ true → k ≡ kind.OutOfMemory) → takes fc_app (map (λ w. string_bytes w) words) ≡ true → k ≡ kind.OutOfMemory
 refused a e lent words same k h t =
     h (subst (λ (b : App). takes b (map (λ w. string_bytes w) lent) ≡ true) (sym e)
     (subst (λ (ws : List (String Global)). takes fc_app (map (λ w. string_bytes w) ws) ≡ true) (sym same) t))
 
+-- help and the version are no want of memory
+shown_has_memory : (k : ErrorKind) → IsShown k → k ≡ kind.OutOfMemory → ⊥
+shown_has_memory k (inl h) m = let bad : kind.DisplayHelp ≡ kind.OutOfMemory = sym h ∙ m in cc
+shown_has_memory k (inr v) m = let bad : kind.DisplayVersion ≡ kind.OutOfMemory = sym v ∙ m in cc
+
+may_show : (k : ErrorKind) (kinds : Kinds) → (k ≡ kind.OutOfMemory) ⊎ IsAmong k kinds → IsShown k → MayShow kinds
+may_show k kinds (inl m) s = absurd (shown_has_memory k s m)
+may_show k kinds (inr among) s = (k, among, s)
+
+may_refuse : (k : ErrorKind) (kinds : Kinds) (found : Option (Text × List Row)) → (k ≡ kind.OutOfMemory) ⊎ IsAmong k kinds → (f : CommandFault) → IsRefusalOf k f → RefusesBy kinds found f
+may_refuse k kinds found (inl m) (Usage text) h = absurd (h.1 m)
+may_refuse k kinds found (inr among) (Usage text) h = inl (k, among, h.0, h.1)
+may_refuse k kinds found has OutOfMemory h = tt
+
+nothing : (kinds : Kinds) (seen found : Option (Text × List Row)) → seen ≡ found → (f : CommandFault) → IsUnasked seen f → RefusesBy kinds found f
+nothing kinds seen found e (Usage text) h = inr (subst IsNothing e h)
+nothing kinds seen found e OutOfMemory h = tt
+
 pub returns-in-Ok-clause-asked : goal.returns-in-Ok-clause-asked
 returns-in-Ok-clause-asked c =
     let rows = found (app_of c.in_ok-command.command) c.in_ok-command.ensures c.as_slice.result.now c.args.words.items c.as_slice.ensures.value c.in-Ok.matches c.in-Ok.ensures.matches in
-    more c.job_of.result (λ j. asked_of (subcommand_rows_of c.in-Ok.matches) ≡ asked j)
+    more c.found_job.result (λ j. asked_of (subcommand_rows_of c.in-Ok.matches) ≡ asked j)
     (λ j. IsSome (asked j) → asked_of (subcommand_of fc_app (map (λ w. string_bytes w) c.args.words.items)) ≡ asked j)
-    (λ j h some. rw (sym rows) h) c.job_of.ensures.asked
+    (λ j h some. rw (sym rows) h) c.found_job.ensures.asked
+
+pub returns-in-Ok-clause-faultless : goal.returns-in-Ok-clause-faultless
+returns-in-Ok-clause-faultless c =
+    let a = app_of c.in_ok-command.command in
+    let same = faults a c.in_ok-command.ensures c.as_slice.result.now c.args.words.items c.as_slice.ensures.value in
+    more c.found_job.result (λ j. IsSome (asked j)) (λ j. IsSome (asked j) → fault_of fc_app (map (λ w. string_bytes w) c.args.words.items) ≡ [])
+    (λ j h some. sym same ∙ c.in-Ok.ensures.kinds (simple_and_free a c.in_ok-command.ensures)) c.found_job.ensures.some
+
+pub returns-in-Ok-clause-refused : goal.returns-in-Ok-clause-refused
+returns-in-Ok-clause-refused c =
+    let rows = found (app_of c.in_ok-command.command) c.in_ok-command.ensures c.as_slice.result.now c.args.words.items c.as_slice.ensures.value c.in-Ok.matches c.in-Ok.ensures.matches in
+    let words = map (λ w. string_bytes w) c.args.words.items in
+    more_err c.found_job.result (IsUnasked (subcommand_rows_of c.in-Ok.matches)) (RefusesBy (fault_of fc_app words) (subcommand_of fc_app words))
+    (λ e h. nothing (fault_of fc_app words) (subcommand_rows_of c.in-Ok.matches) (subcommand_of fc_app words) rows e h) c.found_job.ensures.none
 
 pub returns-clause-shown : goal.returns-clause-shown
-returns-clause-shown c = λ none.
-    false_unless (takes fc_app (map (λ w. string_bytes w) c.args.words.items))
-    (λ h. c.in_ok-text_of-in-Err.ensures
-    (refused (app_of c.in_ok-command.command) c.in_ok-command.ensures c.as_slice.result.now c.args.words.items c.as_slice.ensures.value (kind_of c.in-Err.error) c.in-Err.ensures.passes h))
+returns-clause-shown c =
+    more_on c.told_of.result (IsShown (kind_of c.in-Err.error)) (λ j. asked j ≡ None → takes fc_app (map (λ w. string_bytes w) c.args.words.items) ≡ false)
+    (λ j s none. false_unless (takes fc_app (map (λ w. string_bytes w) c.args.words.items))
+    (λ h. shown_has_memory (kind_of c.in-Err.error) s
+    (refused (app_of c.in_ok-command.command) c.in_ok-command.ensures c.as_slice.result.now c.args.words.items c.as_slice.ensures.value (kind_of c.in-Err.error) c.in-Err.ensures.passes h)))
+    c.told_of.ensures.shown
+
+pub returns-clause-helps : goal.returns-clause-helps
+returns-clause-helps c =
+    let a = app_of c.in_ok-command.command in
+    let words = map (λ w. string_bytes w) c.args.words.items in
+    let same = faults a c.in_ok-command.ensures c.as_slice.result.now c.args.words.items c.as_slice.ensures.value in
+    let k = kind_of c.in-Err.error in
+    more_on c.told_of.result (IsShown k) (λ j. asked j ≡ None → MayShow (fault_of fc_app words))
+    (λ j s none. may_show k (fault_of fc_app words)
+    (subst (λ (ks : Kinds). (k ≡ kind.OutOfMemory) ⊎ IsAmong k ks) same (c.in-Err.ensures.kinds (simple_and_free a c.in_ok-command.ensures))) s)
+    c.told_of.ensures.shown
+
+pub returns-clause-refused : goal.returns-clause-refused
+returns-clause-refused c =
+    let a = app_of c.in_ok-command.command in
+    let words = map (λ w. string_bytes w) c.args.words.items in
+    let same = faults a c.in_ok-command.ensures c.as_slice.result.now c.args.words.items c.as_slice.ensures.value in
+    let k = kind_of c.in-Err.error in
+    more_err c.told_of.result (IsRefusalOf k) (RefusesBy (fault_of fc_app words) (subcommand_of fc_app words))
+    (λ e h. may_refuse k (fault_of fc_app words) (subcommand_of fc_app words)
+    (subst (λ (ks : Kinds). (k ≡ kind.OutOfMemory) ⊎ IsAmong k ks) same (c.in-Err.ensures.kinds (simple_and_free a c.in_ok-command.ensures))) e h)
+    c.told_of.ensures.refused
