@@ -23,10 +23,11 @@ def free_ports(count):
 
 class Site:
     """`fc serve` over a configuration without its `[serve]`, on ports that are free. Another program may take a port
-    between the choice and the start: then others are chosen."""
+    between the choice and the start: then others are chosen. `kept` is the file that keeps the journal, if one does."""
 
-    def __init__(self, fc, site, till_workers, dispenser_workers, connections):
+    def __init__(self, fc, site, till_workers, dispenser_workers, connections, kept=None):
         self.fc = fc
+        self.told = []  # what standard error said before the ports were open
         self.folder = tempfile.TemporaryDirectory()
         self.config = os.path.join(self.folder.name, "site.toml")
         for _ in range(10):
@@ -39,22 +40,27 @@ class Site:
                 )
             self.journal = open(os.path.join(self.folder.name, "journal"), "w+b")
             self.program = subprocess.Popen(
-                [fc, "serve", self.config], stdin=subprocess.DEVNULL, stdout=self.journal, stderr=subprocess.PIPE
+                [fc, "serve", *(["--journal", kept] if kept else []), self.config],
+                stdin=subprocess.DEVNULL,
+                stdout=self.journal,
+                stderr=subprocess.PIPE,
             )
-            said = self.first_line()
-            if said == (
+            said = self.lines_until_open()
+            if said.endswith(
                 f"fc: serving on 127.0.0.1: tills {self.till}, dispensers {self.dispenser}, owner {self.owner}\n"
             ):
+                self.told = said.splitlines()[:-1]
                 return
             self.program.kill()
             if self.program.wait() != 3:
                 raise SystemExit(f"fc serve said {said!r}")
         raise SystemExit("no free ports")
 
-    def first_line(self):
+    def lines_until_open(self):
+        """What standard error says up to the line of the ports, or to its end."""
         until = time.monotonic() + PATIENCE
         said = b""
-        while not said.endswith(b"\n") and time.monotonic() < until:
+        while not (said.endswith(b"\n") and b"fc: serving on" in said) and time.monotonic() < until:
             if select.select([self.program.stderr], [], [], 1)[0]:
                 piece = os.read(self.program.stderr.fileno(), 4096)
                 if not piece:

@@ -4,7 +4,7 @@ use Rattle.till_request.specs.declared.act.Act.{Act}
 use Rattle.till_request.specs.declared.act.Role.{Role}
 use Rattle.till_request.specs.declared.act.LineFault.{LineFault}
 use Rattle.till_request.specs.declared.act.Answer.{Answer}
-use Rattle.till_request.specs.Grammar.{act_of}
+use Rattle.till_request.specs.Grammar.{line_read}
 use Rattle.line_session.specs.declared.answering.Ended.{Ended}
 use Rattle.line_session.specs.declared.answering.SessionFault.{SessionFault}
 use Rattle.line_session.specs.Session.{AnswersAct, desk_says}
@@ -116,6 +116,6 @@ module _ {C C' D D' : Type 0} (f : C → C') (g : D → D') (step : D → Act �
   pub desk_seen : (role : Role) (s : C × D) (line text : List ℕ) (s' : C × D) → desk_says step tick role s line text s' → desk_says step' tick' role (f s.0, g s.1) line text (f s'.0, g s'.1)
   desk_seen role s line text s' h = record {
     answer = h.answer;
-    answers = answers_seen (act_of role line) s.0 s.1 h.answer s'.0 s'.1 h.answers;
+    answers = answers_seen (line_read role line) s.0 s.1 h.answer s'.0 s'.1 h.answers;
     text_is = h.text_is;
   }

@@ -6,7 +6,7 @@ use Rattle.till_request.specs.declared.act.Role.{Role}
 use Rattle.till_request.specs.declared.act.LineFault.{LineFault}
 use Rattle.till_request.specs.declared.act.Answer.{Answer}
 use Rattle.till_request.specs.declared.act.Answer.TheVariants.{Line}
-use Rattle.till_request.specs.Grammar.{act_of}
+use Rattle.till_request.specs.Grammar.{line_read}
 use Rattle.till_request.specs.Answer.{answer_line}
 
 -- What is answered to an act: what the desk may answer at the moment that the clock may tell. A fault is answered as it is.
@@ -17,7 +17,7 @@ AnswersAct step tick (Err fault) c d a c' d' = (a ≡ Line fault) × (c' ≡ c) 
 -- the text is the line of such an answer
 pub record SpeaksAt {C D : Type 0} (step : D → Act → ℕ → Answer → D → Type 0) (tick : C → ℕ → C → Type 0) (role : Role) (line text : List ℕ) (c : C) (d : D) (c' : C) (d' : D) : Type 0 where
   pub answer : Answer
-  pub answers : AnswersAct step tick (act_of role line) c d answer c' d'
+  pub answers : AnswersAct step tick (line_read role line) c d answer c' d'
   pub text_is : text ≡ answer_line answer
 
 -- what a clock and a desk say to a line of somebody of this role

@@ -6,7 +6,7 @@ use Rattle.till_request.specs.declared.act.LineFault.{LineFault}
 use Rattle.till_request.specs.declared.act.Answer.{Answer}
 use Rattle.till_request.specs.declared.act.Answer.TheVariants as answer
 use Rattle.till_request.specs.declared.act.LineFault.TheVariants as line
-use Rattle.till_request.specs.Grammar.{act_of}
+use Rattle.till_request.specs.Grammar.{line_read}
 use Rattle.line_session.specs.Session.{AnswersAct, desk_says}
 use Rattle.line_session.specs.Talk.{SaysAll}
 use Rattle.line_session.specs.Serving.{Outcome, Sits, Visits, VisitsAll, Serves}
@@ -35,7 +35,7 @@ module _ (config : ConfigValue) (may_fail : Type 0) where
     all_keep : (lines : List (List ℕ)) (s : ℕ × PassView) (texts : List (List ℕ)) (t : ℕ × PassView)
         → SaysAll (desk_says (pass_answers config may_fail) tells role) lines s texts t → t.1.id ≡ s.1.id
     all_keep [] s [] t h = ap (λ (x : ℕ × PassView). x.1.id) h
-    all_keep (line ∷ lines) s (text ∷ texts) t h = all_keep lines h.0 texts t h.2 ∙ act_keeps (act_of role line) s.0 s.1 h.1.answer h.0.0 h.0.1 h.1.answers
+    all_keep (line ∷ lines) s (text ∷ texts) t h = all_keep lines h.0 texts t h.2 ∙ act_keeps (line_read role line) s.0 s.1 h.1.answer h.0.0 h.0.1 h.1.answers
     all_keep [] s (text ∷ texts) t h = absurd h
     all_keep (line ∷ lines) s [] t h = absurd h
 
