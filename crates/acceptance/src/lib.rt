@@ -8,6 +8,8 @@ mod points;
 #[cfg(test)]
 mod programs;
 #[cfg(test)]
+mod random_programs;
+#[cfg(test)]
 mod releases;
 #[cfg(test)]
 mod sessions;
