@@ -1,6 +1,7 @@
-/* Drives a site that is served over loopback: driver PORT CONNECTIONS LINES LINE, where tills connect at PORT, dispensers at
-   PORT + 1 and the owner at PORT + 2. Loads a program for presets, opens point 1, and then sends LINE on each connection so
-   often, each time waiting for the answer. Prints lines per second and the median and 99th percentile of an answer. */
+/* Drives a site that is served over loopback: driver PORT LINES PROGRAM COUNT LINE [COUNT LINE], where tills connect at
+   PORT, dispensers at PORT + 1 and the owner at PORT + 2. Loads PROGRAM for presets, opens point 1, and then COUNT connections
+   send LINE so often, each waiting for its answer; a second group of connections sends its own line beside them. Prints for
+   each group lines per second and the median and 99th percentile of an answer. */
 #include <arpa/inet.h>
 #include <netinet/in.h>
 #include <netinet/tcp.h>
@@ -13,7 +14,6 @@
 #include <time.h>
 #include <unistd.h>
 
-static char line[128];
 static size_t lines;
 static pthread_barrier_t gate;
 
@@ -50,9 +50,18 @@ static uint64_t nanos(void) {
     return t.tv_sec * 1000000000ull + t.tv_nsec;
 }
 
+struct group {
+    char line[128];
+    int count;
+    uint64_t *times;
+    uint64_t ended;
+};
+
 struct peer {
     int socket;
+    struct group *group;
     uint64_t *times;
+    pthread_t thread;
 };
 
 static void *drive(void *arg) {
@@ -61,12 +70,15 @@ static void *drive(void *arg) {
     pthread_barrier_wait(&gate);
     for (size_t i = 0; i < lines; i++) {
         uint64_t before = nanos();
-        ask(peer->socket, line, answer);
+        ask(peer->socket, peer->group->line, answer);
         peer->times[i] = nanos() - before;
         if (!strstr(answer, " granted ") && !strstr(answer, " point ")) {
             fprintf(stderr, "an answer that was not looked for: %s", answer);
             exit(1);
         }
+    }
+    uint64_t now = nanos(), seen = __atomic_load_n(&peer->group->ended, __ATOMIC_SEQ_CST);
+    while (seen < now && !__atomic_compare_exchange_n(&peer->group->ended, &seen, now, 0, __ATOMIC_SEQ_CST, __ATOMIC_SEQ_CST)) {
     }
     close(peer->socket);
     return NULL;
@@ -77,33 +89,47 @@ static int by_time(const void *a, const void *b) {
     return x < y ? -1 : x > y;
 }
 
+static void tell(struct group *group, uint64_t began) {
+    size_t all = group->count * lines;
+    double seconds = (group->ended - began) / 1e9;
+    qsort(group->times, all, sizeof *group->times, by_time);
+    group->line[strlen(group->line) - 1] = 0;
+    printf("%-22s %d connection%s %8.0f lines/s   p50 %6.1f us   p99 %6.1f us\n", group->line, group->count,
+           group->count == 1 ? " " : "s", all / seconds, group->times[all / 2] / 1e3, group->times[all * 99 / 100] / 1e3);
+}
+
 int main(int argc, char **argv) {
-    if (argc != 5) return 2;
-    int port = atoi(argv[1]), count = atoi(argv[2]);
-    char answer[128];
-    lines = strtoul(argv[3], NULL, 10);
-    snprintf(line, sizeof line, "%s\n", argv[4]);
-    uint64_t *times = malloc(count * lines * sizeof *times);
+    if (argc != 6 && argc != 8) return 2;
+    int port = atoi(argv[1]), groups = (argc - 4) / 2, count = 0;
+    static char load[9000], answer[128];
+    struct group group[2];
+    lines = strtoul(argv[2], NULL, 10);
+    for (int g = 0; g < groups; g++) {
+        group[g].count = atoi(argv[4 + 2 * g]);
+        snprintf(group[g].line, sizeof group[g].line, "%s\n", argv[5 + 2 * g]);
+        group[g].times = malloc(group[g].count * lines * sizeof *group[g].times);
+        if (!group[g].times) fail("malloc");
+        group[g].ended = 0;
+        count += group[g].count;
+    }
     struct peer *peers = malloc(count * sizeof *peers);
-    pthread_t *threads = malloc(count * sizeof *threads);
-    if (!times || !peers || !threads) fail("malloc");
+    if (!peers) fail("malloc");
     int owner = connect_to(port + 2), dispenser = connect_to(port + 1);
-    ask(owner, "load 1 0 79101800000000009500000000000000\n", answer);
+    snprintf(load, sizeof load, "load 1 0 %s\n", argv[3]);
+    ask(owner, load, answer);
     pthread_barrier_init(&gate, NULL, count + 1);
-    for (int i = 0; i < count; i++) {
-        peers[i] = (struct peer){connect_to(port), times + i * lines};
-        if (i == 0) ask(peers[0].socket, "till 1 open 1\n", answer);
-        if (pthread_create(&threads[i], NULL, drive, &peers[i])) fail("pthread_create");
+    for (int g = 0, i = 0; g < groups; g++) {
+        for (int k = 0; k < group[g].count; k++, i++) {
+            peers[i] = (struct peer){connect_to(port), &group[g], group[g].times + k * lines};
+            if (i == 0) ask(peers[0].socket, "till 1 open 1\n", answer);
+            if (pthread_create(&peers[i].thread, NULL, drive, &peers[i])) fail("pthread_create");
+        }
     }
     pthread_barrier_wait(&gate);
     uint64_t began = nanos();
-    for (int i = 0; i < count; i++) pthread_join(threads[i], NULL);
-    double seconds = (nanos() - began) / 1e9;
+    for (int i = 0; i < count; i++) pthread_join(peers[i].thread, NULL);
     close(owner);
     close(dispenser);
-    size_t all = count * lines;
-    qsort(times, all, sizeof *times, by_time);
-    printf("%-22s %d connection%s %8.0f lines/s   p50 %6.1f us   p99 %6.1f us\n", argv[4], count, count == 1 ? " " : "s", all / seconds,
-           times[all / 2] / 1e3, times[all * 99 / 100] / 1e3);
+    for (int g = 0; g < groups; g++) tell(&group[g], began);
     return 0;
 }

@@ -1,6 +1,7 @@
 #!/bin/sh
 # Lines per second and the time that an answer takes, of a site served over loopback: a preset, which runs a program, and
-# a `show`, on 1 and on 8 connections, each of which sends a line and waits for its answer. Takes under a minute.
+# a `show`, on 1 and on 8 connections, each of which sends a line and waits for its answer; and `show` on 8 connections
+# beside presets on 8, by a short rule and by a long one. Takes under two minutes.
 #
 #     bench/serve.sh [LINES [--journal]]      LINES of each connection, 20000 where it isn't said; --journal: kept in a file
 set -eu
@@ -47,11 +48,25 @@ END
     exit 1
 }
 
+two=79101800000000009500000000000000
+# 500 instructions: r0 = 5000, 498 times r0 += 0, exit
+long=b700000088130000$(awk 'BEGIN { for (i = 0; i < 498; i++) printf "0700000000000000" }')9500000000000000
+lines=${1:-20000}
+
+# Serves so many tills, and drives them by the driver's words.
+measure() {
+    start "$1"
+    shift
+    timeout 60 "$work/driver" "$port" "$lines" "$@"
+    wait "$served"
+    served=
+}
+
 for line in 'till 1 preset 1 5000' 'till 1 show 1'; do
     for connections in 1 8; do
-        start "$connections"
-        timeout 60 "$work/driver" "$port" "$connections" "${1:-20000}" "$line"
-        wait "$served"
-        served=
+        measure "$connections" "$two" "$connections" "$line"
     done
 done
+echo 'a show beside presets by a rule of 2 instructions, and by one of 500'
+measure 16 "$two" 8 'till 1 preset 1 5000' 8 'till 1 show 1'
+measure 16 "$long" 8 'till 1 preset 1 5000' 8 'till 1 show 1'
