@@ -8,4 +8,4 @@ mod verifier;
 
 pub use refusal::{Refusal, TypeFault};
 pub use types::{Fact, RegType};
-pub use verifier::{Program, law_of_one_answer, verify};
+pub use verifier::{Program, law_of_one_answer, upper_at, verify};
