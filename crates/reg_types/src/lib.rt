@@ -3,6 +3,7 @@
 
 mod refusal;
 mod rules;
+mod table;
 mod types;
 mod verifier;
 
