@@ -3,9 +3,10 @@
 
 mod memory;
 
-ghost use Rattle.std.specs.Prelude.{◌≡◌, ◌≤◌, ◌<◌, IsSome};
+ghost use Rattle.std.specs.Prelude.{◌≡◌, ◌≤◌, ◌<◌, IsSome, Some};
 ghost use Rattle.bpf_model.specs.Machine.{helper_of, point, price, is_there, record_bytes, no_point, point_or_zero};
-ghost use Rattle.helpers.specs.Calls.{signature, called, kinds, stored, CounterInside, PlaceInside};
+ghost use Rattle.helpers.specs.Calls.{signature, called, called_by, kinds, stored, CounterInside, PlaceInside};
+ghost use Rattle.helpers.specs.Meaning.{IsMachineCall};
 
 use bpf_model::machine::Helper;
 pub use bpf_model::machine::{PointView, View};
@@ -104,7 +105,33 @@ fn put_point(point: Option<PointView>, at: u64, stack: &mut [u8; 512]) -> u64
     u64::from(point.is_some())
 }
 
-/// The answer of helper `id` on the numbers in R1 and R2, where a place is counted from the stack's lowest byte.
+// What a helper answers, and what it does to the counters and the stack.
+fn answer(
+    helper: Helper,
+    a: u64,
+    b: u64,
+    view: &View,
+    counters: &mut Counters,
+    stack: &mut [u8; 512],
+) -> u64
+    requires counter { CounterInside (Some helper) a }
+    requires place { PlaceInside (Some helper) b }
+    ensures answer { result ≡ (called_by helper a b view.now counters.old stack.old).value }
+    ensures counters { counters.new ≡ (called_by helper a b view.now counters.old stack.old).counters }
+    ensures stack { stack.new ≡ (called_by helper a b view.now counters.old stack.old).stack }
+{
+    match helper {
+        Helper::CounterGet => counters.get(a as u32),
+        Helper::CounterAdd => u64::from(counters.add(a as u32, b)),
+        Helper::CounterTake => u64::from(counters.take(a as u32, b)),
+        Helper::PointState => u64::from(point_or_none(point_of(view, a)).state),
+        Helper::PointRecord => put_point(point_of(view, a), b, stack),
+        Helper::PriceOf => price_of(view, a),
+    }
+}
+
+/// The answer of helper `id`, 1 to 6, on the numbers in R1 and R2, where a place is counted from the stack's lowest
+/// byte: what the machine's definition gives on these numbers, in the answer, the counters and the stack's bytes.
 pub fn call(
     id: i32,
     a: u64,
@@ -119,18 +146,12 @@ pub fn call(
     ensures answer { result ≡ (called (helper_of id) a b view.now counters.old stack.old).value }
     ensures counters { counters.new ≡ (called (helper_of id) a b view.now counters.old stack.old).counters }
     ensures stack { stack.new ≡ (called (helper_of id) a b view.now counters.old stack.old).stack }
+    ensures machine { IsMachineCall id a b view.now counters.old stack.old result counters.new stack.new }
 {
     let Some(helper) = helper_by(id) else {
         unreachable!();
     };
-    match helper {
-        Helper::CounterGet => counters.get(a as u32),
-        Helper::CounterAdd => u64::from(counters.add(a as u32, b)),
-        Helper::CounterTake => u64::from(counters.take(a as u32, b)),
-        Helper::PointState => u64::from(point_or_none(point_of(view, a)).state),
-        Helper::PointRecord => put_point(point_of(view, a), b, stack),
-        Helper::PriceOf => price_of(view, a),
-    }
+    answer(helper, a, b, view, counters, stack)
 }
 
 #[cfg(test)]

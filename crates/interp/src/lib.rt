@@ -2,8 +2,7 @@
 #![tactic(auto)]
 
 mod arithmetic;
-mod kind;
-mod kinds;
+mod dispatch;
 mod rebasing;
 mod running;
 mod words;

@@ -1,7 +1,6 @@
 -- A well typed call is answered, and changes declared counters alone.
-use Rattle.std.proofs.Common.{◌≡◌, ◌≢◌, ℕ, zero, suc, ◌+◌, ◌-◌, ◌*◌, ◌<◌, ◌≤◌, ◌⊎◌, List, [], ◌∷◌, ◌++◌, Option, Some, None, Bool, true, false, refl, sym, ap, ◌∙◌, subst, inl, inr, arith, length, length-append}
-use Rattle.std.specs.Prelude.{Result, Ok, Err, ℤ, pos, ◌^◌, ◌/◌, ◌%◌, ◌==◌, ◌&&◌, cond, drop, nat_le, is_some, slice_get, slice_set, slice_index_or, ⊤}
-use Rattle.std.specs.List.{All}
+use Rattle.std.proofs.Common.{◌≡◌, ℕ, ◌+◌, ◌-◌, ◌<◌, ◌≤◌, List, [], ◌++◌, Option, Some, None, Bool, true, false, refl, sym, ap, ◌∙◌, subst, inl, inr, arith, length, length-append}
+use Rattle.std.specs.Prelude.{Result, Ok, Err, pos, ◌^◌, ◌/◌, ◌%◌, ◌==◌, ◌&&◌, cond, nat_le, is_some, slice_set, slice_index_or}
 use Rattle.std.proofs.lemmas.Bool.{cases_eq, cases_lt}
 use Rattle.std.proofs.lemmas.Bool.Decides.{nat_tests}
 use Rattle.std.proofs.lemmas.List.{get_or-set_other, get_or-set_same, get_or_past, length-set}
@@ -13,19 +12,18 @@ use Rattle.bpf_model.specs.declared.machine.View.{View}
 use Rattle.bpf_model.specs.declared.machine.PointView.{PointView}
 use Rattle.bpf_model.specs.declared.machine.Helper.{Helper}
 use Rattle.bpf_model.specs.declared.machine.Helper.TheVariants.{CounterGet, CounterAdd, CounterTake, PointState, PointRecord, PriceOf}
-use Rattle.bpf_model.specs.Machine.{Counters, counter, counter_argument, Answer, answer, added, taken, written, record_bytes, record_place, map_option, and_then, number, mem, stack_place, InStack, shifted, helper_of, point, point_or_zero, is_there, price}
+use Rattle.bpf_model.specs.Machine.{Counters, counter, counter_argument, Answer, answer, added, taken, written, record_bytes, record_place, map_option, and_then, number, stack_place, InStack, shifted, point, point_or_zero, is_there, price}
 use Rattle.bpf_model.specs.Runs.{AreCounters}
 use Rattle.helpers.specs.declared.Kind.{Kind}
-use Rattle.helpers.specs.declared.Kind.TheVariants.{Nothing, Number as Numeric, Counter, Place}
-use Rattle.helpers.specs.Calls.{kinds, signature}
+use Rattle.helpers.specs.Calls.{kinds}
 use Rattle.reg_types.specs.declared.types.RegType.{RegType}
 use Rattle.reg_types.specs.declared.types.RegType.TheVariants.{Unset as Anything, Num, Const, Ctx, Stk}
 use Rattle.reg_types.specs.declared.types.Effect.{Effect}
 use Rattle.reg_types.specs.declared.types.Flaw.{Flaw}
-use Rattle.reg_types.specs.declared.types.Flaw.TheVariants.{NoSuchHelper, BadArgument, UndeclaredCounter}
-use Rattle.reg_types.specs.Rules.{type_at, is_numeric, natural, lowest, place_by, fits_counter, declares, is_declared, fits_kind, after_call, unmarked, marks_record, record_at, kind_at, call_with, call_type}
+use Rattle.reg_types.specs.declared.types.Flaw.TheVariants.{BadArgument, UndeclaredCounter}
+use Rattle.reg_types.specs.Rules.{type_at, is_numeric, natural, lowest, place_by, fits_counter, declares, after_call, unmarked, marks_record, kind_at, call_with, call_type}
 use Rattle.reg_types.specs.Facts.{FitsType, Changes}
-use Rattle.reg_types.proofs.Stack.{both, at_most, length-little}
+use Rattle.reg_types.proofs.Stack.{at_most, length-little}
 
 abbrev Effects : Type 0
 Effects = Result Effect Flaw

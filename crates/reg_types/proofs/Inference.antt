@@ -1,8 +1,8 @@
 -- Facts that say the same are treated alike.
-use Rattle.std.proofs.Common.{◌≡◌, ℕ, zero, suc, ◌-◌, ◌<◌, ◌⊎◌, ◌↔◌, List, [], ◌∷◌, Option, Some, None, Bool, true, false, refl, sym, ap, ◌∙◌, subst, inl, inr, arith, length}
-use Rattle.std.specs.Prelude.{Result, Ok, Err, ℤ, ◌==◌, ◌&&◌, cond, drop, slice_set, slice_index_or}
-use Rattle.std.proofs.lemmas.Bool.{eqb-true, eqb-false, and_parts, and_from, cond_both}
-use Rattle.std.proofs.lemmas.List.{ext_get_or, get_or_default}
+use Rattle.std.proofs.Common.{◌≡◌, ℕ, zero, suc, ◌-◌, ◌⊎◌, ◌↔◌, List, [], ◌∷◌, Option, Some, None, Bool, true, false, refl, sym, ap, ◌∙◌, subst, inl, inr, arith, length}
+use Rattle.std.specs.Prelude.{Result, Ok, Err, ℤ, ◌==◌, ◌&&◌, cond, drop, slice_index_or}
+use Rattle.std.proofs.lemmas.Bool.{and_parts, and_from}
+use Rattle.std.proofs.lemmas.List.{ext_get_or}
 use Rattle.bpf_model.specs.declared.instruction.Inst.{Inst}
 use Rattle.bpf_model.specs.declared.instruction.Unit.{Unit as ProgramUnit}
 use Rattle.bpf_model.specs.declared.instruction.Form.{Form}

@@ -1,6 +1,6 @@
 -- What stands where the rules find a flaw.
-use Rattle.std.proofs.Common.{◌≡◌, ◌≢◌, ℕ, zero, suc, ◌+◌, ◌-◌, ◌<◌, ◌≤◌, ◌⊎◌, List, [], ◌∷◌, Option, Some, None, Bool, true, false, refl, sym, ap, ◌∙◌, subst, inl, inr, arith, length}
-use Rattle.std.specs.Prelude.{Result, Ok, Err, ℤ, pos, negsuc, neg_ℤ, ◌+ℤ◌, int_le, nat_le, ◌==◌, ◌&&◌, ◌||◌, cond, is_some, ⊤}
+use Rattle.std.proofs.Common.{◌≡◌, ℕ, ◌+◌, ◌-◌, ◌≤◌, List, Option, Some, None, Bool, true, false, refl, ap, subst, inl, inr, arith}
+use Rattle.std.specs.Prelude.{Result, Ok, Err, ℤ, pos, negsuc, neg_ℤ, ◌+ℤ◌, int_le, nat_le, ◌==◌, ◌&&◌, ◌||◌, cond}
 use Rattle.std.proofs.lemmas.Bool.{eqb-true}
 use Rattle.std.proofs.lemmas.Bool.Decides.{nat_tests}
 use Rattle.bpf_model.specs.declared.instruction.Inst.{Inst}
@@ -9,14 +9,13 @@ use Rattle.bpf_model.specs.declared.instruction.Width.TheVariants.{Narrow, Full}
 use Rattle.bpf_model.specs.declared.instruction.Source.{Source}
 use Rattle.bpf_model.specs.declared.instruction.Source.TheVariants.{Immediate, Register}
 use Rattle.bpf_model.specs.declared.instruction.Operator.{Operator}
-use Rattle.bpf_model.specs.declared.instruction.Operator.TheVariants.{Sum, Difference, Product, Quotient, Or, And, ShiftLeft, ShiftRight, Negate, Remainder, Xor, Move, ShiftSigned, SwapBytes}
+use Rattle.bpf_model.specs.declared.instruction.Operator.TheVariants.{Sum, Difference, Negate, Move, SwapBytes}
 use Rattle.bpf_model.specs.declared.instruction.Form.{Form}
 use Rattle.bpf_model.specs.declared.instruction.Form.TheVariants.{Arithmetic, Wide, Load, LoadSigned, StoreImmediate, StoreRegister, Goto, GotoLong, Branch, Call, Exit}
 use Rattle.bpf_model.specs.declared.machine.Helper.{Helper}
 use Rattle.bpf_model.specs.declared.machine.Helper.TheVariants.{CounterGet, CounterAdd, CounterTake, PointState, PointRecord, PriceOf}
 use Rattle.bpf_model.specs.Reading.{bytes_in}
-use Rattle.bpf_model.specs.Machine.{map_option, helper_of, shifted, immediate}
-use Rattle.helpers.specs.declared.Kind.{Kind}
+use Rattle.bpf_model.specs.Machine.{map_option, helper_of, shifted}
 use Rattle.helpers.specs.declared.Kind.TheVariants.{Nothing, Number, Counter, Place}
 use Rattle.helpers.specs.Calls.{kinds}
 use Rattle.reg_types.specs.declared.types.RegType.{RegType}
@@ -25,8 +24,8 @@ use Rattle.reg_types.specs.declared.types.Fact.{Fact}
 use Rattle.reg_types.specs.declared.types.Effect.{Effect}
 use Rattle.reg_types.specs.declared.types.Flaw.{Flaw}
 use Rattle.reg_types.specs.declared.types.Flaw.TheVariants.{FallsOff, WriteR10, NotANumber, NotAPointer, OutOfRange, UnsetBytes, StoreToContext, StorePointer, PointerArithmetic, NoSuchHelper, BadArgument, UndeclaredCounter}
-use Rattle.reg_types.specs.Rules.{type_at, is_unset, is_pointer, is_numeric, is_plain, one_number, two_numbers, ctx_at, stk_at, sum_type, copied_type, move_type, alu_type, operand_type, put_type, set_type, all_in, lowest, number_at, number_set, load_type, marks, store_type, unless_pointer, store_register, compared, exited, fits_kind, is_declared, call_with, call_type, kind_at, unmarked, marks_record, record_at, after_call, effect, falls_off, judged}
-use Rattle.reg_types.specs.Shown.{FallsOffEnd, WritesR10, IsOperand, IsSecond, Reads, TakesNumbers, CallsBy, NoHelper, HasArgument, UsesCounter, Shows}
+use Rattle.reg_types.specs.Rules.{type_at, is_unset, is_pointer, is_numeric, is_plain, one_number, two_numbers, ctx_at, sum_type, copied_type, alu_type, operand_type, put_type, all_in, lowest, number_at, number_set, load_type, marks, store_type, unless_pointer, fits_kind, is_declared, call_with, call_type, kind_at, unmarked, marks_record, record_at, after_call, effect, falls_off, judged}
+use Rattle.reg_types.specs.Shown.{FallsOffEnd, IsOperand, NoHelper, HasArgument, UsesCounter, Shows}
 
 abbrev Typed : Type 0
 Typed = Result RegType Flaw

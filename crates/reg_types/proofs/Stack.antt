@@ -1,7 +1,7 @@
 -- Stack bytes: what a set of places says of cells, before and after a store.
-use Rattle.std.proofs.Common.{◌≡◌, ◌≢◌, ℕ, zero, suc, ◌+◌, ◌-◌, ◌*◌, ◌<◌, ◌≤◌, ◌⊎◌, List, [], ◌∷◌, Option, Some, None, Bool, true, false, refl, sym, ap, ◌∙◌, subst, inl, inr, arith, length}
+use Rattle.std.proofs.Common.{◌≡◌, ℕ, zero, suc, ◌+◌, ◌-◌, ◌*◌, ◌<◌, ◌≤◌, List, [], ◌∷◌, Option, Some, None, Bool, true, false, refl, sym, ap, ◌∙◌, subst, inl, inr, arith, length}
 use Rattle.std.specs.Prelude.{ℤ, pos, negsuc, ◌&&◌, cond, nat_le, nat_lt, slice_set, slice_index_or}
-use Rattle.std.specs.Int.{bytes_low_first, byte_at}
+use Rattle.std.specs.Int.{bytes_low_first}
 use Rattle.std.proofs.lemmas.Bool.{cases_eq}
 use Rattle.std.proofs.lemmas.Bool.Decides.{nat_tests}
 use Rattle.std.proofs.lemmas.List.{get_or-set_other, get_or-set_same, length-set}
@@ -13,7 +13,7 @@ use Rattle.bpf_model.specs.declared.machine.Value.TheVariants.{Unset, Number, Co
 use Rattle.bpf_model.specs.declared.machine.Cell.{Cell}
 use Rattle.bpf_model.specs.declared.machine.Cell.TheVariants.{Empty, Byte}
 use Rattle.bpf_model.specs.Reading.{bytes_in}
-use Rattle.bpf_model.specs.Machine.{cell_at, low_byte, number_in, written, map_option, shifted, mem, stack_place, InStack, InContext, Place}
+use Rattle.bpf_model.specs.Machine.{cell_at, low_byte, number_in, written, map_option, shifted, mem, stack_place, InStack, InContext}
 use Rattle.stack_map.specs.Places.{Has, Within}
 use Rattle.reg_types.specs.Rules.{all_in}
 use Rattle.reg_types.specs.Facts.{HasByte, Covered}

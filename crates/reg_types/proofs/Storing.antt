@@ -1,12 +1,14 @@
 -- Stored facts: where they are found, changed and added.
 use Rattle.std.proofs.Common.{◌≡◌, ◌≢◌, ℕ, zero, suc, ◌+◌, ◌<◌, ◌≤◌, List, [], ◌∷◌, ◌++◌, Option, Some, None, Bool, true, false, refl, sym, ap, ◌∙◌, subst, inl, inr, arith, length}
-use Rattle.std.specs.Prelude.{◌==◌, cond, slice_index_or, slice_set}
-use Rattle.std.proofs.lemmas.Bool.{cases_eq, eq-eqb, ne_eqb, cond-true, cond-false}
+use Rattle.std.specs.Prelude.{◌==◌, cond, slice_index, slice_index_or, slice_set, is_some, replicate}
+use Rattle.std.proofs.lemmas.List.{get_or-set_other, get_or-set_same, get_or_append_left, get_or_past, get_or-replicate, length-set, length-append, length-replicate}
+use Rattle.std.proofs.Math.Seq.{get_or-append_seam}
+use Rattle.std.proofs.lemmas.Bool.{cases_eq, cases_lt, eq-eqb, ne_eqb, cond-true, cond-false}
 use Rattle.reg_types.specs.declared.types.Fact.{Fact}
 use Rattle.reg_types.specs.declared.types.Stored.{Stored}
-use Rattle.reg_types.specs.Facts.{stored, IsPlace}
+use Rattle.reg_types.specs.Facts.{stored, IsPlace, IsIndexed, AreDistinct}
 use Rattle.reg_types.specs.Inference.{join_fact, taken_in, arrived}
-use Rattle.reg_types.specs.Passing.{IsSame, AreSame, AreStored, IsJoined}
+use Rattle.reg_types.specs.Passing.{IsSame, AreSame, IsJoined}
 use Rattle.reg_types.proofs.Inference.{AreSame-refl}
 
 pub same_by : (a b : Option Fact) → a ≡ b → AreSame a b
@@ -15,7 +17,14 @@ same_by a b e = subst (AreSame a) e (AreSame-refl a)
 pub not_arrived : (q to : ℕ) (fact : Fact) (o : Option Fact) → q ≢ to → arrived q fact to o ≡ o
 not_arrived q to fact o n = cond-false (q == to) (Some (taken_in o fact)) o (ne_eqb q to n)
 
-abbrev entry_of : ℕ → Fact → Stored
+no_some : true ≡ false → ⊥
+no_some e = absurd (cc)
+
+nothing_twice : AreDistinct []
+unfolding AreDistinct
+nothing_twice = tt
+
+abbrev pub entry_of : ℕ → Fact → Stored
 entry_of at fact = record { at = at; fact = fact }
 
 pub stored_none : (facts : List Stored) (at : ℕ) → ((j : ℕ) (d : Stored) → j < length facts → (slice_index_or facts j d).at ≢ at) → stored facts at ≡ None
@@ -86,19 +95,144 @@ stored_pushed (s ∷ rest) at f none q =
     ]
 
 -- the first stored fact of the unit takes one in
-pub joined_is : (facts : List Stored) (at k : ℕ) (d : Stored) (f fact : Fact) → IsPlace facts at k → IsSame f (join_fact (slice_index_or facts k d).fact fact) → IsJoined at fact f (stored facts) (stored (slice_set facts k (entry_of at f)))
-joined_is facts at k d f fact p same =
+module _ (facts : List Stored) (at k : ℕ) (d : Stored) (f fact : Fact) (p : IsPlace facts at k) (same : IsSame f (join_fact (slice_index_or facts k d).fact fact)) where
+  set_here : (q : ℕ) → q ≡ at → stored (slice_set facts k (entry_of at f)) q ≡ Some f
+  set_here q e = stored_set facts at k f p q ∙ cond-true (q == at) (Some f) (stored facts q) (eq-eqb q at e)
+
+  set_elsewhere : (q : ℕ) → q ≢ at → stored (slice_set facts k (entry_of at f)) q ≡ stored facts q
+  set_elsewhere q n = stored_set facts at k f p q ∙ cond-false (q == at) (Some f) (stored facts q) (ne_eqb q at n)
+
+  held_here : (q : ℕ) → q ≡ at → stored facts q ≡ Some (slice_index_or facts k d).fact
+  held_here q e = ap (stored facts) e ∙ stored_at facts at k d p
+
+  joined_each : (q : ℕ) → AreSame (stored (slice_set facts k (entry_of at f)) q) (arrived q fact at (stored facts q))
+  joined_each q =
+      elim (cases_eq q at) [
+        | inl e ↦
+            let to : arrived q fact at (stored facts q) ≡ Some (join_fact (slice_index_or facts k d).fact fact) = cond-true (q == at) (Some (taken_in (stored facts q) fact)) (stored facts q) (eq-eqb q at e) ∙ ap (λ o. Some (taken_in o fact)) (held_here q e) in
+            subst (λ o. AreSame o (arrived q fact at (stored facts q))) (sym (set_here q e)) (subst (λ o. AreSame (Some f) o) (sym to) same)
+        | inr n ↦
+            same_by (stored (slice_set facts k (entry_of at f)) q) (arrived q fact at (stored facts q)) (set_elsewhere q n ∙ sym (not_arrived q at fact (stored facts q) n))
+      ]
+
+  pub joined_is : IsJoined at fact (stored facts) (stored (slice_set facts k (entry_of at f)))
+  joined_is =
+      record {
+        each = joined_each;
+        kept = λ q. elim (cases_eq q at) [ inl e ↦ ap is_some (set_here q e) ∙ sym (ap is_some (held_here q e)) | inr n ↦ ap is_some (set_elsewhere q n) ];
+      }
+
+-- ---- where each is found
+
+none_stored : (facts : List Stored) (at : ℕ) → stored facts at ≡ None → (j : ℕ) (d : Stored) → j < length facts → (slice_index_or facts j d).at ≢ at
+none_stored [] at none j d l = absurd (omega (arith, l))
+none_stored (s ∷ rest) at none zero d l = λ e. no_some (ap is_some (sym (cond-true (at == s.at) (Some s.fact) (stored rest at) (eq-eqb at s.at (sym e))) ∙ none))
+none_stored (s ∷ rest) at none (suc j) d l = none_stored rest at (none_of (at == s.at) s.fact (stored rest at) none).1 j d (omega (arith, l))
+
+-- a changed fact stands at the place of the old one
+at_kept : (facts : List Stored) (at k : ℕ) (f : Fact) → IsPlace facts at k → (j : ℕ) (d : Stored) → (slice_index_or (slice_set facts k (entry_of at f)) j d).at ≡ (slice_index_or facts j d).at
+at_kept facts at k f p j d =
+    elim (cases_eq j k) [
+      | inl e ↦
+          ap (λ i. (slice_index_or (slice_set facts k (entry_of at f)) i d).at) e
+          ∙ ap (λ s. s.at) (get_or-set_same facts k (entry_of at f) d p.inside)
+          ∙ sym (ap (λ i. (slice_index_or facts i d).at) e ∙ p.here d)
+      | inr n ↦ ap (λ s. s.at) (get_or-set_other facts k j (entry_of at f) d n)
+    ]
+
+place_kept : (facts : List Stored) (at k : ℕ) (f : Fact) → IsPlace facts at k → (q j : ℕ) → IsPlace facts q j → IsPlace (slice_set facts k (entry_of at f)) q j
+place_kept facts at k f p q j is =
     record {
-      is = stored_set facts at k f p at ∙ cond-true (at == at) (Some f) (stored facts at) (eq-eqb at at refl);
-      each =
-          λ q. elim (cases_eq q at) [
-            | inl e ↦
-                let new : stored (slice_set facts k (entry_of at f)) q ≡ Some f = stored_set facts at k f p q ∙ cond-true (q == at) (Some f) (stored facts q) (eq-eqb q at e) in
-                let old : stored facts q ≡ Some (slice_index_or facts k d).fact = ap (stored facts) e ∙ stored_at facts at k d p in
-                let to : arrived q fact at (stored facts q) ≡ Some (join_fact (slice_index_or facts k d).fact fact) = cond-true (q == at) (Some (taken_in (stored facts q) fact)) (stored facts q) (eq-eqb q at e) ∙ ap (λ o. Some (taken_in o fact)) old in
-                subst (λ o. AreSame o (arrived q fact at (stored facts q))) (sym new) (subst (λ o. AreSame (Some f) o) (sym to) same)
-            | inr n ↦
-                same_by (stored (slice_set facts k (entry_of at f)) q) (arrived q fact at (stored facts q))
-                (stored_set facts at k f p q ∙ cond-false (q == at) (Some f) (stored facts q) (ne_eqb q at n) ∙ sym (not_arrived q at fact (stored facts q) n))
-          ];
+      inside = let n = length-set facts k (entry_of at f) in let l = is.inside in omega (arith, n, l);
+      earlier = λ i d l e. is.earlier i d l (sym (at_kept facts at k f p i d) ∙ e);
+      here = λ d. at_kept facts at k f p j d ∙ is.here d;
     }
+
+distinct_kept : (facts : List Stored) (at k : ℕ) (f : Fact) → IsPlace facts at k → AreDistinct facts → AreDistinct (slice_set facts k (entry_of at f))
+unfolding AreDistinct
+distinct_kept [] at k f p h = absurd (let l = p.inside in omega (arith, l))
+distinct_kept (s ∷ rest) at zero f p h = (ap (stored rest) (sym (p.here s)) ∙ h.0, h.1)
+distinct_kept (s ∷ rest) at (suc k) f p h = (
+  stored_set rest at k f (later s rest at k p) s.at ∙ cond-false (s.at == at) (Some f) (stored rest s.at) (ne_eqb s.at at (λ e. not_first s rest at k p (sym e))) ∙ h.0,
+  distinct_kept rest at k f (later s rest at k p) h.1,
+)
+
+pub indexed_joined : (facts : List Stored) (places : List ℕ) (at k : ℕ) (f : Fact) → IsPlace facts at k → IsIndexed facts places → IsIndexed (slice_set facts k (entry_of at f)) places
+indexed_joined facts places at k f p is =
+    record {
+      many = is.many;
+      none = λ q l e. elim (cases_eq q at) [
+        | inl same ↦ absurd (no_some (ap is_some (sym (stored_at facts at k (entry_of at f) p) ∙ ap (stored facts) (sym same) ∙ is.none q l e)))
+        | inr other ↦ stored_set facts at k f p q ∙ cond-false (q == at) (Some f) (stored facts q) (ne_eqb q at other) ∙ is.none q l e
+      ];
+      some = λ q j e. place_kept facts at k f p q j (is.some q j e);
+      distinct = distinct_kept facts at k f p is.distinct;
+    }
+
+distinct_pushed : (facts : List Stored) (at : ℕ) (f : Fact) → stored facts at ≡ None → AreDistinct facts → AreDistinct (facts ++ entry_of at f ∷ [])
+unfolding AreDistinct
+distinct_pushed [] at f none h = (refl, tt)
+distinct_pushed (s ∷ rest) at f none h =
+    let other : s.at ≢ at = none_stored (s ∷ rest) at none 0 s (omega arith) in
+    let without = (none_of (at == s.at) s.fact (stored rest at) none).1 in
+    (stored_pushed rest at f without s.at ∙ not_arrived s.at at f (stored rest s.at) other ∙ h.0, distinct_pushed rest at f without h.1)
+
+place_pushed : (facts : List Stored) (e : Stored) (q j : ℕ) → IsPlace facts q j → IsPlace (facts ++ e ∷ []) q j
+place_pushed facts e q j is =
+    let inside = is.inside in
+    record {
+      inside = let n = length-append facts (e ∷ []) in omega (arith, n, inside);
+      earlier = λ i d l same. is.earlier i d l (sym (ap (λ s. s.at) (get_or_append_left facts (e ∷ []) d i (omega (arith, l, inside)))) ∙ same);
+      here = λ d. ap (λ s. s.at) (get_or_append_left facts (e ∷ []) d j inside) ∙ is.here d;
+    }
+
+place_new : (facts : List Stored) (at : ℕ) (f : Fact) → stored facts at ≡ None → IsPlace (facts ++ entry_of at f ∷ []) at (length facts)
+place_new facts at f none =
+    record {
+      inside = let n = length-append facts (entry_of at f ∷ []) in omega (arith, n);
+      earlier = λ i d l same. none_stored facts at none i d l (sym (ap (λ s. s.at) (get_or_append_left facts (entry_of at f ∷ []) d i l)) ∙ same);
+      here = λ d. ap (λ s. s.at) (get_or-append_seam facts (entry_of at f) [] d);
+    }
+
+pub indexed_pushed : (facts : List Stored) (places : List ℕ) (at : ℕ) (f : Fact) → at ≤ 512 → stored facts at ≡ None → IsIndexed facts places → IsIndexed (facts ++ entry_of at f ∷ []) (slice_set places at (length facts + 1))
+indexed_pushed facts places at f l none is =
+    let long = is.many in
+    let set = slice_set places at (length facts + 1) in
+    let here : slice_index set at ≡ length facts + 1 = get_or-set_same places at (length facts + 1) 0 (omega (arith, l, long)) in
+    let elsewhere : (q : ℕ) → q ≢ at → slice_index set q ≡ slice_index places q = λ q n. get_or-set_other places at q (length facts + 1) 0 n in
+    record {
+      many = length-set places at (length facts + 1) ∙ is.many;
+      none = λ q m e. elim (cases_eq q at) [
+        | inl same ↦ absurd (let h = ap (slice_index set) (sym same) ∙ e in omega (arith, h, here))
+        | inr other ↦ stored_pushed facts at f none q ∙ not_arrived q at f (stored facts q) other ∙ is.none q m (sym (elsewhere q other) ∙ e)
+      ];
+      some = λ q k e. elim (cases_eq q at) [
+        | inl same ↦
+            let h = ap (slice_index set) (sym same) ∙ e in
+            let last : length facts ≡ k = omega (arith, h, here) in
+            subst (λ j. IsPlace (facts ++ entry_of at f ∷ []) q j) last (subst (λ u. IsPlace (facts ++ entry_of at f ∷ []) u (length facts)) (sym same) (place_new facts at f none))
+        | inr other ↦ place_pushed facts (entry_of at f) q k (is.some q k (sym (elsewhere q other) ∙ e))
+      ];
+      distinct = distinct_pushed facts at f none is.distinct;
+    }
+
+no_places : List ℕ
+no_places = replicate 513 0
+
+no_places_long : length no_places ≡ 513
+unfolding no_places
+no_places_long = length-replicate {A = ℕ} 513 0
+
+nowhere : (q : ℕ) → slice_index no_places q ≡ 0
+unfolding no_places
+nowhere q =
+    elim (cases_lt q 513) [
+      | inl l ↦ get_or-replicate {A = ℕ} 513 q 0 0 l
+      | inr l ↦ get_or_past no_places q 0 (let n = no_places_long in omega (arith, n, l))
+    ]
+
+pub indexed_start : (f : Fact) → IsIndexed (entry_of 0 f ∷ []) (slice_set (replicate 513 0) 0 1)
+unfolding no_places
+indexed_start f =
+    let empty : IsIndexed [] no_places = record { many = no_places_long; none = λ q l e. refl; some = λ q k e. absurd (let n = nowhere q in omega (arith, n, e)); distinct = nothing_twice } in
+    indexed_pushed [] no_places 0 f (omega arith) refl empty

@@ -1,6 +1,6 @@
 -- Values fit the types that the rules give.
-use Rattle.std.proofs.Common.{◌≡◌, ℕ, zero, suc, ◌+◌, ◌-◌, ◌<◌, ◌≤◌, ◌⊎◌, List, [], ◌∷◌, Option, Some, None, Bool, true, false, refl, sym, ap, ◌∙◌, subst, inl, inr, arith, length}
-use Rattle.std.specs.Prelude.{Result, Ok, Err, ℤ, pos, negsuc, ◌+ℤ◌, ◌≤ℤ◌, neg_ℤ, int_le, not, ◌&&◌, ◌||◌, cond, nat_le, nat_lt, ⊤}
+use Rattle.std.proofs.Common.{◌≡◌, ℕ, zero, suc, ◌+◌, ◌-◌, ◌<◌, List, Option, Some, None, Bool, true, false, refl, sym, ap, ◌∙◌, subst, arith}
+use Rattle.std.specs.Prelude.{Result, Ok, Err, ℤ, pos, negsuc, ◌+ℤ◌, neg_ℤ, int_le, ◌&&◌, ◌||◌, cond, nat_le, nat_lt}
 use Rattle.std.proofs.lemmas.Bool.Decides.{nat_tests}
 use Rattle.std.proofs.lemmas.Int.{ints}
 use Rattle.bpf_model.specs.declared.instruction.Inst.{Inst}
@@ -9,17 +9,17 @@ use Rattle.bpf_model.specs.declared.instruction.Width.TheVariants.{Narrow, Full}
 use Rattle.bpf_model.specs.declared.instruction.Source.{Source}
 use Rattle.bpf_model.specs.declared.instruction.Source.TheVariants.{Immediate, Register}
 use Rattle.bpf_model.specs.declared.instruction.Operator.{Operator}
-use Rattle.bpf_model.specs.declared.instruction.Operator.TheVariants.{Sum, Difference, Product, Quotient, Or, And, ShiftLeft, ShiftRight, Negate, Remainder, Xor, Move, ShiftSigned, SwapBytes}
+use Rattle.bpf_model.specs.declared.instruction.Operator.TheVariants.{Sum, Difference, Negate, Move, SwapBytes}
 use Rattle.bpf_model.specs.declared.machine.Value.{Value}
 use Rattle.bpf_model.specs.declared.machine.Value.TheVariants.{Unset, Number, Context, Stack}
 use Rattle.bpf_model.specs.Arithmetic.{alu, swapped, low}
 use Rattle.std.specs.Int.{cast_unsigned, w32}
-use Rattle.bpf_model.specs.Machine.{shifted, number, immediate, on_numbers, map_option, and_then, moved_pointer, sum_value, move_value, set_value, alu_value, operand}
+use Rattle.bpf_model.specs.Machine.{shifted, number, immediate, on_numbers, map_option, sum_value, move_value, set_value, alu_value, operand}
 use Rattle.reg_types.specs.declared.types.RegType.{RegType}
 use Rattle.reg_types.specs.declared.types.RegType.TheVariants.{Unset as Anything, Num, Const, Ctx, Stk}
 use Rattle.reg_types.specs.declared.types.Flaw.{Flaw}
-use Rattle.reg_types.specs.declared.types.Flaw.TheVariants.{FallsOff, WriteR10, NotANumber, NotAPointer, OutOfRange, UnsetBytes, StoreToContext, StorePointer, PointerArithmetic}
-use Rattle.reg_types.specs.Rules.{type_at, is_unset, is_pointer, one_number, two_numbers, ctx_at, stk_at, sum_type, copied_type, is_plain, move_type, alu_type}
+use Rattle.reg_types.specs.declared.types.Flaw.TheVariants.{NotANumber, OutOfRange, PointerArithmetic}
+use Rattle.reg_types.specs.Rules.{is_unset, is_pointer, one_number, two_numbers, ctx_at, stk_at, sum_type, copied_type, is_plain, alu_type}
 use Rattle.reg_types.specs.Facts.{FitsType}
 
 -- there is a value, and it fits

@@ -1,6 +1,6 @@
 -- One unit of the pass, and the whole of it.
 use Rattle.std.proofs.Common.{◌≡◌, ◌≢◌, ℕ, suc, ◌+◌, ◌<◌, ◌≤◌, List, [], ◌∷◌, Option, Some, None, Bool, true, false, refl, sym, ap, ◌∙◌, subst, inl, inr, arith, add-one, length}
-use Rattle.std.specs.Prelude.{Result, Ok, Err, IfOk, IfErr, IsSome, ℤ, slice_get, ◌==◌, cond}
+use Rattle.std.specs.Prelude.{Result, Ok, Err, OnOk, IfErr, IfSome, IsSome, is_some, ◌&&◌, ◌||◌, ℤ, slice_get, ◌==◌, cond}
 use Rattle.std.proofs.lemmas.Bool.{cases_eq, eq-eqb, cond-true}
 use Rattle.std.specs.List.{AllByRecursion}
 use Rattle.bpf_model.specs.declared.instruction.Inst.{Inst}
@@ -8,8 +8,9 @@ use Rattle.bpf_model.specs.declared.instruction.Form.{Form}
 use Rattle.bpf_model.specs.declared.instruction.Unit.{Unit as ProgramUnit}
 use Rattle.bpf_model.specs.declared.instruction.Unit.TheVariants.{First, Second}
 use Rattle.bpf_model.specs.Reading.{form_of, imm_at}
-use Rattle.bpf_model.specs.Flow.{IsAhead}
-use Rattle.bpf_model.proofs.Reading.{wide_at}
+use Rattle.bpf_model.specs.Machine.{and_then, shifted}
+use Rattle.bpf_model.specs.Flow.{IsAhead, target, distance_by, distance_of}
+use Rattle.bpf_model.proofs.Reading.{wide_at, count_of_units}
 use Rattle.reg_types.specs.declared.types.Fact.{Fact}
 use Rattle.reg_types.specs.declared.types.Stored.{Stored}
 use Rattle.reg_types.specs.declared.types.Effect.{Effect}
@@ -21,9 +22,9 @@ use Rattle.reg_types.specs.declared.refusal.Refusal.{Refusal}
 use Rattle.reg_types.specs.declared.refusal.Refusal.TheVariants.{Decode, Flow as FlowRefusal, «Type» as TypeRefusal, OutOfMemory}
 use Rattle.reg_types.specs.Refusals.{located}
 use Rattle.reg_types.specs.Rules.{judged}
-use Rattle.reg_types.specs.Facts.{Facts, IsSound, IsAfter, IsEntry, IsNext, stored, list_of, jumps_of, carried_of}
-use Rattle.reg_types.specs.Inference.{leads, upper_of, entry_fact, fact_after, instruction_of, instruction_at, flaw_in, flaw_of, flaw_under, taken_in, arrived, arrived_all, passed_by, passed_from, passed, known, inferred, or_else, first_flaw_below, first_flaw}
-use Rattle.reg_types.specs.Passing.{IsSame, AreSame, AreStored, IsCarriedTo, IsCarriedAt, IsJoined, IsSettled, IsVisited, IsPassed, IsUnitRefused, IsPassRefused, AreInferred, brought, seen}
+use Rattle.reg_types.specs.Facts.{Facts, IsSound, IsAfter, IsEntry, IsNext, stored, list_of, jumps_of, jump_of, carried_of}
+use Rattle.reg_types.specs.Inference.{leads, upper_of, entry_fact, fact_after, instruction_of, instruction_at, flaw_in, flaw_of, flaw_under, taken_in, arrived, arrived_all, passed_by, passed_from, passed, known, inferred, or_else, first_flaw_below, first_flaw, goes, is_entered}
+use Rattle.reg_types.specs.Passing.{IsSame, AreSame, AreStored, IsCarriedTo, IsCarriedAt, IsJoined, IsSettled, IsVisited, IsPassed, IsUnitRefused, IsPassRefused, AreInferred, brought, seen, target_by}
 use Rattle.reg_types.proofs.Good.{judged_is}
 use Rattle.reg_types.proofs.Ahead.{leads_ahead}
 use Rattle.reg_types.proofs.Inference.{IsSame-refl, AreSame-refl, AreSame-trans, arrived_same, arrived_all_same, passed_same, flaw_same, same_after, same_entry}
@@ -48,6 +49,37 @@ same_tos o x y a b = cc
 
 abbrev err_of : Flaw → Result Effect Flaw
 err_of flaw = Err flaw
+
+-- ---- where something is stored
+
+same_some : (a b : Option Fact) → AreSame a b → is_some a ≡ is_some b
+same_some None None h = refl
+same_some (Some a) (Some b) h = refl
+same_some None (Some b) h = absurd h
+same_some (Some a) None h = absurd h
+
+or_no : (b : Bool) → b ≡ (b || false)
+or_no true = refl
+or_no false = refl
+
+or_yes : (b : Bool) → true ≡ (b || true)
+or_yes true = refl
+or_yes false = refl
+
+no_and : (b : Bool) → false ≡ (b && false)
+no_and true = refl
+no_and false = refl
+
+entered_if : (t : Bool) (f : Fact) (o : Option Fact) → is_some (cond t (Some f) o) ≡ (is_some o || t)
+entered_if true f o = or_yes (is_some o)
+entered_if false f o = or_no (is_some o)
+
+-- a jump's target has a fact afterwards, and no other unit has one that had none
+jumped_some : (q : ℕ) (fact : Fact) (next : Successors) (old : Option Fact) → is_some (arrived_all q fact (jumps_of next) old) ≡ (is_some old || goes (jump_of next) q)
+jumped_some q fact End old = or_no (is_some old)
+jumped_some q fact (Next to) old = or_no (is_some old)
+jumped_some q fact (Jump to) old = entered_if (q == to) (taken_in old fact) old
+jumped_some q fact (Either to next) old = entered_if (q == to) (taken_in old fact) old
 
 -- jumps and the rest together lead where the instruction does
 seen_led : (q : ℕ) (fact : Fact) (next : Successors) (old new : Option Fact) → AreSame new (arrived_all q fact (jumps_of next) old) → AreSame (brought q (carried_of fact next) new) (arrived_all q fact (list_of next) old)
@@ -106,15 +138,34 @@ module _ (us : List ProgramUnit) (declared pc : ℕ) (i : Inst) (fact : Fact) (f
     ],
   )
 
+  -- the unit's jump goes where its instruction's does
+  target_is : target us pc ≡ target_by pc form i
+  target_is =
+      ap (λ o. and_then (and_then o distance_of) (λ z. shifted (pc + 1) z 512)) at ∙ ap (λ o. and_then (distance_by o i) (λ z. shifted (pc + 1) z 512)) is
+
+  -- the jump goes to a unit of a program
+  small_jump : (next : Successors) → AllByRecursion (IsAhead us pc) (jumps_of next) → IfSome (jump_of next) (λ to. to ≤ 512)
+  small_jump End h = tt
+  small_jump (Next to) h = tt
+  small_jump (Jump to) h = let l = h.0.inside in let n = (count_of_units sound.bytes us sound.reads).1 in omega (arith, l, n)
+  small_jump (Either to next) h = let l = h.0.inside in let n = (count_of_units sound.bytes us sound.reads).1 in omega (arith, l, n)
+
+  pub jump_small : (e : Effect) (next : Successors) → ok_of e ≡ judged (length us) pc declared fact i upper form → some_of (list_of next) ≡ leads pc i form → IfSome (jump_of next) (λ to. to ≤ 512)
+  jump_small e next j to = small_jump next (jumps_ahead next (next_ahead e next j to))
+
   -- the stored facts afterwards, and the one that is carried on
-  pub visited : (e : Effect) (after : Fact) (next : Successors) (carried : Option Stored) (old new : Facts) → upper ≡ upper_of us pc → ok_of e ≡ judged (length us) pc declared fact i upper form → IsAfter fact e after → some_of (list_of next) ≡ leads pc i form → IsNext pc form next → carried ≡ carried_of after next → ((q : ℕ) → AreSame (new q) (arrived_all q after (jumps_of next) (old q))) → IsVisited us declared pc fact carried old new
-  visited e after next carried old new up j after_is to n is_carried same =
+  pub visited : (e : Effect) (after : Fact) (next : Successors) (carried : Option Stored) (old new : Facts) → upper ≡ upper_of us pc → ok_of e ≡ judged (length us) pc declared fact i upper form → IsAfter fact e after → some_of (list_of next) ≡ leads pc i form → IsNext pc form next → jump_of next ≡ target_by pc form i → carried ≡ carried_of after next → ((q : ℕ) → AreSame (new q) (arrived_all q after (jumps_of next) (old q))) → IsVisited us declared pc fact carried old new
+  visited e after next carried old new up j after_is to n jump is_carried same =
       let ahead = next_ahead e next j to in
       subst (λ c. IsVisited us declared pc fact c old new) (sym is_carried) (record {
         flawless = flaw_is (Ok e) up j;
         ahead = λ q l. passed_to e after next up j after_is to q (old q) (seen (carried_of after next) new q) (seen_led q after next (old q) (new q) (same q));
         behind = λ q l. subst (AreSame (new q)) (behind us pc q after l (jumps_of next) (jumps_ahead next ahead) (old q)) (same q);
         goes_on = goes_to after next n ahead;
+        kept =
+            λ q. same_some (new q) (arrived_all q after (jumps_of next) (old q)) (same q)
+            ∙ jumped_some q after next (old q)
+            ∙ ap (λ o. is_some (old q) || goes o q) (jump ∙ sym target_is);
       })
 
   pub refused_here : (flaw : Flaw) → upper ≡ upper_of us pc → err_of flaw ≡ judged (length us) pc declared fact i upper form → flaw_under us declared pc (Some fact) ≡ Some (located pc flaw)
@@ -158,11 +209,15 @@ module _ (us : List ProgramUnit) (declared pc : ℕ) (carried : Option Stored) (
         behind = λ q l. AreSame-trans (new q) (settled q) (old q) (v.behind q (omega (arith, l))) (s.others q (omega (arith, l)));
         here = stored_trans (new pc) (settled pc) (Some fact) (seen carried old pc) (v.behind pc (omega arith)) s.here s.is;
         goes_on = v.goes_on;
+        kept =
+            λ q. v.kept q
+            ∙ ap (λ b. b || goes (target us pc) q) (s.kept q)
+            ∙ ap (λ b. is_some (old q) || (b && goes (target us pc) q)) (same_some (Some fact) (seen carried old pc) s.is);
       }
 
-  pub passes_if : (r : Result (Option Stored) Refusal) (fact : Fact) (settled new : Facts) → IsCarriedAt pc carried → IsSettled pc carried (Some fact) old settled → IfOk r (λ next. IsVisited us declared pc fact next settled new) → IfOk r (λ next. IsPassed us declared pc carried next old new)
-  passes_if (Ok next) fact settled new at s v = passes fact next settled new at s v
-  passes_if (Err refusal) fact settled new at s v = tt
+  pub passes_if : (r : Result Unit Refusal) (fact : Fact) (next : Option Stored) (settled new : Facts) → IsCarriedAt pc carried → IsSettled pc carried (Some fact) old settled → OnOk r (IsVisited us declared pc fact next settled new) → OnOk r (IsPassed us declared pc carried next old new)
+  passes_if (Ok done) fact next settled new at s v = passes fact next settled new at s v
+  passes_if (Err refusal) fact next settled new at s v = tt
 
   refused_as : (refusal : Refusal) (fact : Fact) → AreSame (Some fact) (seen carried old pc) → IsUnitRefused us declared pc (Some fact) refusal → IsUnitRefused us declared pc (seen carried old pc) refusal
   refused_as (Decode fault) fact same h = h
@@ -170,7 +225,7 @@ module _ (us : List ProgramUnit) (declared pc : ℕ) (carried : Option Stored) (
   refused_as (TypeRefusal fault) fact same h = sym (flaw_same us declared pc (Some fact) (seen carried old pc) same) ∙ h
   refused_as OutOfMemory fact same h = tt
 
-  pub refused_if : (r : Result (Option Stored) Refusal) (fact : Fact) → AreSame (Some fact) (seen carried old pc) → IfErr r (λ refusal. IsUnitRefused us declared pc (Some fact) refusal) → IfErr r (λ refusal. IsUnitRefused us declared pc (seen carried old pc) refusal)
+  pub refused_if : (r : Result Unit Refusal) (fact : Fact) → AreSame (Some fact) (seen carried old pc) → IfErr r (λ refusal. IsUnitRefused us declared pc (Some fact) refusal) → IfErr r (λ refusal. IsUnitRefused us declared pc (seen carried old pc) refusal)
   refused_if (Ok next) fact same h = tt
   refused_if (Err refusal) fact same h = refused_as refusal fact same h
 
@@ -184,6 +239,7 @@ module _ (us : List ProgramUnit) (declared pc : ℕ) (carried : Option Stored) (
         behind = λ q l. s.others q (omega (arith, l));
         here = stored_trans (new pc) (new pc) None (seen carried old pc) (AreSame-refl (new pc)) s.here s.is;
         goes_on = tt;
+        kept = λ q. s.kept q ∙ or_no (is_some (old q)) ∙ ap (λ o. is_some (old q) || (is_some o && goes (target us pc) q)) (sym none);
       }
 
   module _ (v : ℤ) (second : slice_get us pc ≡ Some (Second v)) where
@@ -197,6 +253,9 @@ module _ (us : List ProgramUnit) (declared pc : ℕ) (carried : Option Stored) (
     no_edge : (o : Option Fact) (q : ℕ) (x : Option Fact) → passed us declared pc o q x ≡ x
     no_edge None q x = refl
     no_edge (Some fact) q x = ap (λ i. passed_from us declared pc fact i q x) nothing_there
+
+    no_jump : target us pc ≡ None
+    no_jump = ap (λ o. and_then (and_then o distance_of) (λ z. shifted (pc + 1) z 512)) second
 
     further : (c : Option Stored) → IsCarriedTo us pc c → IsCarriedTo us (pc + 1) c × ((x : Option Fact) → brought pc c x ≡ x)
     further None c = (tt, λ x. refl)
@@ -215,16 +274,21 @@ module _ (us : List ProgramUnit) (declared pc : ℕ) (carried : Option Stored) (
           behind = λ q l. AreSame-refl (old q);
           here = subst (AreStored (old pc)) (sym (f.1 (old pc))) (AreStored-refl (old pc));
           goes_on = f.0;
+          kept =
+              λ q. or_no (is_some (old q))
+              ∙ ap (λ b. is_some (old q) || b) (no_and (is_some (seen carried old pc)))
+              ∙ ap (λ o. is_some (old q) || (is_some (seen carried old pc) && goes o q)) (sym no_jump);
         }
 
 -- ---- settling
 
-pub settled_by : (pc : ℕ) (s : Stored) (joined : Fact) (old new : Facts) → s.at ≡ pc → IsJoined pc s.fact joined old new → IsSettled pc (Some s) (Some joined) old new
-settled_by pc s joined old new at j =
+pub settled_by : (pc : ℕ) (s : Stored) (joined : Fact) (old new : Facts) → s.at ≡ pc → new pc ≡ Some joined → IsJoined pc s.fact old new → IsSettled pc (Some s) (Some joined) old new
+settled_by pc s joined old new at is j =
     record {
-      is = subst (λ o. AreSame o (brought pc (Some s) (old pc))) j.is (subst (λ k. AreSame (new pc) (arrived pc s.fact k (old pc))) (sym at) (j.each pc));
+      is = subst (λ o. AreSame o (brought pc (Some s) (old pc))) is (subst (λ k. AreSame (new pc) (arrived pc s.fact k (old pc))) (sym at) (j.each pc));
       others = λ q n. subst (AreSame (new q)) (not_arrived q pc s.fact (old q) n) (j.each q);
-      here = subst (λ o. AreStored o (Some joined)) (sym j.is) (AreStored-refl (Some joined));
+      here = subst (λ o. AreStored o (Some joined)) (sym is) (AreStored-refl (Some joined));
+      kept = j.kept;
     }
 
 pub settled_new : (pc : ℕ) (s : Stored) (old : Facts) → s.at ≡ pc → old pc ≡ None → IsSettled pc (Some s) (Some s.fact) old old
@@ -234,11 +298,17 @@ settled_new pc s old at none =
       is = same_by (Some s.fact) (brought pc (Some s) (old pc)) (sym (to ∙ ap (λ o. Some (taken_in o s.fact)) none));
       others = λ q n. AreSame-refl (old q);
       here = subst (λ o. AreStored o (Some s.fact)) (sym none) tt;
+      kept = λ q. refl;
     }
 
 pub settled_as : (pc : ℕ) (fact : Option Fact) (old : Facts) → old pc ≡ fact → IsSettled pc None fact old old
 settled_as pc fact old e =
-    record { is = same_by fact (old pc) (sym e); others = λ q n. AreSame-refl (old q); here = subst (AreStored (old pc)) e (AreStored-refl (old pc)) }
+    record {
+      is = same_by fact (old pc) (sym e);
+      others = λ q n. AreSame-refl (old q);
+      here = subst (AreStored (old pc)) e (AreStored-refl (old pc));
+      kept = λ q. refl;
+    }
 
 -- ---- the pass
 
@@ -252,14 +322,34 @@ pub record IsReached (us : List ProgramUnit) (declared : ℕ) (carried : Option 
   pub ahead : (q : ℕ) → pc ≤ q → AreSame (seen carried facts q) (known us declared pc q)
   pub flawless : first_flaw_below us declared pc ≡ None
   pub goes_on : IsCarriedTo us pc carried
+  pub kept : (q : ℕ) → is_some (facts q) ≡ is_entered us declared pc q
+
+first_if : (t : Bool) → is_some (cond t (Some entry_fact) None) ≡ t
+first_if true = refl
+first_if false = refl
 
 module _ (us : List ProgramUnit) (declared : ℕ) where
   no_flaw_yet : first_flaw_below us declared 0 ≡ None
   unfolding first_flaw_below
   no_flaw_yet = refl
 
+  known_first : (q : ℕ) → is_some (known us declared 0 q) ≡ is_entered us declared 0 q
+  unfolding known is_entered
+  known_first q = first_if (q == 0)
+
   pub reached_none : (facts : Facts) → ((q : ℕ) → AreSame (facts q) (known us declared 0 q)) → IsReached us declared None facts 0
-  reached_none facts same = record { behind = λ q l. absurd (omega arith); ahead = λ q l. same q; flawless = no_flaw_yet; goes_on = tt }
+  reached_none facts same =
+      record {
+        behind = λ q l. absurd (omega arith);
+        ahead = λ q l. same q;
+        flawless = no_flaw_yet;
+        goes_on = tt;
+        kept = λ q. same_some (facts q) (known us declared 0 q) (same q) ∙ known_first q;
+      }
+
+  entered_more : (pc q : ℕ) (o : Option Fact) → is_some o ≡ is_some (inferred us declared pc) → (is_entered us declared pc q || (is_some o && goes (target us pc) q)) ≡ is_entered us declared (suc pc) q
+  unfolding is_entered
+  entered_more pc q o e = ap (λ b. is_entered us declared pc q || (b && goes (target us pc) q)) e
 
   flaw_here : (carried : Option Stored) (facts : Facts) (pc : ℕ) → IsReached us declared carried facts pc → flaw_under us declared pc (seen carried facts pc) ≡ flaw_under us declared pc (inferred us declared pc)
   flaw_here carried facts pc r = flaw_same us declared pc (seen carried facts pc) (inferred us declared pc) (r.ahead pc (omega arith))
@@ -289,6 +379,10 @@ module _ (us : List ProgramUnit) (declared : ℕ) where
         ahead = λ q l. known_more pc q carried next old new r (omega arith) (p.ahead q (omega arith));
         flawless = still_none pc r.flawless (sym (flaw_here carried old pc r) ∙ p.flawless);
         goes_on = subst (λ k. IsCarriedTo us k next) (add-one pc) p.goes_on;
+        kept =
+            λ q. p.kept q
+            ∙ ap (λ b. b || (is_some (seen carried old pc) && goes (target us pc) q)) (r.kept q)
+            ∙ entered_more pc q (seen carried old pc) (same_some (seen carried old pc) (inferred us declared pc) (r.ahead pc (omega arith)));
       }
 
   pub reached_more : (carried next : Option Stored) (old new : Facts) (pc : ℕ) → IsReached us declared carried old pc → IsPassed us declared pc carried next old new → IsReached us declared next new (pc + 1)
@@ -304,8 +398,9 @@ module _ (us : List ProgramUnit) (declared : ℕ) where
   refused_at carried facts pc (TypeRefusal fault) l r h = flaw_found carried facts pc fault l r h
   refused_at carried facts pc OutOfMemory l r h = tt
 
-  pub reached_all : (carried : Option Stored) (facts : Facts) (pc : ℕ) → length us ≤ pc → IsReached us declared carried facts pc → AreInferred us declared facts
-  reached_all carried facts pc l r q inside = r.behind q (omega arith)
+  pub reached_all : (carried : Option Stored) (facts : Facts) (pc : ℕ) → length us ≡ pc → IsReached us declared carried facts pc → AreInferred us declared facts
+  reached_all carried facts pc l r =
+      record { each = λ q inside. r.behind q (omega (arith, inside, l)); kept = λ q. r.kept q ∙ ap (λ n. is_entered us declared n q) (sym l) }
 
   pub flawless_all : (carried : Option Stored) (facts : Facts) (pc : ℕ) → length us ≡ pc → IsReached us declared carried facts pc → first_flaw us declared ≡ None
   flawless_all carried facts pc l r = ap (first_flaw_below us declared) l ∙ r.flawless

@@ -1,5 +1,5 @@
 -- Promises: what facts mean, and when they cover a program.
-use Rattle.std.specs.Prelude.{◌≡◌, ◌≢◌, ℕ, ◌+◌, ◌<◌, ◌==◌, if◌then◌else◌, ◌/◌, ◌%◌, ◌^◌, ◌⊎◌, ◌↔◌, Bool, pos, ◌+ℤ◌, List, [], ◌∷◌, length, Option, Some, None, Ok, slice_get, slice_index_or, ⊤}
+use Rattle.std.specs.Prelude.{◌≡◌, ◌≢◌, ℕ, suc, ◌≤◌, slice_index, ◌+◌, ◌<◌, ◌==◌, if◌then◌else◌, ◌/◌, ◌%◌, ◌^◌, ◌⊎◌, ◌↔◌, Bool, pos, ◌+ℤ◌, List, [], ◌∷◌, length, Option, Some, None, Ok, slice_get, slice_index_or, ⊤}
 use Rattle.std.specs.List.{AllByRecursion}
 use Rattle.bpf_model.specs.declared.instruction.Inst.{Inst}
 use Rattle.bpf_model.specs.declared.instruction.Unit.{Unit as ProgramUnit}
@@ -20,6 +20,7 @@ use Rattle.reg_types.specs.declared.types.RegType.{RegType}
 use Rattle.reg_types.specs.declared.types.RegType.TheVariants.{Unset as Anything, Num, Const, Ctx, Stk}
 use Rattle.reg_types.specs.declared.types.Fact.{Fact}
 use Rattle.reg_types.specs.declared.types.Stored.{Stored}
+use Rattle.reg_types.specs.declared.types.Running.{Running}
 use Rattle.reg_types.specs.declared.types.Effect.{Effect}
 use Rattle.reg_types.specs.declared.types.Successors.{Successors}
 use Rattle.reg_types.specs.declared.types.Successors.TheVariants.{End, Next, Jump, Either}
@@ -76,6 +77,20 @@ jumps_of (Next to) = []
 jumps_of (Jump to) = to ∷ []
 jumps_of (Either to next) = to ∷ []
 
+-- where the jump goes, if there is one
+abbrev pub jump_of : Successors → Option ℕ
+jump_of End = None
+jump_of (Next to) = None
+jump_of (Jump to) = Some to
+jump_of (Either to next) = Some to
+
+-- the next instruction, where it is led to
+abbrev pub next_of : Successors → Option ℕ
+next_of End = None
+next_of (Next to) = Some to
+next_of (Jump to) = None
+next_of (Either to next) = Some next
+
 -- the fact is carried on to the next instruction
 abbrev pub carried_of : Fact → Successors → Option Stored
 carried_of fact End = None
@@ -106,6 +121,26 @@ pub record IsPlace (facts : List Stored) (at k : ℕ) : Type 0 where
   pub inside : k < length facts
   pub earlier : (j : ℕ) (d : Stored) → j < k → (slice_index_or facts j d).at ≢ at
   pub here : (d : Stored) → (slice_index_or facts k d).at ≡ at
+
+-- no unit has two facts
+unfoldable pub AreDistinct : List Stored → Type 0
+AreDistinct [] = ⊤
+AreDistinct (s ∷ rest) = (stored rest s.at ≡ None) × AreDistinct rest
+
+-- for each unit one more than the place of its fact, or 0 where none is stored
+pub record IsIndexed (facts : List Stored) (places : List ℕ) : Type 0 where
+  pub many : length places ≡ 513
+  pub none : (q : ℕ) → q ≤ 512 → slice_index places q ≡ 0 → stored facts q ≡ None
+  pub some : (q k : ℕ) → slice_index places q ≡ suc k → IsPlace facts q k
+  pub distinct : AreDistinct facts
+
+-- the fact that is carried along, with the unit that it comes to
+abbrev pub carried_to : Option ℕ → Fact → Option Stored
+carried_to None fact = None
+carried_to (Some at) fact = Some (record { at = at; fact = fact })
+
+abbrev pub carried_in : Running → Option Stored
+carried_in running = carried_to running.at running.fact
 
 -- the types after an instruction, and the old places with those that it sets
 pub record IsAfter (fact : Fact) (effect : Effect) (after : Fact) : Type 0 where

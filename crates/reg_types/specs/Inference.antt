@@ -1,6 +1,6 @@
 -- Definitions: what is known before each unit of a program, and the first unit that the rules refuse (this profile,
 -- type rules).
-use Rattle.std.specs.Prelude.{ℕ, zero, suc, ◌+◌, ℤ, pos, ◌==◌, ◌&&◌, if◌then◌else◌, Bool, true, false, List, [], ◌∷◌, length, drop, slice_get, slice_index_or, Option, Some, None, Result, Ok, Err}
+use Rattle.std.specs.Prelude.{ℕ, zero, suc, ◌+◌, ℤ, pos, ◌==◌, ◌&&◌, ◌||◌, is_some, if◌then◌else◌, Bool, true, false, List, [], ◌∷◌, length, drop, slice_get, slice_index_or, Option, Some, None, Result, Ok, Err}
 use Rattle.bpf_model.specs.declared.instruction.Inst.{Inst}
 use Rattle.bpf_model.specs.declared.instruction.Form.{Form}
 use Rattle.bpf_model.specs.declared.instruction.Form.TheVariants.{Wide, Goto, GotoLong, Branch, Exit}
@@ -8,6 +8,7 @@ use Rattle.bpf_model.specs.declared.instruction.Unit.{Unit as ProgramUnit}
 use Rattle.bpf_model.specs.declared.instruction.Unit.TheVariants.{First, Second}
 use Rattle.bpf_model.specs.Reading.{form_of}
 use Rattle.bpf_model.specs.Machine.{shifted}
+use Rattle.bpf_model.specs.Flow.{target}
 use Rattle.reg_types.specs.declared.types.RegType.{RegType}
 use Rattle.reg_types.specs.declared.types.RegType.TheVariants.{Unset as Anything, Ctx, Stk}
 use Rattle.reg_types.specs.declared.types.Fact.{Fact}
@@ -161,3 +162,33 @@ first_flaw_below us declared (suc n) = or_else (first_flaw_below us declared n) 
 
 abbrev pub first_flaw : List ProgramUnit → ℕ → Option TypeFault
 first_flaw us declared = first_flaw_below us declared (length us)
+
+-- ---- where facts are stored: at the first unit, and where the jumps of reached units go
+
+-- a jump goes to unit q
+abbrev pub goes : Option ℕ → ℕ → Bool
+goes None q = false
+goes (Some to) q = q == to
+
+-- q is the first unit, or the jump of a reached unit below n goes to it
+unfoldable pub is_entered : List ProgramUnit → ℕ → ℕ → ℕ → Bool
+is_entered us declared zero q = q == 0
+is_entered us declared (suc n) q = is_entered us declared n q || (is_some (inferred us declared n) && goes (target us n) q)
+
+-- the jump of a unit below n goes to q, reached or not
+unfoldable pub is_target : List ProgramUnit → ℕ → ℕ → Bool
+is_target us zero q = false
+is_target us (suc n) q = is_target us n q || goes (target us n) q
+
+-- how many numbers below n are so
+unfoldable pub count_below : ℕ → (ℕ → Bool) → ℕ
+count_below zero is = 0
+count_below (suc n) is = if is n then suc (count_below n is) else count_below n is
+
+-- the number of units whose facts are stored
+abbrev pub facts_in : List ProgramUnit → ℕ → ℕ
+facts_in us declared = count_below (length us) (is_entered us declared (length us))
+
+-- the number of different targets of jumps
+abbrev pub targets_in : List ProgramUnit → ℕ
+targets_in us = count_below (length us) (is_target us (length us))

@@ -1,11 +1,14 @@
 -- Promises: what the pass over the units does, what it leaves, and how its refusal is told.
-use Rattle.std.specs.Prelude.{◌≡◌, ◌≢◌, ℕ, ◌+◌, ◌<◌, ◌≤◌, ◌⊎◌, ◌↔◌, ℤ, List, [], ◌∷◌, length, Option, Some, None, slice_get, ⊤}
+use Rattle.std.specs.Prelude.{◌≡◌, ◌≢◌, ℕ, ◌+◌, ◌<◌, ◌≤◌, ◌⊎◌, ◌↔◌, Bool, true, false, ◌&&◌, ◌||◌, is_some, ℤ, List, length, Option, Some, None, slice_get, ⊤}
 use Rattle.bpf_model.specs.declared.instruction.Unit.{Unit as ProgramUnit}
 use Rattle.bpf_model.specs.declared.instruction.Inst.{Inst}
 use Rattle.bpf_model.specs.declared.instruction.Unit.TheVariants.{First, Second}
+use Rattle.bpf_model.specs.declared.instruction.Form.{Form}
+use Rattle.bpf_model.specs.declared.instruction.Form.TheVariants.{Wide}
 use Rattle.reg_types.specs.declared.types.Stored.{Stored}
 use Rattle.bpf_model.specs.Reading.{units}
-use Rattle.bpf_model.specs.Flow.{GoesForward}
+use Rattle.bpf_model.specs.Machine.{and_then, shifted}
+use Rattle.bpf_model.specs.Flow.{GoesForward, target, distance_by}
 use Rattle.stack_map.specs.Places.{Has}
 use Rattle.bpf_decode.specs.declared.DecodeFault.{DecodeFault}
 use Rattle.bpf_decode.specs.declared.DecodeFault.TheVariants.{OutOfMemory as NoMemoryToDecode}
@@ -13,8 +16,8 @@ use Rattle.flow_check.specs.declared.FlowFault.TheVariants.{OutOfMemory as NoMem
 use Rattle.reg_types.specs.declared.types.Fact.{Fact}
 use Rattle.reg_types.specs.declared.refusal.Refusal.{Refusal}
 use Rattle.reg_types.specs.declared.refusal.Refusal.TheVariants.{Decode, Flow, «Type» as TypeRefusal, OutOfMemory}
-use Rattle.reg_types.specs.Facts.{Facts, IsEntry}
-use Rattle.reg_types.specs.Inference.{flaw_under, arrived, passed, inferred, first_flaw}
+use Rattle.reg_types.specs.Facts.{Facts, AreDistinct, stored}
+use Rattle.reg_types.specs.Inference.{flaw_under, arrived, passed, inferred, first_flaw, instruction_at, goes, is_entered, facts_in, targets_in}
 
 -- ---- facts that say the same
 
@@ -53,16 +56,26 @@ abbrev pub IsCarriedAt : ℕ → Option Stored → Type 0
 IsCarriedAt pc None = ⊤
 IsCarriedAt pc (Some s) = s.at ≡ pc
 
+-- the fact, where the unit is reached
+abbrev pub fact_if : Bool → Fact → Option Fact
+fact_if false fact = None
+fact_if true fact = Some fact
+
 -- a fact that comes to a unit with a stored one is taken in there
-pub record IsJoined (at : ℕ) (fact joined : Fact) (old new : Facts) : Type 0 where
-  pub is : new at ≡ Some joined
+pub record IsJoined (at : ℕ) (fact : Fact) (old new : Facts) : Type 0 where
   pub each : (q : ℕ) → AreSame (new q) (arrived q fact at (old q))
+  pub kept : (q : ℕ) → is_some (new q) ≡ is_some (old q)
 
 -- what is known of the unit, and stored there if a fact was
 pub record IsSettled (pc : ℕ) (carried : Option Stored) (fact : Option Fact) (old new : Facts) : Type 0 where
   pub is : AreSame fact (seen carried old pc)
   pub others : (q : ℕ) → q ≢ pc → AreSame (new q) (old q)
   pub here : AreStored (new pc) fact
+  pub kept : (q : ℕ) → is_some (new q) ≡ is_some (old q)
+
+-- where the jump of an instruction goes
+abbrev pub target_by : ℕ → Form → Inst → Option ℕ
+target_by pc form i = and_then (distance_by (Some form) i) (λ z. shifted (pc + 1) z 512)
 
 -- the instruction has no flaw under the fact; its jumps have brought what they bring, and the rest is carried on
 pub record IsVisited (us : List ProgramUnit) (declared pc : ℕ) (fact : Fact) (next : Option Stored) (old new : Facts) : Type 0 where
@@ -70,6 +83,7 @@ pub record IsVisited (us : List ProgramUnit) (declared pc : ℕ) (fact : Fact) (
   pub ahead : (q : ℕ) → pc < q → AreSame (seen next new q) (passed us declared pc (Some fact) q (old q))
   pub behind : (q : ℕ) → q ≤ pc → AreSame (new q) (old q)
   pub goes_on : IsCarriedTo us (pc + 1) next
+  pub kept : (q : ℕ) → is_some (new q) ≡ (is_some (old q) || goes (target us pc) q)
 
 -- the unit has no flaw, and its edges have brought what they bring
 pub record IsPassed (us : List ProgramUnit) (declared pc : ℕ) (carried next : Option Stored) (old new : Facts) : Type 0 where
@@ -78,23 +92,48 @@ pub record IsPassed (us : List ProgramUnit) (declared pc : ℕ) (carried next : 
   pub behind : (q : ℕ) → q < pc → AreSame (new q) (old q)
   pub here : AreStored (new pc) (seen carried old pc)
   pub goes_on : IsCarriedTo us (pc + 1) next
+  pub kept : (q : ℕ) → is_some (new q) ≡ (is_some (old q) || (is_some (seen carried old pc) && goes (target us pc) q))
 
--- the entry's fact alone is stored
-pub record IsStarted (facts : List Stored) : Type 0 where
-  pub start : Fact
-  pub entry : IsEntry start
-  pub items : facts ≡ record { at = 0; fact = start } ∷ []
+-- facts are stored of the first unit and of the units that reached jumps go to, each the fact of its unit
+pub record AreInferred (us : List ProgramUnit) (declared : ℕ) (facts : Facts) : Type 0 where
+  pub each : (q : ℕ) → q < length us → AreStored (facts q) (inferred us declared q)
+  pub kept : (q : ℕ) → is_some (facts q) ≡ is_entered us declared (length us) q
 
--- each stored fact is the fact of its unit
-abbrev pub AreInferred : List ProgramUnit → ℕ → Facts → Type 0
-AreInferred us declared facts = (q : ℕ) → q < length us → AreStored (facts q) (inferred us declared q)
+-- the unit after an instruction
+abbrev pub following : ℕ → Form → ℕ
+following pc Wide = pc + 2
+following pc form = pc + 1
 
--- the bytes are these units, whose jumps go forward and in which there is no flaw, with facts of some of them
-pub record IsAccepted (bytes : List ℕ) (declared : ℕ) (us : List ProgramUnit) (facts : Facts) : Type 0 where
+-- what is known of a unit is what the instruction in front of it leaves
+pub record IsBrought (us : List ProgramUnit) (declared q : ℕ) : Type 0 where
+  pub before : ℕ
+  pub instruction : Inst × Form
+  pub stands : instruction_at us before ≡ Some instruction
+  pub next : q ≡ following before instruction.1
+  pub is : inferred us declared q ≡ passed us declared before (inferred us declared before) q None
+
+-- from the stored facts the others are had by going from each instruction to the next
+abbrev pub AreWalked : List ProgramUnit → ℕ → Type 0
+AreWalked us declared =
+    (q : ℕ) → is_entered us declared (length us) q ≡ false → q < length us → (inferred us declared q ≡ None) ⊎ IsBrought us declared q
+
+-- the bytes are these units, whose jumps go forward and in which there is no flaw, and these facts are stored of them,
+-- from which the others are had
+pub record IsAccepted (bytes : List ℕ) (declared : ℕ) (us : List ProgramUnit) (facts : List Stored) : Type 0 where
   pub reads : units bytes ≡ Some us
   pub forward : GoesForward us
   pub flawless : first_flaw us declared ≡ None
-  pub each : AreInferred us declared facts
+  pub inferred_are : AreInferred us declared (stored facts)
+  pub distinct : AreDistinct facts
+  pub walked : AreWalked us declared
+
+-- the number of stored facts: one for the first unit, and one for each unit that a reached jump goes to
+abbrev pub IsFactCount : List ℕ → ℕ → ℕ → Type 0
+IsFactCount bytes declared n = (us : List ProgramUnit) → units bytes ≡ Some us → n ≡ facts_in us declared
+
+-- it is at most one more than the number of different targets of jumps
+abbrev pub IsFew : List ℕ → ℕ → Type 0
+IsFew bytes n = (us : List ProgramUnit) → units bytes ≡ Some us → n ≤ 1 + targets_in us
 
 -- ---- refusals
 

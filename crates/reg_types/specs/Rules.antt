@@ -1,5 +1,5 @@
 -- Definitions: the typing rules, as functions (this profile, type rules). A program which they accept is good.
-use Rattle.std.specs.Prelude.{ℕ, zero, suc, ◌+◌, ◌*◌, ◌/◌, ◌%◌, ◌-◌, ◌^◌, ◌==◌, nat_le, Bool, true, false, not, ◌&&◌, ◌||◌, if◌then◌else◌, ℤ, pos, negsuc, neg_ℤ, ◌+ℤ◌, int_le, List, [], ◌∷◌, drop, slice_set, slice_index_or, Option, Some, None, is_some, Result, Ok, Err}
+use Rattle.std.specs.Prelude.{ℕ, zero, suc, ◌+◌, ◌*◌, ◌/◌, ◌%◌, ◌-◌, ◌^◌, ◌==◌, nat_le, Bool, true, false, ◌&&◌, ◌||◌, if◌then◌else◌, ℤ, pos, negsuc, neg_ℤ, ◌+ℤ◌, int_le, List, ◌∷◌, drop, slice_set, slice_index_or, Option, Some, None, is_some, Result, Ok, Err}
 use Rattle.std.specs.Ordering.{int_eq}
 use Rattle.std.specs.Int.{cast_unsigned, w32}
 use Rattle.bpf_model.specs.declared.instruction.Inst.{Inst}
@@ -8,7 +8,7 @@ use Rattle.bpf_model.specs.declared.instruction.Width.TheVariants.{Narrow, Full}
 use Rattle.bpf_model.specs.declared.instruction.Source.{Source}
 use Rattle.bpf_model.specs.declared.instruction.Source.TheVariants.{Immediate, Register}
 use Rattle.bpf_model.specs.declared.instruction.Operator.{Operator}
-use Rattle.bpf_model.specs.declared.instruction.Operator.TheVariants.{Sum, Difference, Product, Quotient, Or, And, ShiftLeft, ShiftRight, Negate, Remainder, Xor, Move, ShiftSigned, SwapBytes}
+use Rattle.bpf_model.specs.declared.instruction.Operator.TheVariants.{Sum, Difference, Negate, Move, SwapBytes}
 use Rattle.bpf_model.specs.declared.instruction.Form.{Form}
 use Rattle.bpf_model.specs.declared.instruction.Form.TheVariants.{Arithmetic, Wide, Load, LoadSigned, StoreImmediate, StoreRegister, Goto, GotoLong, Branch, Call, Exit}
 use Rattle.bpf_model.specs.Reading.{bytes_in}

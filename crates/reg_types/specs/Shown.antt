@@ -17,7 +17,8 @@ use Rattle.bpf_model.specs.Program.{ProgramText}
 use Rattle.bpf_model.specs.Flow.{flow_fault}
 use Rattle.bpf_model.specs.declared.instruction.UnitFault.{UnitFault}
 use Rattle.bpf_model.specs.declared.instruction.JumpFault.{JumpFault}
-use Rattle.bpf_decode.specs.declared.DecodeFault.TheVariants.{Length}
+use Rattle.bpf_decode.specs.declared.DecodeFault.{DecodeFault}
+use Rattle.bpf_decode.specs.declared.DecodeFault.TheVariants.{Length, OutOfMemory as NoMemoryToDecode}
 use Rattle.bpf_decode.specs.Faults.{IsRefusedFor, numbered as decode_numbered}
 use Rattle.flow_check.specs.declared.FlowFault.{FlowFault}
 use Rattle.flow_check.specs.Faults.{IsShown as IsFlowShown, numbered as flow_numbered}
@@ -152,13 +153,18 @@ pub record IsTypeShown (bytes : List ℕ) (fault : TypeFault) : Type 0 where
   pub shows : Shows (length code) pc unit form flaw
   pub fault_is : fault ≡ located pc flaw
 
+-- what a fault of decoding says of the bytes; want of memory is a refusal of its own, never told as such a fault
+abbrev pub IsDecodeRefused : List ℕ → DecodeFault → Type 0
+IsDecodeRefused bytes NoMemoryToDecode = ⊥
+IsDecodeRefused bytes fault = IsRefusedFor bytes fault
+
 -- the bytes are units, and the fault is the first of their jumps
 abbrev pub IsFlowRefused : List ℕ → FlowFault → Type 0
 IsFlowRefused bytes fault = (code : List ProgramUnit) × (units bytes ≡ Some code) × IsFlowShown code fault
 
 -- what a refusal says of the bytes
 abbrev pub IsRefused : List ℕ → ℕ → Refusal → Type 0
-IsRefused bytes declared (Decode fault) = IsRefusedFor bytes fault
+IsRefused bytes declared (Decode fault) = IsDecodeRefused bytes fault
 IsRefused bytes declared (Flow fault) = IsFlowRefused bytes fault
 IsRefused bytes declared (TypeRefusal fault) = IsTypeShown bytes fault
 IsRefused bytes declared OutOfMemory = ⊤

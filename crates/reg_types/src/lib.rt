@@ -3,9 +3,10 @@
 
 mod refusal;
 mod rules;
+mod table;
 mod types;
 mod verifier;
 
 pub use refusal::{Refusal, TypeFault};
 pub use types::{Fact, RegType};
-pub use verifier::{Program, law_of_one_answer, verify};
+pub use verifier::{Program, law_of_one_answer, upper_at, verify};

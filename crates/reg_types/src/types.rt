@@ -2,7 +2,7 @@
 
 ghost use Rattle.std.specs.Prelude.{◌≡◌, ◌≤◌, ◌+◌};
 ghost use Rattle.reg_types.specs.Rules.{type_at, is_unset, is_pointer, is_numeric, join_type};
-ghost use Rattle.reg_types.specs.Facts.{IsAfter, IsEntry};
+ghost use Rattle.reg_types.specs.Facts.{IsAfter, IsEntry, jump_of, next_of};
 ghost use Rattle.reg_types.specs.Inference.{join_fact};
 ghost use Rattle.reg_types.specs.Passing.{IsSame};
 
@@ -30,6 +30,13 @@ pub struct Fact {
 #[derive(Clone, Copy, Debug, PartialEq, Eq)]
 pub struct Stored {
     pub at: u32,
+    pub fact: Fact,
+}
+
+/// The fact that is carried from an instruction to the next, and the unit that it comes to, if it comes to one.
+#[derive(Clone, Copy, Debug, PartialEq, Eq)]
+pub struct Running {
+    pub at: Option<u32>,
     pub fact: Fact,
 }
 
@@ -65,6 +72,28 @@ pub enum Successors {
     Next(u32),
     Jump(u32),
     Either(u32, u32),
+}
+
+impl Successors {
+    /// Where the jump goes, if there is one.
+    pub fn jump(self) -> Option<u32>
+        ensures { result ≡ jump_of self }
+    {
+        match self {
+            Successors::Jump(to) | Successors::Either(to, _) => Some(to),
+            Successors::End | Successors::Next(_) => None,
+        }
+    }
+
+    /// The next instruction, if it is led to.
+    pub fn next(self) -> Option<u32>
+        ensures { result ≡ next_of self }
+    {
+        match self {
+            Successors::Next(to) | Successors::Either(_, to) => Some(to),
+            Successors::End | Successors::Jump(_) => None,
+        }
+    }
 }
 
 impl RegType {
@@ -127,29 +156,22 @@ impl Fact {
         }
     }
 
-    /// What both facts say.
-    pub fn join(&self, other: &Fact) -> Fact
-        ensures { IsSame result (join_fact self.now other.now) }
+    /// Keeps what the other fact says too.
+    pub fn join(&mut self, other: &Fact)
+        ensures { IsSame self.new (join_fact self.old other.now) }
     {
-        let mut types = self.types;
         for r in 0..11 {
-            types[r] = types[r].join(other.types[r]);
+            self.types[r] = self.types[r].join(other.types[r]);
         }
-        let mut stack = self.stack;
-        stack.meet(&other.stack);
-        Fact { types, stack }
+        self.stack.meet(&other.stack);
     }
 
-    /// What is known after an instruction with this effect.
-    pub fn after(&self, effect: &Effect) -> Fact
+    /// Becomes what is known after an instruction with this effect.
+    pub fn apply(&mut self, effect: &Effect)
         requires { effect.now.at + effect.now.len ≤ 512 }
-        ensures { IsAfter self.now effect.now result }
+        ensures { IsAfter self.old effect.now self.new }
     {
-        let mut stack = self.stack;
-        stack.mark(effect.at, effect.len);
-        Fact {
-            types: effect.types,
-            stack,
-        }
+        self.types = effect.types;
+        self.stack.mark(effect.at, effect.len);
     }
 }

@@ -1,5 +1,5 @@
-use Rattle.std.proofs.Common.{◌≡◌, ◌<◌, ◌≤◌, ◌+◌, ◌^◌, refl, sym, ◌∙◌, arith, length}
-use Rattle.std.specs.Prelude.{◌/◌, ◌%◌}
+use Rattle.std.proofs.Common.{◌+◌, ◌∙◌}
+use Rattle.std.specs.Prelude.{◌%◌}
 use Rattle.std.proofs.lemmas.List.{length-set}
 use Rattle.helpers.proofs.Storing.{rest_is, stored_more}
 use Rattle.helpers.proofs.memory.put.Goals as goal

@@ -1,4 +1,4 @@
-use Rattle.std.proofs.Common.{◌≡◌, ℕ, subst, sym, ◌∙◌}
+use Rattle.std.proofs.Common.{◌≡◌, subst}
 use Rattle.bpf_model.specs.Program.{outcome}
 use Rattle.bpf_model.specs.Machine.{counter}
 use Rattle.counters.specs.Changes.{adopted}

@@ -1,11 +1,29 @@
-use Rattle.std.proofs.Common.{◌≡◌, sym, subst, ◌∙◌, None, ap}
+use Rattle.std.proofs.Common.{◌≡◌, sym, subst, ◌∙◌, Some, None, ap}
+use Rattle.bpf_model.specs.Reading.{units}
+use Rattle.reg_types.specs.Facts.{stored}
 use Rattle.bpf_model.specs.Flow.{GoesForward}
 use Rattle.reg_types.specs.Inference.{first_flaw}
-use Rattle.reg_types.specs.Passing.{IsPassRefused, IsToldAlone, decode_told}
+use Rattle.reg_types.specs.Passing.{AreInferred, IsPassRefused, IsToldAlone, decode_told}
 use Rattle.reg_types.specs.Shown.{IsRefusal, IsRefused, refusal_of}
 use Rattle.reg_types.proofs.Accepted.{good_by}
 use Rattle.reg_types.proofs.Answering.{accepted, pass_shown, pass_exact, exact_plain, decode_exact, decode_shown, decode_alone, flow_exact}
+use Rattle.reg_types.proofs.Walking.{walked}
 use Rattle.reg_types.proofs.verifier.verify.Goals as goal
+
+pub invariant_of-result : goal.invariant_of-result
+invariant_of-result c =
+    let flow = c.in-Ok-check_flow.ensures.ok.0 in
+    let same = c.units.ensures.same ∙ c.code.ensures.same ∙ flow in
+    let own = c.units.ensures.same ∙ c.code.ensures.same in
+    let reads = ap units c.in-Ok-from_slice.ensures.items ∙ c.in-Ok.ensures.ok ∙ ap Some (sym flow) in
+    record {
+      reads = reads;
+      forward = c.code.ensures.forward;
+      flawless = subst (λ us. first_flaw us c.args.declared ≡ None) own c.in-Ok-infer.ensures.flawless;
+      inferred_are = subst (λ us. AreInferred us c.args.declared (stored c.in-Ok-infer.facts.items)) own c.in-Ok-infer.ensures.inferred;
+      distinct = c.in-Ok-infer.ensures.distinct;
+      walked = walked c.in-Ok-from_slice.kept.items c.in-Ok-check_flow.flow c.args.declared reads;
+    }
 
 pub returns-in-Err : goal.returns-in-Err
 returns-in-Err c =

@@ -1,0 +1,115 @@
+// The facts that the pass stores, each found by its unit at once.
+
+ghost use Rattle.std.specs.Prelude.{◌≡◌, ℕ, ◌≤◌, ◌∷◌, [], IfOk, IfSome, OnOk, IsTrue, false, Some, None, replicate, slice_set};
+ghost use Rattle.reg_types.specs.Facts.{IsPlace, AreDistinct, stored};
+ghost use Rattle.reg_types.specs.Inference.{arrived};
+ghost use Rattle.reg_types.specs.Passing.{AreSame, IsJoined};
+
+use crate::types::{Fact, Stored};
+use std::alloc::{AllocError, Global};
+use std::marker::Model;
+
+/// Facts of some of the units 0 to 512, one each.
+#[derive(Drop)]
+pub struct Table {
+    facts: Vec<Stored>,
+    // One more than the place of the unit's fact, or 0 where none is stored.
+    places: [usize; 513],
+}
+
+impl Model for Table {
+    ghost use Rattle.std.specs.Prelude.{List};
+    ghost use Rattle.reg_types.specs.declared.types.Stored.{Stored};
+    ghost use Rattle.reg_types.specs.Facts.{IsIndexed};
+
+    ghost Value = { List Stored };
+
+    ghost view = { λ t. t.facts.items };
+
+    ghost invariant = { λ t. IsIndexed t.facts.items t.places };
+}
+
+// The first unit's fact stands first, and the others have none.
+fn first_alone() -> [usize; 513]
+    ensures { result ≡ slice_set (replicate 513 0) 0 1 }
+{
+    let mut places = [0; 513];
+    places[0] = 1;
+    places
+}
+
+impl Table {
+    /// The fact of the first unit alone.
+    pub fn new(alloc: Global, fact: &Fact) -> Result<Table, AllocError>
+        ensures { IfOk result (λ table. table ≡ record { at = 0; fact = fact.now } ∷ []) }
+    {
+        let mut facts = Vec::new(alloc);
+        facts.push(Stored { at: 0, fact: *fact })?;
+        Ok(Table {
+            facts,
+            places: first_alone(),
+        })
+    }
+
+    fn place_of(&self, at: u32) -> Option<usize>
+        requires { at ≤ 512 }
+        ensures found { IfSome result (λ k. IsPlace self.now at k) }
+        ensures none { result ≡ None → stored self.now at ≡ None }
+    {
+        match self.places[at as usize] {
+            0 => None,
+            behind => Some(behind - 1),
+        }
+    }
+
+    /// The stored fact of a unit.
+    pub fn get(&self, at: u32) -> Option<Fact>
+        requires { at ≤ 512 }
+        ensures { result ≡ stored self.now at }
+    {
+        let k = self.place_of(at)?;
+        Some(self.facts[k].fact)
+    }
+
+    /// The stored fact of a unit, if it has one, takes in what is known where the unit is entered.
+    pub fn join_at(&mut self, at: u32, fact: &Fact) -> bool
+        requires { at ≤ 512 }
+        ensures joined { IsTrue result → IsJoined at fact.now (stored self.old) (stored self.new) }
+        ensures none { result ≡ false → (stored self.old at ≡ None) × (self.new ≡ self.old) }
+    {
+        let Some(k) = self.place_of(at) else {
+            return false;
+        };
+        self.facts[k].fact.join(fact);
+        true
+    }
+
+    fn push(&mut self, at: u32, fact: &Fact) -> Result<(), AllocError>
+        requires small { at ≤ 512 }
+        requires new { stored self.old at ≡ None }
+        ensures { OnOk result ((q : ℕ) → AreSame (stored self.new q) (arrived q fact.now at (stored self.old q))) }
+    {
+        self.facts.push(Stored { at, fact: *fact })?;
+        self.places[at as usize] = self.facts.len();
+        Ok(())
+    }
+
+    /// A jump's target takes in what is known where it is entered.
+    pub fn enter(&mut self, at: u32, fact: &Fact) -> Result<(), AllocError>
+        requires { at ≤ 512 }
+        ensures { OnOk result ((q : ℕ) → AreSame (stored self.new q) (arrived q fact.now at (stored self.old q))) }
+    {
+        if self.join_at(at, fact) {
+            return Ok(());
+        }
+        self.push(at, fact)
+    }
+
+    /// The facts, in the order in which their units were entered.
+    pub fn into_facts(self) -> Vec<Stored>
+        ensures same { result.items ≡ self }
+        ensures distinct { AreDistinct result.items }
+    {
+        self.facts
+    }
+}
