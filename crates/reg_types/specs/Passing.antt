@@ -5,7 +5,7 @@ use Rattle.bpf_model.specs.declared.instruction.Inst.{Inst}
 use Rattle.bpf_model.specs.declared.instruction.Unit.TheVariants.{First, Second}
 use Rattle.reg_types.specs.declared.types.Stored.{Stored}
 use Rattle.bpf_model.specs.Reading.{units}
-use Rattle.bpf_model.specs.Flow.{GoesForward}
+use Rattle.bpf_model.specs.Flow.{GoesForward, flow_fault}
 use Rattle.stack_map.specs.Places.{Has}
 use Rattle.bpf_decode.specs.declared.DecodeFault.{DecodeFault}
 use Rattle.bpf_decode.specs.declared.DecodeFault.TheVariants.{OutOfMemory as NoMemoryToDecode}
@@ -89,10 +89,11 @@ pub record IsStarted (facts : List Stored) : Type 0 where
 abbrev pub AreInferred : List ProgramUnit → ℕ → Facts → Type 0
 AreInferred us declared facts = (q : ℕ) → q < length us → AreStored (facts q) (inferred us declared q)
 
--- the bytes are these units, whose jumps go forward and in which there is no flaw, with facts of some of them
+-- the bytes are these units, no jump of which is at fault and in which there is no flaw, with facts of some of them
 pub record IsAccepted (bytes : List ℕ) (declared : ℕ) (us : List ProgramUnit) (facts : Facts) : Type 0 where
   pub reads : units bytes ≡ Some us
   pub forward : GoesForward us
+  pub flows : flow_fault us ≡ None
   pub flawless : first_flaw us declared ≡ None
   pub each : AreInferred us declared facts
 
