@@ -8,7 +8,7 @@ use Rattle.bpf_model.specs.declared.instruction.Form.TheVariants.{Wide}
 use Rattle.reg_types.specs.declared.types.Stored.{Stored}
 use Rattle.bpf_model.specs.Reading.{units}
 use Rattle.bpf_model.specs.Machine.{and_then, shifted}
-use Rattle.bpf_model.specs.Flow.{GoesForward, target, distance_by}
+use Rattle.bpf_model.specs.Flow.{GoesForward, flow_fault, target, distance_by}
 use Rattle.stack_map.specs.Places.{Has}
 use Rattle.bpf_decode.specs.declared.DecodeFault.{DecodeFault}
 use Rattle.bpf_decode.specs.declared.DecodeFault.TheVariants.{OutOfMemory as NoMemoryToDecode}
@@ -117,11 +117,12 @@ abbrev pub AreWalked : List ProgramUnit → ℕ → Type 0
 AreWalked us declared =
     (q : ℕ) → is_entered us declared (length us) q ≡ false → q < length us → (inferred us declared q ≡ None) ⊎ IsBrought us declared q
 
--- the bytes are these units, whose jumps go forward and in which there is no flaw, and these facts are stored of them,
--- from which the others are had
+-- the bytes are these units, no jump of which is at fault and in which there is no flaw, and these facts are stored of
+-- them, from which the others are had
 pub record IsAccepted (bytes : List ℕ) (declared : ℕ) (us : List ProgramUnit) (facts : List Stored) : Type 0 where
   pub reads : units bytes ≡ Some us
   pub forward : GoesForward us
+  pub flows : flow_fault us ≡ None
   pub flawless : first_flaw us declared ≡ None
   pub inferred_are : AreInferred us declared (stored facts)
   pub distinct : AreDistinct facts
