@@ -1,18 +1,22 @@
 -- What was said from state to state was also said from what a caller sees of the states.
-use Rattle.std.proofs.Common.{ℕ, List, [], ◌∷◌, Option, Some, None, Result, Ok, Err, ap}
+use Rattle.std.proofs.Common.{ℕ, List, [], ◌∷◌, Option, Some, None, Result, Ok, Err, ap, inl, inr}
 use Rattle.till_request.specs.declared.act.Act.{Act}
 use Rattle.till_request.specs.declared.act.Role.{Role}
 use Rattle.till_request.specs.declared.act.LineFault.{LineFault}
+use Rattle.till_request.specs.declared.act.LineFault.TheVariants.{OutOfMemory}
 use Rattle.till_request.specs.declared.act.Answer.{Answer}
+use Rattle.till_request.specs.declared.act.Answer.TheVariants.{Line}
 use Rattle.till_request.specs.Grammar.{line_read}
 use Rattle.line_session.specs.declared.answering.Ended.{Ended}
 use Rattle.line_session.specs.declared.answering.SessionFault.{SessionFault}
-use Rattle.line_session.specs.Session.{AnswersAct, desk_says}
-use Rattle.line_session.specs.Talk.{SaysAll, Talks, Ends, Breaks}
+use Rattle.line_session.specs.Session.{AnswersAct, desk_says, desk_drops}
+use Rattle.line_session.specs.Talk.{SaysAll, Talks, Ends, DropsNext, Breaks}
 use Rattle.line_session.specs.Serving.{Outcome, Sits, Visits, VisitsAll, Serves}
 
-module _ {S T : Type 0} (f : S → T) (says : S → List ℕ → List ℕ → S → Type 0) (seen : T → List ℕ → List ℕ → T → Type 0)
-    (shows : (s : S) (line text : List ℕ) (s' : S) → says s line text s' → seen (f s) line text (f s')) where
+module _ {S T : Type 0} (f : S → T) (says : S → List ℕ → List ℕ → S → Type 0) (drops : S → List ℕ → S → Type 0)
+    (seen : T → List ℕ → List ℕ → T → Type 0) (lost : T → List ℕ → T → Type 0)
+    (shows : (s : S) (line text : List ℕ) (s' : S) → says s line text s' → seen (f s) line text (f s'))
+    (loses : (s : S) (line : List ℕ) (s' : S) → drops s line s' → lost (f s) line (f s')) where
   all_seen : (lines : List (List ℕ)) (s : S) (texts : List (List ℕ)) (s' : S) → SaysAll says lines s texts s' → SaysAll seen lines (f s) texts (f s')
   all_seen [] s [] s' h = ap f h
   all_seen (line ∷ lines) s (text ∷ texts) s' h = (f h.0, shows s line text h.0 h.1, all_seen lines h.0 texts s' h.2)
@@ -39,15 +43,22 @@ module _ {S T : Type 0} (f : S → T) (says : S → List ℕ → List ℕ → S 
     counted = e.counted;
   }
 
-  breaks_seen : (s s' : S) (i j o p : Option (List ℕ)) → Breaks says s s' i j o p → Breaks seen (f s) (f s') i j o p
+  drops_seen : (s s' : S) (rest : List ℕ) → DropsNext drops s s' rest → DropsNext lost (f s) (f s') rest
+  drops_seen s s' rest (inl same) = inl (ap f same)
+  drops_seen s s' rest (inr d) = inr (d.0, d.1, d.2, loses s d.0 s' d.3)
+
+  breaks_seen : (s s' : S) (i j o p : Option (List ℕ)) → Breaks says drops s s' i j o p → Breaks seen lost (f s) (f s') i j o p
   breaks_seen s s' i j o p b = record {
     lines = b.lines;
     texts = b.texts;
     each = b.each;
-    said = all_seen b.lines s b.texts s' b.said;
+    answered = f b.answered;
+    said = all_seen b.lines s b.texts b.answered b.said;
     rest = b.rest;
+    dropped = drops_seen b.answered s' b.rest b.dropped;
     taken = b.taken;
     cut = b.cut;
+    is_cut = b.is_cut;
     front = b.front;
     after = b.after;
     written = b.written;
@@ -56,7 +67,7 @@ module _ {S T : Type 0} (f : S → T) (says : S → List ℕ → List ℕ → S 
 
   module _ {I O : Type 0} (remaining : I → Option (List ℕ)) (reads read_failures : I → ℕ) (written : O → Option (List ℕ)) (write_failures : O → ℕ) where
     sits_seen : (result : Result Ended SessionFault) (i : I) (o : O) (s s' : S)
-        → Sits says remaining reads read_failures written write_failures result i o s s' → Sits seen remaining reads read_failures written write_failures result i o (f s) (f s')
+        → Sits says drops remaining reads read_failures written write_failures result i o s s' → Sits seen lost remaining reads read_failures written write_failures result i o (f s) (f s')
     sits_seen (Ok ended) i o s s' t = record {
       input = t.input;
       output = t.output;
@@ -84,20 +95,20 @@ module _ {S T : Type 0} (f : S → T) (says : S → List ℕ → List ℕ → S 
 
     module _ {D : Type 0} (opens : D → I → O → D → Type 0) (fails : D → D → Type 0) where
       visits_seen : (outcome : Outcome) (d : D) (s : S) (d' : D) (s' : S)
-          → Visits opens fails (Sits says remaining reads read_failures written write_failures) outcome d s d' s'
-          → Visits opens fails (Sits seen remaining reads read_failures written write_failures) outcome d (f s) d' (f s')
+          → Visits opens fails (Sits says drops remaining reads read_failures written write_failures) outcome d s d' s'
+          → Visits opens fails (Sits seen lost remaining reads read_failures written write_failures) outcome d (f s) d' (f s')
       visits_seen None d s d' s' v = (v.0, ap f v.1)
       visits_seen (Some result) d s d' s' v = (v.0, v.1, v.2, sits_seen result v.0 v.1 s s' v.3)
 
       all_visits_seen : (outcomes : List Outcome) (d : D) (s : S) (d' : D) (s' : S)
-          → VisitsAll (Visits opens fails (Sits says remaining reads read_failures written write_failures)) outcomes d s d' s'
-          → VisitsAll (Visits opens fails (Sits seen remaining reads read_failures written write_failures)) outcomes d (f s) d' (f s')
+          → VisitsAll (Visits opens fails (Sits says drops remaining reads read_failures written write_failures)) outcomes d s d' s'
+          → VisitsAll (Visits opens fails (Sits seen lost remaining reads read_failures written write_failures)) outcomes d (f s) d' (f s')
       all_visits_seen [] d s d' s' h = (h.0, ap f h.1)
       all_visits_seen (outcome ∷ outcomes) d s d' s' h = (h.0, f h.1, visits_seen outcome d s h.0 h.1 h.2, all_visits_seen outcomes h.0 h.1 d' s' h.3)
 
       pub serves_seen : (asked well : ℕ) (d : D) (s : S) (d' : D) (s' : S)
-          → Serves (Visits opens fails (Sits says remaining reads read_failures written write_failures)) asked well d s d' s'
-          → Serves (Visits opens fails (Sits seen remaining reads read_failures written write_failures)) asked well d (f s) d' (f s')
+          → Serves (Visits opens fails (Sits says drops remaining reads read_failures written write_failures)) asked well d s d' s'
+          → Serves (Visits opens fails (Sits seen lost remaining reads read_failures written write_failures)) asked well d (f s) d' (f s')
       serves_seen asked well d s d' s' h = record {
         outcomes = h.outcomes;
         each = all_visits_seen h.outcomes d s d' s' h.each;
@@ -117,5 +128,9 @@ module _ {C C' D D' : Type 0} (f : C → C') (g : D → D') (step : D → Act �
   desk_seen role s line text s' h = record {
     answer = h.answer;
     answers = answers_seen (line_read role line) s.0 s.1 h.answer s'.0 s'.1 h.answers;
+    has_line = h.has_line;
     text_is = h.text_is;
   }
+
+  pub desk_lost : (role : Role) (s : C × D) (line : List ℕ) (s' : C × D) → desk_drops step tick role s line s' → desk_drops step' tick' role (f s.0, g s.1) line (f s'.0, g s'.1)
+  desk_lost role s line s' h = (h.0, h.1, h.2, ticks s.0 h.1 s'.0 h.3, steps s.1 h.0 h.1 (Line OutOfMemory) s'.1 h.4)

@@ -8,7 +8,7 @@ use Rattle.till_request.specs.declared.act.LineFault.{LineFault}
 use Rattle.till_request.specs.Line.{IsLine}
 use Rattle.till_request.specs.declared.act.Answer.TheVariants.{Line}
 use Rattle.till_request.specs.Answer.{answer_line}
-use Rattle.line_session.specs.Talk.{with_lf, Said, Half, Silent, SaysAll, Talks, Breaks}
+use Rattle.line_session.specs.Talk.{with_lf, Said, Half, Silent, Dropped, SaysAll, Talks, IsCut, Breaks}
 
 abbrev same : List ℕ → List ℕ
 same t = t
@@ -53,52 +53,78 @@ module _ {A B : Type 0} (says : A × B → List ℕ → List ℕ → A × B → 
     counted = omega (arith, length-append t.texts (a.text ∷ []), t.counted);
   }
 
-  pub breaks_here : (s m : A × B) (i j o p : Option (List ℕ)) (count : ℕ) (k : Option (List ℕ)) (more : List ℕ)
-      → Talks says s m i j o p count [] [] → Consumes j k more → Breaks says s m i k o p
-  breaks_here s m i j o p count k more t taken = record {
-    lines = t.lines;
-    texts = t.texts;
-    each = t.each;
-    said = t.said;
-    rest = more;
-    taken = consumes_more i j k (flat_map with_lf t.lines) more (rw append-nil at t.taken) taken;
-    cut = None;
-    front = flat_map same t.texts;
-    after = [];
-    written = rw append-nil at t.written;
-    begins = refl;
-  }
+  module _ (drops : A × B → List ℕ → A × B → Type 0) where
+    pub breaks_here : (s m : A × B) (i j o p : Option (List ℕ)) (count : ℕ) (k : Option (List ℕ)) (more : List ℕ)
+        → Talks says s m i j o p count [] [] → Consumes j k more → Breaks says drops s m i k o p
+    breaks_here s m i j o p count k more t taken = record {
+      lines = t.lines;
+      texts = t.texts;
+      each = t.each;
+      answered = m;
+      said = t.said;
+      rest = more;
+      dropped = inl refl;
+      taken = consumes_more i j k (flat_map with_lf t.lines) more (rw append-nil at t.taken) taken;
+      cut = None;
+      is_cut = tt;
+      front = flat_map same t.texts;
+      after = [];
+      written = rw append-nil at t.written;
+      begins = refl;
+    }
 
-  pub breaks_line : {O : Type 0} (out : O → Option (List ℕ)) (s m s' : A × B) (i j k : Option (List ℕ)) (o : Option (List ℕ)) (p q : O) (count : ℕ) (l : List ℕ)
-      → Talks says s m i j o (out p) count [] [] → IsLine l → Consumes j k (l ++ 10 ∷ []) → (Silent m.0 m.1 p s'.0 s'.1 q ⊎ Half says l m s' (out p) (out q))
-      → Breaks says s s' i k o (out q)
-  breaks_line out s m s' i j k o p q count l t whole taken (inl a) = rw (a.first, a.second, a.output) (breaks_here s m i j o (out p) count k (l ++ 10 ∷ []) t taken)
-  breaks_line out s m s' i j k o p q count l t whole taken (inr a) = record {
-    lines = t.lines ++ l ∷ [];
-    texts = t.texts ++ a.text ∷ [];
-    each = lines_more IsLine t.lines l t.each whole;
-    said = says_more t.lines l s t.texts a.text m s' t.said a.says_it;
-    rest = [];
-    taken = rw (append-nil, flat_more with_lf t.lines l) (consumes_more i j k (flat_map with_lf t.lines) (with_lf l) (rw append-nil at t.taken) taken);
-    cut = None;
-    front = flat_map same t.texts ++ take a.kept a.text;
-    after = drop a.kept a.text;
-    written = appends_more o (out p) (out q) (flat_map same t.texts) (take a.kept a.text) (rw append-nil at t.written) a.written;
-    begins = rw (append-nil, flat_more same t.texts a.text, append_assoc) (ap (λ x. flat_map same t.texts ++ x) (sym (take-append-drop a.kept a.text)));
-  }
+    pub breaks_line : {O : Type 0} (out : O → Option (List ℕ)) (s m s' : A × B) (i j k : Option (List ℕ)) (o : Option (List ℕ)) (p q : O) (count : ℕ) (l : List ℕ)
+        → Talks says s m i j o (out p) count [] [] → IsLine l → Consumes j k (l ++ 10 ∷ []) → (Silent m.0 m.1 p s'.0 s'.1 q ⊎ (Dropped drops l m s' p q ⊎ Half says l m s' (out p) (out q)))
+        → Breaks says drops s s' i k o (out q)
+    breaks_line out s m s' i j k o p q count l t whole taken (inl a) = rw (a.first, a.second, a.output) (breaks_here s m i j o (out p) count k (l ++ 10 ∷ []) t taken)
+    breaks_line out s m s' i j k o p q count l t whole taken (inr (inl a)) = rw a.output record {
+      lines = t.lines;
+      texts = t.texts;
+      each = t.each;
+      answered = m;
+      said = t.said;
+      rest = l ++ 10 ∷ [];
+      dropped = inr (l, whole, refl, a.drops_it);
+      taken = consumes_more i j k (flat_map with_lf t.lines) (with_lf l) (rw append-nil at t.taken) taken;
+      cut = None;
+      is_cut = tt;
+      front = flat_map same t.texts;
+      after = [];
+      written = rw append-nil at t.written;
+      begins = refl;
+    }
+    breaks_line out s m s' i j k o p q count l t whole taken (inr (inr a)) = record {
+      lines = t.lines ++ l ∷ [];
+      texts = t.texts ++ a.text ∷ [];
+      each = lines_more IsLine t.lines l t.each whole;
+      answered = s';
+      said = says_more t.lines l s t.texts a.text m s' t.said a.says_it;
+      rest = [];
+      dropped = inl refl;
+      taken = rw (append-nil, flat_more with_lf t.lines l) (consumes_more i j k (flat_map with_lf t.lines) (with_lf l) (rw append-nil at t.taken) taken);
+      cut = None;
+      is_cut = tt;
+      front = flat_map same t.texts ++ take a.kept a.text;
+      after = drop a.kept a.text;
+      written = appends_more o (out p) (out q) (flat_map same t.texts) (take a.kept a.text) (rw append-nil at t.written) a.written;
+      begins = rw (append-nil, flat_more same t.texts a.text, append_assoc) (ap (λ x. flat_map same t.texts ++ x) (sym (take-append-drop a.kept a.text)));
+    }
 
-  pub breaks_cut : (s m : A × B) (i j k o p q : Option (List ℕ)) (count : ℕ) (more : List ℕ) (fault : LineFault) (kept : ℕ)
-      → Talks says s m i j o p count [] [] → Consumes j k more → Appends p q (take kept (answer_line (Line fault))) → Breaks says s m i k o q
-  breaks_cut s m i j k o p q count more fault kept t taken w = record {
-    lines = t.lines;
-    texts = t.texts;
-    each = t.each;
-    said = t.said;
-    rest = more;
-    taken = consumes_more i j k (flat_map with_lf t.lines) more (rw append-nil at t.taken) taken;
-    cut = Some fault;
-    front = flat_map same t.texts ++ take kept (answer_line (Line fault));
-    after = drop kept (answer_line (Line fault));
-    written = appends_more o p q (flat_map same t.texts) (take kept (answer_line (Line fault))) (rw append-nil at t.written) w;
-    begins = rw append_assoc (ap (λ x. flat_map same t.texts ++ x) (sym (take-append-drop kept (answer_line (Line fault)))));
-  }
+    pub breaks_cut : (s m : A × B) (i j k o p q : Option (List ℕ)) (count : ℕ) (more : List ℕ) (fault : LineFault) (kept : ℕ)
+        → Talks says s m i j o p count [] [] → Consumes j k more → IsCut (Some fault) k more → Appends p q (take kept (answer_line (Line fault))) → Breaks says drops s m i k o q
+    breaks_cut s m i j k o p q count more fault kept t taken is w = record {
+      lines = t.lines;
+      texts = t.texts;
+      each = t.each;
+      answered = m;
+      said = t.said;
+      rest = more;
+      dropped = inl refl;
+      taken = consumes_more i j k (flat_map with_lf t.lines) more (rw append-nil at t.taken) taken;
+      cut = Some fault;
+      is_cut = is;
+      front = flat_map same t.texts ++ take kept (answer_line (Line fault));
+      after = drop kept (answer_line (Line fault));
+      written = appends_more o p q (flat_map same t.texts) (take kept (answer_line (Line fault))) (rw append-nil at t.written) w;
+      begins = rw append_assoc (ap (λ x. flat_map same t.texts ++ x) (sym (take-append-drop kept (answer_line (Line fault)))));
+    }

@@ -24,11 +24,11 @@ good (outcome ∷ outcomes) = one_good outcome + good outcomes
 
 -- a session that ended so at this input and output: all was said, or a beginning of it is out. It failed by a device only
 -- where that failed, and for its reads only where they ran out.
-pub record Sits {S I O : Type 0} (says : S → List ℕ → List ℕ → S → Type 0) (remaining : I → Option (List ℕ)) (reads read_failures : I → ℕ) (written : O → Option (List ℕ)) (write_failures : O → ℕ) (result : Result Ended SessionFault) (i : I) (o : O) (s s' : S) : Type 0 where
+pub record Sits {S I O : Type 0} (says : S → List ℕ → List ℕ → S → Type 0) (drops : S → List ℕ → S → Type 0) (remaining : I → Option (List ℕ)) (reads read_failures : I → ℕ) (written : O → Option (List ℕ)) (write_failures : O → ℕ) (result : Result Ended SessionFault) (i : I) (o : O) (s s' : S) : Type 0 where
   pub input : I
   pub output : O
   pub said : IfOk result (λ ended. Ends says s s' (remaining i) (remaining input) (written o) (written output) ended.lines ended.cut)
-  pub broken : OnErr result (Breaks says s s' (remaining i) (remaining input) (written o) (written output))
+  pub broken : OnErr result (Breaks says drops s s' (remaining i) (remaining input) (written o) (written output))
   pub read_fault : RoseBy (one_if (is_read result)) (read_failures i) (read_failures input)
   pub write_fault : RoseBy (one_if (is_write result)) (write_failures o) (write_failures output)
   pub count : ℕ

@@ -1,7 +1,7 @@
 -- Promises: what somebody says to lines, one after another. The input is cut at LF; to each line in order one text is
 -- said, from the state that the lines before it left; a line that is too long or cut is answered by its fault and is
 -- the last.
-use Rattle.std.specs.Prelude.{◌≡◌, ℕ, ◌<◌, List, [], ◌∷◌, ◌++◌, ◌+◌, length, take, Option, Some, None, Result, Ok, Err, Bool, true, false}
+use Rattle.std.specs.Prelude.{◌≡◌, ◌⊎◌, ℕ, ◌<◌, List, [], ◌∷◌, ◌++◌, ◌+◌, length, take, Option, Some, None, Result, Ok, Err, Bool, true, false}
 use Rattle.std.specs.Io.KnownBytes.{Appends, Consumes, IsAtEnd}
 use Rattle.std.specs.List.{flat_map, AllByRecursion}
 use Rattle.till_request.specs.Answer.{answer_line}
@@ -26,6 +26,15 @@ pub record Half {S : Type 0} (says : S → List ℕ → List ℕ → S → Type 
   pub says_it : says s line text s'
   pub kept : ℕ
   pub written : Appends out_old out_new (take kept text)
+
+-- the line has no answer, for want of memory, and nothing of one is out
+pub record Dropped {S O : Type 0} (drops : S → List ℕ → S → Type 0) (line : List ℕ) (s s' : S) (o o' : O) : Type 0 where
+  pub drops_it : drops s line s'
+  pub output : o' ≡ o
+
+-- what somebody drops who never drops a line that changed anything
+abbrev pub drops_none : {S : Type 0} → S → List ℕ → S → Type 0
+drops_none s line s' = ⊥
 
 -- nothing changed
 pub record Silent {A B O : Type 0} (a : A) (b : B) (o : O) (a' : A) (b' : B) (o' : O) : Type 0 where
@@ -87,15 +96,27 @@ pub record Ends {S : Type 0} (says : S → List ℕ → List ℕ → S → Type 
   pub is_cut : IsCut cut in_new rest
   pub counted : count ≡ answered + cut_count cut
 
+-- a cut that is answered, be it by a front of the answer, is one
+abbrev pub AnswersCut : Option LineFault → Option (List ℕ) → List ℕ → Type 0
+AnswersCut None in_new rest = Unit {0}
+AnswersCut (Some fault) in_new rest = IsCut (Some fault) in_new rest
+
+-- no line more was taken up, or the one that stands next was dropped
+abbrev pub DropsNext : {S : Type 0} → (S → List ℕ → S → Type 0) → S → S → List ℕ → Type 0
+DropsNext drops s s' rest = (s' ≡ s) ⊎ ((line : List ℕ) × IsLine line × (rest ≡ with_lf line) × drops s line s')
+
 -- a beginning of what would be said is out
-pub record Breaks {S : Type 0} (says : S → List ℕ → List ℕ → S → Type 0) (s s' : S) (in_old in_new out_old out_new : Option (List ℕ)) : Type 0 where
+pub record Breaks {S : Type 0} (says : S → List ℕ → List ℕ → S → Type 0) (drops : S → List ℕ → S → Type 0) (s s' : S) (in_old in_new out_old out_new : Option (List ℕ)) : Type 0 where
   pub lines : List (List ℕ)
   pub texts : List (List ℕ)
   pub each : AllByRecursion IsLine lines
-  pub said : SaysAll says lines s texts s'
+  pub answered : S
+  pub said : SaysAll says lines s texts answered
   pub rest : List ℕ
+  pub dropped : DropsNext drops answered s' rest
   pub taken : Consumes in_old in_new (all_lines lines ++ rest)
   pub cut : Option LineFault
+  pub is_cut : AnswersCut cut in_new rest
   pub front : List ℕ
   pub after : List ℕ
   pub written : Appends out_old out_new front

@@ -93,7 +93,7 @@ pub fn talk_within<I: LineIn, O: LineOut, A, B, S: Speaker<A, B>>(
     requires { left.old ≤ 67108864 }
     ensures said { IfOk result (λ ended. Ends (S.says speaker.now) (first.old, second.old) (first.new, second.new)
         (I.remaining input.old) (I.remaining input.new) (O.written output.old) (O.written output.new) ended.lines ended.cut) }
-    ensures broken { OnErr result (Breaks (S.says speaker.now) (first.old, second.old) (first.new, second.new)
+    ensures broken { OnErr result (Breaks (S.says speaker.now) (S.drops speaker.now) (first.old, second.old) (first.new, second.new)
         (I.remaining input.old) (I.remaining input.new) (O.written output.old) (O.written output.new)) }
     ensures read_fault { RoseBy (one_if (is_read result)) (I.failures input.old) (I.failures input.new) }
     ensures write_fault { RoseBy (one_if (is_write result)) (O.failures output.old) (O.failures output.new) }
@@ -141,7 +141,7 @@ pub fn talk<I: LineIn, O: LineOut, A, B, S: Speaker<A, B>>(
 ) -> Result<Ended, SessionFault>
     ensures said { IfOk result (λ ended. Ends (S.says speaker.now) (first.old, second.old) (first.new, second.new)
         (I.remaining input.old) (I.remaining input.new) (O.written output.old) (O.written output.new) ended.lines ended.cut) }
-    ensures broken { OnErr result (Breaks (S.says speaker.now) (first.old, second.old) (first.new, second.new)
+    ensures broken { OnErr result (Breaks (S.says speaker.now) (S.drops speaker.now) (first.old, second.old) (first.new, second.new)
         (I.remaining input.old) (I.remaining input.new) (O.written output.old) (O.written output.new)) }
     ensures read_fault { RoseBy (one_if (is_read result)) (I.failures input.old) (I.failures input.new) }
     ensures write_fault { RoseBy (one_if (is_write result)) (O.failures output.old) (O.failures output.new) }

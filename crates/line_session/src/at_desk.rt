@@ -1,14 +1,35 @@
 //! A desk and a clock that answer lines.
-ghost use Rattle.std.specs.Prelude.{◌≡◌};
+ghost use Rattle.std.specs.Prelude.{◌≡◌, ◌⊎◌, ◌↔◌, IsTrue, OnOk, OnErr};
+ghost use Rattle.till_request.specs.Count.{RoseBy, one_if};
+ghost use Rattle.line_session.specs.Talk.{is_write_fault};
+ghost use Rattle.line_session.specs.Session.{Writes, WritesFront};
 
 use crate::desk::{Clock, Desk};
 use crate::speaker::{SpeakFault, Speaker};
 use std::alloc::Global;
 use till_request::{Answer, LineFault, LineOut, Role, WriteFault, parse_line, write_answer};
 
-// Whether an answer has no line and ends the session.
-fn ends_unsaid(answer: &Answer) -> bool {
+// Whether an answer has no line, and ends the session.
+fn ends_unsaid(answer: &Answer) -> bool
+    ensures { IsTrue result ↔ (answer.now ≡ Answer.Line LineFault.OutOfMemory) }
+{
     matches!(answer, Answer::Line(LineFault::OutOfMemory))
+}
+
+// Writes an answer. Want of memory at a line has none, whoever tells it.
+fn say<O: LineOut>(alloc: Global, output: &mut O, answer: &Answer) -> Result<(), SpeakFault>
+    ensures ok { OnOk result (Writes O.written answer.now output.old output.new) }
+    ensures err { OnErr result (((answer.now ≡ Answer.Line LineFault.OutOfMemory) × (output.new ≡ output.old)) ⊎ WritesFront O.written answer.now output.old output.new) }
+    ensures failed { RoseBy (one_if (is_write_fault result)) (O.failures output.old) (O.failures output.new) }
+{
+    if ends_unsaid(answer) {
+        return Err(SpeakFault::OutOfMemory);
+    }
+    match write_answer(alloc, output, answer) {
+        Ok(()) => Ok(()),
+        Err(WriteFault::Write) => Err(SpeakFault::Write),
+        Err(WriteFault::OutOfMemory) => Err(SpeakFault::OutOfMemory),
+    }
 }
 
 /// Answers the lines of a role by a desk, at the moments of a clock.
@@ -18,9 +39,11 @@ pub struct AtDesk {
 }
 
 impl<C: Clock, D: Desk> Speaker<C, D> for AtDesk {
-    ghost use Rattle.line_session.specs.Session.{desk_says};
+    ghost use Rattle.line_session.specs.Session.{desk_says, desk_drops};
 
     ghost says = { λ a. desk_says D.step C.tick a.role };
+
+    ghost drops = { λ a. desk_drops D.step C.tick a.role };
 
     fn speak<O: LineOut>(
         &self,
@@ -30,23 +53,12 @@ impl<C: Clock, D: Desk> Speaker<C, D> for AtDesk {
         second: &mut D,
         output: &mut O,
     ) -> Result<(), SpeakFault> {
-        let answer = match parse_line(alloc, self.role, line) {
-            Ok(act) => {
-                let moment = first.now();
-                let answer = second.answer(act, moment);
-                // Want of memory at a line has no answer, whoever tells it.
-                if ends_unsaid(&answer) {
-                    return Err(SpeakFault::OutOfMemory);
-                }
-                answer
-            }
-            Err(LineFault::OutOfMemory) => return Err(SpeakFault::OutOfMemory),
-            Err(fault) => Answer::Line(fault),
+        let act = match parse_line(alloc, self.role, line) {
+            Ok(act) => act,
+            Err(fault) => return say(alloc, output, &Answer::Line(fault)),
         };
-        match write_answer(alloc, output, &answer) {
-            Ok(()) => Ok(()),
-            Err(WriteFault::Write) => Err(SpeakFault::Write),
-            Err(WriteFault::OutOfMemory) => Err(SpeakFault::OutOfMemory),
-        }
+        let moment = first.now();
+        let answer = second.answer(act, moment);
+        say(alloc, output, &answer)
     }
 }

@@ -2,7 +2,7 @@
 ghost use Rattle.std.specs.Prelude.{◌≡◌, ◌≤◌, ℕ, IfOk, OnErr, Err};
 ghost use Rattle.till_request.specs.Count.{RoseBy, one_if};
 ghost use Rattle.line_session.specs.Talk.{Ends, Breaks, is_read, is_write};
-ghost use Rattle.line_session.specs.Session.{desk_says};
+ghost use Rattle.line_session.specs.Session.{desk_says, desk_drops};
 
 use crate::answering::{Ended, SessionFault, talk};
 use crate::at_desk::AtDesk;
@@ -24,7 +24,7 @@ pub fn session<I: LineIn, O: LineOut, C: Clock, D: Desk>(
 ) -> Result<Ended, SessionFault>
     ensures said { IfOk result (λ ended. Ends (desk_says D.step C.tick role) (clock.old, desk.old) (clock.new, desk.new)
         (I.remaining input.old) (I.remaining input.new) (O.written output.old) (O.written output.new) ended.lines ended.cut) }
-    ensures broken { OnErr result (Breaks (desk_says D.step C.tick role) (clock.old, desk.old) (clock.new, desk.new)
+    ensures broken { OnErr result (Breaks (desk_says D.step C.tick role) (desk_drops D.step C.tick role) (clock.old, desk.old) (clock.new, desk.new)
         (I.remaining input.old) (I.remaining input.new) (O.written output.old) (O.written output.new)) }
     ensures read_fault { RoseBy (one_if (is_read result)) (I.failures input.old) (I.failures input.new) }
     ensures write_fault { RoseBy (one_if (is_write result)) (O.failures output.old) (O.failures output.new) }

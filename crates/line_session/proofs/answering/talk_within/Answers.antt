@@ -16,27 +16,27 @@ turns-init g c = record {
 
 pub returns-in_err-line-clause-broken : goal.returns-in_err-line-clause-broken
 returns-in_err-line-clause-broken g c =
-    on_err_always _ (breaks_here _ _ _ _ _ _ _ c.turns.count _ c.in_err-line.ensures.given.0 c.turns.invariant.talks c.in_err-line.ensures.given.1)
+    on_err_always _ (breaks_here _ _ _ _ _ _ _ _ c.turns.count _ c.in_err-line.ensures.given.0 c.turns.invariant.talks c.in_err-line.ensures.given.1)
 
 pub returns-in_err-speak-in-Line-clause-broken :
     goal.returns-in_err-speak-in-Line-clause-broken
 returns-in_err-speak-in-Line-clause-broken g c =
     let t = rw c.in-Line.is at c.in_ok-line.ensures.taken in
-    on_err_always _ (breaks_line _ g.O.LineOut.written _ _ _ _ _ _ _ _ _ c.turns.count c.in-Line.line.items c.turns.invariant.talks t.1 t.0 (rw c.deref.ensures.value at c.in_err-speak-in-Line.ensures.err))
+    on_err_always _ (breaks_line _ _ g.O.LineOut.written _ _ _ _ _ _ _ _ _ c.turns.count c.in-Line.line.items c.turns.invariant.talks t.1 t.0 (rw c.deref.ensures.value at c.in_err-speak-in-Line.ensures.err))
 
 pub returns-in_err-write_cut-in-TooLong-clause-broken :
     goal.returns-in_err-write_cut-in-TooLong-clause-broken
 returns-in_err-write_cut-in-TooLong-clause-broken g c =
     let t = rw c.in-TooLong.is at c.in_ok-line.ensures.taken in
     let w = c.in_err-write_cut-in-TooLong.ensures.err in
-    on_err_always _ (breaks_cut _ _ _ _ _ _ _ _ _ c.turns.count t.0 TooLong w.0 c.turns.invariant.talks t.1 w.1)
+    on_err_always _ (breaks_cut _ _ _ _ _ _ _ _ _ _ c.turns.count t.0 TooLong w.0 c.turns.invariant.talks t.1 (t.2, t.3) w.1)
 
 pub returns-in_err-write_cut-in-Cut-clause-broken :
     goal.returns-in_err-write_cut-in-Cut-clause-broken
 returns-in_err-write_cut-in-Cut-clause-broken g c =
     let t = rw c.in-Cut.is at c.in_ok-line.ensures.taken in
     let w = c.in_err-write_cut-in-Cut.ensures.err in
-    on_err_always _ (breaks_cut _ _ _ _ _ _ _ _ _ c.turns.count t.0 CutLine w.0 c.turns.invariant.talks t.1 w.1)
+    on_err_always _ (breaks_cut _ _ _ _ _ _ _ _ _ _ c.turns.count t.0 CutLine w.0 c.turns.invariant.talks t.1 (t.2, t.3, t.4) w.1)
 
 pub turns-preserved : goal.turns-preserved
 turns-preserved g c =
