@@ -1,7 +1,7 @@
 use Rattle.std.proofs.Common.{◌≡◌, sym, subst, ◌∙◌, Some, None, ap}
 use Rattle.bpf_model.specs.Reading.{units}
 use Rattle.reg_types.specs.Facts.{stored}
-use Rattle.bpf_model.specs.Flow.{GoesForward}
+use Rattle.bpf_model.specs.Flow.{GoesForward, flow_fault}
 use Rattle.reg_types.specs.Inference.{first_flaw}
 use Rattle.reg_types.specs.Passing.{AreInferred, IsPassRefused, IsToldAlone, decode_told}
 use Rattle.reg_types.specs.Shown.{IsRefusal, IsRefused, refusal_of}
@@ -19,6 +19,7 @@ invariant_of-result c =
     record {
       reads = reads;
       forward = c.code.ensures.forward;
+      flows = subst (λ us. flow_fault us ≡ None) (sym flow) c.in-Ok-check_flow.ensures.ok.1;
       flawless = subst (λ us. first_flaw us c.args.declared ≡ None) own c.in-Ok-infer.ensures.flawless;
       inferred_are = subst (λ us. AreInferred us c.args.declared (stored c.in-Ok-infer.facts.items)) own c.in-Ok-infer.ensures.inferred;
       distinct = c.in-Ok-infer.ensures.distinct;
