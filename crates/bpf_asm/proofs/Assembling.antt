@@ -37,7 +37,7 @@ use Rattle.bpf_asm.specs.declared.grammar.Line.{Line}
 use Rattle.bpf_asm.specs.declared.grammar.Line.TheVariants as line
 use Rattle.bpf_asm.specs.Lex.{Text}
 use Rattle.bpf_asm.specs.Program.{Row, row_of, with_row, rows_of, fits_size, fits, target_fits, statement_fits, line_fits, row_fault, or_fault, first_fault as first_line_fault, source_bit, operator_code, condition_code, size_code, arithmetic_class, jump_class, opcode_of, signed, size_or_zero, int_of, inst_of, low_half, high_half, line_len_of, units_in, Definition, defining, labels_from, place_found, place_of, jump_inst, statement_units, line_units, units_from, spelled, AreRight, AreWithin, length_fault, label_fault, rows_fault, fault_of, assembled_with, assembled, cut, IsFault}
-use Rattle.bpf_asm.specs.Sound.{IsOf, IsPlain, IsJump, IsSound, AreSound}
+use Rattle.bpf_asm.specs.Sound.{IsOf, IsSoundForm, IsJump, IsSound, AreSound}
 
 -- ---- rows in range
 
@@ -196,7 +196,7 @@ apart32 p a g h = search (rules, ints)
 
 -- ---- units
 
-plain_units : (f : Form) (p : Fields) (rest : List ProgramUnit) → IsPlain f p → FitsSigned w16 (int_of p.offset) → FitsSigned w32 (int_of p.imm) → AreUnits true rest → AreUnits true (First (inst_of f p.dst p.src (int_of p.offset) (int_of p.imm)) ∷ rest)
+plain_units : (f : Form) (p : Fields) (rest : List ProgramUnit) → IsSoundForm f p → FitsSigned w16 (int_of p.offset) → FitsSigned w32 (int_of p.imm) → AreUnits true rest → AreUnits true (First (inst_of f p.dst p.src (int_of p.offset) (int_of p.imm)) ∷ rest)
 plain_units f p rest h offset imm more = (
   is_instruction f (inst_of f p.dst p.src (int_of p.offset) (int_of p.imm)) refl h.is_of h.fields h.registers offset imm,
   subst (λ b. AreUnits (not b) rest) (sym (ap is_wide h.is_of.form_is ∙ h.is_of.narrow)) more,

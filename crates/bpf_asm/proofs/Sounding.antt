@@ -30,7 +30,7 @@ use Rattle.bpf_asm.specs.declared.grammar.Line.TheVariants as line
 use Rattle.bpf_asm.specs.Lex.{Text, Table, symbols, words, lookup, numbered, register_or_name, kind_of, small, number_value}
 use Rattle.bpf_asm.specs.Grammar.{Tokens, plus, minus, exactly, fields, is_same, when, operand, sized, based, plain, load_form, load_with, load_of, extension, extend, swap, is_full, guarded, first_some, only_assigned, assigned, stored, store_with, store_of, target, jump_to, branch, no_fields, statement, is_word, line_of}
 use Rattle.bpf_asm.specs.Program.{Row, row_with, row_by, row_of, words_of, with_row, rows_of, opcode_of, inst_of, int_of}
-use Rattle.bpf_asm.specs.Sound.{IsPlain, IsJump, IsSound, AreSound}
+use Rattle.bpf_asm.specs.Sound.{IsSoundForm, IsJump, IsSound, AreSound}
 
 -- ---- the decoder reads back the form of each opcode
 
@@ -236,7 +236,7 @@ register_fields operator.Move n w dst src h = ap (λ b. b || extends_from w sour
 register_fields operator.ShiftSigned n w dst src h = h
 register_fields operator.SwapBytes n w dst src h = absurd (cc)
 
-immediate_plain : (op : Operator) (n : ℕ) (w : Width) (dst : ℕ) (v : Value) → takes op n ≡ true → nat_le dst 10 ≡ true → IsPlain (form.Arithmetic op w source.Immediate) (fields dst 0 (exactly n) v)
+immediate_plain : (op : Operator) (n : ℕ) (w : Width) (dst : ℕ) (v : Value) → takes op n ≡ true → nat_le dst 10 ≡ true → IsSoundForm (form.Arithmetic op w source.Immediate) (fields dst 0 (exactly n) v)
 immediate_plain operator.Sum n w dst v h d = record { is_of = record { form_is = arithmetic_opcode operator.Sum w source.Immediate refl; narrow = refl; dst = d; src = refl }; fields = immediate_fields operator.Sum n w dst v h; registers = alone (nat_le dst 10) d }
 immediate_plain operator.Difference n w dst v h d = record { is_of = record { form_is = arithmetic_opcode operator.Difference w source.Immediate refl; narrow = refl; dst = d; src = refl }; fields = immediate_fields operator.Difference n w dst v h; registers = alone (nat_le dst 10) d }
 immediate_plain operator.Product n w dst v h d = record { is_of = record { form_is = arithmetic_opcode operator.Product w source.Immediate refl; narrow = refl; dst = d; src = refl }; fields = immediate_fields operator.Product n w dst v h; registers = alone (nat_le dst 10) d }
@@ -252,7 +252,7 @@ immediate_plain operator.Move n w dst v h d = record { is_of = record { form_is 
 immediate_plain operator.ShiftSigned n w dst v h d = record { is_of = record { form_is = arithmetic_opcode operator.ShiftSigned w source.Immediate refl; narrow = refl; dst = d; src = refl }; fields = immediate_fields operator.ShiftSigned n w dst v h; registers = alone (nat_le dst 10) d }
 immediate_plain operator.SwapBytes n w dst v h d = absurd (cc)
 
-register_plain : (op : Operator) (n : ℕ) (w : Width) (dst src : ℕ) → takes op n ≡ true → nat_le dst 10 ≡ true → nat_le src 10 ≡ true → IsPlain (form.Arithmetic op w source.Register) (fields dst src (exactly n) (exactly 0))
+register_plain : (op : Operator) (n : ℕ) (w : Width) (dst src : ℕ) → takes op n ≡ true → nat_le dst 10 ≡ true → nat_le src 10 ≡ true → IsSoundForm (form.Arithmetic op w source.Register) (fields dst src (exactly n) (exactly 0))
 register_plain operator.Sum n w dst src h d e = record { is_of = record { form_is = arithmetic_opcode operator.Sum w source.Register refl; narrow = refl; dst = d; src = e }; fields = register_fields operator.Sum n w dst src h; registers = both (nat_le dst 10) (nat_le src 10) d e }
 register_plain operator.Difference n w dst src h d e = record { is_of = record { form_is = arithmetic_opcode operator.Difference w source.Register refl; narrow = refl; dst = d; src = e }; fields = register_fields operator.Difference n w dst src h; registers = both (nat_le dst 10) (nat_le src 10) d e }
 register_plain operator.Product n w dst src h d e = record { is_of = record { form_is = arithmetic_opcode operator.Product w source.Register refl; narrow = refl; dst = d; src = e }; fields = register_fields operator.Product n w dst src h; registers = both (nat_le dst 10) (nat_le src 10) d e }
@@ -268,13 +268,13 @@ register_plain operator.Move n w dst src h d e = record { is_of = record { form_
 register_plain operator.ShiftSigned n w dst src h d e = record { is_of = record { form_is = arithmetic_opcode operator.ShiftSigned w source.Register refl; narrow = refl; dst = d; src = e }; fields = register_fields operator.ShiftSigned n w dst src h; registers = both (nat_le dst 10) (nat_le src 10) d e }
 register_plain operator.SwapBytes n w dst src h d e = absurd (cc)
 
-negate_plain : (w : Width) (dst : ℕ) → nat_le dst 10 ≡ true → IsPlain (form.Arithmetic operator.Negate w source.Immediate) (fields dst 0 (exactly 0) (exactly 0))
+negate_plain : (w : Width) (dst : ℕ) → nat_le dst 10 ≡ true → IsSoundForm (form.Arithmetic operator.Negate w source.Immediate) (fields dst 0 (exactly 0) (exactly 0))
 negate_plain w dst d = record { is_of = record { form_is = arithmetic_opcode operator.Negate w source.Immediate refl; narrow = refl; dst = d; src = refl }; fields = refl; registers = alone (nat_le dst 10) d }
 
-swap_plain : (w : Width) (s : Source) (bits dst : ℕ) → has_form operator.SwapBytes w s ≡ true → ((bits == 16) || (bits == 32) || (bits == 64)) ≡ true → nat_le dst 10 ≡ true → IsPlain (form.Arithmetic operator.SwapBytes w s) (fields dst 0 (exactly 0) (exactly bits))
+swap_plain : (w : Width) (s : Source) (bits dst : ℕ) → has_form operator.SwapBytes w s ≡ true → ((bits == 16) || (bits == 32) || (bits == 64)) ≡ true → nat_le dst 10 ≡ true → IsSoundForm (form.Arithmetic operator.SwapBytes w s) (fields dst 0 (exactly 0) (exactly bits))
 swap_plain w s bits dst f b d = record { is_of = record { form_is = arithmetic_opcode operator.SwapBytes w s f; narrow = refl; dst = d; src = refl }; fields = b; registers = alone (nat_le dst 10) d }
 
-move_plain : (w : Width) (bits dst src : ℕ) → extends_from w source.Register (pos bits) ≡ true → nat_le dst 10 ≡ true → nat_le src 10 ≡ true → has_right_fields (form.Arithmetic operator.Move w source.Register) (inst_of (form.Arithmetic operator.Move w source.Register) dst src (pos bits) (pos 0)) ≡ true → IsPlain (form.Arithmetic operator.Move w source.Register) (fields dst src (exactly bits) (exactly 0))
+move_plain : (w : Width) (bits dst src : ℕ) → extends_from w source.Register (pos bits) ≡ true → nat_le dst 10 ≡ true → nat_le src 10 ≡ true → has_right_fields (form.Arithmetic operator.Move w source.Register) (inst_of (form.Arithmetic operator.Move w source.Register) dst src (pos bits) (pos 0)) ≡ true → IsSoundForm (form.Arithmetic operator.Move w source.Register) (fields dst src (exactly bits) (exactly 0))
 move_plain w bits dst src h d e f = record { is_of = record { form_is = arithmetic_opcode operator.Move w source.Register refl; narrow = refl; dst = d; src = e }; fields = f; registers = both (nat_le dst 10) (nat_le src 10) d e }
 
 -- ---- statements
@@ -310,7 +310,7 @@ based_sound (Open ∷ Register Full base ∷ Plus ∷ Number n ∷ Close ∷ res
 based_sound (Open ∷ Register Full base ∷ Minus ∷ Number n ∷ Close ∷ rest) t = (and_left (nat_le base 10) (list_all is_sound rest) t, and_right (nat_le base 10) (list_all is_sound rest) t)
 based_sound tokens t = tt
 
-load_plain : (size : Size) (dst base : ℕ) (offset : Value) → nat_le dst 10 ≡ true → nat_le base 10 ≡ true → IsPlain (form.Load size) (fields dst base offset (exactly 0))
+load_plain : (size : Size) (dst base : ℕ) (offset : Value) → nat_le dst 10 ≡ true → nat_le base 10 ≡ true → IsSoundForm (form.Load size) (fields dst base offset (exactly 0))
 load_plain size dst base offset d b = record { is_of = record { form_is = load_opcode size; narrow = refl; dst = d; src = b }; fields = refl; registers = both (nat_le dst 10) (nat_le base 10) d b }
 
 signed_opcode : (size : Size) → not_double size ≡ true → form_of (opcode_of (form.LoadSigned size)) ≡ Some (form.LoadSigned size)
@@ -319,7 +319,7 @@ signed_opcode Half h = refl
 signed_opcode Word h = refl
 signed_opcode Double h = absurd (cc)
 
-signed_plain : (size : Size) (dst base : ℕ) (offset : Value) → not_double size ≡ true → nat_le dst 10 ≡ true → nat_le base 10 ≡ true → IsPlain (form.LoadSigned size) (fields dst base offset (exactly 0))
+signed_plain : (size : Size) (dst base : ℕ) (offset : Value) → not_double size ≡ true → nat_le dst 10 ≡ true → nat_le base 10 ≡ true → IsSoundForm (form.LoadSigned size) (fields dst base offset (exactly 0))
 signed_plain size dst base offset h d b = record { is_of = record { form_is = signed_opcode size h; narrow = refl; dst = d; src = b }; fields = refl; registers = both (nat_le dst 10) (nat_le base 10) d b }
 
 load_by : (dst : ℕ) (size : Token) (place : Option (ℕ × Value × Tokens)) → nat_le dst 10 ≡ true → is_sound size ≡ true → SoundPlace place → SoundOption (load_with dst (load_form size) place)
@@ -358,10 +358,10 @@ only_assigned_sound w dst tokens d t = tt
 assigned_sound : (w : Width) (dst : ℕ) (tokens : Tokens) → nat_le dst 10 ≡ true → list_all is_sound tokens ≡ true → SoundOption (assigned w dst tokens)
 assigned_sound w dst tokens d t = first_sound (only_assigned w dst tokens) (operand operator.Move 0 w dst tokens) (only_assigned_sound w dst tokens d t) (operand_sound operator.Move 0 w dst tokens refl d t)
 
-number_store_plain : (size : Size) (base : ℕ) (offset v : Value) → nat_le base 10 ≡ true → IsPlain (form.StoreImmediate size) (fields base 0 offset v)
+number_store_plain : (size : Size) (base : ℕ) (offset v : Value) → nat_le base 10 ≡ true → IsSoundForm (form.StoreImmediate size) (fields base 0 offset v)
 number_store_plain size base offset v b = record { is_of = record { form_is = number_store_opcode size; narrow = refl; dst = b; src = refl }; fields = refl; registers = alone (nat_le base 10) b }
 
-register_store_plain : (size : Size) (base src : ℕ) (offset : Value) → nat_le base 10 ≡ true → nat_le src 10 ≡ true → IsPlain (form.StoreRegister size) (fields base src offset (exactly 0))
+register_store_plain : (size : Size) (base src : ℕ) (offset : Value) → nat_le base 10 ≡ true → nat_le src 10 ≡ true → IsSoundForm (form.StoreRegister size) (fields base src offset (exactly 0))
 register_store_plain size base src offset b e = record { is_of = record { form_is = register_store_opcode size; narrow = refl; dst = b; src = e }; fields = refl; registers = both (nat_le base 10) (nat_le src 10) b e }
 
 stored_sound : (size : Size) (base : ℕ) (offset : Value) (tokens : Tokens) → nat_le base 10 ≡ true → list_all is_sound tokens ≡ true → SoundOption (stored size base offset tokens)
@@ -401,10 +401,10 @@ branch_sound c w dst (Number n ∷ Goto ∷ rest) d t = jump_sound (form.Branch 
 branch_sound c w dst (Minus ∷ Number n ∷ Goto ∷ rest) d t = jump_sound (form.Branch c w source.Immediate) (fields dst 0 (exactly 0) (minus n)) (target rest) (number_jump c w dst (minus n) d)
 branch_sound c w dst tokens d t = tt
 
-call_plain : (v : Value) → IsPlain form.Call (fields 0 0 (exactly 0) v)
+call_plain : (v : Value) → IsSoundForm form.Call (fields 0 0 (exactly 0) v)
 call_plain v = record { is_of = record { form_is = refl; narrow = refl; dst = refl; src = refl }; fields = refl; registers = refl }
 
-exit_plain : IsPlain form.Exit (fields 0 0 (exactly 0) (exactly 0))
+exit_plain : IsSoundForm form.Exit (fields 0 0 (exactly 0) (exactly 0))
 exit_plain = record { is_of = record { form_is = refl; narrow = refl; dst = refl; src = refl }; fields = refl; registers = refl }
 
 statement_sound : (tokens : Tokens) → list_all is_sound tokens ≡ true → SoundOption (statement tokens)

@@ -15,7 +15,7 @@ pub record IsOf (f : Form) (d s : ℕ) : Type 0 where
   pub dst : nat_le d 10 ≡ true
   pub src : nat_le s 10 ≡ true
 
-pub record IsPlain (f : Form) (p : Fields) : Type 0 where
+pub record IsSoundForm (f : Form) (p : Fields) : Type 0 where
   pub is_of : IsOf f p.dst p.src
   pub fields : has_right_fields f (inst_of f p.dst p.src (int_of p.offset) (int_of p.imm)) ≡ true
   pub registers : has_right_registers f (inst_of f p.dst p.src (int_of p.offset) (int_of p.imm)) ≡ true
@@ -30,7 +30,7 @@ pub record IsJump (f : Form) (p : Fields) : Type 0 where
 abbrev pub IsSound : Line → Type 0
 IsSound line.Empty = ⊤
 IsSound line.Label = ⊤
-IsSound (line.Statement (Plain f p)) = IsPlain f p
+IsSound (line.Statement (Plain f p)) = IsSoundForm f p
 IsSound (line.Statement (Wide dst n)) = nat_le dst 10 ≡ true
 IsSound (line.Statement (Jump f p t)) = IsJump f p
 

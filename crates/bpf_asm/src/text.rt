@@ -3,7 +3,7 @@
 ghost use Rattle.std.specs.Prelude.{◌≡◌, ◌++◌, ◌+◌, ◌*◌, ◌^◌, ◌≤◌, ◌↔◌, IsTrue, [], ◌∷◌, pos, Some, OnOk, string_bytes, codes};
 ghost use Rattle.std.specs.Int.{cast_unsigned, w32};
 ghost use Rattle.std.specs.Fmt.{decimal, signed_decimal};
-ghost use Rattle.bpf_asm.specs.Text.{line_text, pieces, register_text, operator_text, condition_text, size_text, signed_size_text, extension_text, swap_text, instruction_text, distance, number, shift, left_width, right_pieces, upper, IsPlain};
+ghost use Rattle.bpf_asm.specs.Text.{line_text, pieces, register_text, operator_text, condition_text, size_text, signed_size_text, extension_text, swap_text, instruction_text, distance, number, shift, left_width, right_pieces, upper, HasSecondOperand};
 ghost use Rattle.bpf_model.specs.Reading.{form_of};
 
 use bpf_model::instruction::{Condition, Form, Inst, Operator, Size, Source, Width};
@@ -186,7 +186,7 @@ fn write_move(out: &mut String, width: Width, source: Source, inst: Inst) -> Res
 }
 
 fn is_plain(operator: Operator) -> bool
-    ensures { IsTrue result ↔ IsPlain operator }
+    ensures { IsTrue result ↔ HasSecondOperand operator }
 {
     !matches!(
         operator,
@@ -202,7 +202,7 @@ fn write_plain(
     source: Source,
     inst: Inst,
 ) -> Result<(), AllocError>
-    requires { IsPlain operator }
+    requires { HasSecondOperand operator }
     ensures { OnOk result (string_bytes out.new ≡ string_bytes out.old ++ line_text (pieces (Form.Arithmetic operator width source) inst (pos 0))) }
 {
     let dst = Name(width, inst.dst);

@@ -95,7 +95,7 @@ fn fault_of_jump(units: &[Unit], pc: usize) -> Option<JumpFault>
 }
 
 // The first unit whose jump is at fault.
-fn first_fault(units: &[Unit]) -> Option<(u32, JumpFault)>
+fn first_jump_fault(units: &[Unit]) -> Option<(u32, JumpFault)>
     requires { length units.now ≤ 512 }
     ensures { result ≡ flow_fault units.now }
 {
@@ -132,7 +132,7 @@ pub fn check_flow(_alloc: Global, code: Code) -> Result<Flow, FlowFault>
     ensures ok { IfOk result (λ flow. (flow ≡ code) × (flow_fault code ≡ None)) }
     ensures refused { IfErr result (λ fault. IsShown code fault) }
 {
-    match first_fault(code.units()) {
+    match first_jump_fault(code.units()) {
         Some((pc, fault)) => Err(fault_at(fault, pc)),
         None => Ok(Flow { code }),
     }

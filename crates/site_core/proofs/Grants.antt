@@ -3,7 +3,7 @@ use Rattle.std.proofs.Common.{◌≡◌, ℕ, ◌+◌, ◌-◌, ◌*◌, ◌≤�
 use Rattle.std.specs.Prelude.{◌==◌}
 use Rattle.std.proofs.lemmas.List.Elements.{All-set}
 use Rattle.fuelling_point.specs.Table.{PointState, Answer, command_step}
-use Rattle.fuelling_point.specs.Promises.{Answers}
+use Rattle.fuelling_point.specs.Promises.{FollowsTable}
 use Rattle.fuelling_point.specs.declared.kinds.PointFault.{PointFault}
 use Rattle.till_request.specs.declared.act.Reply.TheVariants as reply
 use Rattle.bpf_model.specs.Machine.{Counters}
@@ -16,7 +16,7 @@ use Rattle.site_core.specs.Decide.{denied, grant, granted_point, command_of, aft
 use Rattle.site_core.proofs.Points.{at_number-read}
 
 -- what the point became
-after-is : (a : Answer (Option ℕ)) (p new : PointState) (outcome : Result (Option ℕ) PointFault) → Answers a p outcome new → (elim a as (λ _. PointState) [ Ok o ↦ o.0 | Err f ↦ p ]) ≡ new
+after-is : (a : Answer (Option ℕ)) (p new : PointState) (outcome : Result (Option ℕ) PointFault) → FollowsTable a p outcome new → (elim a as (λ _. PointState) [ Ok o ↦ o.0 | Err f ↦ p ]) ≡ new
 after-is (Ok (q, given)) p new outcome h = sym h.1
 after-is (Err f) p new outcome h = sym h.1
 
@@ -28,7 +28,7 @@ pub grant-none : (s : SiteState) (till r : ℕ) (q : Question) → at_number s.p
 unfolding grant
 grant-none s till r q none = rw (none, grant)
 
-pub grant-is : (s : SiteState) (till r : ℕ) (q : Question) (p new : PointState) (outcome : Result (Option ℕ) PointFault) → 1 ≤ q.point → q.point ≤ length s.points → p ≡ get_or s.points (q.point - 1) p → Answers (command_step p till (command_of q.kind (granted_point q.kind q.asked r p.preset))) p outcome new → grant s till q r ≡ (granted_point q.kind q.asked r p.preset, with_point s q.point new)
+pub grant-is : (s : SiteState) (till r : ℕ) (q : Question) (p new : PointState) (outcome : Result (Option ℕ) PointFault) → 1 ≤ q.point → q.point ≤ length s.points → p ≡ get_or s.points (q.point - 1) p → FollowsTable (command_step p till (command_of q.kind (granted_point q.kind q.asked r p.preset))) p outcome new → grant s till q r ≡ (granted_point q.kind q.asked r p.preset, with_point s q.point new)
 grant-is s till r q p new outcome one le is answers =
     let g : ℕ = granted_point q.kind q.asked r p.preset in
     grant-some s till r q p (at_number-read s.points q.point p one le is) ∙ ap (λ x. (g, with_point s q.point x)) (after-is (command_step p till (command_of q.kind g)) p new outcome answers)

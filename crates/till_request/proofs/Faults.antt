@@ -18,7 +18,7 @@ use Rattle.till_request.specs.declared.form.ReportVerb.{ReportVerb}
 use Rattle.till_request.specs.declared.line.LineReadFault.TheVariants as reading
 use Rattle.till_request.specs.Gives.{Fails}
 use Rattle.till_request.specs.Line.{IsLine, TakesFault}
-use Rattle.till_request.specs.Grammar.{number, is_decimal, bytes_from, ◌>>=◌, amount_of, point_of, transaction_of, report_of, up_of, flow_of, load_of, act_in, act_by, act_of, line_read, suits, all_forms, words}
+use Rattle.till_request.specs.Grammar.{number, is_decimal, bytes_from, ◌>>=◌, amount_of, point_of, transaction_of, report_of, up_of, flow_of, load_of, act_in, act_by, act_of_line, line_read, suits, all_forms, words}
 
 -- no fault but these two
 abbrev pub IsBad : {A : Type 0} → Result A LineFault → Type 0
@@ -90,21 +90,21 @@ IsBad-act_by : (form : Option Form) (ws : List (List ℕ)) → IsBad (act_by for
 IsBad-act_by None ws = tt
 IsBad-act_by (Some form) ws = IsBad-act_in form ws
 
-pub IsBad-act_of : (role : Role) (line : List ℕ) → IsBad (act_of role line)
-IsBad-act_of role line = IsBad-act_by (find (suits role (words line)) all_forms) (words line)
+pub IsBad-act_of_line : (role : Role) (line : List ℕ) → IsBad (act_of_line role line)
+IsBad-act_of_line role line = IsBad-act_by (find (suits role (words line)) all_forms) (words line)
 
 bad_along : {r s : Result Act LineFault} → r ≡ s → IsBad r → IsBad s
 bad_along e h = subst IsBad e h
 
 -- a line that isn't too long is read by its words
-pub short_read : (role : Role) (line : List ℕ) → length line ≤ 8400 → line_read role line ≡ act_of role line
-short_read role line l = ap (λ b. cond b (Err TooLong) (act_of role line)) (le-ltb 8400 (length line) l)
+pub short_read : (role : Role) (line : List ℕ) → length line ≤ 8400 → line_read role line ≡ act_of_line role line
+short_read role line l = ap (λ b. cond b (Err TooLong) (act_of_line role line)) (le-ltb 8400 (length line) l)
 
 -- a line that was taken, with the fault that reading it gave
 pub fault_taken : (fault : LineFault) (old new : Option (List ℕ)) (role : Role) (line : List ℕ) → Consumes old new (line ++ 10 ∷ []) → IsLine line → Fails fault (line_read role line)
     → TakesFault old new role (reading.Line fault)
-fault_taken TooLong old new role line t l e = absurd (bad_along (sym (short_read role line l.1) ∙ e) (IsBad-act_of role line))
+fault_taken TooLong old new role line t l e = absurd (bad_along (sym (short_read role line l.1) ∙ e) (IsBad-act_of_line role line))
 fault_taken BadLine old new role line t l e = (line, t, l, e)
 fault_taken BadNumber old new role line t l e = (line, t, l, e)
-fault_taken CutLine old new role line t l e = absurd (bad_along (sym (short_read role line l.1) ∙ e) (IsBad-act_of role line))
+fault_taken CutLine old new role line t l e = absurd (bad_along (sym (short_read role line l.1) ∙ e) (IsBad-act_of_line role line))
 fault_taken OutOfMemory old new role line t l e = (line ++ 10 ∷ [], t)

@@ -233,9 +233,9 @@ abbrev pub act_of_words : Role → List (List ℕ) → Result Act LineFault
 act_of_words role ws = act_by (find (suits role ws) all_forms) ws
 
 -- what a line stands for that somebody of this role sends
-abbrev pub act_of : Role → List ℕ → Result Act LineFault
-act_of role line = act_of_words role (words line)
+abbrev pub act_of_line : Role → List ℕ → Result Act LineFault
+act_of_line role line = act_of_words role (words line)
 
 -- what a line of any length is read as: one of more than 8,400 bytes is too long, whatever stands in it
 abbrev pub line_read : Role → List ℕ → Result Act LineFault
-line_read role line = if nat_lt 8400 (length line) then Err TooLong else act_of role line
+line_read role line = if nat_lt 8400 (length line) then Err TooLong else act_of_line role line

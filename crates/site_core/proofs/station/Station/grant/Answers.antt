@@ -1,7 +1,7 @@
 use Rattle.std.proofs.Common.{◌≡◌, ℕ, ◌-◌, ◌≤◌, length, arith, ap, ◌∙◌, sym, None, slice_set}
 use Rattle.std.proofs.lemmas.Grind.{common_steps}
 use Rattle.fuelling_point.specs.Table.{PointState, command_step}
-use Rattle.fuelling_point.specs.Promises.{Answers}
+use Rattle.fuelling_point.specs.Promises.{FollowsTable}
 use Rattle.site_core.specs.State.{SiteState, at_number}
 use Rattle.site_core.specs.Bounds.{Bounded}
 use Rattle.site_core.specs.Decide.{command_of, granted_point}
@@ -26,7 +26,7 @@ returns-clause-grant c =
     let le : q.point ≤ length old.points = grind (arith, common_steps) in
     let given : c.granted_point-granted.result ≡ granted_point q.kind q.asked c.args.r0 p.preset = rw c.preset.ensures at c.granted_point-granted.ensures in
     let asked : c.command_of.result ≡ command_of q.kind (granted_point q.kind q.asked c.args.r0 p.preset) = rw given at c.command_of.ensures in
-    let answers : Answers (command_step p c.args.till (command_of q.kind (granted_point q.kind q.asked c.args.r0 p.preset))) p c.on_command.result c.on_command.new.self = rw asked at c.on_command.ensures.answer in
+    let answers : FollowsTable (command_step p c.args.till (command_of q.kind (granted_point q.kind q.asked c.args.r0 p.preset))) p c.on_command.result c.on_command.new.self = rw asked at c.on_command.ensures.answer in
     rw (← c.self.view_is, given) (grant-is old c.args.till c.args.r0 q p c.on_command.new.self c.on_command.result one le c.index_mut-point.ensures.value answers)
 
 pub returns-clause-bounded : goal.returns-clause-bounded

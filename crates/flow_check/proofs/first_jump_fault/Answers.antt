@@ -1,6 +1,6 @@
 use Rattle.std.proofs.Common.{length, arith, sym}
 use Rattle.flow_check.proofs.Jumps.{fault_stays}
-use Rattle.flow_check.proofs.first_fault.Goals as goal
+use Rattle.flow_check.proofs.first_jump_fault.Goals as goal
 
 pub returns-in-Some : goal.returns-in-Some
 returns-in-Some c =
