@@ -4,3 +4,4 @@ pub mod Grounds
 pub mod Merge
 pub mod Closing
 pub mod Desks
+pub mod Verdicts

@@ -11,6 +11,9 @@ mod ground;
 mod journal;
 mod pass;
 #[cfg(test)]
+mod program_tests;
+mod programs;
+#[cfg(test)]
 mod tests;
 
 pub use check::{are_all, fault, fault_since};
@@ -21,3 +24,4 @@ pub use forecourt::Forecourt;
 pub use journal::{Journal, LineJournal, NoJournal};
 pub use line_session::{Clock, Desk, Doors, Ended, SessionFault, session, worker};
 pub use pass::{Pass, Receipt, Yard};
+pub use programs::verify_all;

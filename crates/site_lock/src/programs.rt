@@ -1,0 +1,52 @@
+//! Many programs at once.
+ghost use Rattle.std.specs.Prelude.{◌≡◌, ℕ, ◌<◌, ◌≤◌, length, IfOk, slice_index_or, vec_len};
+ghost use Rattle.site_lock.specs.Verdicts.{IsVerified};
+
+use reg_types::{Program, Refusal, TypeFault, verify};
+use std::alloc::{AllocError, Global};
+use std::thread;
+use std::thread::Threads;
+
+/// What stands at an item that wasn't verified yet. No program has a unit of this number.
+const UNDECIDED: Refusal = Refusal::Type(TypeFault::FallsOff(u32::MAX));
+
+fn verified(alloc: Global, bytes: &[u8], declared: u32) -> Result<Program, Refusal>
+    ensures { IsVerified bytes.now declared result }
+{
+    verify(alloc, bytes, declared)
+}
+
+// A place for each answer.
+fn places(alloc: Global, count: usize) -> Result<Vec<Result<Program, Refusal>>, AllocError>
+    ensures { IfOk result (λ v. vec_len v ≡ count) }
+{
+    let mut places = Vec::new(alloc);
+    places.reserve(count)?;
+    for _made in 0..count {
+        places.push(Err(UNDECIDED))?;
+    }
+    Ok(places)
+}
+
+/// What `verify` answers to each item's bytes and mask, in the items' order, worked out by at most `workers` threads,
+/// 1 to 16. An error means that there was no memory for the list of answers; an item for which memory is wanting is
+/// answered so in its place.
+pub fn verify_all<R: Threads + Sync>(
+    rt: &R,
+    alloc: Global,
+    items: &[(Vec<u8>, u32)],
+    workers: u32,
+) -> Result<Vec<Result<Program, Refusal>>, AllocError>
+    requires { (0 < workers) × (workers ≤ 16) }
+    ensures number { IfOk result (λ v. vec_len v ≡ length items.now) }
+    ensures each { IfOk result (λ v. (i : ℕ) (d : _) (e : _) → i < length items.now → IsVerified (slice_index_or items.now i d).0.items (slice_index_or items.now i d).1 (slice_index_or v.items i e)) }
+{
+    let mut verdicts = places(alloc, items.len())?;
+    thread::for_each_mut(
+        rt,
+        verdicts.as_mut_slice(),
+        workers as usize,
+        &|i, verdict| *verdict = verified(alloc, items[i].0.as_slice(), items[i].1),
+    );
+    Ok(verdicts)
+}
