@@ -9,7 +9,9 @@ mod script;
 mod tests;
 
 pub use command_line::{CommandFault, Job, command};
-pub use job_texts::{Told, asm_file, audit_entries, dis_file, journal_fault_line, verify_file};
+pub use job_texts::{
+    Told, asm_file, audit_entries, audit_journal, dis_file, journal_fault_line, verify_file,
+};
 pub use line_session::{Ended, READS, SessionFault};
 pub use player::Player;
 pub use playing::{play, play_within};

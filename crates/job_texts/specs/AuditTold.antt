@@ -1,16 +1,16 @@
 -- Definitions: what the program says of a journal (this profile).
-use Rattle.std.specs.Prelude.{◌≡◌, ◌⊎◌, ℕ, List, [], ◌∷◌, ◌++◌, length, codes, Option, Some, None}
+use Rattle.std.specs.Prelude.{◌≡◌, ◌⊎◌, ℕ, List, [], ◌++◌, length, codes, Option, Some, None}
 use Rattle.std.specs.Fmt.{decimal}
 use Rattle.decision_journal.specs.declared.entries.Entry.{Entry}
 use Rattle.decision_journal.specs.declared.fault.JournalFault.{JournalFault}
 use Rattle.decision_journal.specs.declared.fault.JournalFault.TheVariants as journal
 use Rattle.till_request.specs.declared.act.Answer.TheVariants.{Program}
 use Rattle.till_request.specs.Answer.{answer_line}
-use Rattle.reg_types.specs.declared.refusal.Refusal.{Refusal}
 use Rattle.reg_types.specs.Refusals.{shown_by}
 use Rattle.site_core.specs.Limits.{ConfigValue}
-use Rattle.site_core.specs.State.{SiteState}
-use Rattle.site_core.specs.Legal.{LegalHistory}
+use Rattle.decision_journal.specs.Text.{journal_text}
+use Rattle.decision_journal.specs.Journal.{ReadsFault}
+use Rattle.site_core.specs.Histories.{IsHistory, IsJournal}
 use Rattle.site_core.specs.Audit.{ShowsFault}
 use Rattle.site_core.specs.declared.auditing.AuditFault.{AuditFault}
 use Rattle.site_core.specs.declared.auditing.AuditFault.TheVariants.{BadNumber, BadProgram, NotLegal, OutOfMemory}
@@ -28,14 +28,19 @@ audit_text (BadProgram number refusal) = program_text number (shown_by refusal)
 audit_text (NotLegal number) = codes "F3 " ++ decimal number ++ codes "\n"
 audit_text OutOfMemory = []
 
--- the entries are a legal history, and their number is told
-abbrev pub ToldLegal : ConfigValue → List Entry → Told → Type 0
-ToldLegal config entries told =
-    (state : SiteState) × LegalHistory config entries state × IsSaid told (codes "legal " ++ decimal (length entries) ++ codes "\n") 0
+abbrev pub legal_text : List Entry → List ℕ
+legal_text entries = codes "legal " ++ decimal (length entries) ++ codes "\n"
 
--- they aren't, and a fault that they show is told
-abbrev pub ToldFault : ConfigValue → List Entry → Told → Type 0
-ToldFault config entries told = (fault : AuditFault) × ShowsFault config entries fault × IsSaid told (audit_text fault) 1
+-- a site of this configuration can have these entries, and their number is told
+abbrev pub ToldLegal : ConfigValue → List Entry → Told → Type 0
+ToldLegal config entries told = IsHistory config entries × IsSaid told (legal_text entries) 0
+
+-- no site of it can have them, and the fault that they show is told
+pub record ToldFault (config : ConfigValue) (entries : List Entry) (told : Told) : Type 0 where
+  pub none : ¬ IsHistory config entries
+  pub fault : AuditFault
+  pub shows : ShowsFault config entries fault
+  pub said : IsSaid told (audit_text fault) 1
 
 abbrev pub AuditTells : ConfigValue → List Entry → Told → Type 0
 AuditTells config entries told = ToldLegal config entries told ⊎ ToldFault config entries told
@@ -46,3 +51,24 @@ journal_fault_text (journal.BadEntry line) = codes "J1 " ++ decimal line ++ code
 journal_fault_text journal.Cut = codes "J2\n"
 journal_fault_text journal.Device = []
 journal_fault_text journal.OutOfMemory = []
+
+-- the text is the journal of a history that a site of this configuration can have, and the number of its entries is told
+pub record LegalTold (config : ConfigValue) (text : List ℕ) (told : Told) : Type 0 where
+  pub journal : IsJournal config text
+  pub said : IsSaid told (legal_text journal.entries) 0
+
+-- the fault of the entries whose journal the text is, or of the text itself
+abbrev pub FaultOf : ConfigValue → List ℕ → Told → Type 0
+FaultOf config text told =
+    ((entries : List Entry) × (text ≡ journal_text entries) × ToldFault config entries told)
+    ⊎ ((new : Option (List ℕ)) × (fault : JournalFault) × ReadsFault (Some text) new fault × IsSaid told (journal_fault_text fault) 1)
+
+-- the text is no such journal, and its fault is told
+pub record RefusedTold (config : ConfigValue) (text : List ℕ) (told : Told) : Type 0 where
+  pub none : ¬ IsJournal config text
+  pub status_is : told.status ≡ 1
+  pub of : FaultOf config text told
+
+-- what is told of a text that is audited as the journal of a site of this configuration: it is legal, or a fault of it
+abbrev pub JournalTells : ConfigValue → List ℕ → Told → Type 0
+JournalTells config text told = LegalTold config text told ⊎ RefusedTold config text told

@@ -1,5 +1,5 @@
 -- Definitions: what the program says of a program file (this profile).
-use Rattle.std.specs.Prelude.{◌≡◌, ◌⊎◌, ℕ, ◌/◌, List, [], ◌∷◌, ◌++◌, length, codes, Option, Some, None, Result, Ok, Err, string_bytes}
+use Rattle.std.specs.Prelude.{◌≡◌, ◌⊎◌, ℕ, ◌/◌, List, [], ◌++◌, length, codes, Option, Some, Result, Ok, Err, string_bytes}
 use Rattle.std.specs.Fmt.{decimal}
 use Rattle.bpf_model.specs.Runs.{IsGood}
 use Rattle.program_file.specs.declared.ProgramFileFault.{ProgramFileFault}

@@ -9,6 +9,6 @@ mod tests;
 mod told;
 
 pub use assembler::{asm_file, dis_file};
-pub use audit::{audit_entries, journal_fault_line};
+pub use audit::{audit_entries, audit_journal, journal_fault_line};
 pub use program::verify_file;
 pub use told::{REFUSED, Told};

@@ -1,6 +1,7 @@
 //! Ranges, lengths, counts and conditions.
 ghost use Rattle.std.specs.Prelude.{◌≡◌, ◌≤◌, ◌-◌, ◌++◌, length, replicate, IfOk, All};
 ghost use Rattle.toml.specs.View.{table_view};
+ghost use Rattle.site_core.specs.Limits.{IsCounter};
 ghost use Rattle.site_config.specs.Document.{Gives};
 ghost use Rattle.site_config.specs.Typed.{seen};
 ghost use Rattle.site_config.specs.Ranges.{ranged, all_ranged, point_of, counter_of, each_of, prices_of, points_of, counters_of, serve_of, serve_from, told_of, told, config_of};
@@ -44,7 +45,7 @@ fn make_point(pair: (i64, i64)) -> Result<(u32, u32), ConfigFault>
 #[tactic(auto, unfolding(crate::specs::Ranges::counter_of))]
 fn make_counter(pair: (i64, i64)) -> Result<(u64, u64), ConfigFault>
     ensures read { Gives (λ x. x) result (counter_of pair) }
-    ensures range { IfOk result (λ p. p.0 ≤ p.1) }
+    ensures range { IfOk result IsCounter }
 {
     let value = not_negative(pair.0)?;
     let bound = not_negative(pair.1)?;
@@ -137,7 +138,7 @@ fn make_serve(served: &Served) -> Result<Serve, ConfigFault>
 fn each_counter(alloc: Global, pairs: &[(i64, i64)]) -> Result<Vec<(u64, u64)>, ConfigFault>
     ensures read { Gives (λ v. v.items) result (each_of counter_of pairs.now) }
     ensures each { IfOk result (λ v. length v.items ≡ length pairs.now) }
-    ensures range { IfOk result (λ v. All (λ p. p.0 ≤ p.1) v.items) }
+    ensures range { IfOk result (λ v. All IsCounter v.items) }
 {
     let mut counters = Vec::new(alloc);
     for pair in pairs {
@@ -149,9 +150,9 @@ fn each_counter(alloc: Global, pairs: &[(i64, i64)]) -> Result<Vec<(u64, u64)>, 
 /// A list of at most 32 as an array, with 0 and 0 behind it.
 fn table_of(list: &[(u64, u64)]) -> [(u64, u64); 32]
     requires room { length list.now ≤ 32 }
-    requires range { All (λ p. p.0 ≤ p.1) list.now }
+    requires range { All IsCounter list.now }
     ensures after { result ≡ list.now ++ replicate (32 - length list.now) (0, 0) }
-    ensures range { All (λ p. p.0 ≤ p.1) result }
+    ensures range { All IsCounter result }
 {
     let mut array = [(0, 0); 32];
     array[..list.len()].copy_from_slice(list);
@@ -161,7 +162,7 @@ fn table_of(list: &[(u64, u64)]) -> [(u64, u64); 32]
 #[tactic(auto, unfolding(crate::specs::Ranges::counters_of))]
 fn make_counters(alloc: Global, pairs: &[(i64, i64)]) -> Result<[(u64, u64); 32], ConfigFault>
     ensures read { Gives (λ x. x) result (counters_of pairs.now) }
-    ensures range { IfOk result (All (λ p. p.0 ≤ p.1)) }
+    ensures range { IfOk result (All IsCounter) }
 {
     if pairs.len() > 32 {
         return Err(ConfigFault::K3);

@@ -2,9 +2,11 @@ pub mod Points
 pub mod Decisions
 pub mod Undecided
 pub mod Lawful
+pub mod Written
 pub mod Keeping
 pub mod Running
 pub mod Shown
+pub mod Complete
 pub mod Grants
 pub mod Filling
 pub mod Pairs

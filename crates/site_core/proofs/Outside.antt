@@ -74,6 +74,7 @@ performs-settled config past s new slots draft q r0 after reply run still agrees
           ∙ decided-ended past s draft.till draft.moment q draft.version r0 after (agrees.in_force q.slot ∙ still.version_is) ended
           ∙ settled;
       agrees = λ entry is replied_is. agrees-till slots past entry draft.till draft.request agrees is;
+      accepted = refl;
       good = tt;
     }
 

@@ -1,5 +1,5 @@
 -- Representation: how the fields of a site hang together, and what the steps inside a call say. No reader has to believe it.
-use Rattle.std.specs.Prelude.{◌≡◌, ℕ, ◌+◌, ◌≤◌, List, ◌∷◌, length, reverse}
+use Rattle.std.specs.Prelude.{◌≡◌, ℕ, ◌+◌, ◌≤◌, List, ◌∷◌, length, reverse, None, All}
 use Rattle.decision_journal.specs.declared.entries.Entry.{Entry}
 use Rattle.till_request.specs.declared.act.Act.{Act}
 use Rattle.till_request.specs.declared.act.Act.TheVariants as act
@@ -14,17 +14,22 @@ use Rattle.site_core.specs.Bounds.{Bounded}
 use Rattle.site_core.specs.History.{in_force, versions}
 use Rattle.site_core.specs.Step.{effect, entered_moment, load_reply}
 use Rattle.site_core.specs.Legal.{Legal, GoodLoad, GoodLoads}
+use Rattle.site_core.specs.Histories.{load_refusal, AcceptedLoads}
+use Rattle.decision_journal.specs.Journal.{IsWritten}
 
 -- the slots hold what the history, the newest entry first, has loaded
 pub record Agrees (slots : SlotsValue) (past : List Entry) : Type 0 where
   pub in_force : (slot : ℕ) → in_force slot past ≡ version_in slots slot
   pub versions : versions past ≡ length slots.programs
 
--- the history is legal, and the site has the state that it leaves and the versions that it has loaded
+-- the history is legal, its loads are accepted and its entries can be written, and the site has the state that it leaves and the versions
+-- that it has loaded
 pub record Keeps (config : ConfigValue) (history : List Entry) (state : SiteState) (slots : SlotsValue) : Type 0 where
   pub legal : Legal config (reverse history) state
   pub agrees : Agrees slots (reverse history)
-  pub good : GoodLoads (reverse history)
+  pub accepted : AcceptedLoads history
+  pub good : GoodLoads history
+  pub written : All IsWritten history
   pub count : length history ≤ 1048576
   pub points : length state.points ≡ length config.points
   pub bounded : Bounded (length history) state
@@ -35,7 +40,8 @@ pub record Performs (config : ConfigValue) (past : List Entry) (old : SiteState)
   pub moment_is : p.moment ≡ entered_moment act moment
   pub effect_is : effect config past old moment act ≡ record { reply = p.reply; run = p.run; after = new }
   pub agrees : (entry : Entry) → entry.act ≡ p.act → entry.reply ≡ p.reply → Agrees slots (entry ∷ past)
-  pub good : GoodLoad p.act p.reply
+  pub accepted : load_refusal p.act ≡ None
+  pub good : GoodLoad p.act
 
 -- a load was answered as the step says, and the slots agree once its entry stands
 pub record Loads (old : SlotsValue) (slot : ℕ) (program : ProgramText) (past : List Entry) (reply : Reply) (new : SlotsValue) : Type 0 where

@@ -5,6 +5,7 @@ pub mod History
 pub mod Decide
 pub mod Step
 pub mod Legal
+pub mod Histories
 pub mod Bounds
 pub mod Keeping
 pub mod Site

@@ -9,7 +9,11 @@ pub record ConfigValue : Type 0 where
   pub points : List (ℕ × ℕ)
   pub counters : List (ℕ × ℕ)
 
--- all is in its range: 1 to 64 tills, 1 to 32 points, slots 0 to 15, prices in thousandths up to 9,999,999, values at most their bounds
+-- a counter's value is at most its bound, and the bound at most 2^63 - 1
+abbrev pub IsCounter : ℕ × ℕ → Type 0
+IsCounter p = (p.0 ≤ p.1) × (p.1 ≤ 9223372036854775807)
+
+-- all is in its range: 1 to 64 tills, 1 to 32 points, slots 0 to 15, prices in thousandths up to 9,999,999, and each counter in its own
 pub record IsConfig (c : ConfigValue) : Type 0 where
   pub some_till : 1 ≤ c.tills
   pub tills : c.tills ≤ 64
@@ -18,4 +22,4 @@ pub record IsConfig (c : ConfigValue) : Type 0 where
   pub some_point : 1 ≤ length c.points
   pub points : length c.points ≤ 32
   pub slots : All (λ p. (p.0 ≤ 15) × (p.1 ≤ 15)) c.points
-  pub counters : All (λ p. p.0 ≤ p.1) c.counters
+  pub counters : All IsCounter c.counters

@@ -23,6 +23,7 @@ use Rattle.site_core.specs.Limits.{ConfigValue}
 use Rattle.site_core.specs.State.{SiteState, opening_state}
 use Rattle.site_core.specs.Step.{effect, entry_of}
 use Rattle.site_core.specs.Legal.{LegalHistory, GoodLoads, LawfulReleases}
+use Rattle.site_core.specs.Histories.{AcceptedLoads}
 
 -- A site: its configuration, its history with the oldest entry first, and the state that the history leaves.
 pub record SiteValue : Type 0 where
@@ -73,8 +74,10 @@ Runs old (event ∷ events) (result ∷ results) new = (mid : SiteValue) × Answ
 Runs old [] (result ∷ results) new = ⊥
 Runs old (event ∷ events) [] new = ⊥
 
--- What every site keeps: its history is legal for its configuration and leaves its state, each program loaded in it is good, and each release in it is lawful.
+-- What every site keeps: its history is legal for its configuration and leaves its state, each program loaded in it is accepted by the verifier
+-- and good, whatever the load was answered, and each release in it is lawful.
 pub record Upholds (site : SiteValue) : Type 0 where
   pub legal : LegalHistory site.config site.history site.state
-  pub good : GoodLoads (reverse site.history)
+  pub accepted : AcceptedLoads site.history
+  pub good : GoodLoads site.history
   pub lawful : LawfulReleases site.config (reverse site.history)

@@ -8,6 +8,9 @@ ghost use Rattle.site_core.specs.Decide.{is_till, slots_of};
 use std::alloc::{AllocError, Global};
 use std::marker::Model;
 
+/// The greatest bound of a counter: what the text of a configuration can write.
+const MOST_COUNTER: u64 = 9_223_372_036_854_775_807;
+
 /// What a site is made from: its number of tills, the slot of price changes, the prices of products 1 to 8 in thousandths, for each
 /// point the slots of its releases and of its presets, and the counters' values and bounds. All of it is in its range.
 #[derive(Drop)]
@@ -31,7 +34,7 @@ impl Model for Config {
 
 impl Config {
     /// The configuration, exactly where there are 1 to 64 tills and 1 to 32 points, slots are 0 to 15, prices at most 9,999,999 (0 for
-    /// none), and each counter's value is at most its bound. Takes no memory.
+    /// none), and each counter's value is at most its bound and that at most 2^63 - 1. Takes no memory.
     pub fn new(
         tills: u32,
         price_slot: u32,
@@ -56,7 +59,10 @@ impl Config {
         {
             return None;
         }
-        if !counters.iter().all(|(value, bound)| value <= bound) {
+        if !counters
+            .iter()
+            .all(|(value, bound)| value <= bound && *bound <= MOST_COUNTER)
+        {
             return None;
         }
         Some(Config {

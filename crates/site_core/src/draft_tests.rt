@@ -1,7 +1,10 @@
 //! Decisions that are run outside the site, and what happens in between.
 
 use crate::tests::{ASKED, Does, FIVE_THOUSAND, OPEN, load, play, start};
-use crate::{Begin, Commit, Config, Ready, Site, Why};
+use crate::{
+    Begin, Commit, Config, Ready, Site, Why, fresh_differs_nowhere, one_difference_is_first,
+    programs_alone_decide,
+};
 use fuelling_point::DispenserEvent;
 use std::alloc::{AllocError, Global};
 use std::process::Abort;
@@ -89,6 +92,9 @@ fn a_version_that_was_replaced_meanwhile_decides_nothing(rt: HostRuntime) -> Res
 
 #[test]
 fn a_run_on_another_context_is_stale(rt: HostRuntime) -> Result<(), Fail> {
+    fresh_differs_nowhere();
+    one_difference_is_first();
+    programs_alone_decide();
     let mut site = opened(&rt, rt.alloc())?;
     let ready = decide(&site, 1, RELEASE)?;
     let lifted = Does::Disp(1, DispenserEvent::Up(1));

@@ -9,6 +9,7 @@ ghost use Rattle.site_core.specs.Decide.{is_decided};
 ghost use Rattle.site_core.specs.Step.{effect};
 ghost use Rattle.site_core.specs.Draft.{Basis, DraftValue};
 ghost use Rattle.site_core.specs.Differences.{IsFresh, Differs};
+ghost use Rattle.site_core.specs.Audit.{OwnAudit};
 ghost use Rattle.site_core.specs.declared.why.Why.{Why};
 
 /// Where nothing differs, no first difference is told: a commit is done exactly where it isn't stale.
@@ -25,4 +26,9 @@ pub fn one_difference_is_first()
 pub fn programs_alone_decide()
     ensures { (config : ConfigValue) (past : List Entry) (s : SiteState) (moment : ℕ) (act : Act) →
         is_decided (effect config past s moment act).reply ≡ is_some (effect config past s moment act).run }
+{}
+
+/// An audit of a site's own history gives that very site, unless memory was wanting.
+pub fn audit_of_its_own_history()
+    ensures { OwnAudit }
 {}

@@ -24,6 +24,8 @@ pub use auditing::{AuditFault, audit, event_of};
 pub use config::Config;
 pub use draft::{Begin, Commit, Draft, Ready};
 pub use events::{Answered, CallFault, Event, What};
-pub use laws::{fresh_differs_nowhere, one_difference_is_first, programs_alone_decide};
+pub use laws::{
+    audit_of_its_own_history, fresh_differs_nowhere, one_difference_is_first, programs_alone_decide,
+};
 pub use site::Site;
 pub use why::Why;

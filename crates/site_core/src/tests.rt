@@ -1,6 +1,6 @@
 //! Scripts of events with the replies that the site's rules name for them.
 
-use crate::{AuditFault, Config, Event, Site, What, audit};
+use crate::{AuditFault, Config, Event, Site, What, audit, audit_of_its_own_history};
 use decision_journal::Entry;
 use fuelling_point::{DispenserEvent, Order};
 use reg_types::{Refusal, TypeFault, verify};
@@ -445,5 +445,39 @@ fn an_audit_names_the_first_fault(rt: HostRuntime) -> Result<(), Fail> {
         fault(alloc, &[load])?,
         Some(AuditFault::BadProgram(1, refusal))
     );
+    Ok(())
+}
+
+#[test]
+fn a_counter_has_63_bits(rt: HostRuntime) -> Result<(), Fail> {
+    let most = 9_223_372_036_854_775_807;
+    for (bound, there) in [(most, true), (most + 1, false), (u64::MAX, false)] {
+        let points = vec![in rt.alloc(); (0, 1)]?;
+        let mut counters = [(0, 0); 32];
+        counters[31] = (1, bound);
+        assert_eq!(rt;
+            Config::new(1, 2, [0; 8], points, counters).is_some(),
+            there
+        );
+    }
+    Ok(())
+}
+
+#[test]
+fn a_load_into_no_slot_is_audited(rt: HostRuntime) -> Result<(), Fail> {
+    let alloc = rt.alloc();
+    audit_of_its_own_history();
+    let mut site = start(alloc)?;
+    load(&rt, alloc, &mut site, 99, 0, &ASKED, refused(32))?;
+    assert_eq!(rt; fault(alloc, site.history())?, None);
+    // The program of such a load is looked at too, and before its answer.
+    let act = Act::Load {
+        slot: 99,
+        mask: 0,
+        bytes: Bytes::from_slice(alloc, &EXIT)?,
+    };
+    let unset = AuditFault::BadProgram(1, Refusal::Type(TypeFault::NotANumber(0, 0)));
+    let entries = vec![in alloc; entry(1, 0, act, Reply::Done), 1];
+    assert_eq!(rt; fault(alloc, entries?.as_slice())?, Some(unset));
     Ok(())
 }

@@ -1,7 +1,8 @@
 use Rattle.std.proofs.Common.{◌≡◌, ◌≤◌, drop, length, All}
+use Rattle.site_core.specs.Limits.{IsCounter}
 use Rattle.site_config.specs.Document.{with_front}
 use Rattle.site_config.specs.Ranges.{each_of, counter_of}
 use Rattle.site_config.proofs.ranges.each_counter.Given as goal
 
 abbrev pub invariant-loop-pair : goal.invariant-loop-pair
-invariant-loop-pair l = record { read : with_front l.counters.items (each_of counter_of (drop l.pair-index l.pairs)) ≡ each_of counter_of l.pairs; each : length l.counters.items ≡ l.pair-index; range : All (λ p. p.0 ≤ p.1) l.counters.items }
+invariant-loop-pair l = record { read : with_front l.counters.items (each_of counter_of (drop l.pair-index l.pairs)) ≡ each_of counter_of l.pairs; each : length l.counters.items ≡ l.pair-index; range : All IsCounter l.counters.items }

@@ -1,6 +1,7 @@
 use Rattle.std.proofs.Common.{◌≡◌, ℕ, ◌≤◌, ◌-◌, ◌++◌, length, replicate, ap, arith, ◌∙◌}
 use Rattle.std.proofs.lemmas.List.{drop-replicate}
 use Rattle.std.proofs.lemmas.List.Elements.{All-append, All-replicate}
+use Rattle.site_core.specs.Limits.{IsCounter}
 use Rattle.site_config.proofs.ranges.table_of.Goals as goal
 
 pub returns-clause-after : goal.returns-clause-after
@@ -9,5 +10,5 @@ returns-clause-after c = rw c.copy_from_slice.ensures.after (ap (λ t. c.args.li
 pub returns-clause-range : goal.returns-clause-range
 returns-clause-range c =
     rw (c.copy_from_slice.ensures.after, drop-replicate {X = ℕ × ℕ} (length c.args.list.now) 32 (0, 0))
-    (All-append (λ (p : ℕ × ℕ). p.0 ≤ p.1) c.args.list.now (replicate (32 - length c.args.list.now) (0, 0)) c.requires.range
-    (All-replicate (λ (p : ℕ × ℕ). p.0 ≤ p.1) (32 - length c.args.list.now) (0, 0) (omega arith)))
+    (All-append IsCounter c.args.list.now (replicate (32 - length c.args.list.now) (0, 0)) c.requires.range
+    (All-replicate IsCounter (32 - length c.args.list.now) (0, 0) (omega arith, omega arith)))

@@ -1,0 +1,67 @@
+-- What is told of a journal.
+use Rattle.std.proofs.Common.{◌≡◌, ◌≢◌, ℕ, List, [], ◌++◌, Option, Some, None, Result, Ok, Err, sym, ap, ◌∙◌, subst, inl, inr}
+use Rattle.std.specs.Prelude.{IfOk}
+use Rattle.std.specs.List.{AllByRecursion}
+use Rattle.std.specs.Io.KnownBytes.{Consumes, IsAtEnd}
+use Rattle.std.proofs.lemmas.List.{append-nil}
+use Rattle.decision_journal.specs.declared.entries.Entry.{Entry}
+use Rattle.decision_journal.specs.declared.fault.JournalFault.{JournalFault}
+use Rattle.decision_journal.specs.declared.fault.JournalFault.TheVariants as journal
+use Rattle.decision_journal.specs.Text.{journal_text}
+use Rattle.decision_journal.specs.Journal.{IsWritten, IsWant, ReadsAll, ReadsFault}
+use Rattle.decision_journal.proofs.WholeLines.{one_journal}
+use Rattle.decision_journal.proofs.ReadAgain.{fault_again, fit}
+use Rattle.site_core.specs.Limits.{ConfigValue}
+use Rattle.site_core.specs.Histories.{IsHistory, IsJournal}
+use Rattle.site_core.specs.Site.{SiteValue, Upholds}
+use Rattle.site_core.specs.Audit.{ShowsFault}
+use Rattle.site_core.proofs.Complete.{upheld}
+use Rattle.site_core.specs.declared.auditing.AuditFault.{AuditFault}
+use Rattle.site_core.specs.declared.auditing.AuditFault.TheVariants.{OutOfMemory}
+use Rattle.job_texts.specs.declared.told.Told.{Told}
+use Rattle.job_texts.specs.Told.{IsSaid}
+use Rattle.job_texts.specs.AuditTold.{AuditTells, JournalTells, audit_text, legal_text, journal_fault_text}
+
+pub told-legal : {E : Type 0} → (config : ConfigValue) (entries : List Entry) (site : SiteValue) (r : Result Told E) → site.config ≡ config → site.history ≡ entries → Upholds site → IfOk r (λ told. IsSaid told (legal_text entries) 0) → IfOk r (AuditTells config entries)
+told-legal config entries site (Ok told) c h u said = inl (subst (IsHistory config) h (subst (λ x. IsHistory x site.history) c (upheld site u)), said)
+told-legal config entries site (Err e) c h u said = tt
+
+pub told-fault : {E : Type 0} → (config : ConfigValue) (entries : List Entry) (fault : AuditFault) (r : Result Told E) → (IsHistory config entries → fault ≡ OutOfMemory) → ShowsFault config entries fault → IfOk r (λ told. IsSaid told (audit_text fault) 1) → IfOk r (λ told. fault ≢ OutOfMemory) → IfOk r (AuditTells config entries)
+told-fault config entries fault (Ok told) complete shows said differs = inr (record { none = λ h. differs (complete h); fault = fault; shows = shows; said = said })
+told-fault config entries fault (Err e) complete shows said differs = tt
+
+-- the whole text was read
+module _ (text : List ℕ) (entries : List Entry) where
+  all-is : (new : Option (List ℕ)) → Consumes (Some text) new (journal_text entries ++ []) → IsAtEnd new → text ≡ journal_text entries
+  all-is None taken at_end = absurd taken
+  all-is (Some more) taken at_end = taken ∙ ap (λ m. (journal_text entries ++ []) ++ m) at_end ∙ append-nil (journal_text entries ++ []) ∙ append-nil (journal_text entries)
+
+  same-history : (config : ConfigValue) → text ≡ journal_text entries → AllByRecursion IsWritten entries → IsJournal config text → IsHistory config entries
+  same-history config is written j =
+      subst (IsHistory config) (one_journal j.entries entries (fit j.entries j.written) (fit entries written) (sym j.text_is ∙ is)) j.history
+
+  judged : (config : ConfigValue) (told : Told) → text ≡ journal_text entries → AllByRecursion IsWritten entries → AuditTells config entries told → JournalTells config text told
+  judged config told is written (inl legal) =
+      inl (record { journal = record { entries = entries; text_is = is; written = written; history = legal.0 }; said = legal.1 })
+  judged config told is written (inr fault) =
+      inr (record { none = λ j. fault.none (same-history config is written j); status_is = fault.said.status_is; of = inl (entries, is, fault) })
+
+  pub all-told : (config : ConfigValue) (new : Option (List ℕ)) (told : Told) → ReadsAll (Some text) new entries → AuditTells config entries told → JournalTells config text told
+  all-told config new told r tells = judged config told (all-is new r.reads.taken r.at_end) r.reads.each tells
+
+-- a fault was read
+no-journal : (config : ConfigValue) (text : List ℕ) (new : Option (List ℕ)) (fault : JournalFault) → ReadsFault (Some text) new fault → (IsWant fault → ⊥) → IsJournal config text → ⊥
+no-journal config text new fault r wants j = wants (fault_again j.entries new fault j.written (subst (λ t. ReadsFault (Some t) new fault) j.text_is r))
+
+pub fault-told : {E : Type 0} → (config : ConfigValue) (text : List ℕ) (new : Option (List ℕ)) (fault : JournalFault) (r : Result Told E) → ReadsFault (Some text) new fault → (IsWant fault → ⊥) → IfOk r (λ told. IsSaid told (journal_fault_text fault) 1) → IfOk r (JournalTells config text)
+fault-told config text new fault (Ok told) reads wants said =
+    inr (record { none = no-journal config text new fault reads wants; status_is = said.status_is; of = inr (new, fault, reads, said) })
+fault-told config text new fault (Err e) reads wants said = tt
+
+pub bad-entry : (line : ℕ) → IsWant (journal.BadEntry line) → ⊥
+bad-entry line (inl h) = cc
+bad-entry line (inr h) = cc
+
+pub cut : IsWant journal.Cut → ⊥
+cut (inl h) = cc
+cut (inr h) = cc
