@@ -20,10 +20,11 @@ use Rattle.site_core.specs.Limits.{ConfigValue}
 use Rattle.site_core.specs.State.{SiteState, at_number, view_of}
 use Rattle.site_core.specs.Context.{context}
 use Rattle.site_core.specs.History.{in_force}
-use Rattle.site_core.specs.Decide.{Effect, replied, no_such_point, no_such_till, denied, is_till, bad_amount, transactions_full, wrong_state, no_program, is_within, need, slots_of, release_question, decided, verdict, ran, grant, granted_point}
+use Rattle.site_core.specs.Decide.{Effect, replied, no_such_point, no_such_till, denied, is_till, bad_amount, transactions_full, wrong_state, no_program, is_within, need, slots_of, release_question, decided, verdict, ran, grant, granted_point, is_decided}
 use Rattle.site_core.specs.Step.{effect}
 use Rattle.site_core.specs.Legal.{Legal, LawfulRelease, LawfulEntry, LawfulReleases}
 use Rattle.site_core.proofs.Points.{release-none, release-some}
+use Rattle.site_core.proofs.Undecided.{refuses, release-no}
 use Rattle.site_core.proofs.Decisions.{decided-refused, decided-none, decided-some}
 
 -- a history leaves one state
@@ -62,27 +63,6 @@ asks config s n amount q (Some p) at h =
     let asked : Question = record { kind = kind.Release; point = n; product = 0; asked = amount; slot = (slots_of config n).0 } in
     let all = three-ok (is_within 1 amount 999999999) (is_ready p.state) (nat_lt (length p.unpaid) 2) bad_amount (wrong_state p.state) transactions_full asked q (sym (release-some config s n amount p at) ∙ h) in
     record { point = p; is_point = at; question = all.3; within = all.0; ready = all.1; room = ltb-true (length p.unpaid) 2 all.2 }
-
--- is a grant
-abbrev is_grant : Reply → Bool
-is_grant (reply.Granted g v) = true
-is_grant _ = false
-
-abbrev refuses : Result Question Reply → Bool
-refuses (Ok q) = false
-refuses (Err r) = is_grant r
-
-three-no : (a b c : Bool) (x y z : Reply) (p : Question) → is_grant x ≡ false → is_grant y ≡ false → is_grant z ≡ false → refuses (need a x (need b y (need c z (Ok p)))) ≡ false
-three-no true true true x y z p hx hy hz = refl
-three-no true true false x y z p hx hy hz = hz
-three-no true false c x y z p hx hy hz = hy
-three-no false b c x y z p hx hy hz = hx
-
-release-no : (config : ConfigValue) (s : SiteState) (n amount : ℕ) (o : Option PointState) → at_number s.points n ≡ o → refuses (release_question config s n amount) ≡ false
-release-no config s n amount None at = ap refuses (release-none config s n amount at)
-release-no config s n amount (Some p) at =
-    let asked : Question = record { kind = kind.Release; point = n; product = 0; asked = amount; slot = (slots_of config n).0 } in
-    ap refuses (release-some config s n amount p at) ∙ three-no (is_within 1 amount 999999999) (is_ready p.state) (nat_lt (length p.unpaid) 2) bad_amount (wrong_state p.state) transactions_full asked refl refl refl
 
 -- a grant comes of an answer that isn't 0
 verdict-denied : (s : SiteState) (till moment : ℕ) (q : Question) (v : Version) (r : ℕ) (c : Counters) → (r == 0) ≡ true → (verdict s till moment q v r c).reply ≡ denied v.number
@@ -136,8 +116,8 @@ by-question : (config : ConfigValue) (past : List Entry) (s : SiteState) (till m
 by-question config past s till moment n amount g v (Ok q) is h = by-version config past s till moment n amount g v q (in_force q.slot past) (asks config s n amount q (at_number s.points n) refl is) refl h
 by-question config past s till moment n amount g v (Err r) is h =
     let same : reply.Granted g v ≡ r = h ∙ ap (λ (x : Effect). x.reply) (decided-refused past s till moment r) in
-    let no : is_grant r ≡ false = sym (ap refuses is) ∙ release-no config s n amount (at_number s.points n) refl in
-    let yes : true ≡ is_grant r = ap is_grant same in
+    let no : is_decided r ≡ false = sym (ap refuses is) ∙ release-no config s n amount (at_number s.points n) refl in
+    let yes : true ≡ is_decided r = ap is_decided same in
     absurd (let e : true ≡ false = yes ∙ no in cc)
 
 by-till : (config : ConfigValue) (past : List Entry) (s : SiteState) (till moment n amount g v : ℕ) (b : Bool) → reply.Granted g v ≡ (if b then decided past s till moment (release_question config s n amount) else replied no_such_till s).reply → LawfulRelease config past s till moment n amount g v

@@ -1,5 +1,6 @@
 pub mod Points
 pub mod Decisions
+pub mod Undecided
 pub mod Lawful
 pub mod Keeping
 pub mod Running

@@ -1,6 +1,6 @@
 -- What a run made outside the site says of the site's own step.
-use Rattle.std.proofs.Common.{◌≡◌, ℕ, List, ◌∷◌, Bool, true, false, Option, Some, None, Ok, Err, refl, ap, ◌∙◌, sym, subst}
-use Rattle.std.specs.Prelude.{◌⊎◌, reverse, ◌==◌, if◌then◌else◌, IsSome}
+use Rattle.std.proofs.Common.{◌≡◌, ℕ, List, ◌∷◌, length, arith, Bool, true, false, Option, Some, None, Ok, Err, refl, ap, ◌∙◌, sym, subst}
+use Rattle.std.specs.Prelude.{◌⊎◌, reverse, ◌==◌, if◌then◌else◌, IsSome, is_some, ◌<◌}
 use Rattle.std.proofs.Common.{inl, inr}
 use Rattle.std.specs.Result.{result_ok}
 use Rattle.fuelling_point.specs.Table.{PointState, Answer, command_step}
@@ -22,16 +22,19 @@ use Rattle.site_core.specs.Limits.{ConfigValue}
 use Rattle.site_core.specs.State.{SiteState, at_number, view_of}
 use Rattle.site_core.specs.Context.{context}
 use Rattle.site_core.specs.History.{loaded, in_force, versions}
-use Rattle.site_core.specs.Decide.{Effect, replied, no_such_till, is_till, decided, verdict, ran, grant, release_question, preset_question, price_question}
+use Rattle.site_core.specs.Decide.{Effect, replied, no_such_till, is_decided, is_till, decided, verdict, ran, grant, release_question, preset_question, price_question}
 use Rattle.site_core.specs.Step.{effect, asked, commanded, command_effect}
 use Rattle.site_core.specs.Keeping.{Agrees, Performs}
 use Rattle.site_core.specs.Draft.{DraftValue, basis_of, routed}
 use Rattle.site_core.specs.Asked.{asked_question, question_of, StillAsked, IsDraft, Drafts, basis_in}
-use Rattle.site_core.specs.Outside.{run_now, Begun, basis}
+use Rattle.site_core.specs.declared.draft.Begin.TheVariants as begin
+use Rattle.site_core.specs.Outside.{run_now, reply_now, Begins, Begun, basis}
+use Rattle.site_core.specs.Site.{SiteValue, Enters, entered}
 use Rattle.site_core.proofs.Points.{commanded-none, commanded-some}
 use Rattle.site_core.proofs.Decisions.{decided-refused, decided-none, decided-some, decided-ended}
 use Rattle.site_core.proofs.Grants.{verdict-deny, verdict-grant}
 use Rattle.site_core.proofs.Lawful.{Asked}
+use Rattle.site_core.proofs.Undecided.{effect-tells}
 use Rattle.site_core.proofs.Asking.{ok-is, none-some, asked-routed}
 
 -- ---- the step of a request that asks a program
@@ -129,9 +132,24 @@ runs-some config past s till moment r q v h some =
 
 -- ---- a draft
 
-pub begins-none : (config : ConfigValue) (history : List Entry) (s : SiteState) (slots : SlotsValue) (till moment : ℕ) (r : Request) → Agrees slots (reverse history) → Drafts config s slots till moment r None → run_now (record { config = config; history = history; state = s }) till moment r ≡ None
-begins-none config history s slots till moment r agrees (inl h) = runs-none config (reverse history) s till moment r (inl h)
-begins-none config history s slots till moment r agrees (inr h) = runs-none config (reverse history) s till moment r (inr (h.0, h.1, agrees.in_force h.0.slot ∙ h.2))
+-- where no program is run, the reply is neither a grant nor S24
+undecided : (site : SiteValue) (till moment : ℕ) (r : Request) → run_now site till moment r ≡ None → is_decided (reply_now site till moment r) ≡ false
+undecided site till moment r none = effect-tells site.config (reverse site.history) site.state moment (act.Till till r) ∙ ap (λ (run : Option Run). is_some run) none
+
+begins-undecided : (site : SiteValue) (till moment : ℕ) (r : Request) → run_now site till moment r ≡ None → (run_now site till moment r ≡ None) × (is_decided (reply_now site till moment r) ≡ false)
+begins-undecided site till moment r none = (none, undecided site till moment r none)
+
+pub begins-none : (config : ConfigValue) (history : List Entry) (s : SiteState) (slots : SlotsValue) (till moment : ℕ) (r : Request) → Agrees slots (reverse history) → Drafts config s slots till moment r None → (run_now (record { config = config; history = history; state = s }) till moment r ≡ None) × (is_decided (reply_now (record { config = config; history = history; state = s }) till moment r) ≡ false)
+begins-none config history s slots till moment r agrees (inl h) =
+    begins-undecided (record { config = config; history = history; state = s }) till moment r (runs-none config (reverse history) s till moment r (inl h))
+begins-none config history s slots till moment r agrees (inr h) =
+    begins-undecided (record { config = config; history = history; state = s }) till moment r (runs-none config (reverse history) s till moment r (inr (h.0, h.1, agrees.in_force h.0.slot ∙ h.2)))
+
+-- what is entered after Direct, in the same state, is neither a grant nor S24
+pub direct-undecided : (old new : SiteValue) (pass till moment number : ℕ) (r : Request) (reply : Reply) → Begins old till moment r begin.Direct → length old.history < 1048576 → Enters old pass moment (act.Till till r) number reply new → is_decided reply ≡ false
+unfolding entered
+direct-undecided old new pass till moment number r reply (inl full) less enters = absurd (omega arith)
+direct-undecided old new pass till moment number r reply (inr direct) less enters = ap is_decided enters.reply_is ∙ direct.1
 
 pub begun : (config : ConfigValue) (history : List Entry) (s : SiteState) (slots : SlotsValue) (till moment : ℕ) (r : Request) (draft : DraftValue) → Agrees slots (reverse history) → IsDraft config s slots till moment r draft → Begun (record { config = config; history = history; state = s }) till moment r draft
 begun config history s slots till moment r draft agrees d =

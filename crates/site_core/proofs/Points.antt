@@ -82,7 +82,7 @@ pub reported-none : (s : SiteState) (n : ℕ) (event : DispenserEvent) → at_nu
 unfolding reported
 reported-none s n event none = rw (none, reported)
 
-reported-some : (s : SiteState) (n : ℕ) (event : DispenserEvent) (p : PointState) → at_number s.points n ≡ Some p → reported s n event ≡ event_effect s n (event_step p event)
+pub reported-some : (s : SiteState) (n : ℕ) (event : DispenserEvent) (p : PointState) → at_number s.points n ≡ Some p → reported s n event ≡ event_effect s n (event_step p event)
 unfolding reported
 reported-some s n event p some = rw (some, reported)
 

@@ -1,5 +1,5 @@
 -- Definitions: how a release, a preset or a price is decided (this profile). In these definitions a history stands with its newest entry first.
-use Rattle.std.specs.Prelude.{◌≡◌, ◌≤◌, ℕ, ◌-◌, ◌/◌, ◌%◌, ◌^◌, min, Bool, ◌&&◌, ◌==◌, nat_lt, nat_le, if◌then◌else◌, List, length, map, slice_set, slice_index_or, Option, Some, None, Result, Ok, Err}
+use Rattle.std.specs.Prelude.{◌≡◌, ◌≤◌, ℕ, ◌-◌, ◌/◌, ◌%◌, ◌^◌, min, Bool, true, false, ◌&&◌, ◌==◌, nat_lt, nat_le, if◌then◌else◌, List, length, map, slice_set, slice_index_or, Option, Some, None, Result, Ok, Err}
 use Rattle.std.specs.List.{range_with_len}
 use Rattle.fuelling_point.specs.Table.{PointState, command_step}
 use Rattle.fuelling_point.specs.States.{is_ready, state_number}
@@ -59,6 +59,12 @@ no_program slot = refused_with 23 slot
 
 abbrev pub denied : ℕ → Reply
 denied version = refused_with 24 version
+
+-- a grant or S24: what a program's answer alone gives
+abbrev pub is_decided : Reply → Bool
+is_decided (reply.Granted amount version) = true
+is_decided (reply.Refused number value) = number == 24
+is_decided _ = false
 
 -- what follows, or the refusal where the test fails
 abbrev pub need : {T : Type 0} → Bool → Reply → Result T Reply → Result T Reply

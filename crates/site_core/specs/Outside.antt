@@ -1,18 +1,21 @@
 -- Promises: what `begin` and `commit` say.
 --
--- For a caller. `run_now` is the run that the site's step would make for a till's request as the site stands. `begin` answers Direct exactly
--- where there is none or the history is full; else a draft, which `Begun` ties to the site. `commit` is Done exactly where `IsFresh`: nothing
+-- For a caller. `run_now` is the run that the site's step would make for a till's request as the site stands, and `reply_now` its reply. `begin`
+-- answers Direct exactly where there is no such run or the history is full; where no program is run the reply is neither a grant nor S24. Else it
+-- answers a draft, which `Begun` ties to the site. `commit` is Done exactly where `IsFresh`: nothing
 -- that the draft's run depends on differs; it is then one step of the site at the draft's moment. Else it is Stale, with the first difference,
 -- and nothing has changed.
-use Rattle.std.specs.Prelude.{◌≡◌, ℕ, ◌<◌, ◌⊎◌, IsSome, length, reverse, Option, None}
+use Rattle.std.specs.Prelude.{◌≡◌, ℕ, ◌<◌, ◌⊎◌, false, IsSome, length, reverse, Option, None}
 use Rattle.decision_journal.specs.declared.entries.Run.{Run}
 use Rattle.till_request.specs.declared.act.Request.{Request}
 use Rattle.till_request.specs.declared.act.Act.TheVariants as act
+use Rattle.till_request.specs.declared.act.Reply.{Reply}
 use Rattle.site_core.specs.declared.draft.Begin.{Begin}
 use Rattle.site_core.specs.declared.draft.Begin.TheVariants as begin
 use Rattle.site_core.specs.declared.draft.Commit.{Commit}
 use Rattle.site_core.specs.declared.draft.Commit.TheVariants as commit
 use Rattle.site_core.specs.History.{in_force}
+use Rattle.site_core.specs.Decide.{is_decided}
 use Rattle.site_core.specs.Step.{effect}
 use Rattle.site_core.specs.Draft.{DraftValue, ReadyValue, Basis, basis_of, routed}
 use Rattle.site_core.specs.Differences.{IsFresh, Differs}
@@ -27,6 +30,10 @@ basis site draft =
 abbrev pub run_now : SiteValue → ℕ → ℕ → Request → Option Run
 run_now site till moment request = (effect site.config (reverse site.history) site.state moment (act.Till till request)).run
 
+-- the reply that the step would give to it
+abbrev pub reply_now : SiteValue → ℕ → ℕ → Request → Reply
+reply_now site till moment request = (effect site.config (reverse site.history) site.state moment (act.Till till request)).reply
+
 -- The draft of a request for which the step would run a program now: it keeps the request, and all that this run would be made on.
 pub record Begun (site : SiteValue) (till moment : ℕ) (request : Request) (draft : DraftValue) : Type 0 where
   pub till_is : draft.till ≡ till
@@ -36,8 +43,11 @@ pub record Begun (site : SiteValue) (till moment : ℕ) (request : Request) (dra
   pub fresh : IsFresh (basis site draft) draft
   pub counters_are : draft.counters ≡ site.state.counters
 
+-- Direct: the history is full; or the step would run no program now, and so its reply is neither a grant nor S24.
 abbrev pub Begins : SiteValue → ℕ → ℕ → Request → Begin → Type 0
-Begins site till moment request begin.Direct = (length site.history ≡ 1048576) ⊎ (run_now site till moment request ≡ None)
+Begins site till moment request begin.Direct =
+    (length site.history ≡ 1048576)
+    ⊎ ((run_now site till moment request ≡ None) × (is_decided (reply_now site till moment request) ≡ false))
 Begins site till moment request (begin.Run draft) = (length site.history < 1048576) × Begun site till moment request draft
 
 abbrev pub Commits : SiteValue → ℕ → ReadyValue → Commit → SiteValue → Type 0

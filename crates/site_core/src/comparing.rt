@@ -6,9 +6,7 @@ ghost use Rattle.interp.specs.Depends.{Agrees};
 ghost use Rattle.program_slots.specs.Slots.{Version, version_in};
 ghost use Rattle.bpf_model.specs.Machine.{counter};
 ghost use Rattle.site_core.specs.Decide.{is_declared};
-ghost use Rattle.site_core.specs.Draft.{Basis, DraftValue};
-ghost use Rattle.site_core.specs.Differences.{FirstDiffers, CounterDiffers, IsFresh, Differs};
-ghost use Rattle.site_core.specs.declared.why.Why.{Why};
+ghost use Rattle.site_core.specs.Differences.{FirstDiffers, CounterDiffers};
 
 use crate::events::is_same_bytes;
 use counters::Counters;
@@ -110,8 +108,3 @@ pub fn is_version(
         }
     }
 }
-
-/// Where nothing differs, no first difference is told: a commit is done exactly where it isn't stale.
-pub fn fresh_differs_nowhere()
-    ensures { (now : Basis) (draft : DraftValue) (why : Why) → IsFresh now draft → Differs now draft why → ⊥ }
-{}

@@ -10,6 +10,7 @@ mod draft;
 #[cfg(test)]
 mod draft_tests;
 mod events;
+mod laws;
 mod perform;
 mod question;
 mod replies;
@@ -20,9 +21,9 @@ mod tests;
 mod why;
 
 pub use auditing::{AuditFault, audit, event_of};
-pub use comparing::fresh_differs_nowhere;
 pub use config::Config;
 pub use draft::{Begin, Commit, Draft, Ready};
 pub use events::{Answered, CallFault, Event, What};
+pub use laws::{fresh_differs_nowhere, one_difference_is_first, programs_alone_decide};
 pub use site::Site;
 pub use why::Why;

@@ -6,7 +6,7 @@ use Rattle.site_core.specs.declared.why.Why.{Why}
 use Rattle.site_core.specs.declared.why.Why.TheVariants as why
 use Rattle.site_core.specs.Draft.{Basis, DraftValue}
 use Rattle.site_core.specs.Differences.{IsFresh, Differs}
-use Rattle.site_core.proofs.comparing.fresh_differs_nowhere.Goals as goal
+use Rattle.site_core.proofs.laws.fresh_differs_nowhere.Goals as goal
 
 excluded : (now : Basis) (draft : DraftValue) (w : Why) → IsFresh now draft → Differs now draft w → ⊥
 excluded now draft (why.Version number) fresh d = d.0 fresh.version

@@ -1,0 +1,28 @@
+//! Laws of the definitions.
+
+ghost use Rattle.std.specs.Prelude.{◌≡◌, ℕ, List, is_some};
+ghost use Rattle.decision_journal.specs.declared.entries.Entry.{Entry};
+ghost use Rattle.till_request.specs.declared.act.Act.{Act};
+ghost use Rattle.site_core.specs.Limits.{ConfigValue};
+ghost use Rattle.site_core.specs.State.{SiteState};
+ghost use Rattle.site_core.specs.Decide.{is_decided};
+ghost use Rattle.site_core.specs.Step.{effect};
+ghost use Rattle.site_core.specs.Draft.{Basis, DraftValue};
+ghost use Rattle.site_core.specs.Differences.{IsFresh, Differs};
+ghost use Rattle.site_core.specs.declared.why.Why.{Why};
+
+/// Where nothing differs, no first difference is told: a commit is done exactly where it isn't stale.
+pub fn fresh_differs_nowhere()
+    ensures { (now : Basis) (draft : DraftValue) (why : Why) → IsFresh now draft → Differs now draft why → ⊥ }
+{}
+
+/// One difference alone is the first.
+pub fn one_difference_is_first()
+    ensures { (now : Basis) (draft : DraftValue) (a b : Why) → Differs now draft a → Differs now draft b → a ≡ b }
+{}
+
+/// A reply is a grant or S24 exactly where the step runs a program.
+pub fn programs_alone_decide()
+    ensures { (config : ConfigValue) (past : List Entry) (s : SiteState) (moment : ℕ) (act : Act) →
+        is_decided (effect config past s moment act).reply ≡ is_some (effect config past s moment act).run }
+{}
