@@ -23,9 +23,10 @@ def free_ports(count):
 
 class Site:
     """`fc serve` over a configuration without its `[serve]`, on ports that are free. Another program may take a port
-    between the choice and the start: then others are chosen. `kept` is the file that keeps the journal, if one does."""
+    between the choice and the start: then others are chosen. `kept` is the file that keeps the journal, if one does;
+    `prepare` is called in the new process before the program."""
 
-    def __init__(self, fc, site, till_workers, dispenser_workers, connections, kept=None):
+    def __init__(self, fc, site, till_workers, dispenser_workers, connections, kept=None, prepare=None):
         self.fc = fc
         self.told = []  # what standard error said before the ports were open
         self.folder = tempfile.TemporaryDirectory()
@@ -44,6 +45,7 @@ class Site:
                 stdin=subprocess.DEVNULL,
                 stdout=self.journal,
                 stderr=subprocess.PIPE,
+                preexec_fn=prepare,
             )
             said = self.lines_until_open()
             if said.endswith(

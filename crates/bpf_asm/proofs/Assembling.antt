@@ -36,7 +36,7 @@ use Rattle.bpf_asm.specs.declared.grammar.Statement.TheVariants.{Plain, Wide, Ju
 use Rattle.bpf_asm.specs.declared.grammar.Line.{Line}
 use Rattle.bpf_asm.specs.declared.grammar.Line.TheVariants as line
 use Rattle.bpf_asm.specs.Lex.{Text}
-use Rattle.bpf_asm.specs.Program.{Row, row_of, with_row, rows_of, fits_size, fits, target_fits, statement_fits, line_fits, row_fault, or_fault, first_fault as first_line_fault, source_bit, operator_code, condition_code, size_code, arithmetic_class, jump_class, opcode_of, signed, size_or_zero, int_of, inst_of, low_half, high_half, line_len_of, units_in, Definition, defining, labels_from, place_found, place_of, jump_inst, statement_units, line_units, units_from, spelled, AreRight, AreWithin, length_fault, label_fault, rows_fault, fault_of, assembled_with, assembled, cut, IsFault}
+use Rattle.bpf_asm.specs.Program.{Row, row_of, with_row, rows_of, fits_size, fits, target_fits, statement_fits, line_fits, row_fault, or_fault, first_line_fault, source_bit, operator_code, condition_code, size_code, arithmetic_class, jump_class, opcode_of, signed, size_or_zero, int_of, inst_of, low_half, high_half, line_len_of, units_in, Definition, defining, labels_from, place_found, place_of, jump_inst, statement_units, line_units, units_from, spelled, AreRight, AreWithin, length_fault, label_fault, rows_fault, fault_of, assembled_with, assembled, cut, IsFault}
 use Rattle.bpf_asm.specs.Sound.{IsOf, IsSoundForm, IsJump, IsSound, AreSound}
 
 -- ---- rows in range

@@ -13,7 +13,7 @@ use Rattle.bpf_asm.specs.declared.grammar.Line.TheVariants as line
 use Rattle.bpf_asm.specs.Lex.{Text, kind_of}
 use Rattle.bpf_asm.specs.Grammar.{line_of}
 use Rattle.bpf_asm.specs.Text.{Piece, token_of, pieces, instruction_text, canon, high_of}
-use Rattle.bpf_asm.specs.Program.{row, row_of, with_row, rows_of, last_word, statement_fits, row_fault, or_fault, first_row_fault, Definition, statement_len, units_in, labels_from, label_fault, goes_to_label, place_found, statement_units, units_from, length_fault, rows_fault, fault_of, assembled_with, assembled, cut}
+use Rattle.bpf_asm.specs.Program.{row, row_of, with_row, rows_of, last_word, statement_fits, row_fault, or_fault, first_line_fault, Definition, statement_len, units_in, labels_from, label_fault, goes_to_label, place_found, statement_units, units_from, length_fault, rows_fault, fault_of, assembled_with, assembled, cut}
 use Rattle.bpf_asm.proofs.Again.{body}
 use Rattle.bpf_asm.proofs.LineText.{AreGood, body_clean, cut_clean, line_body, line_says}
 
@@ -46,7 +46,7 @@ AllSay false (Second v ∷ us) = AllSay true us
 
 -- a text whose lines have no fault and spell these units
 record Back (text : Text) (us : List ProgramUnit) : Type 0 where
-  none : (n : ℕ) → first_row_fault n (cut text) ≡ None
+  none : (n : ℕ) → first_line_fault n (cut text) ≡ None
   labels : (at : ℕ) → labels_from at (rows_of (cut text)) ≡ []
   faultless : (all : List Definition) (n : ℕ) (before : List Text) → label_fault all n before (rows_of (cut text)) ≡ None
   units : (ls : List Definition) (at : ℕ) → units_from ls at (rows_of (cut text)) ≡ us
@@ -59,7 +59,7 @@ module _ (ps : List Piece) (s : Statement) (lab : Text) (more : Text) (us us' : 
   one_line : Back (body ps ++ 10 ∷ more) us'
   one_line =
       record {
-        none = λ n. ap (first_row_fault n) clean_line ∙ ap (λ o. or_fault (row_fault n o) (first_row_fault (n + 1) (cut more))) said ∙ ap (λ x. or_fault (cond x None (Some (OutOfRange n))) (first_row_fault (n + 1) (cut more))) fits ∙ b.none (n + 1);
+        none = λ n. ap (first_line_fault n) clean_line ∙ ap (λ o. or_fault (row_fault n o) (first_line_fault (n + 1) (cut more))) said ∙ ap (λ x. or_fault (cond x None (Some (OutOfRange n))) (first_line_fault (n + 1) (cut more))) fits ∙ b.none (n + 1);
         labels = λ at. ap (labels_from at) rows_are ∙ b.labels (at + statement_len s);
         faultless = λ all n before. ap (label_fault all n before) rows_are ∙ ap (λ x. cond (x && not (is_some (place_found all lab))) (Some (BadLabel n)) (label_fault all (n + 1) before (rows_of (cut more)))) no_label ∙ b.faultless all (n + 1) before;
         units = λ ls at. ap (units_from ls at) rows_are ∙ ap (λ l. statement_units ls at lab s ++ l) (b.units ls (at + statement_len s)) ∙ here ls at;

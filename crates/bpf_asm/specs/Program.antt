@@ -132,9 +132,9 @@ or_fault (Some f) other = Some f
 or_fault None other = other
 
 -- the first line at fault, for lines from this number on
-abbrev pub first_row_fault : ℕ → List Text → Option AsmFault
-first_row_fault number [] = None
-first_row_fault number (text ∷ lines) = or_fault (row_fault number (row_of text)) (first_row_fault (number + 1) lines)
+abbrev pub first_line_fault : ℕ → List Text → Option AsmFault
+first_line_fault number [] = None
+first_line_fault number (text ∷ lines) = or_fault (row_fault number (row_of text)) (first_line_fault (number + 1) lines)
 
 -- ---- opcodes
 
@@ -326,7 +326,7 @@ abbrev pub rows_fault : List Row → Option AsmFault
 rows_fault rows = or_fault (length_fault (units_in rows)) (label_fault (labels_from 0 rows) 1 [] rows)
 
 abbrev pub fault_of : List Text → Option AsmFault
-fault_of lines = or_fault (first_row_fault 1 lines) (rows_fault (rows_of lines))
+fault_of lines = or_fault (first_line_fault 1 lines) (rows_fault (rows_of lines))
 
 abbrev pub spelled : List Row → List ProgramUnit
 spelled rows = units_from (labels_from 0 rows) 0 rows

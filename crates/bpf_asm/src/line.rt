@@ -170,8 +170,8 @@ fn row_at<'a>(alloc: Global, number: u64, line: &'a [u8]) -> Result<(Line, &'a [
 /// What each line says, or the first line at fault.
 pub fn rows_of<'a>(alloc: Global, lines: &[&'a [u8]]) -> Result<Vec<(Line, &'a [u8])>, AsmFault>
     ensures ok { IfOk result (λ v. map (λ p. spec.row p.0 p.1.now) v.items ≡ spec.rows_of (map (λ t. t.now) lines.now)) }
-    ensures none { IfOk result (λ v. spec.first_row_fault 1 (map (λ t. t.now) lines.now) ≡ None) }
-    ensures refused { IfErr result (λ fault. spec.IsFault (spec.first_row_fault 1 (map (λ t. t.now) lines.now)) fault) }
+    ensures none { IfOk result (λ v. spec.first_line_fault 1 (map (λ t. t.now) lines.now) ≡ None) }
+    ensures refused { IfErr result (λ fault. spec.IsFault (spec.first_line_fault 1 (map (λ t. t.now) lines.now)) fault) }
 {
     let mut rows = Vec::new(alloc);
     let mut rest = lines;
