@@ -3,11 +3,11 @@ use crate::files::{Text, read_file};
 use crate::progress::{Progress, Watched};
 use crate::serve::serve_settings;
 use console::{
-    ConfigFault, Ended, Job, MOST_BYTES, READS, SessionFault, Settings, asm_file, audit_entries,
+    ConfigFault, Ended, Job, MOST_BYTES, READS, SessionFault, Settings, asm_file, audit_journal,
     config_part, dis_file, journal_fault_line, play, play_within, read_config, read_head,
     verify_file,
 };
-use decision_journal::{JournalFault, read_entries};
+use decision_journal::JournalFault;
 use std::fs::File;
 use std::io::{self, BufReader, IsTerminal};
 use std::net::{Net, TcpListener, TcpStream};
@@ -226,18 +226,11 @@ fn audit_files(rt: &HostRuntime, config: &str, journal: &str) -> io::Result<u8> 
         },
         progress: Progress::new(rt.stderr(), true),
     };
-    match read_entries(rt.alloc(), &mut input) {
-        Ok(entries) => {
-            input.progress.say("entries read, and now entered again");
-            let told = audit_entries(rt.alloc(), settings.config, &entries);
-            input.progress.clear();
-            let told = told?;
-            say(rt, told.text, told.status)
-        }
-        Err(fault) => {
-            input.progress.clear();
-            tell_journal_fault(rt, journal, fault)
-        }
+    let told = audit_journal(rt.alloc(), settings.config, &mut input);
+    input.progress.clear();
+    match told {
+        Ok(told) => say(rt, told.text, told.status),
+        Err(fault) => tell_journal_fault(rt, journal, fault),
     }
 }
 

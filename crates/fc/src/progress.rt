@@ -71,6 +71,9 @@ impl<I: LineIn + Drop> LineIn for Watched<I> {
 
     fn read(&mut self, buffer: &mut [u8]) -> Result<usize, DeviceFault> {
         let count = self.input.read(buffer)?;
+        if count == 0 {
+            self.progress.say("lines read, the last of them");
+        }
         self.progress.count(&buffer[..count]);
         Ok(count)
     }
