@@ -18,6 +18,7 @@ use Rattle.till_request.specs.Answer.{answer_line}
 use Rattle.decision_journal.specs.Text.{journal_text}
 use Rattle.site_core.specs.Site.{SiteValue, Enters}
 use Rattle.site_core.specs.State.{counter_of}
+use Rattle.site_core.specs.Histories.{IsJournal}
 use Rattle.line_session.specs.Talk.{Ends, Breaks, drops_none}
 use Rattle.console.specs.declared.script.ScriptLine.{ScriptLine}
 use Rattle.console.specs.declared.script.ScriptLine.TheVariants as lines
@@ -66,13 +67,14 @@ abbrev pub counter_text : Option (ℕ × ℕ) → List ℕ
 counter_text (Some p) = join_with_byte 32 (codes "counter" ∷ decimal p.0 ∷ decimal p.1 ∷ []) ++ 10 ∷ []
 counter_text None = answer_line (answers.Line faults.BadNumber)
 
--- what a line is answered that asks this, and what moment and site it leaves
+-- what a line is answered that asks this, and what moment and site it leaves; `journal` is answered by the journal of a history that a site of
+-- this configuration can have
 abbrev pub LineSaid : Result ScriptLine LineFault → ℕ × SiteValue → List ℕ → ℕ × SiteValue → Type 0
 LineSaid (Err fault) s text s' = (text ≡ answer_line (answers.Line fault)) × (s' ≡ s)
 LineSaid (Ok (lines.Act act)) s text s' = ActSaid s.1 s.0 act text s'.1 × (s'.0 ≡ s.0)
 LineSaid (Ok (lines.Moment n)) s text s' = (text ≡ moment_text n) × (s' ≡ (n, s.1))
 LineSaid (Ok (lines.Counter c)) s text s' = (text ≡ counter_text (counter_of s.1.state c)) × (s' ≡ s)
-LineSaid (Ok lines.Journal) s text s' = (text ≡ journal_text s.1.history) × (s' ≡ s)
+LineSaid (Ok lines.Journal) s text s' = (text ≡ journal_text s.1.history) × IsJournal s.1.config text × (s' ≡ s)
 
 -- what a line of a script is answered
 abbrev pub Plays : ℕ × SiteValue → List ℕ → List ℕ → ℕ × SiteValue → Type 0

@@ -1,8 +1,12 @@
 //! What users see of files.
-use crate::{Told, asm_file, audit_entries, dis_file, journal_fault_line, verify_file};
+use crate::{
+    Told, asm_file, audit_entries, audit_journal, dis_file, journal_fault_line, verify_file,
+};
 use decision_journal::JournalFault;
 use site_core::Config;
+use std::alloc::Global;
 use std::test::Fail;
+use till_request::devices::MemoryIn;
 
 fn is_told(told: &Told, text: &str, status: u8) -> bool {
     told.text.as_str() == text && told.status == status
@@ -82,5 +86,46 @@ fn journals_are_judged(rt: HostRuntime) -> Result<(), Fail> {
     assert!(rt; bad.is_some_and(|t| is_told(&t, "J1 3\n", 1)));
     let device = journal_fault_line(rt.alloc(), JournalFault::Device)?;
     assert!(rt; device.is_none());
+    Ok(())
+}
+
+/// What is said of a journal of the configuration of one till and one point; so many reads of it are good.
+fn judged(
+    alloc: Global,
+    journal: &str,
+    good: Option<u64>,
+) -> Result<Result<Told, JournalFault>, Fail> {
+    let points = Vec::from_slice(alloc, &[(0, 1)])?;
+    let config = Config::new(1, 2, [0; 8], points, [(0, 0); 32]).ok_or("no configuration")?;
+    let bytes = Vec::from_slice(alloc, journal.as_bytes())?;
+    let mut input = MemoryIn::new(bytes, Vec::new(alloc), good);
+    Ok(audit_journal(alloc, config, &mut input))
+}
+
+#[test]
+fn journals_are_read_and_judged(rt: HostRuntime) -> Result<(), Fail> {
+    for (journal, want, status) in [
+        ("", "legal 0\n", 0),
+        ("1 1 0 till 1 open 1 = done\n", "legal 1\n", 0),
+        (
+            "1 1 0 till 1 open 1 = done\n2 1 0 till 1 open 1 = S22 3\n",
+            "legal 2\n",
+            0,
+        ),
+        ("1 1 0 till 1 open 1 = S22 3\n", "F3 1\n", 1),
+        ("2 1 0 till 1 open 1 = done\n", "F1 1\n", 1),
+        (
+            "1 1 0 load 99 0 9500000000000000 = done\n",
+            "F2 1 V11 0 0\n",
+            1,
+        ),
+        ("1 1 0 till 1 open 1 = done", "J2\n", 1),
+        ("1 1 0 till 1 open 01 = done\n", "J1 1\n", 1),
+    ] {
+        let told = judged(rt.alloc(), journal, None)?;
+        assert!(rt; told.is_ok_and(|t| is_told(&t, want, status)));
+    }
+    let failed = judged(rt.alloc(), "1 1 0 till 1 open 1 = done\n", Some(0))?;
+    assert_eq!(rt; failed.err(), Some(JournalFault::Device));
     Ok(())
 }
