@@ -3,13 +3,13 @@ use Rattle.std.proofs.Common.{◌≡◌, ℕ, ◌+◌, List, [], ◌++◌, lengt
 use Rattle.std.specs.Prelude.{sum_by}
 use Rattle.decision_journal.specs.declared.entries.Entry.{Entry}
 use Rattle.site_core.specs.Limits.{ConfigValue}
-use Rattle.site_core.specs.Site.{SiteValue}
-use Rattle.site_lock.specs.declared.close.Why.{Why}
-use Rattle.site_lock.specs.declared.close.Why.TheVariants.{PassMissing, NotInHistory, OtherConfig}
+use Rattle.site_core.specs.Site.{SiteValue, Upholds}
+use Rattle.site_lock.specs.declared.close.CloseRefusal.{CloseRefusal}
+use Rattle.site_lock.specs.declared.close.CloseRefusal.TheVariants.{PassMissing, NotInHistory, OtherConfig}
 use Rattle.site_lock.specs.Passes.{PassView, Opened}
 use Rattle.site_lock.specs.Merge.{AreAll, IsMerge, IsMergeSince, IsFault, IsFaultSince}
-use Rattle.site_lock.specs.Grounds.{GroundValue, GoesOn}
-use Rattle.site_lock.specs.Closing.{Closes, ClosesSince, Refuses, RefusesSince, HasFaultSince, HindersSince, IsClear, IsLast}
+use Rattle.site_lock.specs.Grounds.{GroundValue, GoesOn, Stands}
+use Rattle.site_lock.specs.Closing.{Closes, ClosesSince, Refuses, RefusesSince, HasFaultSince, HindersSince, IsClear, IsLast, Left}
 
 pub none_missing : (f : Opened) (n : ℕ) (xs ys : List PassView) (r : Bool) → r ≡ true → IsTrue r ↔ AreAll n xs → xs ≡ ys → n ≡ f.passes → AreAll f.passes ys
 none_missing f n xs ys r e h same num =
@@ -24,7 +24,7 @@ some_missing f n xs ys r e h same num all =
     let t = h.1 (subst P (sym same) (subst Q (sym num) all)) in
     absurd (cc)
 
-hinders : (may_fail : Type 0) (f : Opened) (ys : List PassView) (v : GroundValue) (w : Why) → AreAll f.passes ys → v.total ≡ sum_by (λ (p : PassView). p.amount) ys
+hinders : (may_fail : Type 0) (f : Opened) (ys : List PassView) (v : GroundValue) (w : CloseRefusal) → AreAll f.passes ys → v.total ≡ sum_by (λ (p : PassView). p.amount) ys
     → HindersSince may_fail f.base v f.config ys w → RefusesSince may_fail f ys w
 hinders may_fail f ys v PassMissing all total h = absurd h
 hinders may_fail f ys v (NotInHistory id n) all total (is, legal, inl fault) =
@@ -33,7 +33,7 @@ hinders may_fail f ys v (NotInHistory id n) all total (is, legal, inr last) =
     (all, inr (last.0, record { site = v.site; config_is = is; legal = legal; calls = subst (λ (k : ℕ). GoesOn f.base v.site.history (k + 1)) total last.1; last = last.2 }))
 hinders may_fail f ys v OtherConfig all total h = absurd h
 
-pub refused : (may_fail : Type 0) (f : Opened) (base : List Entry) (xs ys : List PassView) (v : GroundValue) (w : Why) (config : ConfigValue)
+pub refused : (may_fail : Type 0) (f : Opened) (base : List Entry) (xs ys : List PassView) (v : GroundValue) (w : CloseRefusal) (config : ConfigValue)
     → AreAll f.passes ys → xs ≡ ys → config ≡ f.config → base ≡ f.base → v.total ≡ sum_by (λ (p : PassView). p.amount) ys
     → HindersSince may_fail base v config xs w → RefusesSince may_fail f ys w
 refused may_fail f base xs ys v w config all same is from total h =
@@ -78,7 +78,7 @@ closes_new f ys s written none h = record {
   merge = subst (λ (b : List Entry). IsMergeSince (length b) s.history ys) none h.merge;
 }
 
-pub refuses_new : (may_fail : Type 0) (f : Opened) (ys : List PassView) (w : Why) → f.base ≡ [] → (may_fail → ⊥) → RefusesSince may_fail f ys w → Refuses f ys w
+pub refuses_new : (may_fail : Type 0) (f : Opened) (ys : List PassView) (w : CloseRefusal) → f.base ≡ [] → (may_fail → ⊥) → RefusesSince may_fail f ys w → Refuses f ys w
 refuses_new may_fail f ys PassMissing none never h = h
 refuses_new may_fail f ys (NotInHistory id n) none never (all, inl h) = (
   all,
@@ -92,3 +92,13 @@ refuses_new may_fail f ys (NotInHistory id n) none never (all, inl h) = (
 )
 refuses_new may_fail f ys (NotInHistory id n) none never (all, inr h) = absurd (never h.0)
 refuses_new may_fail f ys OtherConfig none never h = h
+
+-- the journal of a forecourt that is given up
+pub left : (may_fail : Type 0) (f : Opened) (base : List Entry) (taken : Option (List ℕ)) (config : ConfigValue) (v : GroundValue) (written : Option (List ℕ))
+    → v.site.config ≡ config → config ≡ f.config → base ≡ f.base → taken ≡ f.taken → written ≡ v.written → Upholds v.site → Stands v.stopped base taken may_fail v.site.history v.total v.written
+    → Left f may_fail written
+left may_fail f base taken config v written kept same from took is legal h =
+    let P : List Entry → Type 0 = λ b. Stands v.stopped b taken may_fail v.site.history v.total v.written in
+    let Q : Option (List ℕ) → Type 0 = λ t. Stands v.stopped f.base t may_fail v.site.history v.total v.written in
+    let R : Option (List ℕ) → Type 0 = λ w. Stands v.stopped f.base f.taken may_fail v.site.history v.total w in
+    record { site = v.site; config_is = kept ∙ same; legal = legal; answered = v.total; stopped = v.stopped; stands = subst R (sym is) (subst Q took (subst P from h)) }

@@ -4,3 +4,4 @@ pub mod Ends
 pub mod Fitting
 pub mod Saying
 pub mod Standing
+pub mod Trying

@@ -5,10 +5,10 @@ use Rattle.decision_journal.specs.declared.entries.Entry.{Entry}
 use Rattle.decision_journal.specs.Text.{journal_text}
 use Rattle.site_core.specs.Limits.{ConfigValue}
 use Rattle.site_core.specs.Site.{SiteValue, Upholds}
-use Rattle.site_lock.specs.declared.close.Why.{Why}
-use Rattle.site_lock.specs.declared.close.Why.TheVariants.{PassMissing, NotInHistory, OtherConfig}
+use Rattle.site_lock.specs.declared.close.CloseRefusal.{CloseRefusal}
+use Rattle.site_lock.specs.declared.close.CloseRefusal.TheVariants.{PassMissing, NotInHistory, OtherConfig}
 use Rattle.site_lock.specs.Passes.{PassView, Opened}
-use Rattle.site_lock.specs.Grounds.{GroundValue, GoesOn, IsWhole}
+use Rattle.site_lock.specs.Grounds.{GroundValue, GoesOn, IsWhole, Stands}
 use Rattle.site_lock.specs.Merge.{AreAll, IsFault, IsFaultSince, IsMerge, IsMergeSince}
 
 -- The configuration is the kept one, its history is legal and the merge of what the passes were answered, and has as many entries as these were answered calls.
@@ -28,7 +28,7 @@ pub record HasFault (config : ConfigValue) (passes : List PassView) (id number :
   pub fault : IsFault site.history passes id number
 
 -- PassMissing exactly where these aren't all passes; a site of another configuration can't be
-abbrev pub Refuses : Opened → List PassView → Why → Type 0
+abbrev pub Refuses : Opened → List PassView → CloseRefusal → Type 0
 Refuses f passes PassMissing = ¬ AreAll f.passes passes
 Refuses f passes (NotInHistory id number) = AreAll f.passes passes × HasFault f.config passes id number
 Refuses f passes OtherConfig = ⊥
@@ -53,7 +53,7 @@ pub record HasFaultSince (f : Opened) (passes : List PassView) (id number : ℕ)
   pub fault : IsFaultSince (length f.base) site.history passes id number
 
 -- the last entry has this pass and number
-abbrev pub IsLast : List Entry → Why → Type 0
+abbrev pub IsLast : List Entry → CloseRefusal → Type 0
 IsLast history PassMissing = ⊥
 IsLast history (NotInHistory id number) =
     (last : Entry) × (slice_get history (length history - 1) ≡ Some last) × (last.pass ≡ id) × (last.number ≡ number)
@@ -68,14 +68,23 @@ pub record HasUnanswered (f : Opened) (passes : List PassView) (id number : ℕ)
   pub last : IsLast site.history (NotInHistory id number)
 
 -- the same as `Refuses`, where a journal that failed leaves an entry without a receipt too
-abbrev pub RefusesSince : Type 0 → Opened → List PassView → Why → Type 0
+abbrev pub RefusesSince : Type 0 → Opened → List PassView → CloseRefusal → Type 0
 RefusesSince may_fail f passes PassMissing = ¬ AreAll f.passes passes
 RefusesSince may_fail f passes (NotInHistory id number) =
     AreAll f.passes passes × (HasFaultSince f passes id number ⊎ (may_fail × HasUnanswered f passes id number))
 RefusesSince may_fail f passes OtherConfig = ⊥
 
+-- What a forecourt leaves its journal with: some legal history of this configuration, which goes on from the one started with, all of which the journal took; or the journal failed, and of the last line it took a front.
+pub record Left (f : Opened) (may_fail : Type 0) (written : Option (List ℕ)) : Type 0 where
+  pub site : SiteValue
+  pub config_is : site.config ≡ f.config
+  pub legal : Upholds site
+  pub answered : ℕ
+  pub stopped : Bool
+  pub stands : Stands stopped f.base f.taken may_fail site.history answered written
+
 -- what stands in the way, at what lies under the lock
-abbrev pub HindersSince : Type 0 → List Entry → GroundValue → ConfigValue → List PassView → Why → Type 0
+abbrev pub HindersSince : Type 0 → List Entry → GroundValue → ConfigValue → List PassView → CloseRefusal → Type 0
 HindersSince may_fail base v config passes PassMissing = ⊥
 HindersSince may_fail base v config passes (NotInHistory id number) =
     (v.site.config ≡ config) × Upholds v.site

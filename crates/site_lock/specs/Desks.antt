@@ -1,8 +1,9 @@
 -- Definitions: what a desk over a forecourt and a pass answers (this profile).
-use Rattle.std.specs.Prelude.{◌≡◌, ℕ, ◌≤◌, length, Option, Some, Result, Ok, Err}
+use Rattle.std.specs.Prelude.{◌≡◌, ℕ, ◌≤◌, length, true, Option, Some, Result, Ok, Err}
 use Rattle.reg_types.specs.declared.refusal.Refusal.{Refusal}
 use Rattle.reg_types.specs.Refusals.{shown_by}
 use Rattle.till_request.specs.declared.act.Act.{Act}
+use Rattle.till_request.specs.declared.act.Act.TheVariants.{Till, Dispenser, Load}
 use Rattle.till_request.specs.declared.act.Reply.{Reply}
 use Rattle.till_request.specs.declared.act.Answer.{Answer}
 use Rattle.till_request.specs.declared.act.Answer.TheVariants.{Entered, JournalFull, OutOfMemory, Line, Program}
@@ -11,18 +12,19 @@ use Rattle.site_core.specs.declared.events.CallFault.TheVariants as fault
 use Rattle.till_request.specs.declared.act.LineFault.TheVariants as line
 use Rattle.site_lock.specs.declared.enter_fault.EnterFault.{EnterFault}
 use Rattle.site_lock.specs.declared.enter_fault.EnterFault.TheVariants as enter
+use Rattle.site_core.specs.Decide.{is_decided}
 use Rattle.site_core.specs.Limits.{ConfigValue}
 use Rattle.site_core.specs.Step.{entered_moment}
 use Rattle.site_core.specs.Audit.{IsGoodAct, IsRefusedAct}
 use Rattle.site_lock.specs.Passes.{PassView}
-use Rattle.site_lock.specs.Calls.{Gains, FitsIn, IsFull}
+use Rattle.site_lock.specs.Calls.{Gains, FitsIn, RoseWithin}
 
 -- The act was entered: the pass gained the receipt of this number and reply, of the act at its moment (a till's request has its own, all else has 0).
 -- The reply fits, and a program that was loaded is good.
 pub record DeskEnters (config : ConfigValue) (before now : PassView) (act : Act) (moment number : ℕ) (reply : Reply) : Type 0 where
   pub gains : Gains before now (entered_moment act moment) act (record { number = number; reply = reply })
   pub number_is : length now.receipts ≤ number
-  pub fits : FitsIn config before.id (entered_moment act moment) act reply
+  pub fits : FitsIn config before.id (entered_moment act moment) act (record { number = number; reply = reply })
   pub good : IsGoodAct act
 
 -- The act is a load, its bytes and mask show this refusal, and nothing has changed.
@@ -35,7 +37,7 @@ pub record DeskRefuses (before now : PassView) (act : Act) (number : ℕ) (unit 
 -- after any answer without a number the pass is as before; where a journal may fail, what ends a session without a line stands for that
 abbrev pub DeskAnswers : ConfigValue → Type 0 → PassView → PassView → Act → ℕ → Answer → Type 0
 DeskAnswers config may_fail before now act moment (Entered number reply) = DeskEnters config before now act moment number reply
-DeskAnswers config may_fail before now act moment JournalFull = (now ≡ before) × IsFull config
+DeskAnswers config may_fail before now act moment JournalFull = now ≡ before
 DeskAnswers config may_fail before now act moment OutOfMemory = now ≡ before
 DeskAnswers config may_fail before now act moment (Line line.OutOfMemory) = (now ≡ before) × may_fail
 DeskAnswers config may_fail before now act moment (Line line.TooLong) = ⊥
@@ -43,6 +45,16 @@ DeskAnswers config may_fail before now act moment (Line line.BadLine) = ⊥
 DeskAnswers config may_fail before now act moment (Line line.BadNumber) = ⊥
 DeskAnswers config may_fail before now act moment (Line line.CutLine) = ⊥
 DeskAnswers config may_fail before now act moment (Program number unit part) = DeskRefuses before now act number unit part
+
+-- a till is answered a grant or S24 only where the gate was called, once or twice
+abbrev pub AsksGate : ℕ → ℕ → Answer → Act → Type 0
+AsksGate before now (Entered number reply) (Till till request) = is_decided reply ≡ true → RoseWithin 1 2 before now
+AsksGate before now (Entered number reply) (Dispenser point event) = Unit {0}
+AsksGate before now (Entered number reply) (Load slot mask bytes) = Unit {0}
+AsksGate before now JournalFull act = Unit {0}
+AsksGate before now OutOfMemory act = Unit {0}
+AsksGate before now (Line fault) act = Unit {0}
+AsksGate before now (Program number unit part) act = Unit {0}
 
 -- a call's answer as a desk says it
 abbrev pub said_of : Result Answered EnterFault → Answer

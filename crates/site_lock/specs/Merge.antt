@@ -1,13 +1,12 @@
 -- Definitions: a history as the merge of what the passes were answered.
 use Rattle.std.specs.Prelude.{◌≡◌, ℕ, ◌+◌, ◌-◌, ◌==◌, ◌<◌, ◌≤◌, ◌⊎◌, List, [], ◌∷◌, length, IsSomeAnd, count_by, All, Any, slice_get, drop}
 use Rattle.decision_journal.specs.declared.entries.Entry.{Entry}
-use Rattle.site_core.specs.Site.{act_of}
 use Rattle.site_lock.specs.declared.pass.Receipt.{Receipt}
 use Rattle.site_lock.specs.Passes.{PassView}
 
 -- the entry has this pass, and the receipt's number, moment, event and reply
 abbrev pub Matches : ℕ → Receipt → Entry → Type 0
-Matches id r e = (e.number ≡ r.number) × (e.pass ≡ id) × (e.moment ≡ r.moment) × (e.act ≡ act_of r.what) × (e.reply ≡ r.reply)
+Matches id r e = (e.number ≡ r.number) × (e.pass ≡ id) × (e.moment ≡ r.moment) × (e.act ≡ r.act) × (e.reply ≡ r.reply)
 
 -- the receipt is the entry at its number; entries are numbered from 1
 abbrev pub IsEntryOf : List Entry → ℕ → Receipt → Type 0

@@ -6,7 +6,7 @@ use site_core::Site;
 
 /// Why a forecourt was not closed.
 #[derive(Clone, Copy, Debug, PartialEq, Eq, Drop)]
-pub enum Why {
+pub enum CloseRefusal {
     /// C1: the passes handed in aren't all of the forecourt's, each once.
     PassMissing,
     /// C2: the receipt of this pass with this number isn't the entry there, or the entry there has no receipt, as that at which a
@@ -19,14 +19,13 @@ pub enum Why {
 /// A forecourt that was not closed, with the passes that were handed in.
 #[derive(Drop)]
 pub struct CloseFault<L: Yard, J: Journal = NoJournal> {
-    pub why: Why,
+    pub why: CloseRefusal,
     pub forecourt: Forecourt<L, J>,
     pub passes: Vec<Pass<L>>,
 }
 
-/// What a closed forecourt leaves: its site, and the journal that it kept.
+/// What a closed forecourt leaves.
 #[derive(Drop)]
-pub struct Closed<J: Journal = NoJournal> {
+pub struct Closed {
     pub site: Site,
-    pub journal: J,
 }

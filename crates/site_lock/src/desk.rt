@@ -5,10 +5,12 @@ ghost use Rattle.site_core.specs.Audit.{IsGoodAct, IsRefusedAct};
 ghost use Rattle.site_core.specs.Limits.{ConfigValue};
 ghost use Rattle.site_core.specs.Site.{act_of};
 ghost use Rattle.site_lock.specs.Passes.{PassView};
-ghost use Rattle.site_lock.specs.Desks.{DeskAnswers, said_of};
+ghost use Rattle.site_lock.specs.Calls.{RoseWithin};
+ghost use Rattle.site_lock.specs.Desks.{AsksGate, DeskAnswers, said_of};
 
 use super::enter_fault::EnterFault;
 use super::forecourt::Forecourt;
+use super::gate::Gate;
 use super::journal::{Journal, NoJournal};
 use super::pass::{Pass, Yard};
 use line_session::Desk;
@@ -18,31 +20,36 @@ use std::alloc::Global;
 use std::sync::Wait;
 use till_request::{Act, Answer, LineFault};
 
-/// Answers acts by a forecourt, with one pass. A load's bytes are verified before the lock is taken: a refused program is answered by
-/// its V line and is no event. Once the journal has failed each event is answered by what ends a session without a line.
+/// Answers acts by a forecourt, with one pass; a gate runs the programs that decide. A load's bytes are verified before the lock is
+/// taken: a refused program is answered by its V line and is no event. Once the journal has failed each event is answered by what ends
+/// a session without a line.
 #[derive(Drop)]
-pub struct PassDesk<'a, L: Yard, R: Wait, J: Journal = NoJournal> {
+pub struct PassDesk<'a, L: Yard, R: Wait, G: Gate + Drop, J: Journal = NoJournal> {
     rt: &'a R,
     alloc: Global,
     yard: &'a Forecourt<L, J>,
     pass: Pass<L>,
+    gate: G,
 }
 
-impl<'a, L: Yard, R: Wait, J: Journal> PassDesk<'a, L, R, J> {
-    /// A desk with this pass. Takes no memory.
+impl<'a, L: Yard, R: Wait, G: Gate + Drop, J: Journal> PassDesk<'a, L, R, G, J> {
+    /// A desk with this pass and this gate. Takes no memory.
     pub fn new(
         rt: &'a R,
         alloc: Global,
         yard: &'a Forecourt<L, J>,
         pass: Pass<L>,
-    ) -> PassDesk<'a, L, R, J>
-        ensures { result.pass ≡ pass }
+        gate: G,
+    ) -> PassDesk<'a, L, R, G, J>
+        ensures pass { result.pass ≡ pass }
+        ensures gate { result.gate ≡ gate }
     {
         PassDesk {
             rt,
             alloc,
             yard,
             pass,
+            gate,
         }
     }
 
@@ -54,10 +61,12 @@ impl<'a, L: Yard, R: Wait, J: Journal> PassDesk<'a, L, R, J> {
     }
 }
 
-impl<L: Yard, R: Wait, J: Journal> Desk for PassDesk<'_, L, R, J> {
-    ghost use Rattle.site_lock.specs.Desks.{DeskAnswers};
+impl<L: Yard, R: Wait, G: Gate + Drop, J: Journal> Desk for PassDesk<'_, L, R, G, J> {
+    ghost use Rattle.site_lock.specs.Calls.{RoseWithin};
+    ghost use Rattle.site_lock.specs.Desks.{DeskAnswers, AsksGate};
 
-    ghost step = { λ desk act moment answer after. DeskAnswers L.config J.may_fail desk.pass after.pass act moment answer };
+    ghost step = { λ desk act moment answer after. DeskAnswers L.config J.may_fail desk.pass after.pass act moment answer
+        × RoseWithin 0 2 (G.calls desk.gate) (G.calls after.gate) × AsksGate (G.calls desk.gate) (G.calls after.gate) answer act };
 
     fn answer(&mut self, act: Act, moment: u64) -> Answer {
         let PassDesk {
@@ -65,33 +74,44 @@ impl<L: Yard, R: Wait, J: Journal> Desk for PassDesk<'_, L, R, J> {
             alloc,
             yard,
             pass,
+            gate,
         } = self;
         match event_of(*alloc, &act) {
-            Ok(what) => call(*rt, yard, pass, moment, what),
+            Ok(what) => call(*rt, yard, pass, gate, moment, act, what),
             Err(refusal) => refused::<J>(refusal),
         }
     }
 }
 
-// Makes the call that an event asks for.
-fn call<L: Yard, R: Wait, J: Journal>(
+// Makes the call that an act asks for; the event is that of the act.
+fn call<L: Yard, R: Wait, G: Gate, J: Journal>(
     rt: &R,
     yard: &Forecourt<L, J>,
     pass: &mut Pass<L>,
+    gate: &mut G,
     moment: u64,
+    act: Act,
     what: What,
 ) -> Answer
-    requires { IsGoodAct (act_of what) }
-    ensures { DeskAnswers L.config J.may_fail pass.old pass.new (act_of what) moment result }
+    requires event { act_of what ≡ act }
+    requires good { IsGoodAct act }
+    ensures answers { DeskAnswers L.config J.may_fail pass.old pass.new act moment result }
+    ensures gate { RoseWithin 0 2 (G.calls gate.old) (G.calls gate.new) }
+    ensures decided { AsksGate (G.calls gate.old) (G.calls gate.new) result act }
 {
     // Lets the proof know that the configuration is the ledger's.
     let _ = yard.config();
     match what {
-        What::Till { till, request } => said(yard.ask(rt, pass, till, moment, request)),
+        What::Till { till, request } => said(yard.ask(rt, pass, gate, till, moment, request)),
         What::Dispenser { point, event } => {
-            said(yard.report(rt, pass, What::Dispenser { point, event }))
+            said(yard.tell(rt, pass, act, What::Dispenser { point, event }))
         }
-        What::Load { slot, program } => said(yard.report(rt, pass, What::Load { slot, program })),
+        What::Load { slot, program } => said(yard.tell(
+            rt,
+            pass,
+            act,
+            What::Load { slot, program },
+        )),
     }
 }
 
@@ -111,7 +131,8 @@ fn said(called: Result<Answered, EnterFault>) -> Answer
 
 // The answer to a load that is no event.
 fn refused<J: Journal>(refusal: Refusal) -> Answer
-    ensures { (config : ConfigValue) (pass : PassView) (act : Act) (moment : ℕ) → IsRefusedAct act refusal → DeskAnswers config J.may_fail pass pass act moment result }
+    ensures answers { (config : ConfigValue) (pass : PassView) (act : Act) (moment : ℕ) → IsRefusedAct act refusal → DeskAnswers config J.may_fail pass pass act moment result }
+    ensures asks { (calls : ℕ) (act : Act) → AsksGate calls calls result act }
 {
     match refusal.shown() {
         Some((number, unit, part)) => Answer::Program(number, unit, part),

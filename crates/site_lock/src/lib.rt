@@ -7,8 +7,14 @@ mod close;
 mod desk;
 mod enter_fault;
 mod forecourt;
+mod gate;
+#[cfg(test)]
+mod gate_tests;
 mod ground;
 mod journal;
+#[cfg(test)]
+mod journal_tests;
+mod opening;
 mod pass;
 #[cfg(test)]
 mod program_tests;
@@ -17,10 +23,11 @@ mod programs;
 mod tests;
 
 pub use check::{are_all, fault, fault_since};
-pub use close::{CloseFault, Closed, Why};
+pub use close::{CloseFault, CloseRefusal, Closed};
 pub use desk::PassDesk;
 pub use enter_fault::EnterFault;
 pub use forecourt::Forecourt;
+pub use gate::{Gate, Straight};
 pub use journal::{Journal, LineJournal, NoJournal};
 pub use line_session::{Clock, Desk, Doors, Ended, SessionFault, session, worker};
 pub use pass::{Pass, Receipt, Yard};

@@ -1,11 +1,10 @@
 //! Passes: who may call a forecourt, and what he was answered.
 ghost use Rattle.std.specs.Prelude.{◌≡◌, length, [], None};
 
-use site_core::What;
 use std::alloc::Global;
 use std::marker::{Brand, Model};
 use std::sync::ledger::{Ledger, Share};
-use till_request::Reply;
+use till_request::{Act, Reply};
 
 /// The call ledger of a forecourt: one part for each pass, the configuration of its site, and what it goes on from.
 ///
@@ -34,12 +33,12 @@ impl Yard for Brand {
     ghost taken = { None };
 }
 
-/// An answer: the entry's number, its moment (0 for a dispenser's event and a load), the event asked, and the reply.
-#[derive(Drop)]
+/// An answer: the entry's number, its moment (0 for a dispenser's event and a load), what was asked, and the reply.
+#[derive(Debug, Drop)]
 pub struct Receipt {
     pub number: u32,
     pub moment: u64,
-    pub what: What,
+    pub act: Act,
     pub reply: Reply,
 }
 

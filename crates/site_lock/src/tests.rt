@@ -1,7 +1,10 @@
 //! Threads, desks and closings over one forecourt.
 ghost use Rattle.std.specs.Prelude.{◌≡◌, [], None};
 
-use crate::{Clock, Forecourt, Pass, PassDesk, Receipt, Why, Yard, are_all, fault, session};
+use crate::{
+    Clock, CloseRefusal, Forecourt, Pass, PassDesk, Receipt, Straight, Yard, are_all, fault,
+    session,
+};
 use fuelling_point::DispenserEvent;
 use reg_types::verify;
 use site_core::{CallFault, Config};
@@ -15,7 +18,7 @@ use till_request::devices::{MemoryIn, MemoryOut};
 use till_request::{Reply, Request, Role};
 
 /// Two tills, two points whose releases go to slot 0 and presets to slot 1, prices to slot 2, and one counter of at most 2.
-fn config(alloc: Global) -> Option<Config> {
+pub fn config(alloc: Global) -> Option<Config> {
     let points = vec![in alloc; (0, 1), (0, 1)].ok()?;
     let mut counters = [(0, 0); 32];
     counters[0] = (0, 2);
@@ -29,8 +32,9 @@ fn shows<L: Yard, R: Wait>(
     mut pass: Pass<L>,
     calls: u32,
 ) -> Result<Pass<L>, CallFault> {
+    let mut gate = Straight { calls: 0 };
     for _ in 0..calls {
-        yard.request(rt, &mut pass, 1, 0, Request::Show(1))?;
+        yard.request(rt, &mut pass, &mut gate, 1, 0, Request::Show(1))?;
     }
     Ok(pass)
 }
@@ -52,7 +56,7 @@ fn rising(receipts: &[Receipt]) -> Option<usize> {
 struct Left {
     first: Option<usize>,
     second: Option<usize>,
-    refused: Option<Why>,
+    refused: Option<CloseRefusal>,
     handed_back: usize,
     entries: Option<usize>,
 }
@@ -114,7 +118,7 @@ fn two_threads_of_a_thousand(rt: HostRuntime) -> Result<(), Fail> {
     let left = two_of(&rt, rt.alloc(), config)?;
     assert_eq!(rt; left.first, Some(1000));
     assert_eq!(rt; left.second, Some(1000));
-    assert_eq!(rt; left.refused, Some(Why::PassMissing));
+    assert_eq!(rt; left.refused, Some(CloseRefusal::PassMissing));
     assert_eq!(rt; left.handed_back, 1);
     assert_eq!(rt; left.entries, Some(2000));
     Ok(())
@@ -151,7 +155,7 @@ fn desk<L: Yard, R: Wait>(
     let mut input = MemoryIn::new(script, Vec::new(alloc), None);
     let mut output = MemoryOut::new(alloc, Vec::new(alloc), None);
     let mut clock = Still;
-    let mut desk = PassDesk::new(rt, alloc, &yard, pass);
+    let mut desk = PassDesk::new(rt, alloc, &yard, pass, Straight { calls: 0 });
     let ended = session(
         alloc,
         Role::All,
@@ -249,8 +253,9 @@ fn calls<L: Yard, R: Wait>(
         .dispenser(rt, &mut second, 2, DispenserEvent::Up(3))
         .ok()
         .ok_or("a report")?;
+    let mut gate = Straight { calls: 0 };
     let shown = yard
-        .request(rt, &mut second, 1, 7, Request::Show(2))
+        .request(rt, &mut second, &mut gate, 1, 7, Request::Show(2))
         .ok()
         .ok_or("a request")?;
     let alone = are_all(2, passes.as_slice());

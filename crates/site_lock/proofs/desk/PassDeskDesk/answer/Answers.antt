@@ -1,4 +1,10 @@
+use Rattle.site_lock.proofs.Trying.{rose_none}
 use Rattle.site_lock.proofs.desk.PassDeskDesk.answer.Goals as goal
 
-pub returns : goal.returns
-returns g c = c.refused.ensures g.L.Yard.config c.args.self.now.pass c.args.act c.args.moment c.in-Err.ensures.refused
+pub returns-in-Err : goal.returns-in-Err
+returns-in-Err g c =
+    let calls = g.G.Gate.calls c.args.self.now.gate in (
+      c.refused.ensures.answers g.L.Yard.config c.args.self.now.pass c.args.act c.args.moment c.in-Err.ensures.refused,
+      rose_none calls,
+      c.refused.ensures.asks calls c.args.act,
+    )

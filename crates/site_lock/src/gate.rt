@@ -1,0 +1,33 @@
+//! Who runs programs.
+ghost use Rattle.std.specs.Prelude.{◌≡◌};
+
+use site_core::{Draft, Ready};
+
+/// Runs drafts, without any lock, and counts its calls in 64 bits that wrap.
+pub trait Gate {
+    ghost use Rattle.std.specs.Prelude.{◌≡◌, ℕ};
+    ghost use Rattle.till_request.specs.Count.{RoseBy};
+
+    /// How often it was called.
+    ghost calls: { Self → ℕ };
+
+    /// Runs the draft of a till's request.
+    fn run(&mut self, till: u32, draft: Draft) -> Ready
+        ensures run { result.draft ≡ draft }
+        ensures counted { RoseBy 1 (calls self.old) (calls self.new) };
+}
+
+/// Runs each draft at once.
+#[derive(Clone, Copy, Debug, PartialEq, Eq, Drop)]
+pub struct Straight {
+    pub calls: u64,
+}
+
+impl Gate for Straight {
+    ghost calls = { λ s. s.calls };
+
+    fn run(&mut self, _till: u32, draft: Draft) -> Ready {
+        self.calls = self.calls.wrapping_add(1);
+        draft.run()
+    }
+}
