@@ -1,11 +1,11 @@
 -- Definitions: what a worker's desk and clock do, as a caller sees them (this profile): the pass that answers, and the moment told last.
-use Rattle.std.specs.Prelude.{◌≡◌, ℕ, List, [], ◌∷◌, length, Some, None}
+use Rattle.std.specs.Prelude.{◌≡◌, ◌⊎◌, ℕ, List, [], ◌∷◌, length, Some, None}
 use Rattle.std.specs.List.{AllByRecursion}
 use Rattle.till_request.specs.Line.{IsLine}
 use Rattle.till_request.specs.declared.act.Act.{Act}
 use Rattle.till_request.specs.declared.act.Answer.{Answer}
 use Rattle.till_request.specs.declared.act.Role.{Role}
-use Rattle.line_session.specs.Session.{desk_says}
+use Rattle.line_session.specs.Session.{desk_says, desk_drops}
 use Rattle.line_session.specs.Serving.{Outcome, good}
 use Rattle.line_session.specs.Talk.{SaysAll}
 use Rattle.site_core.specs.Limits.{ConfigValue}
@@ -20,10 +20,16 @@ pass_answers config may_fail before act moment answer now = DeskAnswers config m
 abbrev pub tells : ℕ → ℕ → ℕ → Type 0
 tells before moment now = now ≡ moment
 
--- One connection: its door did not open, or lines of somebody of this role were answered, one after another.
+-- no line more was taken up, or one was, and has no answer for want of memory
+abbrev pub DropsOne : ConfigValue → Type 0 → Role → ℕ × PassView → ℕ × PassView → Type 0
+DropsOne config may_fail role s s' = (s' ≡ s) ⊎ ((line : List ℕ) × IsLine line × desk_drops (pass_answers config may_fail) tells role s line s')
+
+-- One connection: its door did not open, or lines of somebody of this role were answered, one after another, and then at most one had no answer.
 abbrev pub Talked : ConfigValue → Type 0 → Role → Outcome → ℕ × PassView → ℕ × PassView → Type 0
 Talked config may_fail role None s s' = s' ≡ s
-Talked config may_fail role (Some result) s s' = (lines : List (List ℕ)) × (texts : List (List ℕ)) × AllByRecursion IsLine lines × SaysAll (desk_says (pass_answers config may_fail) tells role) lines s texts s'
+Talked config may_fail role (Some result) s s' =
+    (lines : List (List ℕ)) × (texts : List (List ℕ)) × (m : ℕ × PassView) × AllByRecursion IsLine lines
+    × SaysAll (desk_says (pass_answers config may_fail) tells role) lines s texts m × DropsOne config may_fail role m s'
 
 -- connections that went so, one after another
 abbrev pub TalkedAll : ConfigValue → Type 0 → Role → List Outcome → ℕ × PassView → ℕ × PassView → Type 0

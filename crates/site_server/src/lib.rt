@@ -14,4 +14,4 @@ pub use crew::Crew;
 pub use doors::TcpDoors;
 pub use listeners::{ListenFault, Listeners};
 pub use serving::{ServeFault, Served, resume_site, serve_on, serve_pass, serve_site};
-pub use site_lock::{Journal, LineJournal, NoJournal, Why};
+pub use site_lock::{CloseRefusal, Journal, LineJournal, NoJournal};

@@ -1,6 +1,6 @@
 //! Serving a site.
 ghost use Rattle.std.specs.Prelude.{◌≡◌, ℕ, [], IfErr, IfOk, map};
-ghost use Rattle.line_session.specs.Session.{desk_says};
+ghost use Rattle.line_session.specs.Session.{desk_says, desk_drops};
 ghost use Rattle.line_session.specs.Serving.{Serves, Sits, Visits};
 ghost use Rattle.site_server.specs.Crews.{passes_of, role_of};
 ghost use Rattle.site_server.specs.Ending.{Leaves, LeavesSince, Spoils, SpoilsSince, from_site};
@@ -12,7 +12,7 @@ use crate::doors::TcpDoors;
 use crate::listeners::Listeners;
 use line_session::{Doors, worker};
 use site_core::{Config, Site};
-use site_lock::{Forecourt, Journal, NoJournal, Pass, PassDesk, Why, Yard};
+use site_lock::{CloseRefusal, Forecourt, Journal, NoJournal, Pass, PassDesk, Straight, Yard};
 use std::alloc::{AllocError, Global};
 use std::marker::Brand;
 use std::sync::Wait;
@@ -40,7 +40,7 @@ pub enum ServeFault {
     /// The journal failed: the last entry isn't answered.
     Journal,
     /// C1, C2 or C3: what the workers were answered isn't the site's history.
-    NotClosed(Why),
+    NotClosed(CloseRefusal),
 }
 
 impl From<AllocError> for ServeFault {
@@ -53,7 +53,7 @@ impl From<AllocError> for ServeFault {
     }
 }
 
-/// Serves so many connections of a role for one pass, and answers the pass, with the receipts that it gained, and how many
+/// Serves so many connections of a role for one pass, whose programs run while nobody holds the site's lock, and answers the pass, with the receipts that it gained, and how many
 /// connections ended without fault.
 pub fn serve_pass<L: Yard, J: Journal, S: Doors, R: Wait + Clock>(
     rt: &R,
@@ -64,13 +64,13 @@ pub fn serve_pass<L: Yard, J: Journal, S: Doors, R: Wait + Clock>(
     doors: &mut S,
     connections: u32,
 ) -> (Pass<L>, u64)
-    ensures served { (moment : ℕ) × Serves (Visits S.opens S.fails (Sits (desk_says (pass_answers L.config J.may_fail) tells role) S.In.remaining S.In.reads S.In.failures S.Out.written S.Out.failures))
+    ensures served { (moment : ℕ) × Serves (Visits S.opens S.fails (Sits (desk_says (pass_answers L.config J.may_fail) tells role) (desk_drops (pass_answers L.config J.may_fail) tells role) S.In.remaining S.In.reads S.In.failures S.Out.written S.Out.failures))
         connections result.1 doors.old (0, pass) doors.new (moment, result.0) }
     ensures worked { Worked L.config J.may_fail role connections result.1 pass result.0 }
     ensures id { result.0.id ≡ pass.id }
 {
     let mut clock = MachineClock::new(rt);
-    let mut desk = PassDesk::new(rt, alloc, yard, pass);
+    let mut desk = PassDesk::new(rt, alloc, yard, pass, Straight { calls: 0 });
     let well = worker(alloc, role, doors, &mut clock, &mut desk, connections);
     (desk.into_pass(), well)
 }
@@ -147,10 +147,10 @@ pub fn serve_on<L: Yard + Send + Sync, J: Journal + Send, R: Threads + Wait + Cl
     if yard.has_stopped(rt) {
         return Err(ServeFault::Journal);
     }
-    match yard.close(rt, passes) {
-        Ok(closed) => Ok(Served {
+    match yard.finish(rt, passes) {
+        Ok((closed, journal)) => Ok(Served {
             site: closed.site,
-            journal: closed.journal,
+            journal,
             well,
         }),
         Err(fault) => Err(ServeFault::NotClosed(fault.why)),

@@ -10,7 +10,7 @@ use Rattle.site_server.proofs.serving.serve_on.Goals as goal
 pub returns-in-Ok-clause-ok : goal.returns-in-Ok-clause-ok
 returns-in-Ok-clause-ok g c = record {
   passes = c.in_ok-passes.passes.items;
-  closes = opened_so (λ (f : Opened). ClosesSince f c.in_ok-passes.passes.items c.in-Ok.closed.site (g.J.Journal.written c.in-Ok.closed.journal)) c.in_ok-yard.yard _ _ _ _
+  closes = opened_so (λ (f : Opened). ClosesSince f c.in_ok-passes.passes.items c.in-Ok.closed.site (g.J.Journal.written c.in-Ok.journal)) c.in_ok-yard.yard _ _ _ _
       c.in_ok-yard.ensures.config (c.in_ok-yard.ensures.number ∙ c.passes.ensures.number) c.in_ok-yard.ensures.base c.in_ok-yard.ensures.taken c.in-Ok.ensures.ok;
   worked = have_worked c.args.site.config g.J.Journal.may_fail c.args.crew.tills c.args.crew.dispensers c.args.connections c.in_ok-passes.passes.items c.in_ok-done.done.items c.in_ok-passes.ensures
       (λ k d lt.
