@@ -4,6 +4,8 @@
 mod refusal;
 mod rules;
 mod table;
+#[cfg(test)]
+mod tests;
 mod types;
 mod verifier;
 

@@ -123,9 +123,9 @@ fn accepted_programs_are_in_order(rt: HostRuntime) -> Result<(), Fail> {
     let one = all_shown(&rt, rt.alloc(), items.as_slice(), 1)?;
     let two = all_shown(&rt, rt.alloc(), items.as_slice(), 2)?;
     let many = all_shown(&rt, rt.alloc(), items.as_slice(), 16)?;
-    assert!(rt; one.as_slice() == [None; 10]);
-    assert!(rt; two.as_slice() == [None; 10]);
-    assert!(rt; many.as_slice() == [None; 10]);
+    assert!(rt; one.as_slice() == [None; 10].as_slice());
+    assert!(rt; two.as_slice() == [None; 10].as_slice());
+    assert!(rt; many.as_slice() == [None; 10].as_slice());
     Ok(())
 }
 
@@ -148,9 +148,9 @@ fn refusals_are_in_order(rt: HostRuntime) -> Result<(), Fail> {
     let one = all_shown(&rt, rt.alloc(), items.as_slice(), 1)?;
     let two = all_shown(&rt, rt.alloc(), items.as_slice(), 2)?;
     let many = all_shown(&rt, rt.alloc(), items.as_slice(), 16)?;
-    assert!(rt; one.as_slice() == wanted);
-    assert!(rt; two.as_slice() == wanted);
-    assert!(rt; many.as_slice() == wanted);
+    assert!(rt; one.as_slice() == wanted.as_slice());
+    assert!(rt; two.as_slice() == wanted.as_slice());
+    assert!(rt; many.as_slice() == wanted.as_slice());
     Ok(())
 }
 
