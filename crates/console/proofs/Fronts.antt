@@ -1,9 +1,9 @@
 -- Beginnings of texts, and a session that said nothing.
-use Rattle.std.proofs.Common.{◌≡◌, ℕ, List, [], ◌∷◌, ◌++◌, length, take, Option, None, Result, Ok, Err, OnErr, IfOk, refl, sym, ◌∙◌, ap, subst}
+use Rattle.std.proofs.Common.{◌≡◌, ℕ, List, [], ◌∷◌, ◌++◌, length, take, Option, None, Result, Ok, Err, OnErr, IfOk, inl, refl, sym, ◌∙◌, ap, subst}
 use Rattle.std.specs.Io.KnownBytes.{Appends}
 use Rattle.decision_journal.specs.Writing.{AppendsFront}
 use Rattle.line_session.specs.declared.answering.Ended.{Ended}
-use Rattle.line_session.specs.Talk.{Breaks, Ends}
+use Rattle.line_session.specs.Talk.{Breaks, Ends, drops_none}
 use Rattle.site_core.specs.Site.{SiteValue}
 use Rattle.console.specs.Play.{Plays, PlaysOut, PlayBreaks}
 use Rattle.line_session.proofs.Saying.{consumes_none, appends_none}
@@ -17,15 +17,18 @@ front_taken a b text h =
     let P : List ℕ → Type 0 = λ t. Appends a b t in
     (length h.front, subst P (sym (ap (take (length h.front)) h.begins ∙ take_front h.front h.after)) h.written)
 
-pub breaks_none : {S : Type 0} (says : S → List ℕ → List ℕ → S → Type 0) (s : S) (i o : Option (List ℕ)) → Breaks says s s i i o o
-breaks_none says s i o = record {
+pub breaks_none : {S : Type 0} (says : S → List ℕ → List ℕ → S → Type 0) (drops : S → List ℕ → S → Type 0) (s : S) (i o : Option (List ℕ)) → Breaks says drops s s i i o o
+breaks_none says drops s i o = record {
   lines = [];
   texts = [];
   each = tt;
+  answered = s;
   said = refl;
   rest = [];
+  dropped = inl refl;
   taken = consumes_none i;
   cut = None;
+  is_cut = tt;
   front = [];
   after = [];
   written = appends_none o;
@@ -39,7 +42,7 @@ said_from (Ok e) a b m left i j o p same h =
 said_from (Err e) a b m left i j o p same h = tt
 
 pub broken_from : {T E : Type 0} (r : Result T E) (a b : SiteValue) (m : ℕ) (left : SiteValue) (i j o p : Option (List ℕ)) → a ≡ b
-    → OnErr r (Breaks Plays (0, a) (m, left) i j o p) → OnErr r (PlayBreaks b i j o p)
+    → OnErr r (Breaks Plays drops_none (0, a) (m, left) i j o p) → OnErr r (PlayBreaks b i j o p)
 broken_from (Ok x) a b m left i j o p same h = tt
 broken_from (Err e) a b m left i j o p same h =
-    let P : SiteValue → Type 0 = λ s. Breaks Plays (0, s) (m, left) i j o p in record { moment = m; left = left; breaks = subst P same h }
+    let P : SiteValue → Type 0 = λ s. Breaks Plays drops_none (0, s) (m, left) i j o p in record { moment = m; left = left; breaks = subst P same h }

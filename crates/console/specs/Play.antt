@@ -18,7 +18,7 @@ use Rattle.till_request.specs.Answer.{answer_line}
 use Rattle.decision_journal.specs.Text.{journal_text}
 use Rattle.site_core.specs.Site.{SiteValue, Enters}
 use Rattle.site_core.specs.State.{counter_of}
-use Rattle.line_session.specs.Talk.{Ends, Breaks}
+use Rattle.line_session.specs.Talk.{Ends, Breaks, drops_none}
 use Rattle.console.specs.declared.script.ScriptLine.{ScriptLine}
 use Rattle.console.specs.declared.script.ScriptLine.TheVariants as lines
 use Rattle.console.specs.Script.{line_of}
@@ -88,4 +88,4 @@ pub record PlaysOut (site : SiteValue) (in_old in_new out_old out_new : Option (
 pub record PlayBreaks (site : SiteValue) (in_old in_new out_old out_new : Option (List ℕ)) : Type 0 where
   pub moment : ℕ
   pub left : SiteValue
-  pub breaks : Breaks Plays (0, site) (moment, left) in_old in_new out_old out_new
+  pub breaks : Breaks Plays drops_none (0, site) (moment, left) in_old in_new out_old out_new

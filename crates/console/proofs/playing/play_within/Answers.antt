@@ -1,10 +1,11 @@
 use Rattle.site_core.specs.Site.{new_site}
+use Rattle.line_session.specs.Talk.{drops_none}
 use Rattle.console.specs.Play.{Plays}
 use Rattle.console.proofs.Fronts.{breaks_none, said_from, broken_from}
 use Rattle.console.proofs.playing.play_within.Goals as goal
 
 pub returns-in_default-clause-broken : goal.returns-in_default-clause-broken
-returns-in_default-clause-broken g c = record { moment = 0; left = new_site c.args.config; breaks = breaks_none Plays (0, new_site c.args.config) _ _ }
+returns-in_default-clause-broken g c = record { moment = 0; left = new_site c.args.config; breaks = breaks_none Plays drops_none (0, new_site c.args.config) _ _ }
 
 pub returns-clause-said : goal.returns-clause-said
 returns-clause-said g c =
