@@ -5,7 +5,7 @@ use crate::sites::STATION;
 use console::read_config;
 use line_session::{Clock, Ended, session};
 use site_core::Config;
-use site_lock::{Forecourt, PassDesk, Yard};
+use site_lock::{Forecourt, PassDesk, Straight, Yard};
 use std::alloc::Global;
 use std::marker::Brand;
 use std::sync::Wait;
@@ -46,7 +46,7 @@ fn sat<L: Yard, R: Wait>(
     let mut input = MemoryIn::new(script, Vec::new(alloc), None);
     let mut output = MemoryOut::new(alloc, Vec::new(alloc), None);
     let mut clock = Still;
-    let mut desk = PassDesk::new(rt, alloc, &yard, pass);
+    let mut desk = PassDesk::new(rt, alloc, &yard, pass, Straight { calls: 0 });
     let ended = session(alloc, role, &mut input, &mut output, &mut clock, &mut desk)
         .ok()
         .ok_or("a session")?;

@@ -1,4 +1,5 @@
 use Rattle.site_core.specs.Site.{new_site}
+use Rattle.line_session.specs.Talk.{drops_none}
 use Rattle.console.specs.Play.{Plays}
 use Rattle.line_session.specs.Talk.{drops_none}
 use Rattle.console.proofs.Fronts.{breaks_none, said_from, broken_from}

@@ -1,5 +1,4 @@
 use Rattle.std.proofs.Common.{None}
-use Rattle.site_server.specs.Ending.{Leaves, LeavesSince, Spoils, SpoilsSince, from_site}
 use Rattle.site_server.proofs.Opening.{if_ok_more, if_err_more, leaves_new, spoils_new}
 use Rattle.site_server.proofs.serving.serve_site.Goals as goal
 
