@@ -1,7 +1,6 @@
 use Rattle.site_core.specs.Site.{new_site}
 use Rattle.line_session.specs.Talk.{drops_none}
 use Rattle.console.specs.Play.{Plays}
-use Rattle.line_session.specs.Talk.{drops_none}
 use Rattle.console.proofs.Fronts.{breaks_none, said_from, broken_from}
 use Rattle.console.proofs.playing.play_within.Goals as goal
 
