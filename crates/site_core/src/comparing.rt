@@ -71,6 +71,7 @@ fn is_same_counter(declared: u32, a: &Counters, b: &Counters, c: u32) -> bool
 pub fn first_counter(declared: u32, a: &Counters, b: &Counters) -> Option<u32>
     ensures { MatchOption result (Agrees declared b.now a.now) (CounterDiffers declared a.now b.now) }
 {
+    // There are 32 counters in each.
     let _counters = (a.get(0), b.get(0));
     for c in 0..32 {
         if !is_same_counter(declared, a, b, c) {

@@ -477,7 +477,7 @@ fn a_load_into_no_slot_is_audited(rt: HostRuntime) -> Result<(), Fail> {
         bytes: Bytes::from_slice(alloc, &EXIT)?,
     };
     let unset = AuditFault::BadProgram(1, Refusal::Type(TypeFault::NotANumber(0, 0)));
-    let entries = vec![in alloc; entry(1, 0, act, Reply::Done), 1];
-    assert_eq!(rt; fault(alloc, entries?.as_slice())?, Some(unset));
+    let load = entry(1, 0, act, Reply::Done);
+    assert_eq!(rt; fault(alloc, &[load])?, Some(unset));
     Ok(())
 }
