@@ -25,7 +25,7 @@ use Rattle.reg_types.specs.declared.types.Effect.{Effect}
 use Rattle.reg_types.specs.declared.types.Flaw.{Flaw}
 use Rattle.reg_types.specs.declared.types.Flaw.TheVariants.{FallsOff, WriteR10, NotANumber, NotAPointer, OutOfRange, UnsetBytes, StoreToContext, StorePointer, PointerArithmetic, NoSuchHelper, BadArgument, UndeclaredCounter}
 use Rattle.reg_types.specs.Rules.{type_at, is_unset, is_pointer, is_numeric, is_plain, one_number, two_numbers, ctx_at, sum_type, copied_type, alu_type, operand_type, put_type, all_in, lowest, number_at, number_set, load_type, marks, store_type, unless_pointer, fits_kind, is_declared, call_with, call_type, kind_at, unmarked, marks_record, record_at, after_call, effect, falls_off, judged}
-use Rattle.reg_types.specs.Shown.{FallsOffEnd, IsOperand, NoHelper, HasArgument, UsesCounter, Shows}
+use Rattle.reg_types.specs.Shown.{FallsOffEnd, IsOperand, NoHelper, HasArgument, UsesCounter, MayHave}
 
 abbrev Typed : Type 0
 Typed = Result RegType Flaw
@@ -171,33 +171,33 @@ first_by Register i = inl refl
 first_by Immediate i = refl
 
 module _ (count pc : ℕ) (i : Inst) (types : List RegType) (flaw : Flaw) where
-  numbers_shows : (form : Form) (s : Source) (w : Width) (a : RegType) → Shows count pc i form (NotANumber i.dst) → (IsOperand i s i.src → Shows count pc i form (NotANumber i.src)) → Shows count pc i form PointerArithmetic → two_numbers i.dst i.src a (operand_type s w i types) ≡ bad flaw → Shows count pc i form flaw
+  numbers_shows : (form : Form) (s : Source) (w : Width) (a : RegType) → MayHave count pc i form (NotANumber i.dst) → (IsOperand i s i.src → MayHave count pc i form (NotANumber i.src)) → MayHave count pc i form PointerArithmetic → two_numbers i.dst i.src a (operand_type s w i types) ≡ bad flaw → MayHave count pc i form flaw
   numbers_shows form s w a p q r e =
-      two_shown (Shows count pc i form) flaw i.dst i.src (is_unset a) (is_unset (operand_type s w i types)) (is_pointer a || is_pointer (operand_type s w i types)) p (λ u. q (second_by s w i types u)) r e
+      two_shown (MayHave count pc i form) flaw i.dst i.src (is_unset a) (is_unset (operand_type s w i types)) (is_pointer a || is_pointer (operand_type s w i types)) p (λ u. q (second_by s w i types u)) r e
 
   -- ADD and SUB
-  moved_shows : (op : Operator) → Shows count pc i (Arithmetic op Full Immediate) OutOfRange → Shows count pc i (Arithmetic op Full Immediate) (NotANumber i.dst) → (z : ℤ) (a : RegType) → sum_type Full Immediate i z a (operand_type Immediate Full i types) ≡ bad flaw → Shows count pc i (Arithmetic op Full Immediate) flaw
-  moved_shows op p q z (Ctx k) e = ctx_shown (Shows count pc i (Arithmetic op Full Immediate)) flaw (shifted k z 64) p e
-  moved_shows op p q z (Stk k) e = stk_shown (Shows count pc i (Arithmetic op Full Immediate)) flaw (int_le (negsuc 511) (k +ℤ z) && int_le (k +ℤ z) (pos 0)) (k +ℤ z) p e
-  moved_shows op p q z Unset e = this (Shows count pc i (Arithmetic op Full Immediate)) flaw (NotANumber i.dst) e q
-  moved_shows op p q z Num e = no_flaw (Shows count pc i (Arithmetic op Full Immediate)) flaw Num e
-  moved_shows op p q z (Const c) e = no_flaw (Shows count pc i (Arithmetic op Full Immediate)) flaw Num e
+  moved_shows : (op : Operator) → MayHave count pc i (Arithmetic op Full Immediate) OutOfRange → MayHave count pc i (Arithmetic op Full Immediate) (NotANumber i.dst) → (z : ℤ) (a : RegType) → sum_type Full Immediate i z a (operand_type Immediate Full i types) ≡ bad flaw → MayHave count pc i (Arithmetic op Full Immediate) flaw
+  moved_shows op p q z (Ctx k) e = ctx_shown (MayHave count pc i (Arithmetic op Full Immediate)) flaw (shifted k z 64) p e
+  moved_shows op p q z (Stk k) e = stk_shown (MayHave count pc i (Arithmetic op Full Immediate)) flaw (int_le (negsuc 511) (k +ℤ z) && int_le (k +ℤ z) (pos 0)) (k +ℤ z) p e
+  moved_shows op p q z Unset e = this (MayHave count pc i (Arithmetic op Full Immediate)) flaw (NotANumber i.dst) e q
+  moved_shows op p q z Num e = no_flaw (MayHave count pc i (Arithmetic op Full Immediate)) flaw Num e
+  moved_shows op p q z (Const c) e = no_flaw (MayHave count pc i (Arithmetic op Full Immediate)) flaw Num e
 
-  alu_shows : (op : Operator) (w : Width) (s : Source) (a : RegType) → alu_type op w s i a (operand_type s w i types) ≡ bad flaw → Shows count pc i (Arithmetic op w s) flaw
+  alu_shows : (op : Operator) (w : Width) (s : Source) (a : RegType) → alu_type op w s i a (operand_type s w i types) ≡ bad flaw → MayHave count pc i (Arithmetic op w s) flaw
   alu_shows Sum Full Immediate a e = moved_shows Sum (inr tt) refl i.imm a e
   alu_shows Sum Full Register a e = numbers_shows (Arithmetic Sum Full Register) Register Full a (inl refl) (λ h. h) tt e
   alu_shows Sum Narrow s a e = numbers_shows (Arithmetic Sum Narrow s) s Narrow a (first_by s i) (λ h. h) tt e
   alu_shows Difference Full Immediate a e = moved_shows Difference (inr tt) refl (neg_ℤ i.imm) a e
   alu_shows Difference Full Register a e = numbers_shows (Arithmetic Difference Full Register) Register Full a (inl refl) (λ h. h) tt e
   alu_shows Difference Narrow s a e = numbers_shows (Arithmetic Difference Narrow s) s Narrow a (first_by s i) (λ h. h) tt e
-  alu_shows Move w Immediate a e = no_flaw (Shows count pc i (Arithmetic Move w Immediate)) flaw _ e
-  alu_shows Move Narrow Register a e = one_shown (Shows count pc i (Arithmetic Move Narrow Register)) flaw i.src (is_unset (type_at types i.src)) (is_pointer (type_at types i.src)) refl tt e
+  alu_shows Move w Immediate a e = no_flaw (MayHave count pc i (Arithmetic Move w Immediate)) flaw _ e
+  alu_shows Move Narrow Register a e = one_shown (MayHave count pc i (Arithmetic Move Narrow Register)) flaw i.src (is_unset (type_at types i.src)) (is_pointer (type_at types i.src)) refl tt e
   alu_shows Move Full Register a e =
-      plain_or (is_plain i.offset) (copied_type i.src (type_at types i.src)) (one_number i.src (type_at types i.src)) flaw (Shows count pc i (Arithmetic Move Full Register)) e
-      (λ g. copied_shown (Shows count pc i (Arithmetic Move Full Register)) flaw i.src (is_unset (type_at types i.src)) (type_at types i.src) refl g)
-      (λ no g. one_shown (Shows count pc i (Arithmetic Move Full Register)) flaw i.src (is_unset (type_at types i.src)) (is_pointer (type_at types i.src)) refl (not_plain i.offset no) g)
-  alu_shows Negate w s a e = one_shown (Shows count pc i (Arithmetic Negate w s)) flaw i.dst (is_unset a) (is_pointer a) refl tt e
-  alu_shows SwapBytes w s a e = one_shown (Shows count pc i (Arithmetic SwapBytes w s)) flaw i.dst (is_unset a) (is_pointer a) refl tt e
+      plain_or (is_plain i.offset) (copied_type i.src (type_at types i.src)) (one_number i.src (type_at types i.src)) flaw (MayHave count pc i (Arithmetic Move Full Register)) e
+      (λ g. copied_shown (MayHave count pc i (Arithmetic Move Full Register)) flaw i.src (is_unset (type_at types i.src)) (type_at types i.src) refl g)
+      (λ no g. one_shown (MayHave count pc i (Arithmetic Move Full Register)) flaw i.src (is_unset (type_at types i.src)) (is_pointer (type_at types i.src)) refl (not_plain i.offset no) g)
+  alu_shows Negate w s a e = one_shown (MayHave count pc i (Arithmetic Negate w s)) flaw i.dst (is_unset a) (is_pointer a) refl tt e
+  alu_shows SwapBytes w s a e = one_shown (MayHave count pc i (Arithmetic SwapBytes w s)) flaw i.dst (is_unset a) (is_pointer a) refl tt e
   alu_shows op w s a e = numbers_shows (Arithmetic op w s) s w a (first_by s i) (λ h. h) tt e
 
   -- ---- calls
@@ -220,7 +220,7 @@ module _ (count pc : ℕ) (i : Inst) (types : List RegType) (flaw : Flaw) where
   calls None declared e = this_effect (CallShown None) flaw NoSuchHelper e tt
   calls (Some h) declared e = call_by h declared (type_at types 1) (type_at types 2) e
 
-call_shows : (count pc : ℕ) (i : Inst) (types : List RegType) (flaw : Flaw) → CallShown count pc i types flaw (helper_of i.imm) flaw → Shows count pc i Call flaw
+call_shows : (count pc : ℕ) (i : Inst) (types : List RegType) (flaw : Flaw) → CallShown count pc i types flaw (helper_of i.imm) flaw → MayHave count pc i Call flaw
 call_shows count pc i types NoSuchHelper h = h
 call_shows count pc i types (BadArgument n) h = h
 call_shows count pc i types UndeclaredCounter h = h
@@ -236,31 +236,31 @@ call_shows count pc i types PointerArithmetic h = absurd h
 
 -- ---- one instruction
 
-effect_shows : (count pc declared : ℕ) (fact : Fact) (i : Inst) (upper : ℤ) (form : Form) (flaw : Flaw) → effect declared fact i upper form ≡ wrong flaw → Shows count pc i form flaw
+effect_shows : (count pc declared : ℕ) (fact : Fact) (i : Inst) (upper : ℤ) (form : Form) (flaw : Flaw) → effect declared fact i upper form ≡ wrong flaw → MayHave count pc i form flaw
 effect_shows count pc declared fact i upper (Arithmetic op w s) flaw e =
-    set_shown (Shows count pc i (Arithmetic op w s)) flaw (i.dst == 10) fact.types i.dst (alu_type op w s i (type_at fact.types i.dst) (operand_type s w i fact.types)) (ten i.dst)
+    set_shown (MayHave count pc i (Arithmetic op w s)) flaw (i.dst == 10) fact.types i.dst (alu_type op w s i (type_at fact.types i.dst) (operand_type s w i fact.types)) (ten i.dst)
     (λ f h. alu_shows count pc i fact.types f op w s (type_at fact.types i.dst) h) e
 effect_shows count pc declared fact i upper Wide flaw e =
-    set_shown (Shows count pc i Wide) flaw (i.dst == 10) fact.types i.dst (Ok (Const _)) (ten i.dst) (λ f h. no_flaw (Shows count pc i Wide) f _ h) e
+    set_shown (MayHave count pc i Wide) flaw (i.dst == 10) fact.types i.dst (Ok (Const _)) (ten i.dst) (λ f h. no_flaw (MayHave count pc i Wide) f _ h) e
 effect_shows count pc declared fact i upper (Load size) flaw e =
-    set_shown (Shows count pc i (Load size)) flaw (i.dst == 10) fact.types i.dst (load_type fact.stack (type_at fact.types i.src) i (bytes_in size)) (ten i.dst)
-    (λ f h. load_shown (Shows count pc i (Load size)) f fact.stack (type_at fact.types i.src) i (bytes_in size) (inl tt) (inl (inl tt)) tt h) e
+    set_shown (MayHave count pc i (Load size)) flaw (i.dst == 10) fact.types i.dst (load_type fact.stack (type_at fact.types i.src) i (bytes_in size)) (ten i.dst)
+    (λ f h. load_shown (MayHave count pc i (Load size)) f fact.stack (type_at fact.types i.src) i (bytes_in size) (inl tt) (inl (inl tt)) tt h) e
 effect_shows count pc declared fact i upper (LoadSigned size) flaw e =
-    set_shown (Shows count pc i (LoadSigned size)) flaw (i.dst == 10) fact.types i.dst (load_type fact.stack (type_at fact.types i.src) i (bytes_in size)) (ten i.dst)
-    (λ f h. load_shown (Shows count pc i (LoadSigned size)) f fact.stack (type_at fact.types i.src) i (bytes_in size) (inl tt) (inl (inl tt)) tt h) e
+    set_shown (MayHave count pc i (LoadSigned size)) flaw (i.dst == 10) fact.types i.dst (load_type fact.stack (type_at fact.types i.src) i (bytes_in size)) (ten i.dst)
+    (λ f h. load_shown (MayHave count pc i (LoadSigned size)) f fact.stack (type_at fact.types i.src) i (bytes_in size) (inl tt) (inl (inl tt)) tt h) e
 effect_shows count pc declared fact i upper (StoreImmediate size) flaw e =
-    store_shown (Shows count pc i (StoreImmediate size)) flaw fact.types (type_at fact.types i.dst) i (bytes_in size) (inr tt) (inl (inr tt)) tt e
+    store_shown (MayHave count pc i (StoreImmediate size)) flaw fact.types (type_at fact.types i.dst) i (bytes_in size) (inr tt) (inl (inr tt)) tt e
 effect_shows count pc declared fact i upper (StoreRegister size) flaw e =
     let stored = store_type fact.types (type_at fact.types i.dst) i (bytes_in size) in
-    unset_shown (Shows count pc i (StoreRegister size)) flaw (is_unset (type_at fact.types i.src)) i.src (unless_pointer (is_pointer (type_at fact.types i.src)) stored) refl
-    (λ g. unless_shown (Shows count pc i (StoreRegister size)) flaw (is_pointer (type_at fact.types i.src)) stored tt
-    (λ h. store_shown (Shows count pc i (StoreRegister size)) flaw fact.types (type_at fact.types i.dst) i (bytes_in size) (inr tt) (inl (inr tt)) tt h) g) e
-effect_shows count pc declared fact i upper Goto flaw e = no_effect (Shows count pc i Goto) flaw _ e
-effect_shows count pc declared fact i upper GotoLong flaw e = no_effect (Shows count pc i GotoLong) flaw _ e
+    unset_shown (MayHave count pc i (StoreRegister size)) flaw (is_unset (type_at fact.types i.src)) i.src (unless_pointer (is_pointer (type_at fact.types i.src)) stored) refl
+    (λ g. unless_shown (MayHave count pc i (StoreRegister size)) flaw (is_pointer (type_at fact.types i.src)) stored tt
+    (λ h. store_shown (MayHave count pc i (StoreRegister size)) flaw fact.types (type_at fact.types i.dst) i (bytes_in size) (inr tt) (inl (inr tt)) tt h) g) e
+effect_shows count pc declared fact i upper Goto flaw e = no_effect (MayHave count pc i Goto) flaw _ e
+effect_shows count pc declared fact i upper GotoLong flaw e = no_effect (MayHave count pc i GotoLong) flaw _ e
 effect_shows count pc declared fact i upper (Branch c w s) flaw e =
-    compared_shown (Shows count pc i (Branch c w s)) flaw i.dst i.src (is_numeric (type_at fact.types i.dst)) (is_numeric (operand_type s w i fact.types)) (unmarked fact.types) (first_by s i) (second_counted s w i fact.types) e
+    compared_shown (MayHave count pc i (Branch c w s)) flaw i.dst i.src (is_numeric (type_at fact.types i.dst)) (is_numeric (operand_type s w i fact.types)) (unmarked fact.types) (first_by s i) (second_counted s w i fact.types) e
 effect_shows count pc declared fact i upper Exit flaw e =
-    exited_shown (Shows count pc i Exit) flaw (is_numeric (type_at fact.types 0)) (unmarked fact.types) refl e
+    exited_shown (MayHave count pc i Exit) flaw (is_numeric (type_at fact.types 0)) (unmarked fact.types) refl e
 effect_shows count pc declared fact i upper Call flaw e = call_shows count pc i fact.types flaw (calls count pc i fact.types flaw (helper_of i.imm) declared e)
 
 falls_shows : (count pc : ℕ) (form : Form) → falls_off count pc form ≡ true → FallsOffEnd count pc form
@@ -275,6 +275,6 @@ judged_shown P true r flaw p q e = is_wrong P FallsOff flaw e (p refl)
 judged_shown P false r flaw p q e = q e
 
 -- where the rules find a flaw, the form can have it
-pub judged_shows : (count pc declared : ℕ) (fact : Fact) (i : Inst) (upper : ℤ) (form : Form) (flaw : Flaw) → judged count pc declared fact i upper form ≡ wrong flaw → Shows count pc i form flaw
+pub judged_shows : (count pc declared : ℕ) (fact : Fact) (i : Inst) (upper : ℤ) (form : Form) (flaw : Flaw) → judged count pc declared fact i upper form ≡ wrong flaw → MayHave count pc i form flaw
 judged_shows count pc declared fact i upper form flaw e =
-    judged_shown (Shows count pc i form) (falls_off count pc form) (effect declared fact i upper form) flaw (falls_shows count pc form) (effect_shows count pc declared fact i upper form flaw) e
+    judged_shown (MayHave count pc i form) (falls_off count pc form) (effect declared fact i upper form) flaw (falls_shows count pc form) (effect_shows count pc declared fact i upper form flaw) e

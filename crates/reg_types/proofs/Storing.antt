@@ -24,8 +24,8 @@ nothing_twice : AreDistinct []
 unfolding AreDistinct
 nothing_twice = tt
 
-abbrev pub entry_of : ℕ → Fact → Stored
-entry_of at fact = record { at = at; fact = fact }
+abbrev pub stored_fact : ℕ → Fact → Stored
+stored_fact at fact = record { at = at; fact = fact }
 
 pub stored_none : (facts : List Stored) (at : ℕ) → ((j : ℕ) (d : Stored) → j < length facts → (slice_index_or facts j d).at ≢ at) → stored facts at ≡ None
 stored_none [] at h = refl
@@ -54,7 +54,7 @@ twice : (t : Bool) (a b c : Option Fact) → cond t a b ≡ cond t a (cond t c b
 twice true a b c = refl
 twice false a b c = refl
 
-pub stored_set : (facts : List Stored) (at k : ℕ) (f : Fact) → IsPlace facts at k → (q : ℕ) → stored (slice_set facts k (entry_of at f)) q ≡ cond (q == at) (Some f) (stored facts q)
+pub stored_set : (facts : List Stored) (at k : ℕ) (f : Fact) → IsPlace facts at k → (q : ℕ) → stored (slice_set facts k (stored_fact at f)) q ≡ cond (q == at) (Some f) (stored facts q)
 stored_set [] at k f p q = absurd (let l = p.inside in omega (arith, l))
 stored_set (s ∷ rest) at zero f p q =
     twice (q == at) (Some f) (stored rest q) (Some s.fact)
@@ -77,7 +77,7 @@ none_of : (t : Bool) (a : Fact) (b : Option Fact) → cond t (Some a) b ≡ None
 none_of true a b e = absurd (cc)
 none_of false a b e = (refl, e)
 
-pub stored_pushed : (facts : List Stored) (at : ℕ) (f : Fact) → stored facts at ≡ None → (q : ℕ) → stored (facts ++ entry_of at f ∷ []) q ≡ arrived q f at (stored facts q)
+pub stored_pushed : (facts : List Stored) (at : ℕ) (f : Fact) → stored facts at ≡ None → (q : ℕ) → stored (facts ++ stored_fact at f ∷ []) q ≡ arrived q f at (stored facts q)
 stored_pushed [] at f none q = refl
 stored_pushed (s ∷ rest) at f none q =
     let both = none_of (at == s.at) s.fact (stored rest at) none in
@@ -96,26 +96,26 @@ stored_pushed (s ∷ rest) at f none q =
 
 -- the first stored fact of the unit takes one in
 module _ (facts : List Stored) (at k : ℕ) (d : Stored) (f fact : Fact) (p : IsPlace facts at k) (same : IsSame f (join_fact (slice_index_or facts k d).fact fact)) where
-  set_here : (q : ℕ) → q ≡ at → stored (slice_set facts k (entry_of at f)) q ≡ Some f
+  set_here : (q : ℕ) → q ≡ at → stored (slice_set facts k (stored_fact at f)) q ≡ Some f
   set_here q e = stored_set facts at k f p q ∙ cond-true (q == at) (Some f) (stored facts q) (eq-eqb q at e)
 
-  set_elsewhere : (q : ℕ) → q ≢ at → stored (slice_set facts k (entry_of at f)) q ≡ stored facts q
+  set_elsewhere : (q : ℕ) → q ≢ at → stored (slice_set facts k (stored_fact at f)) q ≡ stored facts q
   set_elsewhere q n = stored_set facts at k f p q ∙ cond-false (q == at) (Some f) (stored facts q) (ne_eqb q at n)
 
   held_here : (q : ℕ) → q ≡ at → stored facts q ≡ Some (slice_index_or facts k d).fact
   held_here q e = ap (stored facts) e ∙ stored_at facts at k d p
 
-  joined_each : (q : ℕ) → AreSame (stored (slice_set facts k (entry_of at f)) q) (arrived q fact at (stored facts q))
+  joined_each : (q : ℕ) → AreSame (stored (slice_set facts k (stored_fact at f)) q) (arrived q fact at (stored facts q))
   joined_each q =
       elim (cases_eq q at) [
         | inl e ↦
             let to : arrived q fact at (stored facts q) ≡ Some (join_fact (slice_index_or facts k d).fact fact) = cond-true (q == at) (Some (taken_in (stored facts q) fact)) (stored facts q) (eq-eqb q at e) ∙ ap (λ o. Some (taken_in o fact)) (held_here q e) in
             subst (λ o. AreSame o (arrived q fact at (stored facts q))) (sym (set_here q e)) (subst (λ o. AreSame (Some f) o) (sym to) same)
         | inr n ↦
-            same_by (stored (slice_set facts k (entry_of at f)) q) (arrived q fact at (stored facts q)) (set_elsewhere q n ∙ sym (not_arrived q at fact (stored facts q) n))
+            same_by (stored (slice_set facts k (stored_fact at f)) q) (arrived q fact at (stored facts q)) (set_elsewhere q n ∙ sym (not_arrived q at fact (stored facts q) n))
       ]
 
-  pub joined_is : IsJoined at fact (stored facts) (stored (slice_set facts k (entry_of at f)))
+  pub joined_is : IsJoined at fact (stored facts) (stored (slice_set facts k (stored_fact at f)))
   joined_is =
       record {
         each = joined_each;
@@ -130,25 +130,25 @@ none_stored (s ∷ rest) at none zero d l = λ e. no_some (ap is_some (sym (cond
 none_stored (s ∷ rest) at none (suc j) d l = none_stored rest at (none_of (at == s.at) s.fact (stored rest at) none).1 j d (omega (arith, l))
 
 -- a changed fact stands at the place of the old one
-at_kept : (facts : List Stored) (at k : ℕ) (f : Fact) → IsPlace facts at k → (j : ℕ) (d : Stored) → (slice_index_or (slice_set facts k (entry_of at f)) j d).at ≡ (slice_index_or facts j d).at
+at_kept : (facts : List Stored) (at k : ℕ) (f : Fact) → IsPlace facts at k → (j : ℕ) (d : Stored) → (slice_index_or (slice_set facts k (stored_fact at f)) j d).at ≡ (slice_index_or facts j d).at
 at_kept facts at k f p j d =
     elim (cases_eq j k) [
       | inl e ↦
-          ap (λ i. (slice_index_or (slice_set facts k (entry_of at f)) i d).at) e
-          ∙ ap (λ s. s.at) (get_or-set_same facts k (entry_of at f) d p.inside)
+          ap (λ i. (slice_index_or (slice_set facts k (stored_fact at f)) i d).at) e
+          ∙ ap (λ s. s.at) (get_or-set_same facts k (stored_fact at f) d p.inside)
           ∙ sym (ap (λ i. (slice_index_or facts i d).at) e ∙ p.here d)
-      | inr n ↦ ap (λ s. s.at) (get_or-set_other facts k j (entry_of at f) d n)
+      | inr n ↦ ap (λ s. s.at) (get_or-set_other facts k j (stored_fact at f) d n)
     ]
 
-place_kept : (facts : List Stored) (at k : ℕ) (f : Fact) → IsPlace facts at k → (q j : ℕ) → IsPlace facts q j → IsPlace (slice_set facts k (entry_of at f)) q j
+place_kept : (facts : List Stored) (at k : ℕ) (f : Fact) → IsPlace facts at k → (q j : ℕ) → IsPlace facts q j → IsPlace (slice_set facts k (stored_fact at f)) q j
 place_kept facts at k f p q j is =
     record {
-      inside = let n = length-set facts k (entry_of at f) in let l = is.inside in omega (arith, n, l);
+      inside = let n = length-set facts k (stored_fact at f) in let l = is.inside in omega (arith, n, l);
       earlier = λ i d l e. is.earlier i d l (sym (at_kept facts at k f p i d) ∙ e);
       here = λ d. at_kept facts at k f p j d ∙ is.here d;
     }
 
-distinct_kept : (facts : List Stored) (at k : ℕ) (f : Fact) → IsPlace facts at k → AreDistinct facts → AreDistinct (slice_set facts k (entry_of at f))
+distinct_kept : (facts : List Stored) (at k : ℕ) (f : Fact) → IsPlace facts at k → AreDistinct facts → AreDistinct (slice_set facts k (stored_fact at f))
 unfolding AreDistinct
 distinct_kept [] at k f p h = absurd (let l = p.inside in omega (arith, l))
 distinct_kept (s ∷ rest) at zero f p h = (ap (stored rest) (sym (p.here s)) ∙ h.0, h.1)
@@ -157,19 +157,19 @@ distinct_kept (s ∷ rest) at (suc k) f p h = (
   distinct_kept rest at k f (later s rest at k p) h.1,
 )
 
-pub indexed_joined : (facts : List Stored) (places : List ℕ) (at k : ℕ) (f : Fact) → IsPlace facts at k → IsIndexed facts places → IsIndexed (slice_set facts k (entry_of at f)) places
+pub indexed_joined : (facts : List Stored) (places : List ℕ) (at k : ℕ) (f : Fact) → IsPlace facts at k → IsIndexed facts places → IsIndexed (slice_set facts k (stored_fact at f)) places
 indexed_joined facts places at k f p is =
     record {
       many = is.many;
       none = λ q l e. elim (cases_eq q at) [
-        | inl same ↦ absurd (no_some (ap is_some (sym (stored_at facts at k (entry_of at f) p) ∙ ap (stored facts) (sym same) ∙ is.none q l e)))
+        | inl same ↦ absurd (no_some (ap is_some (sym (stored_at facts at k (stored_fact at f) p) ∙ ap (stored facts) (sym same) ∙ is.none q l e)))
         | inr other ↦ stored_set facts at k f p q ∙ cond-false (q == at) (Some f) (stored facts q) (ne_eqb q at other) ∙ is.none q l e
       ];
       some = λ q j e. place_kept facts at k f p q j (is.some q j e);
       distinct = distinct_kept facts at k f p is.distinct;
     }
 
-distinct_pushed : (facts : List Stored) (at : ℕ) (f : Fact) → stored facts at ≡ None → AreDistinct facts → AreDistinct (facts ++ entry_of at f ∷ [])
+distinct_pushed : (facts : List Stored) (at : ℕ) (f : Fact) → stored facts at ≡ None → AreDistinct facts → AreDistinct (facts ++ stored_fact at f ∷ [])
 unfolding AreDistinct
 distinct_pushed [] at f none h = (refl, tt)
 distinct_pushed (s ∷ rest) at f none h =
@@ -186,15 +186,15 @@ place_pushed facts e q j is =
       here = λ d. ap (λ s. s.at) (get_or_append_left facts (e ∷ []) d j inside) ∙ is.here d;
     }
 
-place_new : (facts : List Stored) (at : ℕ) (f : Fact) → stored facts at ≡ None → IsPlace (facts ++ entry_of at f ∷ []) at (length facts)
+place_new : (facts : List Stored) (at : ℕ) (f : Fact) → stored facts at ≡ None → IsPlace (facts ++ stored_fact at f ∷ []) at (length facts)
 place_new facts at f none =
     record {
-      inside = let n = length-append facts (entry_of at f ∷ []) in omega (arith, n);
-      earlier = λ i d l same. none_stored facts at none i d l (sym (ap (λ s. s.at) (get_or_append_left facts (entry_of at f ∷ []) d i l)) ∙ same);
-      here = λ d. ap (λ s. s.at) (get_or-append_seam facts (entry_of at f) [] d);
+      inside = let n = length-append facts (stored_fact at f ∷ []) in omega (arith, n);
+      earlier = λ i d l same. none_stored facts at none i d l (sym (ap (λ s. s.at) (get_or_append_left facts (stored_fact at f ∷ []) d i l)) ∙ same);
+      here = λ d. ap (λ s. s.at) (get_or-append_seam facts (stored_fact at f) [] d);
     }
 
-pub indexed_pushed : (facts : List Stored) (places : List ℕ) (at : ℕ) (f : Fact) → at ≤ 512 → stored facts at ≡ None → IsIndexed facts places → IsIndexed (facts ++ entry_of at f ∷ []) (slice_set places at (length facts + 1))
+pub indexed_pushed : (facts : List Stored) (places : List ℕ) (at : ℕ) (f : Fact) → at ≤ 512 → stored facts at ≡ None → IsIndexed facts places → IsIndexed (facts ++ stored_fact at f ∷ []) (slice_set places at (length facts + 1))
 indexed_pushed facts places at f l none is =
     let long = is.many in
     let set = slice_set places at (length facts + 1) in
@@ -210,8 +210,8 @@ indexed_pushed facts places at f l none is =
         | inl same ↦
             let h = ap (slice_index set) (sym same) ∙ e in
             let last : length facts ≡ k = omega (arith, h, here) in
-            subst (λ j. IsPlace (facts ++ entry_of at f ∷ []) q j) last (subst (λ u. IsPlace (facts ++ entry_of at f ∷ []) u (length facts)) (sym same) (place_new facts at f none))
-        | inr other ↦ place_pushed facts (entry_of at f) q k (is.some q k (sym (elsewhere q other) ∙ e))
+            subst (λ j. IsPlace (facts ++ stored_fact at f ∷ []) q j) last (subst (λ u. IsPlace (facts ++ stored_fact at f ∷ []) u (length facts)) (sym same) (place_new facts at f none))
+        | inr other ↦ place_pushed facts (stored_fact at f) q k (is.some q k (sym (elsewhere q other) ∙ e))
       ];
       distinct = distinct_pushed facts at f none is.distinct;
     }
@@ -231,7 +231,7 @@ nowhere q =
       | inr l ↦ get_or_past no_places q 0 (let n = no_places_long in omega (arith, n, l))
     ]
 
-pub indexed_start : (f : Fact) → IsIndexed (entry_of 0 f ∷ []) (slice_set (replicate 513 0) 0 1)
+pub indexed_start : (f : Fact) → IsIndexed (stored_fact 0 f ∷ []) (slice_set (replicate 513 0) 0 1)
 unfolding no_places
 indexed_start f =
     let empty : IsIndexed [] no_places = record { many = no_places_long; none = λ q l e. refl; some = λ q k e. absurd (let n = nowhere q in omega (arith, n, e)); distinct = nothing_twice } in

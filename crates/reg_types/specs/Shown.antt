@@ -125,19 +125,19 @@ UsesCounter (Some PriceOf) = ⊥
 UsesCounter None = ⊥
 
 -- what stands at a unit where an instruction has the flaw
-abbrev pub Shows : ℕ → ℕ → Inst → Form → Flaw → Type 0
-Shows count pc i form FallsOff = FallsOffEnd count pc form
-Shows count pc i form WriteR10 = WritesR10 i form
-Shows count pc i form (NotANumber r) = Reads i form r
-Shows count pc i form NotAPointer = IsLoad form ⊎ IsStore form
-Shows count pc i form OutOfRange = (IsLoad form ⊎ IsStore form) ⊎ MovesPointer form
-Shows count pc i form UnsetBytes = IsLoad form
-Shows count pc i form StoreToContext = IsStore form
-Shows count pc i form StorePointer = StoresRegister form
-Shows count pc i form PointerArithmetic = TakesNumbers i form
-Shows count pc i form NoSuchHelper = CallsBy i form NoHelper
-Shows count pc i form (BadArgument n) = CallsBy i form (HasArgument n)
-Shows count pc i form UndeclaredCounter = CallsBy i form UsesCounter
+abbrev pub MayHave : ℕ → ℕ → Inst → Form → Flaw → Type 0
+MayHave count pc i form FallsOff = FallsOffEnd count pc form
+MayHave count pc i form WriteR10 = WritesR10 i form
+MayHave count pc i form (NotANumber r) = Reads i form r
+MayHave count pc i form NotAPointer = IsLoad form ⊎ IsStore form
+MayHave count pc i form OutOfRange = (IsLoad form ⊎ IsStore form) ⊎ MovesPointer form
+MayHave count pc i form UnsetBytes = IsLoad form
+MayHave count pc i form StoreToContext = IsStore form
+MayHave count pc i form StorePointer = StoresRegister form
+MayHave count pc i form PointerArithmetic = TakesNumbers i form
+MayHave count pc i form NoSuchHelper = CallsBy i form NoHelper
+MayHave count pc i form (BadArgument n) = CallsBy i form (HasArgument n)
+MayHave count pc i form UndeclaredCounter = CallsBy i form UsesCounter
 
 -- the bytes are units, no jump is at fault, and at the unit that the fault names an instruction begins that can have it
 pub record IsTypeShown (bytes : List ℕ) (fault : TypeFault) : Type 0 where
@@ -150,7 +150,7 @@ pub record IsTypeShown (bytes : List ℕ) (fault : TypeFault) : Type 0 where
   pub form : Form
   pub form_is : form_of unit.opcode ≡ Some form
   pub flaw : Flaw
-  pub shows : Shows (length code) pc unit form flaw
+  pub shows : MayHave (length code) pc unit form flaw
   pub fault_is : fault ≡ located pc flaw
 
 -- what a fault of decoding says of the bytes; want of memory is a refusal of its own, never told as such a fault
@@ -207,10 +207,10 @@ IsRefusal wanted (Flow fault) = wanted ≡ Some (Flow fault)
 IsRefusal wanted (TypeRefusal fault) = wanted ≡ Some (TypeRefusal fault)
 
 -- the answer to bytes and a mask: the program where nothing is wrong, else the refusal; or memory was wanting
-abbrev pub Answers : List ℕ → ℕ → Result ProgramText Refusal → Type 0
-Answers bytes declared (Ok p) = (p ≡ record { bytes = bytes; declared = declared }) × (refusal_of bytes declared ≡ None)
-Answers bytes declared (Err refusal) = IsRefusal (refusal_of bytes declared) refusal
+abbrev pub IsVerdict : List ℕ → ℕ → Result ProgramText Refusal → Type 0
+IsVerdict bytes declared (Ok p) = (p ≡ record { bytes = bytes; declared = declared }) × (refusal_of bytes declared ≡ None)
+IsVerdict bytes declared (Err refusal) = IsRefusal (refusal_of bytes declared) refusal
 
 -- two answers to the same bytes and mask are the same, unless memory was wanting
 abbrev pub OneAnswer : Type 0
-OneAnswer = (bytes : List ℕ) (declared : ℕ) (a b : Result ProgramText Refusal) → Answers bytes declared a → Answers bytes declared b → a ≢ Err OutOfMemory → b ≢ Err OutOfMemory → a ≡ b
+OneAnswer = (bytes : List ℕ) (declared : ℕ) (a b : Result ProgramText Refusal) → IsVerdict bytes declared a → IsVerdict bytes declared b → a ≢ Err OutOfMemory → b ≢ Err OutOfMemory → a ≡ b

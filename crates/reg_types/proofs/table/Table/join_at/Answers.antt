@@ -3,7 +3,7 @@ use Rattle.std.specs.Prelude.{slice_set, slice_index_or}
 use Rattle.reg_types.specs.Facts.{stored, IsPlace, IsIndexed}
 use Rattle.reg_types.specs.Passing.{IsJoined, IsSame}
 use Rattle.reg_types.specs.Inference.{join_fact}
-use Rattle.reg_types.proofs.Storing.{joined_is, indexed_joined, entry_of}
+use Rattle.reg_types.proofs.Storing.{joined_is, indexed_joined, stored_fact}
 use Rattle.reg_types.proofs.table.Table.join_at.Goals as goal
 
 pub invariant_of-self : goal.invariant_of-self
@@ -12,7 +12,7 @@ invariant_of-self c =
     let found = subst (λ l. IsPlace l c.args.at c.in-Some.k) (sym c.self.view_is) c.in-Some.ensures.found in
     let held : slice_index_or facts c.in-Some.k c.index_mut.result.now ≡ c.index_mut.result.now = search rules in
     let at = sym (ap (λ s. s.at) held) ∙ found.here c.index_mut.result.now in
-    subst (λ n. IsIndexed (slice_set facts c.in-Some.k (entry_of n c.join.new.self)) c.self.inside.places) (sym at)
+    subst (λ n. IsIndexed (slice_set facts c.in-Some.k (stored_fact n c.join.new.self)) c.self.inside.places) (sym at)
     (indexed_joined facts c.self.inside.places c.args.at c.in-Some.k c.join.new.self found c.self.invariant)
 
 pub returns-clause-joined : goal.returns-clause-joined
@@ -21,6 +21,6 @@ returns-clause-joined c e =
     let found = subst (λ l. IsPlace l c.args.at c.in-Some.k) (sym c.self.view_is) c.in-Some.ensures.found in
     let held : slice_index_or facts c.in-Some.k c.index_mut.result.now ≡ c.index_mut.result.now = search rules in
     let at = sym (ap (λ s. s.at) held) ∙ found.here c.index_mut.result.now in
-    subst (λ l. IsJoined c.args.at c.args.fact.now (stored l) (stored (slice_set facts c.in-Some.k (entry_of c.index_mut.result.now.at c.join.new.self)))) c.self.view_is
-    (subst (λ n. IsJoined c.args.at c.args.fact.now (stored facts) (stored (slice_set facts c.in-Some.k (entry_of n c.join.new.self)))) (sym at)
+    subst (λ l. IsJoined c.args.at c.args.fact.now (stored l) (stored (slice_set facts c.in-Some.k (stored_fact c.index_mut.result.now.at c.join.new.self)))) c.self.view_is
+    (subst (λ n. IsJoined c.args.at c.args.fact.now (stored facts) (stored (slice_set facts c.in-Some.k (stored_fact n c.join.new.self)))) (sym at)
     (joined_is facts c.args.at c.in-Some.k c.index_mut.result.now c.join.new.self c.args.fact.now found (subst (λ s. IsSame c.join.new.self (join_fact s.fact c.args.fact.now)) (sym held) c.join.ensures)))

@@ -2,14 +2,14 @@ use Rattle.std.proofs.Common.{◌≡◌, sym, subst, ap, ◌∙◌, ◌∷◌, [
 use Rattle.std.specs.Prelude.{slice_set}
 use Rattle.reg_types.specs.Facts.{IsIndexed, stored}
 use Rattle.reg_types.specs.Inference.{arrived}
-use Rattle.reg_types.proofs.Storing.{indexed_pushed, stored_pushed, same_by, entry_of}
+use Rattle.reg_types.proofs.Storing.{indexed_pushed, stored_pushed, same_by, stored_fact}
 use Rattle.reg_types.proofs.table.Table.push.Goals as goal
 
 pub invariant_of-self-2 : goal.invariant_of-self-2
 invariant_of-self-2 c =
     let facts = c.self.inside.facts.items in
     let items = c.in_ok-push.ensures.items in
-    let long : c.len.result ≡ length facts + 1 = (let n = ap length items ∙ length-append facts (entry_of c.args.at c.args.fact.now ∷ []) in omega (arith, n, c.len.ensures)) in
+    let long : c.len.result ≡ length facts + 1 = (let n = ap length items ∙ length-append facts (stored_fact c.args.at c.args.fact.now ∷ []) in omega (arith, n, c.len.ensures)) in
     let none : stored facts c.args.at ≡ None = ap (λ l. stored l c.args.at) c.self.view_is ∙ c.requires.new in
     subst (λ n. IsIndexed c.push.new.self.items (slice_set c.self.inside.places c.args.at n)) (sym long)
     (subst (λ l. IsIndexed l (slice_set c.self.inside.places c.args.at (length facts + 1))) (sym items)
