@@ -43,15 +43,19 @@ const IMMEDIATE: [u8; 27] = [
     0x04, 0x07, 0x14, 0x17, 0x24, 0x27, 0x34, 0x37, 0x44, 0x47, 0x54, 0x57, 0x64, 0x67, 0x74, 0x77,
     0x94, 0x97, 0xa4, 0xa7, 0xb4, 0xb7, 0xc4, 0xc7, 0xb7, 0xb7, 0xb7,
 ];
+
 const REGISTER: [u8; 24] = [
     0x0c, 0x0f, 0x1c, 0x1f, 0x2c, 0x2f, 0x3c, 0x3f, 0x4c, 0x4f, 0x5c, 0x5f, 0x6c, 0x6f, 0x7c, 0x7f,
     0x9c, 0x9f, 0xac, 0xaf, 0xbc, 0xbf, 0xcc, 0xcf,
 ];
+
 const BRANCH: [u8; 22] = [
     0x15, 0x16, 0x25, 0x26, 0x35, 0x36, 0x45, 0x46, 0x55, 0x56, 0x65, 0x66, 0x75, 0x76, 0xa5, 0xa6,
     0xb5, 0xb6, 0xc5, 0xc6, 0xd5, 0xd6,
 ];
+
 const LOAD: [u8; 7] = [0x71, 0x69, 0x61, 0x79, 0x91, 0x89, 0x81];
+
 const STORE: [u8; 8] = [0x72, 0x6a, 0x62, 0x7a, 0x73, 0x6b, 0x63, 0x7b];
 
 /// A unit with mostly what its form uses: numbers in r0, r6 and r7, the context at r1, the stack at r10.
@@ -65,9 +69,27 @@ fn unit_of(numbers: &mut Numbers) -> [u8; 8] {
         10 => [numbers.pick(&[0x84, 0x87]), register, 0, 0, 0, 0, 0, 0],
         11 => {
             let bits = numbers.pick(&[16, 32, 64]);
-            [numbers.pick(&[0xd4, 0xdc, 0xd7]), register, 0, 0, bits, 0, 0, 0]
+            [
+                numbers.pick(&[0xd4, 0xdc, 0xd7]),
+                register,
+                0,
+                0,
+                bits,
+                0,
+                0,
+                0,
+            ]
         }
-        12 => [numbers.pick(&BRANCH), register, small & 3, 0, small, 0, 0, 0],
+        12 => [
+            numbers.pick(&BRANCH),
+            register,
+            small & 3,
+            0,
+            small,
+            0,
+            0,
+            0,
+        ],
         13 => [numbers.pick(&LOAD), register | 0x10, small, 0, 0, 0, 0, 0],
         14 => {
             let opcode = numbers.pick(&STORE);
@@ -121,12 +143,7 @@ fn verdict(alloc: Global, bytes: &[u8]) -> Option<Verdict> {
     match verify(alloc, bytes, 0) {
         Ok(program) => {
             let mut counters = Counters::new([(0, 0); 32]);
-            Some(Verdict::Answered(run(
-                &program,
-                &[1; 64],
-                &world(),
-                &mut counters,
-            )))
+            Some(Verdict::Answered(run(&program, &[1; 64], &world(), &mut counters)))
         }
         Err(refusal) => {
             let (number, _, _) = refusal.shown()?;
