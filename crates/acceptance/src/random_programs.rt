@@ -8,6 +8,7 @@ use std::alloc::{AllocError, Global};
 use std::test::Fail;
 
 /// Numbers from a seed (xorshift64*).
+#[derive(Drop)]
 struct Numbers {
     state: u64,
 }
@@ -31,6 +32,7 @@ impl Numbers {
 }
 
 /// What becomes of some bytes.
+#[derive(Drop)]
 enum Verdict {
     /// V and this number.
     Refused(u32),
@@ -139,7 +141,7 @@ fn world() -> View {
     }
 }
 
-fn verdict(alloc: Global, bytes: &[u8]) -> Option<Verdict> {
+fn judged(alloc: Global, bytes: &[u8]) -> Option<Verdict> {
     match verify(alloc, bytes, 0) {
         Ok(program) => {
             let mut counters = Counters::new([(0, 0); 32]);
@@ -164,7 +166,7 @@ fn random_programs(rt: HostRuntime) -> Result<(), Fail> {
         } else {
             likeness(rt.alloc(), &mut numbers)?
         };
-        match verdict(rt.alloc(), bytes.as_slice()) {
+        match judged(rt.alloc(), bytes.as_slice()) {
             Some(Verdict::Refused(number)) => {
                 assert!(rt; 1 <= number && number <= 20, "V{number}");
                 if number > 5 {
