@@ -8,6 +8,7 @@ program=$1
 shift
 here=$(CDPATH='' cd -- "$(dirname -- "$0")/.." && pwd -P) || exit 1
 work=$(mktemp -d) || exit 1
+export TMPDIR=$work
 trap 'rm -rf "$work"' EXIT
 passed=0 failed=0
 for document in "$@"; do

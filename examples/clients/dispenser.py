@@ -1,0 +1,80 @@
+#!/usr/bin/env python3
+"""A dispenser with one customer, who lifts a nozzle, waits for a release, fuels and hangs up.
+
+    dispenser.py PORT POINT NOZZLE CENTS PRICE     CENTS is what the customer wants at most, PRICE is in thousandths a litre
+"""
+
+import socket
+import sys
+import time
+
+PATIENCE = 10  # seconds that an answer may take
+PAUSE = 0.2  # seconds between two questions for an order: each is an entry of the journal
+HANGING_UP = 1.0  # seconds from the last flow to the nozzle's place: in them the till reads the amount
+STEPS = 5
+
+
+class Controller:
+    """A connection to the site: a line, and its answer."""
+
+    def __init__(self, port):
+        self.socket = socket.create_connection(("127.0.0.1", port), timeout=PATIENCE)
+        self.socket.setsockopt(socket.IPPROTO_TCP, socket.TCP_NODELAY, 1)
+        self.answers = self.socket.makefile("r", encoding="ascii", newline="\n")
+
+    def ask(self, line):
+        """The words of the answer, without its entry's number."""
+        self.socket.sendall(f"{line}\n".encode("ascii"))
+        answer = self.answers.readline()
+        if not answer.endswith("\n"):
+            raise SystemExit(f"no answer to '{line}': the valve is shut")
+        words = answer.split()
+        return words[1:] if words[0].isdigit() else words
+
+
+def wait_for_release(site, point):
+    """The limit in cents. An order that is left from an earlier delivery is passed over."""
+    while True:
+        answer = site.ask(f"disp {point} order")
+        if answer[:2] == ["order", "authorise"]:
+            return int(answer[2])
+        time.sleep(PAUSE)
+
+
+def wait_for_resume(site, point):
+    """Whether the delivery goes on after a suspend order, and isn't stopped."""
+    while True:
+        answer = site.ask(f"disp {point} order")
+        if answer[0] == "order":
+            return answer[1] == "resume"
+        time.sleep(PAUSE)
+
+
+def fuel(site, point, cents, price):
+    """Reports the flow in steps up to so many cents, and obeys what the till orders meanwhile. Gives what flowed."""
+    amount = 0
+    for step in range(1, STEPS + 1):
+        now = cents * step // STEPS
+        if site.ask(f"disp {point} flow {now} {now * 1000 // price}") != ["done"]:
+            break  # the delivery is over: the till has stopped it
+        amount = now
+        order = site.ask(f"disp {point} order")
+        if order == ["order", "stop"] or order == ["order", "suspend"] and not wait_for_resume(site, point):
+            break
+        time.sleep(PAUSE)
+    return amount
+
+
+def main():
+    port, point, nozzle, cents, price = map(int, sys.argv[1:6])
+    site = Controller(port)
+    print(f"point {point}: up {' '.join(site.ask(f'disp {point} up {nozzle}'))}")
+    limit = wait_for_release(site, point)
+    print(f"point {point}: authorised for {limit} cents")
+    if site.ask(f"disp {point} started") == ["done"]:
+        print(f"point {point}: {fuel(site, point, min(limit, cents), price)} cents have flowed")
+    time.sleep(HANGING_UP)
+    print(f"point {point}: down {' '.join(site.ask(f'disp {point} down'))}")
+
+
+main()

@@ -1,0 +1,89 @@
+#!/usr/bin/env python3
+"""A till that sells one delivery at a point which it alone sells: opens the point, waits for a customer, asks for a release,
+reads the amount while the site tells it, and settles the transaction.
+
+    till.py PORT TILL POINT CENTS [LAST]     CENTS is the most that is asked for; LAST the number of the point's last
+                                             transaction that this till knows of, 0 at the start of a day
+"""
+
+import socket
+import sys
+import time
+
+PATIENCE = 10  # seconds that an answer may take
+PAUSE = 0.2  # seconds between two looks: each look is an entry of the journal
+CLOSED, CALLING, AUTHORISED, SUSPENDED_FUELLING = 2, 4, 5, 9
+
+
+class Controller:
+    """A connection to the site: a line, and its answer."""
+
+    def __init__(self, port):
+        self.socket = socket.create_connection(("127.0.0.1", port), timeout=PATIENCE)
+        self.socket.setsockopt(socket.IPPROTO_TCP, socket.TCP_NODELAY, 1)
+        self.answers = self.socket.makefile("r", encoding="ascii", newline="\n")
+
+    def ask(self, line):
+        """The words of the answer, without its entry's number."""
+        self.socket.sendall(f"{line}\n".encode("ascii"))
+        answer = self.answers.readline()
+        if not answer.endswith("\n"):
+            raise SystemExit(f"no answer to '{line}': whether it was done is to be looked up")
+        words = answer.split()
+        return words[1:] if words[0].isdigit() else words
+
+
+def look(site, till, point):
+    """State, amount in cents, volume in centilitres and number of unpaid transactions."""
+    answer = site.ask(f"till {till} show {point}")
+    if answer[0] != "point":
+        raise SystemExit(f"point {point}: {' '.join(answer)}")
+    state, _nozzle, amount, volume, _limit, _preset, unpaid = map(int, answer[1:])
+    return state, amount, volume, unpaid
+
+
+def wait_for_a_nozzle(site, till, point):
+    state, _, _, _ = look(site, till, point)
+    if state == CLOSED:
+        print(f"point {point}: open {' '.join(site.ask(f'till {till} open {point}'))}")
+    while state != CALLING:
+        time.sleep(PAUSE)
+        state, _, _, _ = look(site, till, point)
+
+
+def follow(site, till, point):
+    """The last amount and volume that were shown while the delivery was under way, and how many transactions are unpaid after it."""
+    state, amount, volume = AUTHORISED, 0, 0
+    while True:
+        time.sleep(PAUSE)
+        state, amount_now, volume_now, unpaid = look(site, till, point)
+        if not AUTHORISED <= state <= SUSPENDED_FUELLING:
+            return amount, volume, unpaid
+        amount, volume = amount_now, volume_now
+
+
+def settle(site, till, point, last):
+    """Takes and clears the point's next transaction: their numbers rise by 1, and one that is settled is no longer there."""
+    number = last + 1
+    while site.ask(f"till {till} lock {point} {number}") == ["S28"]:
+        number += 1
+    return number, site.ask(f"till {till} clear {point} {number}")
+
+
+def main():
+    port, till, point, cents = map(int, sys.argv[1:5])
+    last = int(sys.argv[5]) if len(sys.argv) > 5 else 0
+    site = Controller(port)
+    wait_for_a_nozzle(site, till, point)
+    answer = site.ask(f"till {till} release {point} {cents}")
+    print(f"point {point}: release {' '.join(answer)}")
+    if answer[0] != "granted":
+        sys.exit(1)
+    amount, volume, unpaid = follow(site, till, point)
+    print(f"point {point}: {amount} cents for {volume} centilitres")
+    if unpaid:
+        number, answer = settle(site, till, point, last)
+        print(f"point {point}: transaction {number} cleared, {' '.join(answer)}")
+
+
+main()
