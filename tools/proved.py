@@ -1,0 +1,84 @@
+#!/usr/bin/env python3
+"""Looks that what docs/PROVED.md names is in the sources: each call is a public function of its crate, each clause stands in
+that function's contract, and each must-fail edit is one of that crate.
+
+    proved.py [DOCUMENT]     the last line is 'N passed, M failed', of table rows
+"""
+
+import glob
+import os
+import re
+import sys
+
+ROOT = os.path.join(os.path.dirname(os.path.abspath(__file__)), "..")
+HEAD = re.compile(r"\s*(?:pub(?:\([a-z]+\))? )?fn (\w+)")
+NO_NAME = "-"
+
+
+def rows_of(document):
+    """The tables' rows with a call: its name, its clauses and its edits."""
+    for line in document.splitlines():
+        cells = line.strip().strip("|").split("|")
+        if line.startswith("|") and len(cells) == 4 and "::" in cells[1]:
+            call, clauses, edits = (re.findall(r"`([^`]+)`", cell) for cell in cells[1:])
+            yield call[0], clauses, edits
+
+
+def owner_of(line):
+    """The type that an impl block is for."""
+    name = re.match(r"impl(?:<.*?>)? (?:.* for )?&?(\w+)", line)
+    return name[1] if name else ""
+
+
+def contracts_of(crate):
+    """By type and name ('' for a function of no type), the clauses of each public function; `-` for one without a name."""
+    found = {}
+    for path in glob.glob(os.path.join(ROOT, "crates", crate, "src", "**", "*.rt"), recursive=True):
+        owner, clauses = "", None
+        with open(path) as file:
+            for line in file:
+                if line.startswith("impl"):
+                    owner = owner_of(line)
+                elif line.startswith("}"):
+                    owner = ""
+                head = HEAD.match(line)
+                if head:
+                    public = line.lstrip().startswith("pub fn")
+                    clauses = found.setdefault((owner, head[1]), set()) if public else set()
+                clause = re.match(r"\s+ensures(?: (\w+))? ?\{", line)
+                if clause and clauses is not None:
+                    clauses.add(clause[1] or NO_NAME)
+                if re.match(r"\s*\{\s*$", line):
+                    clauses = None
+    return found
+
+
+def faults_of(call, clauses, edits, contracts):
+    crate, *path = call.split("::")
+    owner, name = path if len(path) == 2 else ("", path[0])
+    contract = contracts.setdefault(crate, contracts_of(crate)).get((owner, name))
+    if contract is None:
+        return [f"crate {crate} has no public function {'::'.join(path)}"]
+    faults = [f"{call} has no clause {clause}" for clause in clauses if clause not in contract]
+    if not clauses:
+        faults.append(f"{call}: no clause is named")
+    folder = os.path.join(ROOT, "crates", crate, "must-fail")
+    missing = [edit for edit in edits if not os.path.exists(os.path.join(folder, f"{edit}.edit"))]
+    return faults + [f"{call}: crate {crate} has no edit {edit}" for edit in missing]
+
+
+def main():
+    path = sys.argv[1] if len(sys.argv) > 1 else os.path.join(ROOT, "docs", "PROVED.md")
+    contracts, good, bad = {}, 0, 0
+    with open(path) as file:
+        rows = list(rows_of(file.read()))
+    for call, clauses, named in rows:
+        faults = faults_of(call, clauses, named, contracts)
+        for fault in faults:
+            print(f"proved: {fault}")
+        good, bad = (good, bad + 1) if faults else (good + 1, bad)
+    print(f"{good} passed, {bad} failed")
+    sys.exit(bool(bad) or not rows)
+
+
+main()
