@@ -1,5 +1,5 @@
 #!/usr/bin/env python3
-"""Looks that what docs/PROVED.md names is in the sources: each call is a public function of its crate, each clause stands in
+"""Looks that what docs/code/PROVED.md names is in the sources: each call is a public function of its crate, each clause stands in
 that function's contract, and each must-fail edit is one of that crate.
 
     proved.py [DOCUMENT]     the last line is 'N passed, M failed', of table rows
@@ -68,7 +68,7 @@ def faults_of(call, clauses, edits, contracts):
 
 
 def main():
-    path = sys.argv[1] if len(sys.argv) > 1 else os.path.join(ROOT, "docs", "PROVED.md")
+    path = sys.argv[1] if len(sys.argv) > 1 else os.path.join(ROOT, "docs", "code", "PROVED.md")
     contracts, good, bad = {}, 0, 0
     with open(path) as file:
         rows = list(rows_of(file.read()))

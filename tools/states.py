@@ -1,5 +1,5 @@
 #!/usr/bin/env python3
-"""Compares the table of states in docs/protocol.md with what the program answers, cell by cell.
+"""Compares the table of states in docs/use/protocol.md with what the program answers, cell by cell.
 
 Each state is reached in every way that makes a difference to some cell (SITUATIONS, and BEFORE for unpaid transactions).
 In each of these situations each line of the table is sent to a point, and its answer, the state after it, the order that
@@ -194,7 +194,7 @@ def seen(situation, answers):
 
 def main():
     fc = os.path.abspath(sys.argv[1])
-    path = sys.argv[2] if len(sys.argv) > 2 else os.path.join(ROOT, "docs", "protocol.md")
+    path = sys.argv[2] if len(sys.argv) > 2 else os.path.join(ROOT, "docs", "use", "protocol.md")
     with open(path) as file:
         cells = table_of(file.read())
     wanted = {(name, state) for name in LINES for state in range(1, 10)}

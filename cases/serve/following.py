@@ -1,0 +1,90 @@
+"""The commands that a document shows in its plain blocks, typed into one bash: what is printed is what stands below each."""
+
+import os
+import re
+import shutil
+import signal
+import subprocess
+import sys
+import tempfile
+
+from serving import free_ports
+
+ROOT = os.path.join(os.path.dirname(os.path.abspath(__file__)), "..", "..")
+DONE = "this command is done"
+PORTS = ("7001", "7002", "7003")
+
+
+def examples(text):
+    """Each command of the blocks that are marked by nothing, with the lines that stand below it."""
+    found, mark = [], None
+    for line in text.splitlines():
+        if line.startswith("```"):
+            mark = line if mark is None else None
+        elif mark == "```" and line.startswith("$ "):
+            found.append((line[2:], []))
+        elif mark == "```" and found:
+            found[-1][1].append(line)
+    return found
+
+
+def plain(line):
+    """Two figures differ from day to day: the moment of an entry, and which of the tills' passes a till has."""
+    return re.sub(r"^(\d+) [12] \d{10} till", r"\1 PASS MOMENT till", line)
+
+
+def answered(shell, command, wanted):
+    """What bash prints of a command; a program in the background may speak a little later."""
+    shell.stdin.write(f"{command}\necho {DONE}\n")
+    shell.stdin.flush()
+    printed, done = [], False
+    while not done or len(printed) < len(wanted):
+        line = shell.stdout.readline()
+        if not line:
+            break
+        if line == f"{DONE}\n":
+            done = True
+        else:
+            printed.append(line.rstrip("\n"))
+    return printed
+
+
+def follow(document, fc, seconds=60):
+    """Types the commands on ports that are free. The folder has `fc` and `examples`, and is given up at the end."""
+    signal.alarm(seconds)
+    free = dict(zip(PORTS, map(str, free_ports(3))))
+
+    def moved(text):
+        return re.sub("|".join(PORTS), lambda port: free[port[0]], text)
+
+    with open(os.path.join(ROOT, document)) as file:
+        text = file.read()
+    with tempfile.TemporaryDirectory() as folder:
+        shutil.copytree(os.path.join(ROOT, "examples"), os.path.join(folder, "examples"))
+        os.symlink(os.path.abspath(fc), os.path.join(folder, "fc"))
+        site = os.path.join(folder, "examples", "sites", "served.toml")
+        with open(site) as file:
+            served = moved(file.read())
+        with open(site, "w") as file:
+            file.write(served)
+        shell = subprocess.Popen(
+            ["bash"],
+            cwd=folder,
+            env={**os.environ, "TMPDIR": folder},
+            stdin=subprocess.PIPE,
+            stdout=subprocess.PIPE,
+            stderr=subprocess.STDOUT,
+            text=True,
+        )
+        same = 0
+        for command, wanted in examples(moved(text)):
+            printed = answered(shell, command, wanted)
+            if [plain(line) for line in printed] != [plain(line) for line in wanted]:
+                shell.kill()
+                raise SystemExit(f"{command}\nprinted {printed}\nwanted  {wanted}")
+            same += 1
+        shell.stdin.close()
+        shell.wait()
+    if not same:
+        raise SystemExit("no command was found")
+    print("the commands went as they are told")

@@ -1,0 +1,50 @@
+#!/bin/sh
+# Runs the examples of the documents: in each block marked `console`, a line that begins with `$ ` is a command (with its text up
+# to END, where it says <<'END'), and what stands below it is what it must print on standard output. The commands of one document
+# run in one new folder, with `fc` and `examples` in it. Prints each example that differs, and then 'N passed, M failed'.
+# usage: tools/run_examples.sh PROGRAM DOCUMENT..
+set -u
+program=$1
+shift
+here=$(CDPATH='' cd -- "$(dirname -- "$0")/.." && pwd -P) || exit 1
+work=$(mktemp -d) || exit 1
+export TMPDIR=$work
+trap 'rm -rf "$work"' EXIT
+passed=0 failed=0
+for document in "$@"; do
+    folder=$work/$(basename "$document" .md)
+    mkdir -p "$folder/run" "$folder/parts"
+    ln -s "$program" "$folder/run/fc"
+    ln -s "$here/examples" "$folder/run/examples"
+    awk -v parts="$folder/parts" '
+        /^```console$/ { inside = 1; next }
+        /^```/ { inside = 0; text = 0; next }
+        !inside { next }
+        text { print > command; if ($0 == "END") text = 0; next }
+        /^\$ / {
+            count++
+            command = sprintf("%s/%03d.command", parts, count)
+            wanted = sprintf("%s/%03d.wanted", parts, count)
+            printf "" > wanted
+            print substr($0, 3) > command
+            text = /<<.END.$/
+            next
+        }
+        { print > wanted }
+    ' "$document"
+    for command in "$folder"/parts/*.command; do
+        [ -f "$command" ] || continue
+        part=${command%.command}
+        (cd "$folder/run" && timeout 60 sh "$command") >"$part.printed" 2>"$part.errors" </dev/null
+        if cmp -s "$part.printed" "$part.wanted"; then
+            passed=$((passed + 1))
+        else
+            failed=$((failed + 1))
+            echo "$document: $(head -n 1 "$command")"
+            diff "$part.printed" "$part.wanted" | head -n 20
+            head -n 5 "$part.errors"
+        fi
+    done
+done
+echo "$passed passed, $failed failed"
+[ "$failed" = 0 ]
