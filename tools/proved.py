@@ -1,6 +1,6 @@
 #!/usr/bin/env python3
-"""Looks that what docs/code/PROVED.md names is in the sources: each call is a public function of its crate, each clause stands in
-that function's contract, and each must-fail edit is one of that crate.
+"""Looks that what docs/code/PROVED.md names is in the sources: each call is a public function of its crate, each clause
+stands in that function's contract, and each must-fail edit is one of that crate.
 
     proved.py [DOCUMENT]     the last line is 'N passed, M failed', of table rows
 """
@@ -31,7 +31,7 @@ def owner_of(line):
 
 
 def contracts_of(crate):
-    """By type and name ('' for a function of no type), the clauses of each public function; `-` for one without a name."""
+    """By type ('' for none) and name, the clauses of each public function; `-` for one without a name."""
     found = {}
     for path in glob.glob(os.path.join(ROOT, "crates", crate, "src", "**", "*.rt"), recursive=True):
         owner, clauses = "", None

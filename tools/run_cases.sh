@@ -1,8 +1,8 @@
 #!/bin/sh
-# Runs the program's own cases, the folders below cases/ that hold a file stdout. In such a folder the program is run with the
-# words of the file args, one a line, and with stdin as its input, if these are there; what it prints and its status must be
-# stdout and status (0 where there is no such file). Where there is an executable run, that is run with the program's path, and
-# drives it. Prints each case that differs, and then 'N passed, M failed'.
+# Runs the program's own cases, the folders below cases/ that hold a file stdout. In such a folder the program is run
+# with the words of the file args, one a line, and with stdin as its input, if these are there; what it prints and its
+# status must be stdout and status (0 where there is no such file). Where there is an executable run, that is run with
+# the program's path, and drives it. Prints each case that differs, and then 'N passed, M failed'.
 # usage: tools/run_cases.sh PROGRAM [WORD]    WORD: only the cases whose path has it
 set -u
 program=$(readlink -f -- "$1") || exit 1

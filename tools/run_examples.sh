@@ -1,7 +1,8 @@
 #!/bin/sh
-# Runs the examples of the documents: in each block marked `console`, a line that begins with `$ ` is a command (with its text up
-# to END, where it says <<'END'), and what stands below it is what it must print on standard output. The commands of one document
-# run in one new folder, with `fc` and `examples` in it. Prints each example that differs, and then 'N passed, M failed'.
+# Runs the examples of the documents: in each block marked `console`, a line that begins with `$ ` is a command (with
+# its text up to END, where it says <<'END'), and what stands below it is what it must print on standard output. The
+# commands of one document run in one new folder, with `fc` and `examples` in it. Prints each example that differs, and
+# then 'N passed, M failed'.
 # usage: tools/run_examples.sh PROGRAM DOCUMENT..
 set -u
 program=$1

@@ -1,10 +1,10 @@
 #!/usr/bin/env python3
 """Compares the table of states in docs/use/protocol.md with what the program answers, cell by cell.
 
-Each state is reached in every way that makes a difference to some cell (SITUATIONS, and BEFORE for unpaid transactions).
-In each of these situations each line of the table is sent to a point, and its answer, the state after it, the order that
-is pending then and the number of unpaid transactions have to be those that the table's cell tells. What a cell tells for
-a condition that no situation meets is a fault of the table.
+Each state is reached in every way that makes a difference to some cell (SITUATIONS, and BEFORE for unpaid
+transactions). In each of these situations each line of the table is sent to a point, and its answer, the state after
+it, the order that is pending then and the number of unpaid transactions have to be those that the table's cell tells.
+What a cell tells for a condition that no situation meets is a fault of the table.
 
     states.py FC [DOCUMENT]     the last line is 'N passed, M failed', of cells
 """
@@ -19,7 +19,8 @@ ROOT = os.path.join(os.path.dirname(os.path.abspath(__file__)), "..")
 LIMIT = 8000
 POINTS = 32
 AS_ASKED = "79101800000000009500000000000000"
-SITE = "tills = 2\nprice_slot = 2\nprices = [1799, 1849, 0, 0, 0, 0, 0, 0]\n" + POINTS * "[[point]]\nrelease = 0\npreset = 1\n"
+SITE = "tills = 2\nprice_slot = 2\nprices = [1799, 1849, 0, 0, 0, 0, 0, 0]\n"
+SITE += POINTS * "[[point]]\nrelease = 0\npreset = 1\n"
 
 OPEN, CLOSE, RELEASE = "till 1 open P", "till 1 close P", f"till 1 release P {LIMIT}"
 SUSPEND, RESUME, STOP = "till 1 suspend P", "till 1 resume P", "till 1 stop P"
@@ -31,8 +32,8 @@ def flow(amount):
     return f"disp P flow {amount} {amount // 2}"
 
 
-# From a closed point with its nozzle hung up: the state that is reached, the lines that lead there, whether a nozzle is up
-# then, which order is pending, whether an authorise order was taken, and the amount of the delivery.
+# From a closed point with its nozzle hung up: the state that is reached, the lines that lead there, whether a nozzle is
+# up then, which order is pending, whether an authorise order was taken, and the amount of the delivery.
 SITUATIONS = [
     (1, [FAULT], False, None, False, 0),
     (1, [UP, FAULT], True, None, False, 0),
@@ -131,8 +132,8 @@ class Situation:
         }[condition]
 
     def told(self, name, line, cell):
-        """Which alternative of a cell is for this situation, and what it says: the answer, the state, the pending order and
-        the number of unpaid transactions after it."""
+        """Which alternative of a cell is for this situation, and what it says: the answer, the state, the pending order
+        and the number of unpaid transactions after it."""
         for place, words in enumerate(cell):
             outcome, *rest = words
             conditions = [word for word in rest if re.fullmatch("[a-z]", word)]
@@ -208,12 +209,14 @@ def main():
         config.flush()
         for begin in range(0, len(trials), POINTS):
             part = trials[begin : begin + POINTS]
-            for (one, name, line), answers in zip(part, played(fc, config.name, [(one, line) for one, _, line in part])):
+            answered = played(fc, config.name, [(one, line) for one, _, line in part])
+            for (one, name, line), answers in zip(part, answered):
                 place, told = one.told(name, line, cells[name, one.state])
                 used.add((name, one.state, place))
-                if seen(one, answers) != told:
+                said = seen(one, answers)
+                if said != told:
                     bad.add((name, one.state))
-                    print(f"{name} in state {one.state} after {one.lines}: the table says {told}, fc {seen(one, answers)}")
+                    print(f"{name} in state {one.state} after {one.lines}: the table says {told}, fc {said}")
     for name, state in sorted(wanted):
         for place, words in enumerate(cells[name, state]):
             if (name, state, place) not in used:

@@ -1,4 +1,4 @@
-"""The commands that a document shows in its plain blocks, typed into one bash: what is printed is what stands below each."""
+"""The commands that a document shows in its plain blocks, typed into one bash: what is printed stands below each."""
 
 import os
 import re

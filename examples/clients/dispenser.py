@@ -1,7 +1,8 @@
 #!/usr/bin/env python3
 """A dispenser with one customer, who lifts a nozzle, waits for a release, fuels and hangs up.
 
-    dispenser.py PORT POINT NOZZLE CENTS PRICE     CENTS is what the customer wants at most, PRICE is in thousandths a litre
+    dispenser.py PORT POINT NOZZLE CENTS PRICE     CENTS is what the customer wants at most,
+                                                   PRICE is in thousandths a litre
 """
 
 import socket

@@ -1,6 +1,6 @@
 #!/usr/bin/env python3
-"""A till that sells one delivery at a point which it alone sells: opens the point, waits for a customer, asks for a release,
-reads the amount while the site tells it, and settles the transaction.
+"""A till that sells one delivery at a point which it alone sells: opens the point, waits for a customer, asks for a
+release, reads the amount while the site tells it, and settles the transaction.
 
     till.py PORT TILL POINT CENTS [LAST]     CENTS is the most that is asked for; LAST the number of the point's last
                                              transaction that this till knows of, 0 at the start of a day
@@ -52,7 +52,7 @@ def wait_for_a_nozzle(site, till, point):
 
 
 def follow(site, till, point):
-    """The last amount and volume that were shown while the delivery was under way, and how many transactions are unpaid after it."""
+    """The last amount and volume that were shown while the delivery lasted, and how many transactions are unpaid."""
     state, amount, volume = AUTHORISED, 0, 0
     while True:
         time.sleep(PAUSE)
@@ -63,7 +63,7 @@ def follow(site, till, point):
 
 
 def settle(site, till, point, last):
-    """Takes and clears the point's next transaction: their numbers rise by 1, and one that is settled is no longer there."""
+    """Takes and clears the point's next transaction: numbers rise by 1, and one that is settled is no longer there."""
     number = last + 1
     while site.ask(f"till {till} lock {point} {number}") == ["S28"]:
         number += 1

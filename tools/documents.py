@@ -1,0 +1,55 @@
+#!/usr/bin/env python3
+"""Looks at the documents' text: no line has more than 120 characters, and each file of the repository that a document
+names (`crates/..`, `docs/..`, a page beside it, a file of a crate as `site_core/src/site.rt`) is there.
+
+    documents.py     the last line is 'N passed, M failed', of documents
+"""
+
+import glob
+import os
+import re
+import sys
+
+ROOT = os.path.join(os.path.dirname(os.path.abspath(__file__)), "..")
+MOST = 120
+FROM_THE_TOP = r"(?:bench|cases|crates|docs|examples|tools)/[\w./-]*\w/?"
+OF_A_CRATE = r"\w+/(?:src|specs|proofs|must-fail)/[\w./-]*\w"
+PATH = re.compile(rf"{FROM_THE_TOP}|{OF_A_CRATE}|[\w-]+\.md")
+
+
+def documents():
+    found = ["README.md", "bench/README.md"]
+    for pattern in ("docs/*.md", "docs/*/*.md"):
+        found += sorted(os.path.relpath(path, ROOT) for path in glob.glob(os.path.join(ROOT, pattern)))
+    return [path for path in found if not os.path.islink(os.path.join(ROOT, path))]
+
+
+def is_there(name, document):
+    places = ("", "crates", os.path.dirname(document))
+    return any(os.path.exists(os.path.join(ROOT, place, name)) for place in places)
+
+
+def faults_of(document):
+    with open(os.path.join(ROOT, document)) as file:
+        lines = file.read().splitlines()
+    for number, line in enumerate(lines, 1):
+        if len(line) > MOST:
+            yield f"{document}:{number}: {len(line)} characters"
+        for code in re.findall(r"`([^`\s]+)`", line):
+            is_pattern = re.search(r"/[A-Z]+(/|\.edit|$)", code)  # as crates/CRATE/src
+            if PATH.fullmatch(code) and not is_pattern and not is_there(code, document):
+                yield f"{document}:{number}: there is no {code}"
+
+
+def main():
+    good, bad = 0, 0
+    for document in documents():
+        faults = list(faults_of(document))
+        for fault in faults:
+            print(fault)
+        good, bad = (good, bad + 1) if faults else (good + 1, bad)
+    print(f"{good} passed, {bad} failed")
+    sys.exit(bool(bad))
+
+
+main()
