@@ -49,42 +49,57 @@ def answered(shell, command, wanted):
     return printed
 
 
+def shell_in(folder, fc, free):
+    """A bash in a folder with `fc` and `examples`, whose served site has these ports."""
+    shutil.copytree(os.path.join(ROOT, "examples"), os.path.join(folder, "examples"))
+    os.symlink(os.path.abspath(fc), os.path.join(folder, "fc"))
+    site = os.path.join(folder, "examples", "sites", "served.toml")
+    with open(site) as file:
+        served = moved(file.read(), free)
+    with open(site, "w") as file:
+        file.write(served)
+    return subprocess.Popen(
+        ["bash"],
+        cwd=folder,
+        env={**os.environ, "TMPDIR": folder},
+        stdin=subprocess.PIPE,
+        stdout=subprocess.PIPE,
+        stderr=subprocess.STDOUT,
+        text=True,
+    )
+
+
+def moved(text, free):
+    return re.sub("|".join(PORTS), lambda port: free[port[0]], text)
+
+
+def same(printed, wanted):
+    return [plain(line) for line in printed] == [plain(line) for line in wanted]
+
+
 def follow(document, fc, seconds=60):
-    """Types the commands on ports that are free. The folder has `fc` and `examples`, and is given up at the end."""
+    """Types the commands on ports that are free, one after another; then pastes all of them at once into another shell.
+    The folder is given up at the end, and nothing but `fc` and `examples` may stand in it."""
     signal.alarm(seconds)
-    free = dict(zip(PORTS, map(str, free_ports(3))))
-
-    def moved(text):
-        return re.sub("|".join(PORTS), lambda port: free[port[0]], text)
-
     with open(os.path.join(ROOT, document)) as file:
         text = file.read()
-    with tempfile.TemporaryDirectory() as folder:
-        shutil.copytree(os.path.join(ROOT, "examples"), os.path.join(folder, "examples"))
-        os.symlink(os.path.abspath(fc), os.path.join(folder, "fc"))
-        site = os.path.join(folder, "examples", "sites", "served.toml")
-        with open(site) as file:
-            served = moved(file.read())
-        with open(site, "w") as file:
-            file.write(served)
-        shell = subprocess.Popen(
-            ["bash"],
-            cwd=folder,
-            env={**os.environ, "TMPDIR": folder},
-            stdin=subprocess.PIPE,
-            stdout=subprocess.PIPE,
-            stderr=subprocess.STDOUT,
-            text=True,
-        )
-        same = 0
-        for command, wanted in examples(moved(text)):
-            printed = answered(shell, command, wanted)
-            if [plain(line) for line in printed] != [plain(line) for line in wanted]:
-                shell.kill()
-                raise SystemExit(f"{command}\nprinted {printed}\nwanted  {wanted}")
-            same += 1
-        shell.stdin.close()
-        shell.wait()
-    if not same:
-        raise SystemExit("no command was found")
+    for pasted in (False, True):
+        free = dict(zip(PORTS, map(str, free_ports(3))))
+        steps = examples(moved(text, free))
+        if not steps:
+            raise SystemExit("no command was found")
+        with tempfile.TemporaryDirectory() as folder:
+            shell = shell_in(folder, fc, free)
+            if pasted:
+                steps = [("\n".join(command for command, _ in steps), [line for _, lines in steps for line in lines])]
+            for command, wanted in steps:
+                printed = answered(shell, command, wanted)
+                if not same(printed, wanted):
+                    shell.kill()
+                    raise SystemExit(f"{command}\nprinted {printed}\nwanted  {wanted}")
+            shell.stdin.close()
+            shell.wait()
+            left = set(os.listdir(folder)) - {"fc", "examples"}
+            if any(not name.startswith("tmp.") for name in left):
+                raise SystemExit(f"left behind: {left}")
     print("the commands went as they are told")
