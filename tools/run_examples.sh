@@ -5,7 +5,7 @@
 # then 'N passed, M failed'.
 # usage: tools/run_examples.sh PROGRAM DOCUMENT..
 set -u
-program=$1
+program=$(readlink -f -- "$1") || exit 1
 shift
 here=$(CDPATH='' cd -- "$(dirname -- "$0")/.." && pwd -P) || exit 1
 work=$(mktemp -d) || exit 1
