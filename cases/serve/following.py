@@ -66,6 +66,7 @@ def shell_in(folder, fc, free):
         stdout=subprocess.PIPE,
         stderr=subprocess.STDOUT,
         text=True,
+        start_new_session=True,
     )
 
 
@@ -95,7 +96,7 @@ def follow(document, fc, seconds=60):
             for command, wanted in steps:
                 printed = answered(shell, command, wanted)
                 if not same(printed, wanted):
-                    shell.kill()
+                    os.killpg(shell.pid, signal.SIGKILL)  # with what runs in its background
                     raise SystemExit(f"{command}\nprinted {printed}\nwanted  {wanted}")
             shell.stdin.close()
             shell.wait()
