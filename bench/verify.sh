@@ -1,25 +1,38 @@
 #!/bin/sh
-# Loads so many programs of 512 units of each kind into a site, and prints for each kind the processor's time that a
-# program takes to be verified, and the memory that a kept one takes with its entry in the history.
-# Usage: bench/verify.sh [PROGRAMS]; without a number 4000. A site keeps at most 4,096 versions.
-# For the time the last unit but one writes R10, so the program is refused at its end and nothing is kept. The time to
-# read a line and to decode it is taken off: it is that of a program whose last unit has no opcode.
-# The program is crates/fc/out/fc, which ./fc builds, or $FC.
+# Verifies programs of 512 units of each kind, one after another, and prints for each kind the processor's time that one
+# takes and the memory that a kept one takes; then how long many of them take at once, by 1, 2 and 4 threads.
+# Usage: bench/verify.sh [PROGRAMS]; without a number 20000. Of five runs the least time counts.
+# The driver (verify_driver.txt) is built in a folder of its own beside copies of the crates, with what was proved of
+# them before; after ./fc --version that takes a minute, and else as long as the first call of ./fc.
 set -eu
 here=$(CDPATH='' cd -- "$(dirname -- "$0")" && pwd -P)
-fc=${FC:-$here/../crates/fc/out/fc}
 [ -x /usr/bin/time ] || { echo "verify.sh: GNU time is not at /usr/bin/time" >&2; exit 1; }
-[ -x "$fc" ] || { echo "verify.sh: $fc is not there; ./fc --version builds it" >&2; exit 1; }
-site=$here/station.toml
+command -v rt >/dev/null || { echo "verify.sh: the command rt (Rattle's kit) is not on PATH" >&2; exit 1; }
 work=$(mktemp -d)
 trap 'rm -rf "$work"' EXIT
-programs=${1:-4000}
+programs=${1:-20000}
 
-# program KIND END: its 512 units in hexadecimal, of which END is the last two.
+needed='bpf_model bpf_decode flow_check stack_map counters helpers reg_types interp program_slots fuelling_point'
+needed="$needed till_request decision_journal line_session site_core site_lock"
+mkdir -p "$work/crates/drive/src"
+: >"$work/crates.txt"
+for crate in $needed; do
+    cp -a "$here/../crates/$crate" "$work/crates/"
+    grep "^$crate[: ]" "$here/../crates.txt" >>"$work/crates.txt"
+done
+echo 'drive may_wait=4: site_lock reg_types hex' >>"$work/crates.txt"
+cp "$here/../HANDLES" "$work/"
+cp "$here/verify_driver.txt" "$work/crates/drive/src/main.rt"
+git init -q "$work"
+(cd "$work/crates/drive" && rt run -- time 1 /dev/null </dev/null >"$work/log" 2>&1) ||
+    { tail -n 20 "$work/log" >&2; exit 1; }
+drive=$work/crates/drive/out/drive
+
+# program KIND: its 512 units in hexadecimal.
 program() {
-    awk -v kind="$1" -v end="$2" 'BEGIN {
+    awk -v kind="$1" 'BEGIN {
         move = "b700000001000000"
-        units = 510
+        units = 511
         text = move
         said = 1
         if (kind == "mixed")
@@ -32,39 +45,38 @@ program() {
         }
         for (; said < units; said++)
             text = text move
-        print text end
+        print text "9500000000000000"
     }'
 }
 
-# loads KIND END WANT: plays a script of loads, each of which answers as WANT says; leaves seconds and kilobytes in
-# $work/time.
-loads() {
-    line="load 0 0 $(program "$1" "$2")"
-    awk -v line="$line" -v count="$programs" 'BEGIN { for (i = 0; i < count; i++) print line }' >"$work/script"
-    /usr/bin/time -o "$work/time" -f '%U %S %M' "$fc" play "$site" "$work/script" >"$work/out" </dev/null ||
-        { echo "verify.sh: $1 failed" >&2; exit 1; }
-    tail -n 1 "$work/out" | grep -q "$3" || { echo "verify.sh: $1 is answered $(tail -n 1 "$work/out")" >&2; exit 1; }
-}
-
-# least KIND END WANT: the least processor time of five such plays, and the most memory.
-least() {
-    : >"$work/times"
+# measured FORMAT WORDS..: the least of five runs of the driver, each of which accepts all programs.
+measured() {
+    format=$1
+    shift
     for _ in 1 2 3 4 5; do
-        loads "$@"
-        cat "$work/time" >>"$work/times"
+        /usr/bin/time -a -o "$work/times" -f "$format" "$drive" "$@" >"$work/out" </dev/null
+        [ "$(cat "$work/out")" = "$2" ] ||
+            { echo "verify.sh: not every program is accepted" >&2; exit 1; }
     done
-    awk '{ t = $1 + $2; if (NR == 1 || t < least) least = t; if ($3 > most) most = $3 } END { print least, most }' "$work/times"
+    sort -n "$work/times" | head -n 1
+    rm "$work/times"
 }
 
-exit=9500000000000000
 printf '%-24s%20s%20s\n' program microseconds 'kept KB'
-row=$(least straight "${exit}0000000000000000" '^V2 511$')
-read_time=${row% *} empty=${row#* }
 for kind in straight mixed "64 diamonds" "254 diamonds"; do
-    row=$(least "$kind" "bf1a000000000000$exit" '^V10 510$')
-    time=${row% *}
-    row=$(least "$kind" "b700000001000000$exit" " version $programs\$")
-    awk -v kind="$kind" -v time="$time" -v most="${row#* }" -v read="$read_time" -v empty="$empty" -v count="$programs" 'BEGIN {
-        printf "%-24s%20.1f%20.1f\n", kind, 1e6 * (time - read) / count, (most - empty) / count
+    program "$kind" >"$work/program"
+    time=$(measured %U time "$programs" "$work/program")
+    few=$(measured %M keep 1000 "$work/program")
+    many=$(measured %M keep 3000 "$work/program")
+    awk -v kind="$kind" -v time="$time" -v few="$few" -v many="$many" -v count="$programs" 'BEGIN {
+        printf "%-24s%20.1f%20.1f\n", kind, 1e6 * time / count, (many - few) / 2000
+    }'
+done
+program straight >"$work/program"
+printf '\n%-24s%20s\n' threads 'programs a second'
+for workers in 1 2 4; do
+    time=$(measured %e all "$programs" "$workers" "$work/program")
+    awk -v workers="$workers" -v time="$time" -v count="$programs" 'BEGIN {
+        printf "%-24s%20.0f\n", workers, count / time
     }'
 done

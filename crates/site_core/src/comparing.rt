@@ -8,7 +8,6 @@ ghost use Rattle.bpf_model.specs.Machine.{counter};
 ghost use Rattle.site_core.specs.Decide.{is_declared};
 ghost use Rattle.site_core.specs.Differences.{FirstDiffers, CounterDiffers};
 
-use crate::events::is_same_bytes;
 use counters::Counters;
 use helpers::PointView;
 use program_slots::Slots;
@@ -84,7 +83,7 @@ pub fn first_counter(declared: u32, a: &Counters, b: &Counters) -> Option<u32>
 fn is_same_program(a: &Program, b: &Program) -> bool
     ensures { IsTrue result ↔ (a.now ≡ b.now) }
 {
-    a.declared() == b.declared() && is_same_bytes(a.bytes(), b.bytes())
+    a.declared() == b.declared() && a.bytes() == b.bytes()
 }
 
 /// Whether this is the version in the slot; the error is the number that is in it now.

@@ -92,11 +92,13 @@ impl Config {
     pub fn is_same(&self, other: &Config) -> bool
         ensures { IsTrue result ↔ (self.now ≡ other.now) }
     {
-        if self.tills != other.tills || self.price_slot != other.price_slot {
+        if self.tills != other.tills
+            || self.price_slot != other.price_slot
+            || self.prices != other.prices
+        {
             return false;
         }
-        is_same_prices(&self.prices, &other.prices)
-            && is_same_points(self.points.as_slice(), other.points.as_slice())
+        is_same_points(self.points.as_slice(), other.points.as_slice())
             && is_same_counters(self.counters.as_slice(), other.counters.as_slice())
     }
 
@@ -160,12 +162,7 @@ impl Config {
     }
 }
 
-fn is_same_prices(a: &[u32; 8], b: &[u32; 8]) -> bool
-    ensures { IsTrue result ↔ (a.now ≡ b.now) }
-{
-    a == b
-}
-
+// That a comparison of pairs decides whether they are equal is a lemma, which each of these two brings.
 fn is_same_points(a: &[(u32, u32)], b: &[(u32, u32)]) -> bool
     ensures { IsTrue result ↔ (a.now ≡ b.now) }
 {

@@ -1,6 +1,5 @@
 -- A request is tried twice, and then decided under the lock.
-use Rattle.std.proofs.Common.{◌≡◌, ℕ, ◌+◌, ◌≤◌, Result, Ok, Err, IfOk, IfErr, arith}
-use Rattle.till_request.specs.Count.{RoseBy}
+use Rattle.std.proofs.Common.{ℕ, ◌+◌, ◌≤◌, Result, Ok, Err, IfOk, IfErr, arith}
 use Rattle.till_request.proofs.Counts.{rose_more}
 use Rattle.site_lock.specs.Calls.{RoseWithin}
 

@@ -3,7 +3,6 @@ use Rattle.std.specs.Prelude.{◌≡◌, ℕ, ◌+◌, ◌≤◌, List, [], ◌�
 use Rattle.decision_journal.specs.declared.entries.Entry.{Entry}
 use Rattle.till_request.specs.Count.{RoseBy}
 use Rattle.till_request.specs.declared.act.Act.{Act}
-use Rattle.till_request.specs.declared.act.Reply.{Reply}
 use Rattle.site_core.specs.declared.events.Answered.{Answered}
 use Rattle.site_core.specs.declared.events.CallFault.{CallFault}
 use Rattle.site_core.specs.declared.events.CallFault.TheVariants.{OutOfMemory}

@@ -1,5 +1,5 @@
 -- Promises: what a close answers.
-use Rattle.std.specs.Prelude.{◌≡◌, ℕ, ◌+◌, ◌-◌, ◌⊎◌, List, ◌++◌, length, sum_by, slice_get, Option, Some, Bool, true, false}
+use Rattle.std.specs.Prelude.{◌≡◌, ℕ, ◌-◌, List, ◌++◌, length, sum_by, slice_get, Option, Some, Bool, true, false}
 use Rattle.std.specs.Io.KnownBytes.{Appends}
 use Rattle.decision_journal.specs.declared.entries.Entry.{Entry}
 use Rattle.decision_journal.specs.Text.{journal_text}
@@ -8,7 +8,7 @@ use Rattle.site_core.specs.Site.{SiteValue, Upholds}
 use Rattle.site_lock.specs.declared.close.CloseRefusal.{CloseRefusal}
 use Rattle.site_lock.specs.declared.close.CloseRefusal.TheVariants.{PassMissing, NotInHistory, OtherConfig}
 use Rattle.site_lock.specs.Passes.{PassView, Opened}
-use Rattle.site_lock.specs.Grounds.{GroundValue, GoesOn, IsWhole, Stands}
+use Rattle.site_lock.specs.Grounds.{GroundValue, IsWhole, Stands}
 use Rattle.site_lock.specs.Merge.{AreAll, IsFault, IsFaultSince, IsMerge, IsMergeSince}
 
 -- The configuration is the kept one, its history is legal and the merge of what the passes were answered, and has as many entries as these were answered calls.
@@ -18,20 +18,6 @@ pub record Closes (f : Opened) (passes : List PassView) (s : SiteValue) : Type 0
   pub legal : Upholds s
   pub calls : length s.history ≡ sum_by (λ (p : PassView). p.amount) passes
   pub merge : IsMerge s.history passes
-
--- Some legal history of this configuration, with as many entries as the passes were answered calls, has this fault.
-pub record HasFault (config : ConfigValue) (passes : List PassView) (id number : ℕ) : Type 0 where
-  pub site : SiteValue
-  pub config_is : site.config ≡ config
-  pub legal : Upholds site
-  pub calls : length site.history ≡ sum_by (λ (p : PassView). p.amount) passes
-  pub fault : IsFault site.history passes id number
-
--- PassMissing exactly where these aren't all passes; a site of another configuration can't be
-abbrev pub Refuses : Opened → List PassView → CloseRefusal → Type 0
-Refuses f passes PassMissing = ¬ AreAll f.passes passes
-Refuses f passes (NotInHistory id number) = AreAll f.passes passes × HasFault f.config passes id number
-Refuses f passes OtherConfig = ⊥
 
 -- The configuration is the kept one; the history is legal and goes on from the one started with by the merge of what the passes were answered, as many entries as these were answered calls; and the journal took exactly the text of these.
 pub record ClosesSince (f : Opened) (passes : List PassView) (s : SiteValue) (written : Option (List ℕ)) : Type 0 where
@@ -44,53 +30,50 @@ pub record ClosesSince (f : Opened) (passes : List PassView) (s : SiteValue) (wr
   pub merge : IsMergeSince (length f.base) s.history passes
   pub kept : Appends f.taken written (journal_text since)
 
--- Some legal history of this configuration, which goes on from the one started with by as many entries as the passes were answered calls, has this fault.
-pub record HasFaultSince (f : Opened) (passes : List PassView) (id number : ℕ) : Type 0 where
-  pub site : SiteValue
-  pub config_is : site.config ≡ f.config
-  pub legal : Upholds site
-  pub calls : GoesOn f.base site.history (sum_by (λ (p : PassView). p.amount) passes)
-  pub fault : IsFaultSince (length f.base) site.history passes id number
+-- A forecourt that could not be closed, whose lock nobody can take: how it was opened, and what stands still under it.
+pub record HaltedValue : Type 0 where
+  pub opened : Opened
+  pub ground : GroundValue
+
+-- Its configuration is the one started with, its history is legal and goes on from the one started with by the answered calls, and the journal took the text of these.
+pub record IsHalted (may_fail : Type 0) (h : HaltedValue) : Type 0 where
+  pub config : h.ground.site.config ≡ h.opened.config
+  pub legal : Upholds h.ground.site
+  pub stands : Stands h.ground.stopped h.opened.base h.opened.taken may_fail h.ground.site.history h.ground.total h.ground.written
 
 -- the last entry has this pass and number
-abbrev pub IsLast : List Entry → CloseRefusal → Type 0
-IsLast history PassMissing = ⊥
-IsLast history (NotInHistory id number) =
+abbrev pub IsLast : List Entry → ℕ → ℕ → Type 0
+IsLast history id number =
     (last : Entry) × (slice_get history (length history - 1) ≡ Some last) × (last.pass ≡ id) × (last.number ≡ number)
-IsLast history OtherConfig = ⊥
 
--- Some legal history of this configuration, which goes on from the one started with by one entry more than the passes were answered calls, ends with this entry.
-pub record HasUnanswered (f : Opened) (passes : List PassView) (id number : ℕ) : Type 0 where
-  pub site : SiteValue
-  pub config_is : site.config ≡ f.config
-  pub legal : Upholds site
-  pub calls : GoesOn f.base site.history (sum_by (λ (p : PassView). p.amount) passes + 1)
-  pub last : IsLast site.history (NotInHistory id number)
+-- a receipt or an entry of this pass and number is wrong; where the journal failed it is the last entry, which isn't answered
+abbrev pub IsWrong : Bool → ℕ → List Entry → List PassView → ℕ → ℕ → Type 0
+IsWrong false base history passes id number = IsFaultSince base history passes id number
+IsWrong true base history passes id number = IsLast history id number
 
--- the same as `Refuses`, where a journal that failed leaves an entry without a receipt too
-abbrev pub RefusesSince : Type 0 → Opened → List PassView → CloseRefusal → Type 0
-RefusesSince may_fail f passes PassMissing = ¬ AreAll f.passes passes
-RefusesSince may_fail f passes (NotInHistory id number) =
-    AreAll f.passes passes × (HasFaultSince f passes id number ⊎ (may_fail × HasUnanswered f passes id number))
-RefusesSince may_fail f passes OtherConfig = ⊥
+-- what stands in the way, at what lies under the lock; a site of another configuration can't be
+abbrev pub HindersSince : ℕ → GroundValue → List PassView → CloseRefusal → Type 0
+HindersSince base v passes PassMissing = ⊥
+HindersSince base v passes (NotInHistory id number) = IsWrong v.stopped base v.site.history passes id number
+HindersSince base v passes OtherConfig = ⊥
 
--- What a forecourt leaves its journal with: some legal history of this configuration, which goes on from the one started with, all of which the journal took; or the journal failed, and of the last line it took a front.
-pub record Left (f : Opened) (may_fail : Type 0) (written : Option (List ℕ)) : Type 0 where
-  pub site : SiteValue
-  pub config_is : site.config ≡ f.config
-  pub legal : Upholds site
-  pub answered : ℕ
-  pub stopped : Bool
-  pub stands : Stands stopped f.base f.taken may_fail site.history answered written
+-- These aren't all passes; or they are, have as many receipts as calls were answered, and the very history that is handed back has this fault.
+abbrev pub RefusesSince : HaltedValue → List PassView → CloseRefusal → Type 0
+RefusesSince h passes PassMissing = ¬ AreAll h.opened.passes passes
+RefusesSince h passes (NotInHistory id number) =
+    AreAll h.opened.passes passes
+    × (h.ground.total ≡ sum_by (λ (p : PassView). p.amount) passes)
+    × IsWrong h.ground.stopped (length h.opened.base) h.ground.site.history passes id number
+RefusesSince h passes OtherConfig = ⊥
 
--- what stands in the way, at what lies under the lock
-abbrev pub HindersSince : Type 0 → List Entry → GroundValue → ConfigValue → List PassView → CloseRefusal → Type 0
-HindersSince may_fail base v config passes PassMissing = ⊥
-HindersSince may_fail base v config passes (NotInHistory id number) =
-    (v.site.config ≡ config) × Upholds v.site
-    × ((GoesOn base v.site.history v.total × IsFaultSince (length base) v.site.history passes id number)
-    ⊎ (may_fail × GoesOn base v.site.history (v.total + 1) × IsLast v.site.history (NotInHistory id number)))
-HindersSince may_fail base v config passes OtherConfig = ⊥
+-- the same where nothing was gone on from, and no journal can fail
+abbrev pub Refuses : HaltedValue → List PassView → CloseRefusal → Type 0
+Refuses h passes PassMissing = ¬ AreAll h.opened.passes passes
+Refuses h passes (NotInHistory id number) =
+    AreAll h.opened.passes passes
+    × (length h.ground.site.history ≡ sum_by (λ (p : PassView). p.amount) passes)
+    × IsFault h.ground.site.history passes id number
+Refuses h passes OtherConfig = ⊥
 
 -- nothing does
 pub record IsClear (base : List Entry) (taken : Option (List ℕ)) (v : GroundValue) (config : ConfigValue) (passes : List PassView) : Type 0 where

@@ -5,19 +5,6 @@ ghost use Rattle.site_lock.specs.Merge.{Matches, IsEntryOf, StandsFrom, FailsFro
 
 use super::pass::{Pass, Receipt, Yard};
 use decision_journal::Entry;
-use till_request::{Act, Reply};
-
-fn is_same_act(a: &Act, b: &Act) -> bool
-    ensures { IsTrue result ↔ (a.now ≡ b.now) }
-{
-    a == b
-}
-
-fn is_same_reply(a: &Reply, b: &Reply) -> bool
-    ensures { IsTrue result ↔ (a.now ≡ b.now) }
-{
-    a == b
-}
 
 fn matches(id: u32, receipt: &Receipt, entry: &Entry) -> bool
     ensures { IsTrue result ↔ Matches id receipt.now entry.now }
@@ -25,7 +12,7 @@ fn matches(id: u32, receipt: &Receipt, entry: &Entry) -> bool
     if entry.number != receipt.number || entry.pass != id || entry.moment != receipt.moment {
         return false;
     }
-    is_same_act(&entry.act, &receipt.act) && is_same_reply(&entry.reply, &receipt.reply)
+    entry.act == receipt.act && entry.reply == receipt.reply
 }
 
 // Whether the receipt is the entry at its number.

@@ -1,5 +1,5 @@
 //! Closing a forecourt.
-use super::forecourt::Forecourt;
+use super::halted::Halted;
 use super::journal::{Journal, NoJournal};
 use super::pass::{Pass, Yard};
 use site_core::Site;
@@ -16,11 +16,11 @@ pub enum CloseRefusal {
     OtherConfig,
 }
 
-/// A forecourt that was not closed, with the passes that were handed in.
+/// A forecourt that was not closed, as it stands, with the passes that were handed in.
 #[derive(Drop)]
 pub struct CloseFault<L: Yard, J: Journal = NoJournal> {
     pub why: CloseRefusal,
-    pub forecourt: Forecourt<L, J>,
+    pub forecourt: Halted<L, J>,
     pub passes: Vec<Pass<L>>,
 }
 

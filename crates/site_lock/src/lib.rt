@@ -11,6 +11,7 @@ mod gate;
 #[cfg(test)]
 mod gate_tests;
 mod ground;
+mod halted;
 mod journal;
 #[cfg(test)]
 mod journal_tests;
@@ -28,6 +29,7 @@ pub use desk::PassDesk;
 pub use enter_fault::EnterFault;
 pub use forecourt::Forecourt;
 pub use gate::{Gate, Straight};
+pub use halted::Halted;
 pub use journal::{Journal, LineJournal, NoJournal};
 pub use line_session::{Clock, Desk, Doors, Ended, SessionFault, session, worker};
 pub use pass::{Pass, Receipt, Yard};

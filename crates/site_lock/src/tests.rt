@@ -98,7 +98,7 @@ fn two<L: Yard + Send + Sync, R: Threads + Wait + Sync>(
         Err(kept) => {
             left.refused = Some(kept.why);
             left.handed_back = kept.passes.len();
-            (kept.forecourt, kept.passes)
+            (kept.forecourt.reopen(), kept.passes)
         }
     };
     passes.push(b)?;

@@ -32,7 +32,7 @@ module _ (config : ConfigValue) (tills dispensers connections : ℕ) where
   spoils_so : (fault : ServeFault) → SpoilsSince (from_site (new_site config) None tills dispensers) ⊥ tills dispensers connections fault → Spoils config tills dispensers connections fault
   spoils_so OutOfMemory h = h
   spoils_so Journal h = h
-  spoils_so (NotClosed why) h = (h.0, h.1, h.2, refuses_new ⊥ (opened config tills dispensers) h.0 why refl (λ never. never) h.3)
+  spoils_so (NotClosed why) h = (h.0, h.1, h.2, h.3, h.4, h.5, refuses_new (opened config tills dispensers) h.1 h.0 why refl h.4 h.5 h.6)
 
   pub leaves_new : (site s : SiteValue) (written : Option (List ℕ)) → site ≡ new_site config → LeavesSince (from_site site None tills dispensers) ⊥ tills dispensers connections s written → Leaves config tills dispensers connections s
   leaves_new site s written is h = leaves_so s written (subst (λ (t : SiteValue). LeavesSince (from_site t None tills dispensers) ⊥ tills dispensers connections s written) is h)

@@ -3,7 +3,7 @@ use Rattle.std.specs.Prelude.{◌≡◌, ℕ, ◌+◌, ◌<◌, List, [], length
 use Rattle.site_core.specs.Limits.{ConfigValue}
 use Rattle.site_core.specs.Site.{SiteValue}
 use Rattle.site_lock.specs.Passes.{PassView, Opened, new_pass}
-use Rattle.site_lock.specs.Closing.{Closes, ClosesSince, Refuses, RefusesSince}
+use Rattle.site_lock.specs.Closing.{Closes, ClosesSince, HaltedValue, IsHalted, Refuses, RefusesSince}
 use Rattle.site_lock.specs.Merge.{AreAll}
 use Rattle.site_server.specs.Crews.{passes_of, role_of}
 use Rattle.site_server.specs.Posts.{Worked}
@@ -45,16 +45,18 @@ pub record LeavesSince (from : Opened) (may_fail : Type 0) (tills dispensers con
   pub closes : ClosesSince from passes site written
   pub worked : HaveWorked from.config may_fail tills dispensers connections passes
 
--- A fault other than want of memory is one that all passes had at a close, after such work: so neither is one missing, nor is it another configuration.
+-- A fault other than want of memory is one that all passes had at a close, after such work, against the history that stood there: so neither is one missing, nor is it another configuration.
 abbrev pub Spoils : ConfigValue → ℕ → ℕ → ℕ → ServeFault → Type 0
 Spoils config tills dispensers connections OutOfMemory = Unit {0}
 Spoils config tills dispensers connections Journal = ⊥
 Spoils config tills dispensers connections (NotClosed why) =
-    (passes : List PassView) × AreAll (passes_of tills dispensers) passes × HaveWorked config ⊥ tills dispensers connections passes × Refuses (opened config tills dispensers) passes why
+    (passes : List PassView) × (h : HaltedValue) × AreAll (passes_of tills dispensers) passes × HaveWorked config ⊥ tills dispensers connections passes
+    × (h.opened ≡ opened config tills dispensers) × IsHalted ⊥ h × Refuses h passes why
 
 -- the same of a site that went on, whose journal may have failed
 abbrev pub SpoilsSince : Opened → Type 0 → ℕ → ℕ → ℕ → ServeFault → Type 0
 SpoilsSince from may_fail tills dispensers connections OutOfMemory = Unit {0}
 SpoilsSince from may_fail tills dispensers connections Journal = may_fail
 SpoilsSince from may_fail tills dispensers connections (NotClosed why) =
-    (passes : List PassView) × AreAll (passes_of tills dispensers) passes × HaveWorked from.config may_fail tills dispensers connections passes × RefusesSince may_fail from passes why
+    (passes : List PassView) × (h : HaltedValue) × AreAll (passes_of tills dispensers) passes × HaveWorked from.config may_fail tills dispensers connections passes
+    × (h.opened ≡ from) × IsHalted may_fail h × RefusesSince h passes why
