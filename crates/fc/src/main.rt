@@ -4,6 +4,7 @@
 mod files;
 mod jobs;
 mod kept;
+mod operator;
 mod progress;
 mod serve;
 

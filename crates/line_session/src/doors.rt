@@ -1,4 +1,5 @@
 //! Where lines come from and answers go, connection by connection.
+use crate::answering::{Ended, SessionFault};
 use till_request::{DeviceFault, LineIn, LineOut};
 
 /// Opens doors, one after another: what lines are read from, and what their answers go to.
@@ -19,4 +20,7 @@ pub trait Doors {
     fn next(&mut self) -> Result<(Self::In, Self::Out), DeviceFault>
         ensures ok { IfOk result (λ door. opens self.old door.0 door.1 self.new) }
         ensures err { OnErr result (fails self.old self.new) };
+
+    /// Is told how a session at one of its doors ended. It is free to do nothing.
+    fn ended(&self, _outcome: &Result<Ended, SessionFault>) {}
 }

@@ -23,7 +23,9 @@ fn attend<S: Doors, C: Clock, D: Desk>(
 {
     match doors.next() {
         Ok((mut input, mut output)) => {
-            Some(session(alloc, role, &mut input, &mut output, clock, desk))
+            let outcome = session(alloc, role, &mut input, &mut output, clock, desk);
+            doors.ended(&outcome);
+            Some(outcome)
         }
         Err(_) => None,
     }

@@ -1,3 +1,5 @@
 pub mod Crews
 pub mod Ending
+pub mod Limits
+pub mod Pauses
 pub mod Posts

@@ -1,52 +1,90 @@
 //! Connections of a listener.
 ghost use Rattle.std.specs.Prelude.{◌≡◌};
 ghost use Rattle.till_request.specs.Count.{RoseBy};
+ghost use Rattle.site_server.specs.Pauses.{longer_pause, told_of};
 
-use line_session::Doors;
+use crate::notices::{Breach, Notices};
+use line_session::{Doors, Ended, SessionFault};
 use std::alloc::Global;
 use std::io::BufReader;
 use std::net::{TcpListener, TcpStream};
-use till_request::DeviceFault;
+use std::time::{Clock, Duration};
+use std::{io, thread};
 use till_request::devices::{StreamIn, StreamOut};
+use till_request::{DeviceFault, Role};
+
+type Connection = (StreamIn<BufReader<TcpStream>>, StreamOut<TcpStream>);
 
 /// The connections of a listener, which other workers may share.
 ///
 /// A connection's lines are read through a buffer of its own, and its answers leave at once, without a delay that gathers them.
+/// Where a connection can't be opened, as for want of descriptors, an operator is told the first time, and the worker waits before it
+/// asks again: 10 milliseconds at first, then twice as long each time, at most a second.
 #[derive(Drop)]
-pub struct TcpDoors<'a> {
+pub struct TcpDoors<'a, R: Clock, N: Notices> {
+    rt: &'a R,
     alloc: Global,
     listener: &'a TcpListener,
+    notices: &'a N,
+    role: Role,
+    pass: u32,
     asked: u64,
+    pause: u64,
 }
 
-impl<'a> TcpDoors<'a> {
-    /// The doors of a listener. None was asked for yet.
-    pub fn new(alloc: Global, listener: &'a TcpListener) -> TcpDoors<'a>
-        ensures { result.asked ≡ 0 }
-    {
-        TcpDoors {
-            alloc,
-            listener,
-            asked: 0,
-        }
+/// How long to wait, in milliseconds, after a wait of so many.
+fn longer(pause: u64) -> u64
+    ensures { result ≡ longer_pause pause }
+{
+    if pause == 0 {
+        10
+    } else if pause >= 500 {
+        1000
+    } else {
+        2 * pause
     }
 }
 
-impl Doors for TcpDoors<'_> {
-    type In = StreamIn<BufReader<TcpStream>>;
+/// What an operator is told of how a session ended: nothing where its peer ended it behind a line.
+fn breach_of(outcome: &Result<Ended, SessionFault>) -> Option<Breach>
+    ensures { result ≡ told_of outcome.now }
+{
+    match outcome {
+        Ok(ended) => ended.cut.map(Breach::Line),
+        Err(fault) => Some(Breach::Session(*fault)),
+    }
+}
 
-    type Out = StreamOut<TcpStream>;
+impl<'a, R: Clock, N: Notices> TcpDoors<'a, R, N> {
+    /// The doors of a listener, for the worker of a role with a pass. None was asked for yet.
+    pub fn new(
+        rt: &'a R,
+        alloc: Global,
+        listener: &'a TcpListener,
+        notices: &'a N,
+        role: Role,
+        pass: u32,
+    ) -> TcpDoors<'a, R, N>
+        ensures asked { result.asked ≡ 0 }
+        ensures pause { result.pause ≡ 0 }
+    {
+        TcpDoors {
+            rt,
+            alloc,
+            listener,
+            notices,
+            role,
+            pass,
+            asked: 0,
+            pause: 0,
+        }
+    }
 
-    ghost opens = { λ before _ _ after. RoseBy 1 before.asked after.asked };
-
-    ghost fails = { λ before after. RoseBy 1 before.asked after.asked };
-
-    fn next(&mut self) -> Result<(Self::In, Self::Out), DeviceFault> {
-        self.asked = self.asked.wrapping_add(1);
-        let (writer, _) = self.listener.accept().map_err(|_| DeviceFault)?;
-        writer.set_nodelay(true).map_err(|_| DeviceFault)?;
-        let stream = writer.try_clone().map_err(|_| DeviceFault)?;
-        let reader = BufReader::new(self.alloc, stream).map_err(|_| DeviceFault)?;
+    fn connect(&self) -> io::Result<Connection> {
+        let (writer, _) = self.listener.accept()?;
+        writer.set_nodelay(true)?;
+        let stream = writer.try_clone()?;
+        let reader = BufReader::new(self.alloc, stream)?;
         let input = StreamIn {
             reader,
             reads: 0,
@@ -57,5 +95,47 @@ impl Doors for TcpDoors<'_> {
             failures: 0,
         };
         Ok((input, output))
+    }
+
+    /// Tells of the first of several failures, and waits.
+    fn hold(&mut self, error: &io::Error)
+        ensures asked { self.new.asked ≡ self.old.asked }
+        ensures pause { self.new.pause ≡ longer_pause self.old.pause }
+    {
+        if self.pause == 0 {
+            self.notices.no_door(self.role, self.pass, error);
+        }
+        self.pause = longer(self.pause);
+        thread::sleep(self.rt, Duration::from_millis(self.pause));
+    }
+}
+
+impl<R: Clock, N: Notices> Doors for TcpDoors<'_, R, N> {
+    type In = StreamIn<BufReader<TcpStream>>;
+
+    type Out = StreamOut<TcpStream>;
+
+    ghost opens = { λ before _ _ after. RoseBy 1 before.asked after.asked × (after.pause ≡ 0) };
+
+    ghost fails = { λ before after. RoseBy 1 before.asked after.asked × (after.pause ≡ longer_pause before.pause) };
+
+    fn next(&mut self) -> Result<(Self::In, Self::Out), DeviceFault> {
+        self.asked = self.asked.wrapping_add(1);
+        match self.connect() {
+            Ok(connection) => {
+                self.pause = 0;
+                Ok(connection)
+            }
+            Err(error) => {
+                self.hold(&error);
+                Err(DeviceFault)
+            }
+        }
+    }
+
+    fn ended(&self, outcome: &Result<Ended, SessionFault>) {
+        if let Some(breach) = breach_of(outcome) {
+            self.notices.breach(self.role, self.pass, breach);
+        }
     }
 }

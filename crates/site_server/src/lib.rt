@@ -4,7 +4,9 @@
 mod clock;
 mod crew;
 mod doors;
+mod limiter;
 mod listeners;
+mod notices;
 mod serving;
 #[cfg(test)]
 mod tests;
@@ -12,6 +14,9 @@ mod tests;
 pub use clock::MachineClock;
 pub use crew::Crew;
 pub use doors::TcpDoors;
+pub use limiter::Limiter;
+pub use line_session::SessionFault;
 pub use listeners::{ListenFault, Listeners};
+pub use notices::{Breach, Notices};
 pub use serving::{ServeFault, Served, resume_site, serve_on, serve_pass, serve_site};
 pub use site_lock::{CloseRefusal, Journal, LineJournal, NoJournal};

@@ -10,6 +10,7 @@ use crate::clock::MachineClock;
 use crate::crew::Crew;
 use crate::doors::TcpDoors;
 use crate::listeners::Listeners;
+use crate::notices::Notices;
 use line_session::{Doors, worker};
 use site_core::{Config, Site};
 use site_lock::{CloseRefusal, Forecourt, Journal, NoJournal, Pass, PassDesk, Straight, Yard};
@@ -76,20 +77,21 @@ pub fn serve_pass<L: Yard, J: Journal, S: Doors, R: Wait + Clock>(
 }
 
 /// Serves so many connections of the listener that is the pass's.
-fn serve_post<L: Yard, J: Journal, R: Wait + Clock>(
+fn serve_post<L: Yard, J: Journal, N: Notices, R: Wait + Clock>(
     rt: &R,
     alloc: Global,
     yard: &Forecourt<L, J>,
     pass: Pass<L>,
     crew: Crew,
     listeners: &Listeners,
+    notices: &N,
     connections: u32,
 ) -> (Pass<L>, u64)
     ensures worked { Worked L.config J.may_fail (role_of crew.tills crew.dispensers pass.id) connections result.1 pass result.0 }
     ensures id { result.0.id ≡ pass.id }
 {
     let role = crew.role(pass.id());
-    let mut doors = TcpDoors::new(alloc, listeners.of(role));
+    let mut doors = TcpDoors::new(rt, alloc, listeners.of(role), notices, role, pass.id());
     serve_pass(rt, alloc, yard, pass, role, &mut doors, connections)
 }
 
@@ -112,7 +114,12 @@ fn gathered<L: Yard>(
 
 /// Serves a site from where it stands: each worker of the crew serves so many connections, one after another, and then the site is
 /// closed. Each entry's line is handed to the journal before the entry is answered.
-pub fn serve_on<L: Yard + Send + Sync, J: Journal + Send, R: Threads + Wait + Clock + Sync>(
+pub fn serve_on<
+    L: Yard + Send + Sync,
+    J: Journal + Send,
+    N: Notices + Sync,
+    R: Threads + Wait + Clock + Sync,
+>(
     rt: &R,
     alloc: Global,
     site: Site,
@@ -120,6 +127,7 @@ pub fn serve_on<L: Yard + Send + Sync, J: Journal + Send, R: Threads + Wait + Cl
     blank: Blank,
     crew: Crew,
     listeners: &Listeners,
+    notices: &N,
     connections: u32,
 ) -> Result<Served<J>, ServeFault>
     requires name { blank.name ≡ L.name }
@@ -141,7 +149,18 @@ pub fn serve_on<L: Yard + Send + Sync, J: Journal + Send, R: Threads + Wait + Cl
         &|pass: Pass<L>| -> (Pass<L>, u64)
             ensures worked { Worked L.config J.may_fail (role_of crew.tills crew.dispensers pass.id) connections result.1 pass result.0 }
             ensures id { result.0.id ≡ pass.id }
-        { serve_post(rt, alloc, shared, pass, crew, listeners, connections) },
+        {
+            serve_post(
+                rt,
+                alloc,
+                shared,
+                pass,
+                crew,
+                listeners,
+                notices,
+                connections,
+            )
+        },
     )?;
     let (passes, well) = gathered(room, done)?;
     if yard.has_stopped(rt) {
@@ -158,36 +177,47 @@ pub fn serve_on<L: Yard + Send + Sync, J: Journal + Send, R: Threads + Wait + Cl
 }
 
 /// Serves a new site of this configuration, as `serve_on`, with a ledger of its own; no journal is kept.
-pub fn serve_site<R: Threads + Wait + Clock + Sync>(
+pub fn serve_site<N: Notices + Sync, R: Threads + Wait + Clock + Sync>(
     rt: &R,
     alloc: Global,
     config: Config,
     crew: Crew,
     listeners: &Listeners,
+    notices: &N,
     connections: u32,
 ) -> Result<Served, ServeFault>
     ensures ok { IfOk result (λ served. Leaves config crew.tills crew.dispensers connections served.site) }
     ensures err { IfErr result (λ fault. Spoils config crew.tills crew.dispensers connections fault) }
 {
     let site = Site::start(alloc, config)?;
-    resume_site(rt, alloc, site, NoJournal, crew, listeners, connections)
+    resume_site(
+        rt,
+        alloc,
+        site,
+        NoJournal,
+        crew,
+        listeners,
+        notices,
+        connections,
+    )
 }
 
 /// Serves a site from where it stands, as `serve_on`, with a ledger of its own.
-pub fn resume_site<J: Journal + Send, R: Threads + Wait + Clock + Sync>(
+pub fn resume_site<J: Journal + Send, N: Notices + Sync, R: Threads + Wait + Clock + Sync>(
     rt: &R,
     alloc: Global,
     site: Site,
     journal: J,
     crew: Crew,
     listeners: &Listeners,
+    notices: &N,
     connections: u32,
 ) -> Result<Served<J>, ServeFault>
     ensures ok { IfOk result (λ served. LeavesSince (from_site site (J.written journal) crew.tills crew.dispensers) J.may_fail crew.tills crew.dispensers connections served.site (J.written served.journal)) }
     ensures err { IfErr result (λ fault. SpoilsSince (from_site site (J.written journal) crew.tills crew.dispensers) J.may_fail crew.tills crew.dispensers connections fault) }
 {
     let blank = Blank::new(u64::from(crew.passes()));
-    serve_on::<Brand, J, R>(
+    serve_on::<Brand, J, N, R>(
         rt,
         alloc,
         site,
@@ -195,6 +225,7 @@ pub fn resume_site<J: Journal + Send, R: Threads + Wait + Clock + Sync>(
         blank,
         crew,
         listeners,
+        notices,
         connections,
     )
 }

@@ -1,6 +1,7 @@
 //! Serving over loopback: the peers are a thread of the test.
-use crate::{Crew, ListenFault, Listeners, ServeFault, Served, serve_site};
+use crate::{Crew, ListenFault, Listeners, Notices, ServeFault, Served, TcpDoors, serve_site};
 use decision_journal::write_entries;
+use line_session::Doors;
 use site_core::{Config, Site};
 use std::alloc::Global;
 use std::io;
@@ -10,12 +11,23 @@ use std::sync::Wait;
 use std::test::Fail;
 use std::thread::{Threads, join};
 use std::time::Clock;
+use till_request::Role;
 use till_request::devices::MemoryOut;
 
 /// One till, and one point whose releases go to slot 0 and presets to slot 1.
 fn config(alloc: Global) -> Option<Config> {
     let points = vec![in alloc; (0, 1)].ok()?;
     Config::new(1, 2, [1799, 1849, 0, 0, 0, 0, 0, 0], points, [(0, 0); 32])
+}
+
+/// Tells nobody.
+#[derive(Drop)]
+struct Silent;
+
+impl Notices for Silent {
+    fn no_door(&self, _role: Role, _pass: u32, _error: &io::Error) {}
+
+    fn breach(&self, _role: Role, _pass: u32, _breach: Breach) {}
 }
 
 /// A connection of a peer.
@@ -107,7 +119,7 @@ fn one_of_each<R: Net<Listener = TcpListener, Stream = TcpStream> + Threads + Wa
     let crew = Crew::new(1, 1).ok_or("a crew")?;
     let (served, heard) = join(
         rt,
-        || serve_site(rt, alloc, config, crew, shared, 1),
+        || serve_site(rt, alloc, config, crew, shared, &Silent, 1),
         || in_turn(rt, alloc, at),
     );
     match served {
@@ -131,4 +143,39 @@ fn serve_on_loopback(rt: HostRuntime) -> Result<(), Fail> {
         None => assert!(rt; false),
     }
     Ok(())
+}
+
+/// Whether the answers at a door of the tills' listener leave without a delay.
+fn leaves_at_once<R: Net<Listener = TcpListener, Stream = TcpStream> + Clock>(
+    rt: &R,
+    alloc: Global,
+) -> Result<bool, Fail> {
+    let Ok(listeners) = Listeners::open(rt, 0, 0, 0) else {
+        return Err(Fail::from("a port"));
+    };
+    let at = listeners.till.local_addr()?;
+    let _peer = TcpStream::connect(rt, at)?;
+    let mut doors = TcpDoors::new(rt, alloc, &listeners.till, &Silent, Role::Till, 1);
+    match doors.next() {
+        Ok((_input, output)) => Ok(output.writer.nodelay()?),
+        Err(_) => Err(Fail::from("a door")),
+    }
+}
+
+#[test]
+fn answers_leave_without_a_delay(rt: HostRuntime) -> Result<(), Fail> {
+    assert_eq!(rt; leaves_at_once(&rt, rt.alloc())?, true);
+    Ok(())
+}
+
+#[test]
+fn ten_lines_a_second_are_told(rt: HostRuntime) {
+    let mut limiter = Limiter::new();
+    for _ in 0..10 {
+        assert_eq!(rt; limiter.admit(7), Some(0));
+    }
+    assert_eq!(rt; limiter.admit(7), None);
+    assert_eq!(rt; limiter.admit(7), None);
+    assert_eq!(rt; limiter.admit(8), Some(2));
+    assert_eq!(rt; limiter.admit(8), Some(0));
 }

@@ -1,0 +1,83 @@
+//! What an operator reads on standard error while a site is served.
+use site_server::{Breach, Limiter, Notices, SessionFault};
+use std::io;
+use std::sync::{Mutex, Wait};
+use std::time::{Clock, SystemTime, UNIX_EPOCH};
+use till_request::{LineFault, Role};
+
+/// Tells an operator on standard error, at most ten lines a second. A site serves whether or not anybody reads it.
+#[derive(Drop)]
+pub struct Operator<'a, H: Wait + Clock> {
+    rt: &'a HostRuntime,
+    host: &'a H,
+    limiter: Mutex<Limiter>,
+}
+
+fn name_of(role: Role) -> &'static str {
+    match role {
+        Role::Till => "a till",
+        Role::Dispenser => "a dispenser",
+        Role::Owner | Role::All => "the owner",
+    }
+}
+
+fn words_of(breach: Breach) -> &'static str {
+    match breach {
+        Breach::Line(LineFault::TooLong) => "ended by a line of more than 8,400 bytes (L1)",
+        Breach::Line(_) => "ended in mid-line (L4)",
+        Breach::Session(SessionFault::Read) => "a read failed (N1)",
+        Breach::Session(SessionFault::Write) => "a write failed (N2)",
+        Breach::Session(SessionFault::ReadsSpent) => "its reads ran out (N3)",
+        Breach::Session(SessionFault::OutOfMemory) => "out of memory",
+    }
+}
+
+impl<'a, H: Wait + Clock> Operator<'a, H> {
+    /// Who was told nothing yet. `host` is the same runtime as `rt`.
+    pub fn new(rt: &'a HostRuntime, host: &'a H) -> Operator<'a, H> {
+        Operator {
+            rt,
+            host,
+            limiter: Mutex::new(Limiter::new()),
+        }
+    }
+
+    fn second(&self) -> u64 {
+        match SystemTime::now(self.host) {
+            Ok(time) => match time.duration_since(UNIX_EPOCH) {
+                Ok(since) => since.as_secs(),
+                Err(_) => 0,
+            },
+            Err(_) => 0,
+        }
+    }
+
+    /// Whether one more line may be told now; those that were held back are named before it.
+    fn is_admitted(&self) -> bool {
+        let admitted = self.limiter.lock(self.host).admit(self.second());
+        match admitted {
+            None => false,
+            Some(0) => true,
+            Some(held) => {
+                let _ = eprintln!(self.rt; "fc: and {held} more");
+                true
+            }
+        }
+    }
+}
+
+impl<H: Wait + Clock> Notices for Operator<'_, H> {
+    fn no_door(&self, role: Role, pass: u32, error: &io::Error) {
+        if self.is_admitted() {
+            let who = name_of(role);
+            let _ = eprintln!(self.rt; "fc: pass {pass}: no connection for {who}: {error}");
+        }
+    }
+
+    fn breach(&self, role: Role, pass: u32, breach: Breach) {
+        if self.is_admitted() {
+            let (who, words) = (name_of(role), words_of(breach));
+            let _ = eprintln!(self.rt; "fc: pass {pass}: the session of {who}: {words}");
+        }
+    }
+}

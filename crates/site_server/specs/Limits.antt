@@ -1,0 +1,20 @@
+-- Definitions: how many lines an operator is told in a second (this profile): at most ten; the others are counted, and their number is
+-- told with the first line of a later second.
+use Rattle.std.specs.Prelude.{ℕ, ◌+◌, ◌==◌, nat_lt, if◌then◌else◌, Option, Some, None}
+
+-- The second in which lines were told last, how many, and how many were held back since.
+pub record LimiterValue : Type 0 where
+  pub second : ℕ
+  pub told : ℕ
+  pub held : ℕ
+
+-- how many were held back before a line of this second, or none where it is held back itself
+abbrev pub admitted : LimiterValue → ℕ → Option ℕ
+admitted l second = if second == l.second then (if nat_lt l.told 10 then Some 0 else None) else Some l.held
+
+-- what follows
+abbrev pub after_line : LimiterValue → ℕ → LimiterValue
+after_line l second =
+    if second == l.second then
+    (if nat_lt l.told 10 then record { second = second; told = l.told + 1; held = l.held } else record { second = second; told = l.told; held = l.held + 1 })
+    else record { second = second; told = 1; held = 0 }

@@ -1,0 +1,17 @@
+-- Definitions: how long a worker waits when its doors don't open, and what an operator is told of a session that ended (this profile).
+use Rattle.std.specs.Prelude.{ℕ, ◌*◌, zero, suc, nat_le, if◌then◌else◌, Option, Some, Result, Ok, Err}
+use Rattle.std.specs.Option.{option_map}
+use Rattle.line_session.specs.declared.answering.Ended.{Ended}
+use Rattle.line_session.specs.declared.answering.SessionFault.{SessionFault}
+use Rattle.site_server.specs.declared.notices.Breach.{Breach}
+use Rattle.site_server.specs.declared.notices.Breach.TheVariants.{Line, Session}
+
+-- milliseconds, by what it waited before: 10 at first, then twice as long each time, and at most 1,000
+abbrev pub longer_pause : ℕ → ℕ
+longer_pause zero = 10
+longer_pause (suc n) = if nat_le 500 (suc n) then 1000 else 2 * suc n
+
+-- the line that cut it, or its fault; nothing where neither did
+abbrev pub told_of : Result Ended SessionFault → Option Breach
+told_of (Ok ended) = option_map (λ fault. Line fault) ended.cut
+told_of (Err fault) = Some (Session fault)

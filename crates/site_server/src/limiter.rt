@@ -1,0 +1,62 @@
+//! How much an operator is told at once.
+ghost use Rattle.std.specs.Prelude.{◌≡◌, ◌+◌, ◌<◌, ◌^◌};
+ghost use Rattle.site_server.specs.Limits.{admitted, after_line};
+
+use std::marker::Model;
+
+/// Lets at most ten lines a second be told, and counts the others.
+#[derive(Drop)]
+pub struct Limiter {
+    second: u64,
+    told: u32,
+    held: u64,
+}
+
+impl Model for Limiter {
+    ghost use Rattle.std.specs.Prelude.{◌≤◌};
+    ghost use Rattle.site_server.specs.Limits.{LimiterValue};
+
+    ghost Value = { LimiterValue };
+
+    ghost view = { λ l. record { second = l.second; told = l.told; held = l.held } };
+
+    ghost invariant = { λ l. l.told ≤ 10 };
+}
+
+impl Limiter {
+    /// Nothing was told yet.
+    pub fn new() -> Limiter
+        ensures second { result.second ≡ 0 }
+        ensures told { result.told ≡ 0 }
+        ensures held { result.held ≡ 0 }
+    {
+        Limiter {
+            second: 0,
+            told: 0,
+            held: 0,
+        }
+    }
+
+    /// Whether a line may be told in this second, and how many were held back before it. Their count stops at 2^64 - 1.
+    pub fn admit(&mut self, second: u64) -> Option<u64>
+        ensures admitted { result ≡ admitted self.old second }
+        ensures after { self.old.held + 1 < 2 ^ 64 → self.new ≡ after_line self.old second }
+    {
+        if second != self.second {
+            let held = self.held;
+            *self = Limiter {
+                second,
+                told: 1,
+                held: 0,
+            };
+            return Some(held);
+        }
+        if self.told < 10 {
+            self.told += 1;
+            Some(0)
+        } else {
+            self.held = self.held.saturating_add(1);
+            None
+        }
+    }
+}

@@ -1,0 +1,22 @@
+//! What an operator is told while a site is served.
+use line_session::SessionFault;
+use std::io;
+use till_request::{LineFault, Role};
+
+/// Why a session ended before its peer had said all it wanted.
+#[derive(Clone, Copy, Debug, PartialEq, Eq, Drop)]
+pub enum Breach {
+    /// A line that ended it: L1 or L4.
+    Line(LineFault),
+    /// A device that failed, reads that ran out, or want of memory.
+    Session(SessionFault),
+}
+
+/// Tells an operator what doesn't go as it should. All workers share it, and none of them waits for it to be read.
+pub trait Notices {
+    /// A connection can't be opened for the worker of this role with this pass.
+    fn no_door(&self, role: Role, pass: u32, error: &io::Error);
+
+    /// A session of the worker of this role with this pass ended so.
+    fn breach(&self, role: Role, pass: u32, breach: Breach);
+}
