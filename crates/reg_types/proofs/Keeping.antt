@@ -1,6 +1,6 @@
 -- Pointers kept on the stack: what stores do to them, and what notes say of them.
-use Rattle.std.proofs.Common.{◌≡◌, ◌≢◌, ℕ, zero, suc, ◌+◌, ◌-◌, ◌*◌, ◌<◌, ◌≤◌, ◌⊎◌, List, [], ◌∷◌, Option, Some, None, Bool, true, false, refl, sym, ap, ◌∙◌, subst, inl, inr, arith, length, replicate}
-use Rattle.std.specs.Prelude.{ℤ, pos, negsuc, ◌+ℤ◌, ◌/◌, ◌%◌, ◌==◌, ◌&&◌, cond, nat_le, nat_lt, slice_set, slice_index, ⊤}
+use Rattle.std.proofs.Common.{◌≡◌, ◌≢◌, ℕ, zero, suc, ◌+◌, ◌-◌, ◌*◌, ◌<◌, ◌≤◌, ◌⊎◌, List, [], ◌∷◌, Option, Some, None, Bool, true, false, refl, sym, ap, ◌∙◌, subst, inl, inr, arith, length}
+use Rattle.std.specs.Prelude.{pos, negsuc, ◌+ℤ◌, ◌/◌, ◌%◌, ◌==◌, ◌&&◌, cond, nat_le, nat_lt, slice_set, slice_index, ⊤}
 use Rattle.std.proofs.lemmas.Bool.{cases_lt, cases_eq, eqb-true, eq-eqb, and_parts, and_from}
 use Rattle.std.proofs.lemmas.Bool.Decides.{nat_tests}
 use Rattle.std.proofs.lemmas.Int.{ints}
@@ -127,7 +127,7 @@ lt_from m n e = grind (arith, nat_tests)
 not_below : (m n : ℕ) → nat_lt m n ≡ false → n ≤ m
 not_below m n e = grind (arith, nat_tests)
 
-noted_context : (k : ℕ) → k ≤ 64 → noted_type (k + 1) ≡ Ctx k
+pub noted_context : (k : ℕ) → k ≤ 64 → noted_type (k + 1) ≡ Ctx k
 noted_context k l =
     let some : (k + 1 == 0) ≡ false = grind (arith, nat_tests) in
     let small : nat_le (k + 1) 65 ≡ true = grind (arith, nat_tests) in
@@ -136,7 +136,7 @@ noted_context k l =
     ∙ ap (λ b. cond b (Ctx (k + 1 - 1)) (Stk (pos (k + 1 - 66) +ℤ negsuc 511))) small
     ∙ ap Ctx back
 
-noted_stack : (m : ℕ) → noted_type (66 + m) ≡ Stk (pos m +ℤ negsuc 511)
+pub noted_stack : (m : ℕ) → noted_type (66 + m) ≡ Stk (pos m +ℤ negsuc 511)
 noted_stack m =
     let some : (66 + m == 0) ≡ false = grind (arith, nat_tests) in
     let large : nat_le (66 + m) 65 ≡ false = grind (arith, nat_tests) in
@@ -145,7 +145,7 @@ noted_stack m =
     ∙ ap (λ b. cond b (Ctx (66 + m - 1)) (Stk (pos (66 + m - 66) +ℤ negsuc 511))) large
     ∙ ap (λ x. Stk (pos x +ℤ negsuc 511)) back
 
-back_again : (m : ℕ) → pos m ≡ ((pos m +ℤ negsuc 511) +ℤ pos 512)
+pub back_again : (m : ℕ) → pos m ≡ ((pos m +ℤ negsuc 511) +ℤ pos 512)
 back_again m = omega (arith, ints)
 
 context_note : (b : Bool) (k n : ℕ) → (b ≡ true → k ≤ 64) → n ≡ k → is_unset (noted_type (cond b (k + 1) 0)) ≡ false → FitsType (noted_type (cond b (k + 1) 0)) (Context n)

@@ -17,15 +17,14 @@ use Rattle.bpf_model.specs.declared.machine.View.{View}
 use Rattle.bpf_model.specs.declared.machine.State.{State}
 use Rattle.bpf_model.specs.Reading.{bytes_in}
 use Rattle.bpf_model.specs.Arithmetic.{holds, extended}
-use Rattle.bpf_model.specs.Machine.{Next, Goes, Exits, Stuck, Place, InContext, InStack, where_some, shifted, number, map_option, mem, read, register, operand, alu_value, sets, jumps, branches, stores, stores_value, keeps as keeps_value, stack_place, aligned_place, is_aligned, cell_at, kept_at, kept_in, kept_from, number_in, loaded, number_or, written, pieces_written, after_call as call_state, Answer, helper_of, act}
-use Rattle.stack_map.specs.Places.{Within}
+use Rattle.bpf_model.specs.Machine.{Next, Goes, Exits, Stuck, Place, InContext, InStack, where_some, shifted, number, map_option, mem, read, register, operand, alu_value, sets, jumps, branches, stores, stores_value, keeps as keeps_value, stack_place, aligned_place, is_aligned, cell_at, kept_at, kept_in, number_in, loaded, number_or, written, pieces_written, after_call as call_state, Answer, helper_of, act}
 use Rattle.reg_types.specs.declared.types.RegType.{RegType}
 use Rattle.reg_types.specs.declared.types.RegType.TheVariants.{Unset as Anything, Num, Const, Ctx, Stk}
 use Rattle.reg_types.specs.declared.types.Fact.{Fact}
 use Rattle.reg_types.specs.declared.types.Effect.{Effect}
 use Rattle.reg_types.specs.declared.types.Flaw.{Flaw}
 use Rattle.reg_types.specs.declared.types.Flaw.TheVariants.{WriteR10, NotANumber, UnsetBytes, StorePointer}
-use Rattle.reg_types.specs.Rules.{type_at, is_numeric, is_unset, is_pointer, operand_type, alu_type, unmarked, put_type, set_type, natural, lowest, number_at, number_set, all_in, load_type, note_of, noted_type, note_in, kept_type, kept_or, loaded_type, marks, store_type, keeps, keeps_pointer, after_call, effect}
+use Rattle.reg_types.specs.Rules.{type_at, is_numeric, is_unset, is_pointer, operand_type, alu_type, unmarked, put_type, set_type, natural, lowest, number_at, number_set, all_in, load_type, noted_type, note_in, kept_type, loaded_type, marks, store_type, keeps, keeps_pointer, after_call, effect}
 use Rattle.reg_types.specs.Facts.{FitsType, HasByte, Covered, IsKept, Fits, Changes, HasAfter, IsAfter}
 use Rattle.reg_types.specs.Inference.{option_cons, leads}
 use Rattle.reg_types.proofs.Values.{Gives, arithmetic}
@@ -309,8 +308,7 @@ module _ (declared : ℕ) (fact after : Fact) (s : State) (fits : Fits fact s) w
   kept_gives context (Stk k) (Stack n) i size h u =
       let x = note_gives size (shifted (lowest k) i.offset (512 - size)) u in
       let there : lowest k ≡ n = ap natural (sym h) in
-      let kept : kept_in (InStack x.0) size s.stack ≡ Some x.1 = ap (λ b. cond b (kept_at s.stack x.0) None) x.3 ∙ x.4 in
-      (
+      let kept : kept_in (InStack x.0) size s.stack ≡ Some x.1 = ap (λ b. cond b (kept_at s.stack x.0) None) x.3 ∙ x.4 in (
         InStack x.0,
         x.1,
         ap (λ m. map_option InStack (shifted m i.offset (512 - size))) (sym there) ∙ ap (map_option InStack) x.2,
