@@ -1,5 +1,5 @@
 -- Pointers kept on the stack: what stores do to them, and what notes say of them.
-use Rattle.std.proofs.Common.{◌≡◌, ◌≢◌, ℕ, zero, suc, ◌+◌, ◌-◌, ◌*◌, ◌<◌, ◌≤◌, ◌⊎◌, List, [], ◌∷◌, Option, Some, None, Bool, true, false, refl, sym, ap, ◌∙◌, subst, inl, inr, arith, length}
+use Rattle.std.proofs.Common.{◌≡◌, ◌≢◌, ℕ, zero, suc, ◌+◌, ◌-◌, ◌*◌, ◌<◌, ◌≤◌, ◌⊎◌, ◌↔◌, List, [], ◌∷◌, Option, Some, None, Bool, true, false, refl, sym, ap, ◌∙◌, subst, inl, inr, arith, length}
 use Rattle.std.specs.Prelude.{pos, negsuc, ◌+ℤ◌, ◌/◌, ◌%◌, ◌==◌, ◌&&◌, cond, nat_le, nat_lt, slice_set, slice_index, ⊤}
 use Rattle.std.proofs.lemmas.Bool.{cases_lt, cases_eq, eqb-true, eq-eqb, and_parts, and_from}
 use Rattle.std.proofs.lemmas.Bool.Decides.{nat_tests}
@@ -10,11 +10,13 @@ use Rattle.bpf_model.specs.declared.machine.Value.TheVariants.{Unset, Number, Co
 use Rattle.bpf_model.specs.declared.machine.Cell.{Cell}
 use Rattle.bpf_model.specs.declared.machine.Cell.TheVariants.{Empty, Byte, Piece}
 use Rattle.bpf_model.specs.Machine.{cell_at, low_byte, written, pieces_written, same_pointer, is_piece, has_pieces, value_if, kept_from, kept_at, is_aligned}
-use Rattle.stack_map.specs.Places.{Within}
+use Rattle.stack_map.specs.Places.{Has, Within}
 use Rattle.reg_types.specs.declared.types.RegType.{RegType}
 use Rattle.reg_types.specs.declared.types.RegType.TheVariants.{Unset as Anything, Num, Const, Ctx, Stk}
 use Rattle.reg_types.specs.Rules.{is_unset, is_pointer, natural, lowest, note_of, noted_type}
-use Rattle.reg_types.specs.Facts.{FitsType, IsKept}
+use Rattle.reg_types.specs.declared.types.Fact.{Fact}
+use Rattle.reg_types.specs.declared.types.Effect.{Effect}
+use Rattle.reg_types.specs.Facts.{FitsType, IsKept, HasAfter, IsAfter}
 use Rattle.reg_types.specs.Inference.{no_notes, touches, renoted, join_notes}
 
 -- ---- cells that a store leaves alone
@@ -357,3 +359,34 @@ all_put n at len k old new lo enough least h =
       | inr a ↦ h.behind j (let b = not_below (8 * j) (at + len) a in omega (arith, b, least))
     ])
     ∙ sym (note_at-renoted n at len 0 old j j (omega arith) (omega (arith, l, lo, room))))
+
+-- ---- an instruction that writes nothing
+
+second_false : (a b : Bool) → b ≡ false → (a && b) ≡ false
+second_false true b e = e
+second_false false b e = refl
+
+pub renoted_none : (n j : ℕ) (notes : List ℕ) → notes ≡ renoted n 0 0 j notes
+renoted_none n j [] = refl
+renoted_none n j (m ∷ rest) =
+    let never : nat_lt (8 * j) 0 ≡ false = grind (arith, nat_tests) in
+    let none : touches 0 0 j ≡ false = second_false (nat_lt 0 (8 * j + 8)) (nat_lt (8 * j) 0) never in
+    ap (λ b. cond b n m ∷ rest) (sym none) ∙ ap (λ ms. cond (touches 0 0 j) n m ∷ ms) (renoted_none n (suc j) rest)
+
+pub after_none : (b : Bool) (set : List Bool) (p : ℕ) → Has set p ↔ HasAfter b set 0 0 p
+after_none true set p = (λ h. inl h, λ h. elim h [ inl old ↦ old | inr w ↦ absurd (omega (arith, w.1)) ])
+after_none false set p = (λ h. (h, λ w. omega (arith, w.1)), λ h. h.0)
+
+pub unwritten : (fact after : Fact) (e : Effect) → e.at ≡ 0 → e.len ≡ 0 → after.types ≡ e.types → after.stack ≡ fact.stack → after.notes ≡ fact.notes → IsAfter fact e after
+unwritten fact after e at len types stack notes =
+    record {
+      types = types;
+      places =
+          λ p. subst (λ set. Has set p ↔ HasAfter (is_unset e.kept) fact.stack e.at e.len p) (sym stack)
+          (subst (λ a. Has fact.stack p ↔ HasAfter (is_unset e.kept) fact.stack a e.len p) (sym at)
+          (subst (λ l. Has fact.stack p ↔ HasAfter (is_unset e.kept) fact.stack 0 l p) (sym len) (after_none (is_unset e.kept) fact.stack p)));
+      notes =
+          notes ∙ renoted_none (note_of e.kept) 0 fact.notes
+          ∙ ap (λ a. renoted (note_of e.kept) a 0 0 fact.notes) (sym at)
+          ∙ ap (λ l. renoted (note_of e.kept) e.at l 0 fact.notes) (sym len);
+    }

@@ -1,9 +1,10 @@
 // What is known before an instruction.
 
-ghost use Rattle.std.specs.Prelude.{◌≡◌, ◌≤◌, ◌+◌};
-ghost use Rattle.reg_types.specs.Rules.{type_at, is_unset, is_pointer, is_numeric, join_type};
-ghost use Rattle.reg_types.specs.Facts.{IsAfter, IsEntry, jump_of, next_of};
-ghost use Rattle.reg_types.specs.Inference.{join_fact};
+ghost use Rattle.std.specs.Prelude.{◌≡◌, ℕ, ◌↔◌, ◌≤◌, ◌+◌};
+ghost use Rattle.stack_map.specs.Places.{Has};
+ghost use Rattle.reg_types.specs.Rules.{type_at, is_unset, is_pointer, is_numeric, join_type, note_of as note_by};
+ghost use Rattle.reg_types.specs.Facts.{HasAfter, IsAfter, IsEntry, jump_of, next_of};
+ghost use Rattle.reg_types.specs.Inference.{join_fact, renoted};
 ghost use Rattle.reg_types.specs.Passing.{IsSame};
 
 use crate::notes::{join_notes, note_of, put_note};
@@ -180,6 +181,18 @@ impl Fact {
         ensures { IsAfter self.old effect.now self.new }
     {
         self.types = effect.types;
+        if effect.at > 0 || effect.len > 0 {
+            self.write(effect);
+        }
+    }
+
+    // The bytes that an instruction writes.
+    fn write(&mut self, effect: &Effect)
+        requires { effect.now.at + effect.now.len ≤ 512 }
+        ensures types { self.new.types ≡ self.old.types }
+        ensures places { (p : ℕ) → Has self.new.stack p ↔ HasAfter (is_unset effect.now.kept) self.old.stack effect.now.at effect.now.len p }
+        ensures notes { self.new.notes ≡ renoted (note_by effect.now.kept) effect.now.at effect.now.len 0 self.old.notes }
+    {
         if effect.kept.is_nothing() {
             self.stack.mark(effect.at, effect.len);
         } else {
