@@ -4,6 +4,8 @@
 #[cfg(test)]
 mod journals;
 #[cfg(test)]
+mod kept_pointers;
+#[cfg(test)]
 mod points;
 #[cfg(test)]
 mod programs;

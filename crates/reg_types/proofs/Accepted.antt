@@ -63,10 +63,10 @@ IsWider-trans (Some a) (Some b) c f g =
     (g.0, g.1, IsBelow-trans a b g.0 (subst (IsBelow a) b_is f.2) g.2)
 
 join_left : (a b : Fact) → IsBelow a (join_fact a b)
-join_left a b = below_left a b (join_fact a b) (type_at-joined a.types b.types) (λ p h. ((common_has a.stack b.stack p).0 h).0)
+join_left a b = below_left a b (join_fact a b) (type_at-joined a.types b.types) (λ p h. ((common_has a.stack b.stack p).0 h).0) refl
 
 join_right : (a b : Fact) → IsBelow b (join_fact a b)
-join_right a b = below_right a b (join_fact a b) (type_at-joined a.types b.types) (λ p h. ((common_has a.stack b.stack p).0 h).1)
+join_right a b = below_right a b (join_fact a b) (type_at-joined a.types b.types) (λ p h. ((common_has a.stack b.stack p).0 h).1) refl
 
 taken_left : (o : Option Fact) (fact : Fact) → IsWider o (Some (taken_in o fact))
 taken_left None fact = tt

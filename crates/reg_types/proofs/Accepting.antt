@@ -27,7 +27,7 @@ use Rattle.reg_types.specs.declared.types.Flaw.{Flaw}
 use Rattle.reg_types.specs.declared.types.Flaw.TheVariants.{FallsOff, NotANumber}
 use Rattle.reg_types.specs.declared.types.Fact.{Fact}
 use Rattle.reg_types.specs.declared.types.Effect.{Effect}
-use Rattle.reg_types.specs.Rules.{type_at, is_numeric, is_plain, one_number, two_numbers, alu_type, unmarked, set_type, load_type, number_at, compared, exited, effect, falls_off, judged, join_type}
+use Rattle.reg_types.specs.Rules.{type_at, is_numeric, is_plain, one_number, two_numbers, alu_type, unmarked, set_type, load_type, loaded_type, number_at, compared, exited, effect, falls_off, judged, join_type}
 use Rattle.reg_types.specs.Inference.{leads, upper_of, join_types, entry_fact, fact_after, instruction_at, ruled, flaw_in, flaw_of, flaw_under, taken_in, arrived, arrived_all, passed_by, passed_from, passed, known, inferred, or_else, first_flaw_below}
 use Rattle.reg_types.specs.Plain.{IsPlainForm, SetsFirst, LoadsArgument, ArePlainUnits}
 use Rattle.reg_types.specs.Accepting.{ArePlain, PlainOption, PlainTypesAt, AcceptsAll}
@@ -110,7 +110,13 @@ load_ok : (o : Option ℕ) → IsSome o → GivesNumber (number_at o)
 load_ok None h = absurd (cc)
 load_ok (Some at) h = refl
 
--- a load from the context through R1
+-- a load from the context through R1, at which no pointer is noted
+loaded_first : (fact : Fact) (i : Inst) (size : Size) → LoadsArgument i size → 2 ≤ length fact.types → type_at fact.types 1 ≡ Ctx 0 → Accepted (set_type fact.types i.dst (loaded_type fact.stack fact.notes (type_at fact.types i.src) i (bytes_in size)))
+loaded_first fact i size f l b =
+    let o = loaded_type fact.stack fact.notes (type_at fact.types i.src) i (bytes_in size) in
+    let same : loaded_type fact.stack fact.notes (Ctx 0) i (bytes_in size) ≡ o = ap (λ t. loaded_type fact.stack fact.notes t i (bytes_in size)) (sym (ap (type_at fact.types) f.1 ∙ b)) in
+    set_dst fact.types i.dst o f.0 l b (subst GivesNumber same (load_ok (shifted 0 i.offset (64 - bytes_in size)) f.2))
+
 load_first : (fact : Fact) (i : Inst) (size : Size) → LoadsArgument i size → 2 ≤ length fact.types → type_at fact.types 1 ≡ Ctx 0 → Accepted (set_type fact.types i.dst (load_type fact.stack (type_at fact.types i.src) i (bytes_in size)))
 load_first fact i size f l b =
     let o = load_type fact.stack (type_at fact.types i.src) i (bytes_in size) in
@@ -140,7 +146,7 @@ plain_effect declared fact i upper (Arithmetic SwapBytes w s) p f =
 plain_effect declared fact i upper (Arithmetic op w Immediate) p f =
     let h = ap (λ d. is_numeric (type_at fact.types d)) f ∙ p.number in
     set_dst fact.types i.dst (alu_type op w Immediate i (type_at fact.types i.dst) (Const (immediate w i.imm))) f p.long p.base (numbers_ok op w i (type_at fact.types i.dst) (immediate w i.imm) h)
-plain_effect declared fact i upper (Load size) p f = load_first fact i size f p.long p.base
+plain_effect declared fact i upper (Load size) p f = loaded_first fact i size f p.long p.base
 plain_effect declared fact i upper (LoadSigned size) p f = load_first fact i size f p.long p.base
 plain_effect declared fact i upper (Arithmetic op w Register) p f = absurd f
 plain_effect declared fact i upper (Branch c w Register) p f = absurd f
@@ -152,7 +158,7 @@ plain_effect declared fact i upper Call p f = absurd f
 first_effect : (declared : ℕ) (fact : Fact) (i : Inst) (upper : ℤ) (form : Form) → 2 ≤ length fact.types → type_at fact.types 1 ≡ Ctx 0 → IsPlainForm i form → SetsFirst form → Accepted (effect declared fact i upper form)
 first_effect declared fact i upper Wide l b f s =
     let o : Typed = Ok (Const (cast_unsigned w32 upper * 2 ^ 32 + cast_unsigned w32 i.imm)) in set_dst fact.types i.dst o f l b refl
-first_effect declared fact i upper (Load size) l b f s = load_first fact i size f l b
+first_effect declared fact i upper (Load size) l b f s = loaded_first fact i size f l b
 first_effect declared fact i upper (LoadSigned size) l b f s = load_first fact i size f l b
 first_effect declared fact i upper (Arithmetic Move w Immediate) l b f s =
     set_dst fact.types i.dst (alu_type Move w Immediate i (type_at fact.types i.dst) (Const (immediate w i.imm))) f l b (plain_move (is_plain i.offset) (low w (immediate w i.imm)))

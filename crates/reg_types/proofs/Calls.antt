@@ -80,7 +80,7 @@ pub record Answered (declared : ℕ) (types : List RegType) (view : View) (count
   pub changes : Changes declared counters reply.counters
   pub at : ℕ
   pub bytes : List ℕ
-  pub marks : record { types = after_call types; at = at; len = length bytes } ≡ e
+  pub marks : record { types = after_call types; at = at; len = length bytes; kept = Anything } ≡ e
   pub stack_is : reply.stack ≡ written stack at bytes
   pub inside : at + length bytes ≤ 512
 
@@ -148,7 +148,7 @@ module _ (declared : ℕ) (types : List RegType) (view : View) (va vb : Value) (
   record_reply f at = record { value = is_there (point view f); counters = counters; stack = written stack at (record_bytes (point_or_zero (point view f))) }
 
   abbrev record_effect : ℕ → ℕ → Effect
-  record_effect at len = record { types = after_call types; at = at; len = len }
+  record_effect at len = record { types = after_call types; at = at; len = len; kept = Anything }
 
   abbrev first_of_two : Helper → Kind
   first_of_two h = kind_at (kinds h) 0

@@ -16,9 +16,9 @@ use Rattle.reg_types.specs.declared.types.Fact.{Fact}
 use Rattle.reg_types.specs.declared.types.Effect.{Effect}
 use Rattle.reg_types.specs.declared.types.Flaw.{Flaw}
 use Rattle.reg_types.specs.declared.types.Flaw.TheVariants.{FallsOff, UnsetBytes}
-use Rattle.reg_types.specs.Rules.{type_at, join_type, all_in, load_type, number_set, lowest, set_type, effect, falls_off, judged}
-use Rattle.reg_types.specs.Facts.{IsAfter, IsEntry}
-use Rattle.reg_types.specs.Inference.{leads, upper_of, common, marked, join_types, join_fact, entry_fact, fact_after, instruction_at, ruled, flaw_in, flaw_of, flaw_under, taken_in, arrived, arrived_all, passed_by, passed_from, passed}
+use Rattle.reg_types.specs.Rules.{type_at, join_type, all_in, load_type, number_set, lowest, set_type, kept_type, kept_or, note_of, is_unset, effect, falls_off, judged}
+use Rattle.reg_types.specs.Facts.{HasAfter, IsAfter, IsEntry}
+use Rattle.reg_types.specs.Inference.{leads, upper_of, common, marked, cleared, join_types, join_notes, renoted, set_after, join_fact, entry_fact, fact_after, instruction_at, ruled, flaw_in, flaw_of, flaw_under, taken_in, arrived, arrived_all, passed_by, passed_from, passed}
 use Rattle.reg_types.specs.Passing.{IsSame, AreSame}
 
 -- ---- sets
@@ -57,6 +57,37 @@ marked_has zero (suc len) set (suc p) = past_none (marked zero len (drop 1 set))
 marked_has (suc at) len set zero = lowest_has set (marked at len (drop 1 set)) at len
 marked_has (suc at) len set (suc p) = past_one (slice_index_or set 0 false) (marked at len (drop 1 set)) set at len p (marked_has at len (drop 1 set) p)
 
+apart_one : (b : Bool) (xs : List Bool) (set : List Bool) (at len p : ℕ) → (Has xs p ↔ (Has (drop 1 set) p × ¬ (Within at len p))) → Has (b ∷ xs) (suc p) ↔ (Has set (suc p) × ¬ (Within (suc at) len (suc p)))
+apart_one b xs set at len p h = (
+  λ has. let x = h.0 has in (sym (dropped set p) ∙ x.0, λ w. x.1 (omega (arith, w.0), omega (arith, w.1))),
+  λ e. h.1 (dropped set p ∙ e.0, λ w. e.1 (omega (arith, w.0), omega (arith, w.1))),
+)
+
+apart_none : (xs : List Bool) (set : List Bool) (len p : ℕ) → (Has xs p ↔ (Has (drop 1 set) p × ¬ (Within 0 len p))) → Has (false ∷ xs) (suc p) ↔ (Has set (suc p) × ¬ (Within 0 (suc len) (suc p)))
+apart_none xs set len p h = (
+  λ has. let x = h.0 has in (sym (dropped set p) ∙ x.0, λ w. x.1 (omega arith, omega (arith, w.1))),
+  λ e. h.1 (dropped set p ∙ e.0, λ w. e.1 (omega arith, omega (arith, w.1))),
+)
+
+pub cleared_has : (at len : ℕ) (set : List Bool) (p : ℕ) → Has (cleared at len set) p ↔ (Has set p × ¬ (Within at len p))
+cleared_has zero zero set p = (λ has. (has, λ w. omega (arith, w.1)), λ e. e.0)
+cleared_has zero (suc len) set zero = (λ has. absurd (cc), λ e. absurd (e.1 (omega arith, omega arith)))
+cleared_has zero (suc len) set (suc p) = apart_none (cleared zero len (drop 1 set)) set len p (cleared_has zero len (drop 1 set) p)
+cleared_has (suc at) len set zero = (λ has. (has, λ w. omega (arith, w.0)), λ e. e.0)
+cleared_has (suc at) len set (suc p) = apart_one (slice_index_or set 0 false) (cleared at len (drop 1 set)) set at len p (cleared_has at len (drop 1 set) p)
+
+-- the set after an instruction
+after_if : (b : Bool) (at len : ℕ) (set : List Bool) (p : ℕ) → Has (cond b (marked at len set) (cleared at len set)) p ↔ HasAfter b set at len p
+after_if true at len set p = marked_has at len set p
+after_if false at len set p = cleared_has at len set p
+
+pub after_has : (e : Effect) (set : List Bool) (p : ℕ) → Has (set_after e set) p ↔ HasAfter (is_unset e.kept) set e.at e.len p
+after_has e set p = after_if (is_unset e.kept) e.at e.len set p
+
+has_after_same : (b : Bool) (at len p : ℕ) (x y : List Bool) → (Has x p ↔ Has y p) → HasAfter b x at len p → HasAfter b y at len p
+has_after_same true at len p x y f h = elim h [ inl old ↦ inl (f.0 old) | inr w ↦ inr w ]
+has_after_same false at len p x y f h = (f.0 h.0, h.1)
+
 -- ---- types
 
 nothing_joined : (t : RegType) → join_type t Unset ≡ Unset
@@ -85,11 +116,15 @@ joined_types a b j la lj e =
 -- ---- the relation
 
 pub IsSame-refl : (a : Fact) → IsSame a a
-IsSame-refl a = record { types = refl; places = λ p. (λ h. h, λ h. h) }
+IsSame-refl a = record { types = refl; places = λ p. (λ h. h, λ h. h); notes = refl }
 
 pub IsSame-trans : (a b c : Fact) → IsSame a b → IsSame b c → IsSame a c
 IsSame-trans a b c f g =
-    record { types = f.types ∙ g.types; places = λ p. (λ h. (g.places p).0 ((f.places p).0 h), λ h. (f.places p).1 ((g.places p).1 h)) }
+    record {
+      types = f.types ∙ g.types;
+      places = λ p. (λ h. (g.places p).0 ((f.places p).0 h), λ h. (f.places p).1 ((g.places p).1 h));
+      notes = f.notes ∙ g.notes;
+    }
 
 pub AreSame-refl : (a : Option Fact) → AreSame a a
 AreSame-refl None = tt
@@ -112,6 +147,7 @@ join_same a b c d f g =
             λ h. let both = (common_has a.stack c.stack p).0 h in (common_has b.stack d.stack p).1 ((f.places p).0 both.0, (g.places p).0 both.1),
             λ h. let both = (common_has b.stack d.stack p).0 h in (common_has a.stack c.stack p).1 ((f.places p).1 both.0, (g.places p).1 both.1),
           );
+      notes = ap (λ n. join_notes n c.notes) f.notes ∙ ap (join_notes b.notes) g.notes;
     }
 
 taken_same : (a b : Option Fact) (c d : Fact) → AreSame a b → IsSame c d → IsSame (taken_in a c) (taken_in b d)
@@ -137,9 +173,10 @@ after_same a b e f =
       types = refl;
       places =
           λ p. (
-            λ h. (marked_has e.at e.len b.stack p).1 (elim ((marked_has e.at e.len a.stack p).0 h) [ inl old ↦ inl ((f.places p).0 old) | inr w ↦ inr w ]),
-            λ h. (marked_has e.at e.len a.stack p).1 (elim ((marked_has e.at e.len b.stack p).0 h) [ inl old ↦ inl ((f.places p).1 old) | inr w ↦ inr w ]),
+            λ h. (after_has e b.stack p).1 (has_after_same (is_unset e.kept) e.at e.len p a.stack b.stack (f.places p) ((after_has e a.stack p).0 h)),
+            λ h. (after_has e a.stack p).1 (has_after_same (is_unset e.kept) e.at e.len p b.stack a.stack ((f.places p).1, (f.places p).0) ((after_has e b.stack p).0 h)),
           );
+      notes = ap (renoted (note_of e.kept) e.at e.len 0) f.notes;
     }
 
 -- what the code's own functions leave
@@ -147,23 +184,25 @@ pub same_after : (fact : Fact) (e : Effect) (after : Fact) → IsAfter fact e af
 same_after fact e after is =
     record {
       types = is.types;
-      places = λ p. (λ h. (marked_has e.at e.len fact.stack p).1 ((is.places p).0 h), λ h. (is.places p).1 ((marked_has e.at e.len fact.stack p).0 h));
+      places = λ p. (λ h. (after_has e fact.stack p).1 ((is.places p).0 h), λ h. (is.places p).1 ((after_has e fact.stack p).0 h));
+      notes = is.notes;
     }
 
 pub after_is : (fact : Fact) (e : Effect) → IsAfter fact e (fact_after fact e)
-after_is fact e = record { types = refl; places = λ p. marked_has e.at e.len fact.stack p }
+after_is fact e = record { types = refl; places = λ p. after_has e fact.stack p; notes = refl }
 
 pub same_entry : (fact : Fact) → IsEntry fact → IsSame fact entry_fact
-same_entry fact is = record { types = is.types; places = λ p. (λ h. absurd (is.places p h), λ h. absurd (cc)) }
+same_entry fact is = record { types = is.types; places = λ p. (λ h. absurd (is.places p h), λ h. absurd (cc)); notes = is.notes }
 
 pub entry_is : IsEntry entry_fact
-entry_is = record { types = refl; places = λ p h. absurd (cc) }
+entry_is = record { types = refl; places = λ p h. absurd (cc); notes = refl }
 
-pub same_join : (a b j : Fact) → length a.types ≡ length b.types → length j.types ≡ length b.types → ((r : ℕ) → type_at j.types r ≡ join_type (type_at a.types r) (type_at b.types r)) → ((p : ℕ) → Has j.stack p ↔ (Has a.stack p × Has b.stack p)) → IsSame j (join_fact a b)
-same_join a b j la lj e h =
+pub same_join : (a b j : Fact) → length a.types ≡ length b.types → length j.types ≡ length b.types → ((r : ℕ) → type_at j.types r ≡ join_type (type_at a.types r) (type_at b.types r)) → ((p : ℕ) → Has j.stack p ↔ (Has a.stack p × Has b.stack p)) → j.notes ≡ join_notes a.notes b.notes → IsSame j (join_fact a b)
+same_join a b j la lj e h n =
     record {
       types = joined_types a.types b.types j.types la lj e;
       places = λ p. (λ has. (common_has a.stack b.stack p).1 ((h p).0 has), λ has. (h p).1 ((common_has a.stack b.stack p).0 has));
+      notes = n;
     }
 
 -- ---- one instruction
@@ -191,15 +230,16 @@ load_same a b h (Const c) i size = refl
 load_same a b h (Ctx k) i size = refl
 load_same a b h (Stk k) i size = number_same a b h size (shifted (lowest k) i.offset (512 - size))
 
-set_same : (declared : ℕ) (types : List RegType) (a b : List Bool) → ((p : ℕ) → Has a p ↔ Has b p) → (i : Inst) (upper : ℤ) (form : Form) → effect declared (record { types = types; stack = a }) i upper form ≡ effect declared (record { types = types; stack = b }) i upper form
-set_same declared types a b h i upper (Load size) = ap (set_type types i.dst) (load_same a b h (type_at types i.src) i (bytes_in size))
-set_same declared types a b h i upper (LoadSigned size) = ap (set_type types i.dst) (load_same a b h (type_at types i.src) i (bytes_in size))
-set_same declared types a b h i upper form = refl
+set_same : (declared : ℕ) (types : List RegType) (a b : List Bool) (notes : List ℕ) → ((p : ℕ) → Has a p ↔ Has b p) → (i : Inst) (upper : ℤ) (form : Form) → effect declared (record { types = types; stack = a; notes = notes }) i upper form ≡ effect declared (record { types = types; stack = b; notes = notes }) i upper form
+set_same declared types a b notes h i upper (Load size) = ap (λ r. set_type types i.dst (kept_or (kept_type notes (type_at types i.src) i (bytes_in size)) r)) (load_same a b h (type_at types i.src) i (bytes_in size))
+set_same declared types a b notes h i upper (LoadSigned size) = ap (set_type types i.dst) (load_same a b h (type_at types i.src) i (bytes_in size))
+set_same declared types a b notes h i upper form = refl
 
 effect_same : (declared : ℕ) (a b : Fact) → IsSame a b → (i : Inst) (upper : ℤ) (form : Form) → effect declared a i upper form ≡ effect declared b i upper form
 effect_same declared a b f i upper form =
-    set_same declared a.types a.stack b.stack f.places i upper form
-    ∙ ap (λ types. effect declared (record { types = types; stack = b.stack }) i upper form) f.types
+    set_same declared a.types a.stack b.stack a.notes f.places i upper form
+    ∙ ap (λ types. effect declared (record { types = types; stack = b.stack; notes = a.notes }) i upper form) f.types
+    ∙ ap (λ notes. effect declared (record { types = b.types; stack = b.stack; notes = notes }) i upper form) f.notes
 
 pub judged_same : (count pc declared : ℕ) (a b : Fact) → IsSame a b → (i : Inst) (upper : ℤ) (form : Form) → judged count pc declared a i upper form ≡ judged count pc declared b i upper form
 judged_same count pc declared a b f i upper form = ap (λ r. cond (falls_off count pc form) (Err FallsOff) r) (effect_same declared a b f i upper form)

@@ -1,8 +1,13 @@
 -- Closed examples: what `verify` answers to whole programs, each unit written as its sixteen digits.
-use Rattle.std.proofs.Common.{◌≡◌, ℕ, List, [], ◌∷◌, ◌++◌, Some, None, refl}
+use Rattle.std.proofs.Common.{◌≡◌, ℕ, ◌+◌, ◌≤◌, List, [], ◌∷◌, ◌++◌, Some, None, true, refl, sym, ap, ◌∙◌, arith}
+use Rattle.std.specs.Prelude.{pos, negsuc, ◌+ℤ◌, cond, nat_le}
+use Rattle.std.proofs.lemmas.Bool.Decides.{nat_tests}
 use Rattle.byteorder.specs.Endian.{big_bytes}
-use Rattle.reg_types.specs.declared.refusal.TypeFault.TheVariants.{FallsOff, NotANumber, UnsetBytes}
+use Rattle.reg_types.specs.declared.refusal.TypeFault.TheVariants.{FallsOff, NotANumber, OutOfRange, UnsetBytes, StorePointer}
 use Rattle.reg_types.specs.declared.refusal.Refusal.TheVariants.{«Type» as TypeRefusal}
+use Rattle.reg_types.specs.declared.types.RegType.TheVariants.{Ctx, Stk}
+use Rattle.reg_types.specs.Rules.{natural, lowest, note_of, noted_type}
+use Rattle.reg_types.proofs.Keeping.{noted_context, noted_stack, back_again}
 use Rattle.reg_types.specs.Inference.{known, first_flaw_below}
 use Rattle.reg_types.specs.Shown.{refusal_of}
 
@@ -46,3 +51,52 @@ unreached = refl
 one_unit_twice : refusal_of (bytes (0xb700000001000000 ∷ 0x1500000001000000 ∷ 0x9500000000000000 ∷ [])) 0 ≡ None
 unfolding refusal_of known first_flaw_below
 one_unit_twice = refl
+
+-- pointers kept on the stack
+pointer_found_again : refusal_of (bytes (0x7b1af8ff00000000 ∷ 0x79a2f8ff00000000 ∷ 0x7920180000000000 ∷ 0x9500000000000000 ∷ [])) 0 ≡ None
+unfolding refusal_of known first_flaw_below
+pointer_found_again = refl
+
+pointer_found_after_a_call : refusal_of (bytes (0x7b1af8ff00000000 ∷ 0xb701000001000000 ∷ 0x8500000004000000 ∷ 0x79a2f8ff00000000 ∷ 0x7920180000000000 ∷ 0x9500000000000000 ∷ [])) 0 ≡ None
+unfolding refusal_of known first_flaw_below
+pointer_found_after_a_call = refl
+
+pointer_off_its_places : refusal_of (bytes (0x7b1af4ff00000000 ∷ 0x9500000000000000 ∷ [])) 0 ≡ Some (TypeRefusal (StorePointer 0))
+unfolding refusal_of known first_flaw_below
+pointer_off_its_places = refl
+
+half_a_pointer : refusal_of (bytes (0x631af8ff00000000 ∷ 0x9500000000000000 ∷ [])) 0 ≡ Some (TypeRefusal (StorePointer 0))
+unfolding refusal_of known first_flaw_below
+half_a_pointer = refl
+
+pointer_past_the_stack : refusal_of (bytes (0x7b1afcff00000000 ∷ 0x9500000000000000 ∷ [])) 0 ≡ Some (TypeRefusal (OutOfRange 0))
+unfolding refusal_of known first_flaw_below
+pointer_past_the_stack = refl
+
+half_a_place_loaded : refusal_of (bytes (0x7b1af8ff00000000 ∷ 0x61a0f8ff00000000 ∷ 0x9500000000000000 ∷ [])) 0 ≡ Some (TypeRefusal (UnsetBytes 1))
+unfolding refusal_of known first_flaw_below
+half_a_place_loaded = refl
+
+byte_over_a_pointer : refusal_of (bytes (0x7b1af8ff00000000 ∷ 0x720af8ff00000000 ∷ 0x79a2f8ff00000000 ∷ 0x9500000000000000 ∷ [])) 0 ≡ Some (TypeRefusal (UnsetBytes 2))
+unfolding refusal_of known first_flaw_below
+byte_over_a_pointer = refl
+
+two_pointers_meet : refusal_of (bytes (0x61120c0000000000 ∷ 0x7b1af8ff00000000 ∷ 0x1502010004000000 ∷ 0x7baaf8ff00000000 ∷ 0x79a3f8ff00000000 ∷ 0x9500000000000000 ∷ [])) 0 ≡ Some (TypeRefusal (UnsetBytes 4))
+unfolding refusal_of known first_flaw_below
+two_pointers_meet = refl
+
+pointer_stored_and_no_answer : refusal_of (bytes (0x7b1af8ff00000000 ∷ 0x9500000000000000 ∷ [])) 0 ≡ Some (TypeRefusal (NotANumber 1 0))
+unfolding refusal_of known first_flaw_below
+pointer_stored_and_no_answer = refl
+
+-- the note of a pointer's type is of this type
+context_noted : (k : ℕ) → k ≤ 64 → noted_type (note_of (Ctx k)) ≡ Ctx k
+context_noted k l =
+    let small : nat_le k 64 ≡ true = grind (arith, nat_tests) in
+    ap (λ b. noted_type (cond b (k + 1) 0)) small ∙ noted_context k l
+
+stack_noted : (m : ℕ) → m ≤ 512 → noted_type (note_of (Stk (pos m +ℤ negsuc 511))) ≡ Stk (pos m +ℤ negsuc 511)
+stack_noted m l =
+    let small : nat_le m 512 ≡ true = grind (arith, nat_tests) in
+    let up : lowest (pos m +ℤ negsuc 511) ≡ m = sym (ap natural (back_again m)) in
+    ap (λ n. noted_type (cond (nat_le n 512) (66 + n) 0)) up ∙ ap (λ b. noted_type (cond b (66 + m) 0)) small ∙ noted_stack m

@@ -15,7 +15,7 @@ use Rattle.bpf_model.specs.declared.instruction.Form.TheVariants.{Arithmetic, Wi
 use Rattle.bpf_model.specs.declared.machine.Helper.{Helper}
 use Rattle.bpf_model.specs.declared.machine.Helper.TheVariants.{CounterGet, CounterAdd, CounterTake, PointState, PointRecord, PriceOf}
 use Rattle.bpf_model.specs.Reading.{bytes_in}
-use Rattle.bpf_model.specs.Machine.{map_option, helper_of, shifted}
+use Rattle.bpf_model.specs.Machine.{map_option, helper_of, shifted, is_aligned}
 use Rattle.helpers.specs.declared.Kind.TheVariants.{Nothing, Number, Counter, Place}
 use Rattle.helpers.specs.Calls.{kinds}
 use Rattle.reg_types.specs.declared.types.RegType.{RegType}
@@ -24,7 +24,7 @@ use Rattle.reg_types.specs.declared.types.Fact.{Fact}
 use Rattle.reg_types.specs.declared.types.Effect.{Effect}
 use Rattle.reg_types.specs.declared.types.Flaw.{Flaw}
 use Rattle.reg_types.specs.declared.types.Flaw.TheVariants.{FallsOff, WriteR10, NotANumber, NotAPointer, OutOfRange, UnsetBytes, StoreToContext, StorePointer, PointerArithmetic, NoSuchHelper, BadArgument, UndeclaredCounter}
-use Rattle.reg_types.specs.Rules.{type_at, is_unset, is_pointer, is_numeric, is_plain, one_number, two_numbers, ctx_at, sum_type, copied_type, alu_type, operand_type, put_type, all_in, lowest, number_at, number_set, load_type, marks, store_type, unless_pointer, fits_kind, is_declared, call_with, call_type, kind_at, unmarked, marks_record, record_at, after_call, effect, falls_off, judged}
+use Rattle.reg_types.specs.Rules.{type_at, is_unset, is_pointer, is_numeric, is_plain, one_number, two_numbers, ctx_at, sum_type, copied_type, alu_type, operand_type, put_type, all_in, lowest, number_at, number_set, load_type, kept_type, loaded_type, marks, store_type, keeps_pointer, fits_kind, is_declared, call_with, call_type, kind_at, unmarked, marks_record, record_at, after_call, effect, falls_off, judged}
 use Rattle.reg_types.specs.Shown.{FallsOffEnd, IsOperand, NoHelper, HasArgument, UsesCounter, MayHave}
 
 abbrev Typed : Type 0
@@ -105,6 +105,14 @@ module _ (P : Flaw → Type 0) (flaw : Flaw) where
   load_shown set (Ctx k) i size p q r e = place_shown (shifted k i.offset (64 - size)) q e
   load_shown set (Stk k) i size p q r e = set_place_shown set size (shifted (lowest k) i.offset (512 - size)) q r e
 
+  kept_shown : (b : Bool) (t : RegType) (r : Typed) → (r ≡ bad flaw → P flaw) → cond b r (Ok t) ≡ bad flaw → P flaw
+  kept_shown true t r all e = all e
+  kept_shown false t r all e = no_flaw t e
+
+  loaded_shown : (set : List Bool) (notes : List ℕ) (base : RegType) (i : Inst) (size : ℕ) → P NotAPointer → P OutOfRange → P UnsetBytes → loaded_type set notes base i size ≡ bad flaw → P flaw
+  loaded_shown set notes base i size p q r e =
+      kept_shown (is_unset (kept_type notes base i size)) (kept_type notes base i size) (load_type set base i size) (λ h. load_shown set base i size p q r h) e
+
   marks_shown : (types : List RegType) (size : ℕ) (o : Option ℕ) → P OutOfRange → marks types size o ≡ wrong flaw → P flaw
   marks_shown types size None p e = this_effect OutOfRange e p
   marks_shown types size (Some at) p e = no_effect _ e
@@ -116,10 +124,14 @@ module _ (P : Flaw → Type 0) (flaw : Flaw) where
   store_shown types (Ctx k) i size p q r e = this_effect StoreToContext e r
   store_shown types (Stk k) i size p q r e = marks_shown types size (shifted (lowest k) i.offset (512 - size)) q e
 
-  unless_shown : (b : Bool) (r : Effects) → P StorePointer → (r ≡ wrong flaw → P flaw) → unless_pointer b r ≡ wrong flaw → P flaw
-  unless_shown b (Err f) p all e = all e
-  unless_shown true (Ok x) p all e = this_effect StorePointer e p
-  unless_shown false (Ok x) p all e = no_effect x e
+  keeps_shown : (b whole : Bool) (x y : Effect) → P StorePointer → cond b (cond whole (Ok y) (wrong StorePointer)) (Ok x) ≡ wrong flaw → P flaw
+  keeps_shown true true x y p e = no_effect y e
+  keeps_shown true false x y p e = this_effect StorePointer e p
+  keeps_shown false whole x y p e = no_effect x e
+
+  pointer_shown : (value : RegType) (r : Effects) → P StorePointer → (r ≡ wrong flaw → P flaw) → keeps_pointer value r ≡ wrong flaw → P flaw
+  pointer_shown value (Err f) p all e = all e
+  pointer_shown value (Ok x) p all e = keeps_shown (is_pointer value) (is_aligned x.len x.at) x (record x { kept = value }) p e
 
   unset_shown : (b : Bool) (src : ℕ) (r : Effects) → P (NotANumber src) → (r ≡ wrong flaw → P flaw) → cond b (wrong (NotANumber src)) r ≡ wrong flaw → P flaw
   unset_shown true src r p all e = this_effect (NotANumber src) e p
@@ -243,8 +255,8 @@ effect_shows count pc declared fact i upper (Arithmetic op w s) flaw e =
 effect_shows count pc declared fact i upper Wide flaw e =
     set_shown (MayHave count pc i Wide) flaw (i.dst == 10) fact.types i.dst (Ok (Const _)) (ten i.dst) (λ f h. no_flaw (MayHave count pc i Wide) f _ h) e
 effect_shows count pc declared fact i upper (Load size) flaw e =
-    set_shown (MayHave count pc i (Load size)) flaw (i.dst == 10) fact.types i.dst (load_type fact.stack (type_at fact.types i.src) i (bytes_in size)) (ten i.dst)
-    (λ f h. load_shown (MayHave count pc i (Load size)) f fact.stack (type_at fact.types i.src) i (bytes_in size) (inl tt) (inl (inl tt)) tt h) e
+    set_shown (MayHave count pc i (Load size)) flaw (i.dst == 10) fact.types i.dst (loaded_type fact.stack fact.notes (type_at fact.types i.src) i (bytes_in size)) (ten i.dst)
+    (λ f h. loaded_shown (MayHave count pc i (Load size)) f fact.stack fact.notes (type_at fact.types i.src) i (bytes_in size) (inl tt) (inl (inl tt)) tt h) e
 effect_shows count pc declared fact i upper (LoadSigned size) flaw e =
     set_shown (MayHave count pc i (LoadSigned size)) flaw (i.dst == 10) fact.types i.dst (load_type fact.stack (type_at fact.types i.src) i (bytes_in size)) (ten i.dst)
     (λ f h. load_shown (MayHave count pc i (LoadSigned size)) f fact.stack (type_at fact.types i.src) i (bytes_in size) (inl tt) (inl (inl tt)) tt h) e
@@ -252,8 +264,8 @@ effect_shows count pc declared fact i upper (StoreImmediate size) flaw e =
     store_shown (MayHave count pc i (StoreImmediate size)) flaw fact.types (type_at fact.types i.dst) i (bytes_in size) (inr tt) (inl (inr tt)) tt e
 effect_shows count pc declared fact i upper (StoreRegister size) flaw e =
     let stored = store_type fact.types (type_at fact.types i.dst) i (bytes_in size) in
-    unset_shown (MayHave count pc i (StoreRegister size)) flaw (is_unset (type_at fact.types i.src)) i.src (unless_pointer (is_pointer (type_at fact.types i.src)) stored) refl
-    (λ g. unless_shown (MayHave count pc i (StoreRegister size)) flaw (is_pointer (type_at fact.types i.src)) stored tt
+    unset_shown (MayHave count pc i (StoreRegister size)) flaw (is_unset (type_at fact.types i.src)) i.src (keeps_pointer (type_at fact.types i.src) stored) refl
+    (λ g. pointer_shown (MayHave count pc i (StoreRegister size)) flaw (type_at fact.types i.src) stored tt
     (λ h. store_shown (MayHave count pc i (StoreRegister size)) flaw fact.types (type_at fact.types i.dst) i (bytes_in size) (inr tt) (inl (inr tt)) tt h) g) e
 effect_shows count pc declared fact i upper Goto flaw e = no_effect (MayHave count pc i Goto) flaw _ e
 effect_shows count pc declared fact i upper GotoLong flaw e = no_effect (MayHave count pc i GotoLong) flaw _ e

@@ -1,6 +1,6 @@
 -- A well typed instruction isn't stuck, and leads to a state that fits its result.
 use Rattle.std.proofs.Common.{◌≡◌, ◌≢◌, ℕ, zero, suc, ◌+◌, ◌-◌, ◌*◌, ◌<◌, ◌≤◌, ◌⊎◌, List, [], ◌∷◌, Option, Some, None, Bool, true, false, refl, sym, ap, ◌∙◌, subst, inl, inr, arith, length}
-use Rattle.std.specs.Prelude.{Result, Ok, Err, ℤ, ◌^◌, ◌==◌, cond, drop, slice_set}
+use Rattle.std.specs.Prelude.{Result, Ok, Err, ℤ, ◌^◌, ◌==◌, ◌/◌, ◌%◌, cond, drop, slice_set, slice_index}
 use Rattle.std.specs.Int.{cast_unsigned, w32, w64}
 use Rattle.std.proofs.lemmas.Bool.{cases_lt}
 use Rattle.std.proofs.lemmas.List.{get_or-set_other, length-set, get_or-drop, length-drop}
@@ -17,20 +17,20 @@ use Rattle.bpf_model.specs.declared.machine.View.{View}
 use Rattle.bpf_model.specs.declared.machine.State.{State}
 use Rattle.bpf_model.specs.Reading.{bytes_in}
 use Rattle.bpf_model.specs.Arithmetic.{holds, extended}
-use Rattle.bpf_model.specs.Machine.{Next, Goes, Exits, Stuck, Place, InContext, InStack, where_some, shifted, number, map_option, mem, read, register, operand, alu_value, sets, jumps, branches, stores, stack_place, cell_at, written, after_call as call_state, Answer, helper_of, act}
-use Rattle.stack_map.specs.Places.{Within}
+use Rattle.bpf_model.specs.Machine.{Next, Goes, Exits, Stuck, Place, InContext, InStack, where_some, shifted, number, map_option, mem, read, register, operand, alu_value, sets, jumps, branches, stores, stores_value, keeps as keeps_value, stack_place, aligned_place, is_aligned, cell_at, kept_at, kept_in, number_in, loaded, number_or, written, pieces_written, after_call as call_state, Answer, helper_of, act}
 use Rattle.reg_types.specs.declared.types.RegType.{RegType}
 use Rattle.reg_types.specs.declared.types.RegType.TheVariants.{Unset as Anything, Num, Const, Ctx, Stk}
 use Rattle.reg_types.specs.declared.types.Fact.{Fact}
 use Rattle.reg_types.specs.declared.types.Effect.{Effect}
 use Rattle.reg_types.specs.declared.types.Flaw.{Flaw}
-use Rattle.reg_types.specs.declared.types.Flaw.TheVariants.{WriteR10, NotANumber, UnsetBytes}
-use Rattle.reg_types.specs.Rules.{type_at, is_numeric, is_unset, is_pointer, operand_type, alu_type, unmarked, put_type, set_type, natural, lowest, number_at, number_set, all_in, load_type, marks, store_type, unless_pointer, after_call, effect}
-use Rattle.reg_types.specs.Facts.{FitsType, HasByte, Covered, Fits, Changes, IsAfter}
+use Rattle.reg_types.specs.declared.types.Flaw.TheVariants.{WriteR10, NotANumber, UnsetBytes, StorePointer}
+use Rattle.reg_types.specs.Rules.{type_at, is_numeric, is_unset, is_pointer, operand_type, alu_type, unmarked, put_type, set_type, natural, lowest, number_at, number_set, all_in, load_type, noted_type, note_in, kept_type, loaded_type, marks, store_type, keeps, keeps_pointer, after_call, effect}
+use Rattle.reg_types.specs.Facts.{FitsType, HasByte, Covered, IsKept, Fits, Changes, HasAfter, IsAfter}
 use Rattle.reg_types.specs.Inference.{option_cons, leads}
 use Rattle.reg_types.proofs.Values.{Gives, arithmetic}
 use Rattle.reg_types.proofs.Stack.{covered_load, keeps_bytes, sets_bytes, length-written, length-little, store_inside, size_small}
 use Rattle.reg_types.proofs.Calls.{Changes-refl, called}
+use Rattle.reg_types.proofs.Keeping.{IsPointer, pieces_other, length-pieces, no_number, pointer_of, pointer_set, aligned, kept_after_bytes, kept_after_pointer, outside}
 
 abbrev pub IsIn : ℕ → List ℕ → Type 0
 IsIn x [] = ⊥
@@ -116,14 +116,30 @@ set_test : (b : Bool) (t : RegType) → cond b (typed_as Num) (Err UnsetBytes) �
 set_test true t h = (refl, cc)
 set_test false t h = absurd (cc)
 
-mark_is : (types : List RegType) (size : ℕ) (o : Option ℕ) (e : Effect) → marks types size o ≡ ok_of e → (at : ℕ) × (o ≡ Some at) × (record { types = types; at = at; len = size } ≡ e)
+mark_is : (types : List RegType) (size : ℕ) (o : Option ℕ) (e : Effect) → marks types size o ≡ ok_of e → (at : ℕ) × (o ≡ Some at) × (record { types = types; at = at; len = size; kept = Anything } ≡ e)
 mark_is types size None e h = absurd (cc)
 mark_is types size (Some at) e h = (at, refl, same_effect h)
 
-pointer_is : (pointer : Bool) (r : Effects) (e : Effect) → unless_pointer pointer r ≡ ok_of e → (pointer ≡ false) × (r ≡ ok_of e)
-pointer_is pointer (Err f) e h = absurd (cc)
-pointer_is true (Ok r) e h = absurd (cc)
-pointer_is false (Ok r) e h = (refl, h)
+-- what is stored is no pointer, or is one that can be kept
+abbrev KeepsOrNot : RegType → Bool → Effect → Effect → Type 0
+KeepsOrNot value pointer x e = ((pointer ≡ false) × (x ≡ e)) ⊎ ((pointer ≡ true) × (is_aligned x.len x.at ≡ true) × (record x { kept = value } ≡ e))
+
+keeps_test : (b : Bool) (x e : Effect) → cond b (ok_of x) (Err StorePointer) ≡ ok_of e → (b ≡ true) × (x ≡ e)
+keeps_test true x e h = (refl, same_effect h)
+keeps_test false x e h = absurd (cc)
+
+by_pointer : (pointer : Bool) (value : RegType) (x e : Effect) → cond pointer (keeps value x) (ok_of x) ≡ ok_of e → KeepsOrNot value pointer x e
+by_pointer false value x e h = inl (refl, same_effect h)
+by_pointer true value x e h = let t = keeps_test (is_aligned x.len x.at) (record x { kept = value }) e h in inr (refl, t.0, t.1)
+
+pointer_is : (value : RegType) (r : Effects) (e : Effect) → keeps_pointer value r ≡ ok_of e → (x : Effect) × (r ≡ ok_of x) × KeepsOrNot value (is_pointer value) x e
+pointer_is value (Err f) e h = absurd (cc)
+pointer_is value (Ok x) e h = (x, refl, by_pointer (is_pointer value) value x e h)
+
+-- a load finds a number, or the pointer that is noted
+kept_cases : (k : RegType) (b : Bool) (r : Result RegType Flaw) (t : RegType) → is_unset k ≡ b → cond b r (typed_as k) ≡ typed_as t → ((b ≡ true) × (r ≡ typed_as t)) ⊎ ((is_unset k ≡ false) × (typed_as k ≡ typed_as t))
+kept_cases k true r t u h = inl (refl, h)
+kept_cases k false r t u h = inr (u, h)
 
 unset_test : (b : Bool) (f : Flaw) (r : Effects) (e : Effect) → cond b (Err f) r ≡ ok_of e → (b ≡ false) × (r ≡ ok_of e)
 unset_test true f r e h = absurd (cc)
@@ -137,7 +153,7 @@ neither (Ctx k) a b = absurd (cc)
 neither (Stk k) a b = absurd (cc)
 
 -- a store's pointer is into the stack, and its bytes lie inside
-pub store_is : (types : List RegType) (base : RegType) (v : Value) (i : Inst) (size : ℕ) (e : Effect) → FitsType base v → store_type types base i size ≡ ok_of e → (at : ℕ) × (stack_place (mem v i.offset size) ≡ Some at) × (record { types = types; at = at; len = size } ≡ e)
+pub store_is : (types : List RegType) (base : RegType) (v : Value) (i : Inst) (size : ℕ) (e : Effect) → FitsType base v → store_type types base i size ≡ ok_of e → (at : ℕ) × (stack_place (mem v i.offset size) ≡ Some at) × (record { types = types; at = at; len = size; kept = Anything } ≡ e)
 store_is types (Stk k) (Stack n) i size e h g =
     let x = mark_is types size (shifted (lowest k) i.offset (512 - size)) e g in
     let there : lowest k ≡ n = ap natural (sym h) in
@@ -151,7 +167,7 @@ store_is types (Stk k) (Number n) i size e h g = absurd h
 store_is types (Stk k) (Context n) i size e h g = absurd h
 
 abbrev marked_by : List RegType → ℕ → ℕ → Effect
-marked_by types at len = record { types = types; at = at; len = len }
+marked_by types at len = record { types = types; at = at; len = len; kept = Anything }
 
 -- the types and values of R6 to R10 stay over a call
 called_fits : (types : List RegType) (values : List Value) (n r : ℕ) → ((q : ℕ) → FitsType (type_at types q) (register values q)) → FitsType (type_at (after_call types) r) (register (Number n ∷ Unset ∷ Unset ∷ Unset ∷ Unset ∷ Unset ∷ drop 6 values) r)
@@ -170,15 +186,17 @@ module _ (declared : ℕ) (fact after : Fact) (s : State) (fits : Fits fact s) w
   after_types : (e x : Effect) → IsAfter fact e after → x ≡ e → after.types ≡ x.types
   after_types e x h same = h.types ∙ ap (λ y. y.types) (sym same)
 
+  as_effect : (e x : Effect) → IsAfter fact e after → x ≡ e → IsAfter fact x after
+  as_effect e x is same = subst (λ y. IsAfter fact y after) (sym same) is
+
   stays : (e : Effect) (types : List RegType) → IsAfter fact e after → unmarked types ≡ e → Covered after.stack s.stack
   stays e types h same =
-      record {
-        bytes =
-            λ p has. elim ((h.places p).0 has) [
-              | inl old ↦ fits.stack.bytes p old
-              | inr new ↦ let w = subst (λ x. Within x.at x.len p) (sym same) new in absurd (omega (arith, w.0, w.1))
-            ];
-      }
+      let is = as_effect e (unmarked types) h same in
+      record { bytes = λ p has. elim ((is.places p).0 has) [ inl old ↦ fits.stack.bytes p old | inr w ↦ absurd (omega (arith, w.0, w.1)) ] }
+
+  notes_stay : (e : Effect) (types : List RegType) → IsAfter fact e after → unmarked types ≡ e → (k : ℕ) → IsKept (noted_type (slice_index after.notes k)) s.stack (8 * k)
+  notes_stay e types h same =
+      let is = as_effect e (unmarked types) h same in kept_after_bytes fact.notes after.notes s.stack 0 [] is.notes fits.notes
 
   fits_written : (e : Effect) (dst : ℕ) (t : RegType) (v : Value) (pc : ℕ) → IsAfter fact e after → unmarked (slice_set fact.types dst t) ≡ e → dst ≤ 10 → FitsType t v → Fits after (record s { pc = pc; registers = slice_set s.registers dst v })
   fits_written e dst t v pc is same small h =
@@ -194,6 +212,7 @@ module _ (declared : ℕ) (fact after : Fact) (s : State) (fits : Fits fact s) w
         many = length-set s.registers dst v ∙ fits.many;
         stack = stays e (slice_set types dst t) is same;
         long = fits.long;
+        notes = notes_stay e (slice_set types dst t) is same;
       }
 
   fits_moved : (e : Effect) (pc : ℕ) → IsAfter fact e after → unmarked fact.types ≡ e → Fits after (record s { pc = pc })
@@ -203,6 +222,7 @@ module _ (declared : ℕ) (fact after : Fact) (s : State) (fits : Fits fact s) w
         many = fits.many;
         stack = stays e fact.types is same;
         long = fits.long;
+        notes = notes_stay e fact.types is same;
       }
 
   sets_follow : (e : Effect) (dst : ℕ) (r : Result RegType Flaw) (o : Option Value) → IsAfter fact e after → dst ≤ 10 → set_type fact.types dst r ≡ ok_of e → ((t : RegType) → r ≡ typed_as t → Gives o t) → Follows declared after ((s.pc + 1) ∷ []) s (where_some o (λ v. sets s dst v))
@@ -265,30 +285,132 @@ module _ (declared : ℕ) (fact after : Fact) (s : State) (fits : Fits fact s) w
       (subst (λ o. Follows declared after ((s.pc + 1) ∷ []) s (where_some o (λ n. sets s i.dst (Number (f n))))) (sym g.3)
       (sets_follow e i.dst r (Some (Number (f g.0))) is small h (λ t k. subst (λ u. FitsType u (Number (f g.0))) (g.4 ∙ same_type x.0 t (sym x.1 ∙ k)) tt)))
 
+  -- the pointer that is noted at a place
+  note_test : (size at : ℕ) (b : Bool) → is_aligned size at ≡ b → is_unset (cond b (noted_type (slice_index fact.notes (at / 8))) Anything) ≡ false → (w : Value) × (is_aligned size at ≡ true) × (kept_at s.stack at ≡ Some w) × FitsType (cond b (noted_type (slice_index fact.notes (at / 8))) Anything) w
+  note_test size at true a u =
+      let h = aligned size at a in
+      let place : 8 * (at / 8) ≡ at = omega (arith, h.1) in
+      let x = fits.notes (at / 8) u in
+      (x.0, a, ap (kept_at s.stack) (sym place) ∙ x.2, x.1)
+  note_test size at false a u = absurd (cc)
+
+  note_gives : (size : ℕ) (o : Option ℕ) → is_unset (note_in fact.notes size o) ≡ false → (at : ℕ) × (w : Value) × (o ≡ Some at) × (is_aligned size at ≡ true) × (kept_at s.stack at ≡ Some w) × FitsType (note_in fact.notes size o) w
+  note_gives size None u = absurd (cc)
+  note_gives size (Some at) u = let x = note_test size at (is_aligned size at) refl u in (at, x.0, refl, x.1, x.2, x.3)
+
+  number_none : (size at : ℕ) (w : Value) → is_aligned size at ≡ true → kept_at s.stack at ≡ Some w → number_in s.stack at size ≡ None
+  number_none size at w a e =
+      let h = aligned size at a in
+      ap (number_in s.stack at) h.0 ∙ no_number (cell_at s.stack at) s.stack at w (number_in s.stack (suc at) 7) e
+
+  -- what a load through a pointer with a note reads
+  kept_gives : (context : List ℕ) (a : RegType) (v : Value) (i : Inst) (size : ℕ) → FitsType a v → is_unset (kept_type fact.notes a i size) ≡ false → (at : Place) × (w : Value) × (mem v i.offset size ≡ Some at) × (loaded at size context s.stack ≡ Some w) × FitsType (kept_type fact.notes a i size) w
+  kept_gives context (Stk k) (Stack n) i size h u =
+      let x = note_gives size (shifted (lowest k) i.offset (512 - size)) u in
+      let there : lowest k ≡ n = ap natural (sym h) in
+      let kept : kept_in (InStack x.0) size s.stack ≡ Some x.1 = ap (λ b. cond b (kept_at s.stack x.0) None) x.3 ∙ x.4 in (
+        InStack x.0,
+        x.1,
+        ap (λ m. map_option InStack (shifted m i.offset (512 - size))) (sym there) ∙ ap (map_option InStack) x.2,
+        ap (λ o. number_or o (kept_in (InStack x.0) size s.stack)) (number_none size x.0 x.1 x.3 x.4) ∙ kept,
+        x.5,
+      )
+  kept_gives context Anything v i size h u = absurd (cc)
+  kept_gives context Num v i size h u = absurd (cc)
+  kept_gives context (Const c) v i size h u = absurd (cc)
+  kept_gives context (Ctx k) v i size h u = absurd (cc)
+  kept_gives context (Stk k) Unset i size h u = absurd h
+  kept_gives context (Stk k) (Number n) i size h u = absurd h
+  kept_gives context (Stk k) (Context n) i size h u = absurd h
+
+  loaded_follow : (context : List ℕ) (i : Inst) (size : ℕ) (e : Effect) → IsAfter fact e after → i.dst ≤ 10 → set_type fact.types i.dst (loaded_type fact.stack fact.notes (type_at fact.types i.src) i size) ≡ ok_of e → Follows declared after ((s.pc + 1) ∷ []) s (where_some (mem (register s.registers i.src) i.offset size) (λ at. where_some (loaded at size context s.stack) (λ v. sets s i.dst v)))
+  loaded_follow context i size e is small h =
+      let base = type_at fact.types i.src in
+      let value = register s.registers i.src in
+      let kept = kept_type fact.notes base i size in
+      let r = loaded_type fact.stack fact.notes base i size in
+      let x = set_is fact.types i.dst r e h in
+      elim (kept_cases kept (is_unset kept) (load_type fact.stack base i size) x.0 refl x.1) [
+        | inl number ↦
+            let g = load_gives context base value i size x.0 (fits.registers i.src) number.1 in
+            let got : loaded g.1 size context s.stack ≡ Some (Number g.0) = ap (λ o. number_or o (kept_in g.1 size s.stack)) g.3 in
+            subst (λ o. Follows declared after ((s.pc + 1) ∷ []) s (where_some o (λ at. where_some (loaded at size context s.stack) (λ v. sets s i.dst v)))) (sym g.2)
+            (subst (λ o. Follows declared after ((s.pc + 1) ∷ []) s (where_some o (λ v. sets s i.dst v))) (sym got)
+            (sets_follow e i.dst r (Some (Number g.0)) is small h (λ t k. subst (λ u. FitsType u (Number g.0)) (g.4 ∙ same_type x.0 t (sym x.1 ∙ k)) tt)))
+        | inr pointer ↦
+            let g = kept_gives context base value i size (fits.registers i.src) pointer.0 in
+            subst (λ o. Follows declared after ((s.pc + 1) ∷ []) s (where_some o (λ at. where_some (loaded at size context s.stack) (λ v. sets s i.dst v)))) (sym g.2)
+            (subst (λ o. Follows declared after ((s.pc + 1) ∷ []) s (where_some o (λ v. sets s i.dst v))) (sym g.3)
+            (sets_follow e i.dst r (Some g.1) is small h (λ t k. subst (λ u. FitsType u g.1) (same_type kept t (pointer.1 ∙ sym x.1 ∙ k)) g.4)))
+      ]
+
   -- ---- stores
 
-  fits_stored : (e : Effect) (at : ℕ) (bytes : List ℕ) (pc : ℕ) → IsAfter fact e after → record { types = fact.types; at = at; len = length bytes } ≡ e → at + length bytes ≤ 512 → Fits after (record s { pc = pc; stack = written s.stack at bytes })
+  fits_stored : (e : Effect) (at : ℕ) (bytes : List ℕ) (pc : ℕ) → IsAfter fact e after → marked_by fact.types at (length bytes) ≡ e → at + length bytes ≤ 512 → Fits after (record s { pc = pc; stack = written s.stack at bytes })
   fits_stored e at bytes pc is same inside =
+      let now = as_effect e (marked_by fact.types at (length bytes)) is same in
       record {
-        registers = λ r. subst (λ ts. FitsType (type_at ts r) (register s.registers r)) (sym (after_types e (record { types = fact.types; at = at; len = length bytes }) is same)) (fits.registers r);
+        registers = λ r. subst (λ ts. FitsType (type_at ts r) (register s.registers r)) (sym now.types) (fits.registers r);
         many = fits.many;
         stack =
             record {
               bytes =
-                  λ p has. elim ((is.places p).0 has) [
+                  λ p has. elim ((now.places p).0 has) [
                     | inl old ↦ keeps_bytes s.stack at bytes p (omega (arith, fits.long)) (fits.stack.bytes p old)
-                    | inr new ↦ sets_bytes s.stack at bytes p (omega (arith, fits.long)) (subst (λ x. Within x.at x.len p) (sym same) new)
+                    | inr new ↦ sets_bytes s.stack at bytes p (omega (arith, fits.long)) new
                   ];
             };
         long = length-written s.stack at bytes ∙ fits.long;
+        notes = kept_after_bytes fact.notes after.notes s.stack at bytes now.notes fits.notes;
       }
+
+  abbrev keeping : RegType → Effect → Effect
+  keeping t x = record x { kept = t }
+
+  abbrev kept_by : ℕ → RegType → Effect
+  kept_by at t = record { types = fact.types; at = at; len = 8; kept = t }
+
+  fits_kept : (e : Effect) (at : ℕ) (t : RegType) (v : Value) (pc : ℕ) → IsAfter fact e after → kept_by at t ≡ e → at % 8 ≡ 0 → at + 8 ≤ 512 → is_pointer t ≡ true → FitsType t v → Fits after (record s { pc = pc; stack = pieces_written s.stack at v 0 8 })
+  fits_kept e at t v pc is same multiple inside pointer f =
+      let now = as_effect e (kept_by at t) is same in
+      record {
+        registers = λ r. subst (λ ts. FitsType (type_at ts r) (register s.registers r)) (sym now.types) (fits.registers r);
+        many = fits.many;
+        stack =
+            record {
+              bytes =
+                  λ p has. let old = subst (λ b. HasAfter b fact.stack at 8 p) (pointer_set t pointer) ((now.places p).0 has) in
+                  subst HasByte (sym (pieces_other s.stack at v 0 8 p (outside at 8 p old.1))) (fits.stack.bytes p old.0);
+            };
+        long = length-pieces s.stack at v 0 8 ∙ fits.long;
+        notes = kept_after_pointer fact.notes after.notes s.stack at t v now.notes multiple (omega (arith, inside, fits.long)) (pointer_of t v f pointer) f fits.notes;
+      }
+
+  stored_pointer : (i : Inst) (size : ℕ) (v : Value) → IsPointer v → stores_value s i size v ≡ keeps_value s i size v
+  stored_pointer i size (Context k) p = refl
+  stored_pointer i size (Stack k) p = refl
+  stored_pointer i size Unset p = absurd p
+  stored_pointer i size (Number n) p = absurd p
+
+  -- a pointer that can be kept is kept
+  keeps_follow : (i : Inst) (size : ℕ) (x e : Effect) (t : RegType) (v : Value) → IsAfter fact e after → size ≤ 8 → store_type fact.types (type_at fact.types i.dst) i size ≡ ok_of x → is_aligned x.len x.at ≡ true → record x { kept = t } ≡ e → is_pointer t ≡ true → FitsType t v → Follows declared after ((s.pc + 1) ∷ []) s (stores_value s i size v)
+  keeps_follow i size x e t v is small h whole same pointer f =
+      let y = store_is fact.types (type_at fact.types i.dst) (register s.registers i.dst) i size x (fits.registers i.dst) h in
+      let inside : y.0 + size ≤ 512 = store_inside (register s.registers i.dst) i size y.0 small y.1 in
+      let aligned_here : is_aligned size y.0 ≡ true = subst (λ z. is_aligned z.len z.at ≡ true) (sym y.2) whole in
+      let parts = aligned size y.0 aligned_here in
+      let effect_is : kept_by y.0 t ≡ e = ap (λ n. keeping t (marked_by fact.types y.0 n)) (sym parts.0) ∙ ap (keeping t) y.2 ∙ same in
+      let place : aligned_place size (stack_place (mem (register s.registers i.dst) i.offset size)) ≡ Some y.0 = ap (aligned_place size) y.1 ∙ ap (λ b. cond b (Some y.0) None) aligned_here in
+      subst (Follows declared after ((s.pc + 1) ∷ []) s) (sym (stored_pointer i size v (pointer_of t v f pointer)))
+      (subst (λ o. Follows declared after ((s.pc + 1) ∷ []) s (where_some o (λ at. Goes (record s { pc = s.pc + 1; stack = pieces_written s.stack at v 0 8 })))) (sym place)
+      (inl refl, fits_kept e y.0 t v (s.pc + 1) is effect_is parts.1 (omega (arith, inside, parts.0)) pointer f, Changes-refl declared s.counters))
 
   stores_follow : (i : Inst) (size n : ℕ) (e : Effect) → IsAfter fact e after → size ≤ 8 → store_type fact.types (type_at fact.types i.dst) i size ≡ ok_of e → Follows declared after ((s.pc + 1) ∷ []) s (stores s i size n)
   stores_follow i size n e is small h =
       let x = store_is fact.types (type_at fact.types i.dst) (register s.registers i.dst) i size e (fits.registers i.dst) h in
       let long = length-little 0 size n in
       let inside : x.0 + size ≤ 512 = store_inside (register s.registers i.dst) i size x.0 small x.1 in
-      let same : record { types = fact.types; at = x.0; len = length (little_bytes size n) } ≡ e = ap (λ l. marked_by fact.types x.0 l) long ∙ x.2 in
+      let same : marked_by fact.types x.0 (length (little_bytes size n)) ≡ e = ap (λ l. marked_by fact.types x.0 l) long ∙ x.2 in
       subst (λ o. Follows declared after ((s.pc + 1) ∷ []) s (where_some o (λ at. Goes (record s { pc = s.pc + 1; stack = written s.stack at (little_bytes size n) })))) (sym x.1)
       (inl refl, fits_stored e x.0 (little_bytes size n) (s.pc + 1) is same (omega (arith, long, inside)), Changes-refl declared s.counters)
 
@@ -321,18 +443,20 @@ module _ (declared : ℕ) (fact after : Fact) (s : State) (fits : Fits fact s) w
   call_fits : (e : Effect) → IsAfter fact e after → (a : Answer) (at : ℕ) (bytes : List ℕ) → marked_by (after_call fact.types) at (length bytes) ≡ e → a.stack ≡ written s.stack at bytes → at + length bytes ≤ 512 → Fits after (record s { pc = s.pc + 1; registers = Number a.value ∷ Unset ∷ Unset ∷ Unset ∷ Unset ∷ Unset ∷ drop 6 s.registers; stack = a.stack; counters = a.counters })
   call_fits e is a at bytes same stack inside =
       let long = length-drop 6 s.registers in
+      let now = as_effect e (marked_by (after_call fact.types) at (length bytes)) is same in
       record {
-        registers = λ r. subst (λ ts. FitsType (type_at ts r) (register (Number a.value ∷ Unset ∷ Unset ∷ Unset ∷ Unset ∷ Unset ∷ drop 6 s.registers) r)) (sym (after_types e (marked_by (after_call fact.types) at (length bytes)) is same)) (called_fits fact.types s.registers a.value r fits.registers);
+        registers = λ r. subst (λ ts. FitsType (type_at ts r) (register (Number a.value ∷ Unset ∷ Unset ∷ Unset ∷ Unset ∷ Unset ∷ drop 6 s.registers) r)) (sym now.types) (called_fits fact.types s.registers a.value r fits.registers);
         many = omega (arith, long, fits.many);
         stack =
             record {
               bytes =
-                  λ p has. subst (λ st. HasByte (cell_at st p)) (sym stack) (elim ((is.places p).0 has) [
+                  λ p has. subst (λ st. HasByte (cell_at st p)) (sym stack) (elim ((now.places p).0 has) [
                     | inl old ↦ keeps_bytes s.stack at bytes p (omega (arith, fits.long)) (fits.stack.bytes p old)
-                    | inr new ↦ sets_bytes s.stack at bytes p (omega (arith, fits.long)) (subst (λ x. Within x.at x.len p) (sym same) new)
+                    | inr new ↦ sets_bytes s.stack at bytes p (omega (arith, fits.long)) new
                   ]);
             };
         long = ap length stack ∙ length-written s.stack at bytes ∙ fits.long;
+        notes = λ k. subst (λ st. IsKept (noted_type (slice_index after.notes k)) st (8 * k)) (sym stack) (kept_after_bytes fact.notes after.notes s.stack at bytes now.notes fits.notes k);
       }
 
   -- one instruction
@@ -346,7 +470,7 @@ module _ (declared : ℕ) (fact after : Fact) (s : State) (fits : Fits fact s) w
       (wide_follows e i.dst (cast_unsigned w32 upper * 2 ^ 32 + cast_unsigned w32 i.imm) is small h)
   step_follows context view i upper (Load size) e tos small is h l =
       subst (λ ts. Follows declared after ts s (act declared context view s i upper (Load size))) (some_list _ tos l)
-      (loads_follow context (λ n. n) i (bytes_in size) e is small h)
+      (loaded_follow context i (bytes_in size) e is small h)
   step_follows context view i upper (LoadSigned size) e tos small is h l =
       subst (λ ts. Follows declared after ts s (act declared context view s i upper (LoadSigned size))) (some_list _ tos l)
       (loads_follow context (λ n. cast_unsigned w64 (extended (8 * bytes_in size) n)) i (bytes_in size) e is small h)
@@ -354,12 +478,18 @@ module _ (declared : ℕ) (fact after : Fact) (s : State) (fits : Fits fact s) w
       subst (λ ts. Follows declared after ts s (act declared context view s i upper (StoreImmediate size))) (some_list _ tos l)
       (stores_follow i (bytes_in size) (cast_unsigned w64 i.imm) e is (size_small size) h)
   step_follows context view i upper (StoreRegister size) e tos small is h l =
-      let u = unset_test (is_unset (type_at fact.types i.src)) (NotANumber i.src) (unless_pointer (is_pointer (type_at fact.types i.src)) (store_type fact.types (type_at fact.types i.dst) i (bytes_in size))) e h in
-      let p = pointer_is (is_pointer (type_at fact.types i.src)) (store_type fact.types (type_at fact.types i.dst) i (bytes_in size)) e u.1 in
-      let n = numeric (type_at fact.types i.src) (register s.registers i.src) (fits.registers i.src) (neither (type_at fact.types i.src) u.0 p.0) in
+      let stored = store_type fact.types (type_at fact.types i.dst) i (bytes_in size) in
+      let value = type_at fact.types i.src in
+      let u = unset_test (is_unset value) (NotANumber i.src) (keeps_pointer value stored) e h in
+      let p = pointer_is value stored e u.1 in
       subst (λ ts. Follows declared after ts s (act declared context view s i upper (StoreRegister size))) (some_list _ tos l)
-      (subst (λ v. Follows declared after ((s.pc + 1) ∷ []) s (where_some (number v) (λ n. stores s i (bytes_in size) n))) (sym n.1)
-      (stores_follow i (bytes_in size) n.0 e is (size_small size) p.1))
+      (elim p.2 [
+        | inl plain ↦
+            let n = numeric value (register s.registers i.src) (fits.registers i.src) (neither value u.0 plain.0) in
+            subst (λ v. Follows declared after ((s.pc + 1) ∷ []) s (stores_value s i (bytes_in size) v)) (sym n.1)
+            (stores_follow i (bytes_in size) n.0 e is (size_small size) (p.1 ∙ ap ok_of plain.1))
+        | inr pointer ↦ keeps_follow i (bytes_in size) p.0 e value (register s.registers i.src) is (size_small size) p.1 pointer.1 pointer.2 pointer.0 (fits.registers i.src)
+      ])
   step_follows context view i upper Goto e tos small is h l = jumps_follow e i.offset [] tos is (same_effect h) l
   step_follows context view i upper GotoLong e tos small is h l = jumps_follow e i.imm [] tos is (same_effect h) l
   step_follows context view i upper (Branch c w source) e tos small is h l =

@@ -1,19 +1,22 @@
 -- The order of facts, and tables of them.
 use Rattle.std.proofs.Common.{◌≡◌, ◌≢◌, ℕ, ◌+◌, ◌<◌, ◌≤◌, List, Bool, true, false, refl, sym, ap, ◌∙◌, subst, inl, inr, arith, length}
-use Rattle.std.specs.Prelude.{◌==◌, cond, slice_set}
+use Rattle.std.specs.Prelude.{◌==◌, ◌*◌, cond, slice_set, slice_index}
 use Rattle.std.specs.Ordering.{int_eq}
 use Rattle.std.proofs.lemmas.Bool.{cases_lt, cases_eq, eqb-true}
 use Rattle.std.proofs.lemmas.Bool.Decides.{Decides-int_eq}
 use Rattle.std.proofs.lemmas.List.{get_or-set_other, get_or-set_same, get_or_past}
 use Rattle.bpf_model.specs.declared.machine.Value.{Value}
 use Rattle.bpf_model.specs.declared.machine.Value.TheVariants.{Unset, Number, Context, Stack}
+use Rattle.bpf_model.specs.declared.machine.Cell.{Cell}
 use Rattle.bpf_model.specs.Machine.{register}
 use Rattle.stack_map.specs.Places.{Has}
 use Rattle.reg_types.specs.declared.types.RegType.{RegType}
 use Rattle.reg_types.specs.declared.types.RegType.TheVariants.{Unset as Anything, Num, Const, Ctx, Stk}
 use Rattle.reg_types.specs.declared.types.Fact.{Fact}
-use Rattle.reg_types.specs.Rules.{type_at, join_type}
-use Rattle.reg_types.specs.Facts.{FitsType, IsBelow}
+use Rattle.reg_types.specs.Rules.{type_at, join_type, noted_type}
+use Rattle.reg_types.specs.Facts.{FitsType, IsKept, IsBelow}
+use Rattle.reg_types.specs.Inference.{join_notes}
+use Rattle.reg_types.proofs.Keeping.{joined_note, nothing_kept}
 
 -- ---- the order
 
@@ -66,9 +69,24 @@ join_right (Ctx k) (Ctx m) v h = kept_right (k == m) (Ctx k) (Ctx m) v (λ e. ap
 join_right (Stk k) (Stk m) v h = kept_right (int_eq k m) (Stk k) (Stk m) v (λ e. ap Stk ((Decides-int_eq k m).0 e)) h
 join_right a b v h = tt
 
+-- what notes say, the join's say
+notes_left : (a b j : List ℕ) (stack : List Cell) (k : ℕ) → j ≡ join_notes a b → IsKept (noted_type (slice_index a k)) stack (8 * k) → IsKept (noted_type (slice_index j k)) stack (8 * k)
+notes_left a b j stack k e h =
+    subst (λ ns. IsKept (noted_type (slice_index ns k)) stack (8 * k)) (sym e) (elim (joined_note a b k) [
+      | inl same ↦ subst (λ m. IsKept (noted_type m) stack (8 * k)) (sym same.0) h
+      | inr none ↦ nothing_kept (slice_index (join_notes a b) k) stack (8 * k) none
+    ])
+
+notes_right : (a b j : List ℕ) (stack : List Cell) (k : ℕ) → j ≡ join_notes a b → IsKept (noted_type (slice_index b k)) stack (8 * k) → IsKept (noted_type (slice_index j k)) stack (8 * k)
+notes_right a b j stack k e h =
+    subst (λ ns. IsKept (noted_type (slice_index ns k)) stack (8 * k)) (sym e) (elim (joined_note a b k) [
+      | inl same ↦ subst (λ m. IsKept (noted_type m) stack (8 * k)) (sym same.1) h
+      | inr none ↦ nothing_kept (slice_index (join_notes a b) k) stack (8 * k) none
+    ])
+
 -- the join, register by register, and place by place
-pub below_left : (a b j : Fact) → ((r : ℕ) → type_at j.types r ≡ join_type (type_at a.types r) (type_at b.types r)) → ((p : ℕ) → Has j.stack p → Has a.stack p) → IsBelow a j
-below_left a b j e h =
+pub below_left : (a b j : Fact) → ((r : ℕ) → type_at j.types r ≡ join_type (type_at a.types r) (type_at b.types r)) → ((p : ℕ) → Has j.stack p → Has a.stack p) → j.notes ≡ join_notes a.notes b.notes → IsBelow a j
+below_left a b j e h n =
     record {
       weakens =
           λ s f. record {
@@ -76,11 +94,12 @@ below_left a b j e h =
             many = f.many;
             stack = record { bytes = λ p has. f.stack.bytes p (h p has) };
             long = f.long;
+            notes = λ k. notes_left a.notes b.notes j.notes s.stack k n (f.notes k);
           };
     }
 
-pub below_right : (a b j : Fact) → ((r : ℕ) → type_at j.types r ≡ join_type (type_at a.types r) (type_at b.types r)) → ((p : ℕ) → Has j.stack p → Has b.stack p) → IsBelow b j
-below_right a b j e h =
+pub below_right : (a b j : Fact) → ((r : ℕ) → type_at j.types r ≡ join_type (type_at a.types r) (type_at b.types r)) → ((p : ℕ) → Has j.stack p → Has b.stack p) → j.notes ≡ join_notes a.notes b.notes → IsBelow b j
+below_right a b j e h n =
     record {
       weakens =
           λ s f. record {
@@ -88,6 +107,7 @@ below_right a b j e h =
             many = f.many;
             stack = record { bytes = λ p has. f.stack.bytes p (h p has) };
             long = f.long;
+            notes = λ k. notes_right a.notes b.notes j.notes s.stack k n (f.notes k);
           };
     }
 

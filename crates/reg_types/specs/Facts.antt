@@ -1,5 +1,5 @@
 -- Promises: what facts mean, and when they cover a program.
-use Rattle.std.specs.Prelude.{◌≡◌, ◌≢◌, ℕ, suc, ◌≤◌, slice_index, ◌+◌, ◌<◌, ◌==◌, if◌then◌else◌, ◌/◌, ◌%◌, ◌^◌, ◌⊎◌, ◌↔◌, Bool, pos, ◌+ℤ◌, List, [], ◌∷◌, length, Option, Some, None, Ok, slice_get, slice_index_or, ⊤}
+use Rattle.std.specs.Prelude.{◌≡◌, ◌≢◌, ℕ, suc, ◌≤◌, slice_index, ◌+◌, ◌*◌, ◌<◌, ◌==◌, if◌then◌else◌, ◌/◌, ◌%◌, ◌^◌, ◌⊎◌, ◌↔◌, Bool, true, false, pos, ◌+ℤ◌, List, [], ◌∷◌, length, Option, Some, None, Ok, slice_get, slice_index_or, ⊤}
 use Rattle.std.specs.List.{AllByRecursion}
 use Rattle.bpf_model.specs.declared.instruction.Inst.{Inst}
 use Rattle.bpf_model.specs.declared.instruction.Unit.{Unit as ProgramUnit}
@@ -13,7 +13,7 @@ use Rattle.bpf_model.specs.declared.machine.Cell.TheVariants.{Byte}
 use Rattle.bpf_model.specs.declared.machine.State.{State}
 use Rattle.bpf_model.specs.Reading.{form_of, units}
 use Rattle.bpf_model.specs.Flow.{IsAhead, GoesForward}
-use Rattle.bpf_model.specs.Machine.{Counters, counter, register, cell_at}
+use Rattle.bpf_model.specs.Machine.{Counters, counter, register, cell_at, kept_at}
 use Rattle.bpf_model.specs.Runs.{AreCounters}
 use Rattle.stack_map.specs.Places.{Has, Within}
 use Rattle.reg_types.specs.declared.types.RegType.{RegType}
@@ -24,8 +24,8 @@ use Rattle.reg_types.specs.declared.types.Running.{Running}
 use Rattle.reg_types.specs.declared.types.Effect.{Effect}
 use Rattle.reg_types.specs.declared.types.Successors.{Successors}
 use Rattle.reg_types.specs.declared.types.Successors.TheVariants.{End, Next, Jump, Either}
-use Rattle.reg_types.specs.Rules.{type_at, judged}
-use Rattle.reg_types.specs.Inference.{leads, upper_of, entry_types}
+use Rattle.reg_types.specs.Rules.{type_at, is_unset, note_of, noted_type, judged}
+use Rattle.reg_types.specs.Inference.{leads, upper_of, entry_types, no_notes, renoted}
 
 -- ---- states that fit
 
@@ -45,11 +45,16 @@ HasByte c = (b : ℕ) × (c ≡ Byte b)
 pub record Covered (set : List Bool) (stack : List Cell) : Type 0 where
   pub bytes : (p : ℕ) → Has set p → HasByte (cell_at stack p)
 
+-- a pointer of this type, if it is one, is kept at the place
+abbrev pub IsKept : RegType → List Cell → ℕ → Type 0
+IsKept t stack at = is_unset t ≡ false → (v : Value) × FitsType t v × (kept_at stack at ≡ Some v)
+
 pub record Fits (fact : Fact) (s : State) : Type 0 where
   pub registers : (r : ℕ) → FitsType (type_at fact.types r) (register s.registers r)
   pub many : length s.registers ≡ 11
   pub stack : Covered fact.stack s.stack
   pub long : length s.stack ≡ 512
+  pub notes : (k : ℕ) → IsKept (noted_type (slice_index fact.notes k)) s.stack (8 * k)
 
 -- every state that fits the first fits the second
 pub record IsBelow (fact wider : Fact) : Type 0 where
@@ -142,10 +147,16 @@ carried_to (Some at) fact = Some (record { at = at; fact = fact })
 abbrev pub carried_in : Running → Option Stored
 carried_in running = carried_to running.at running.fact
 
--- the types after an instruction, and the old places with those that it sets
+-- the byte was in the set or is one of the number's, or else was in it and is none of the pointer's
+abbrev pub HasAfter : Bool → List Bool → ℕ → ℕ → ℕ → Type 0
+HasAfter true set at len p = Has set p ⊎ Within at len p
+HasAfter false set at len p = Has set p × ¬ (Within at len p)
+
+-- the types after an instruction, the old places with those that it sets or without a pointer's, and the notes
 pub record IsAfter (fact : Fact) (effect : Effect) (after : Fact) : Type 0 where
   pub types : after.types ≡ effect.types
-  pub places : (p : ℕ) → Has after.stack p ↔ (Has fact.stack p ⊎ Within effect.at effect.len p)
+  pub places : (p : ℕ) → Has after.stack p ↔ HasAfter (is_unset effect.kept) fact.stack effect.at effect.len p
+  pub notes : after.notes ≡ renoted (note_of effect.kept) effect.at effect.len 0 fact.notes
 
 -- the unit's fact takes in this one
 pub record Enters (facts : Facts) (fact : Fact) (to : ℕ) : Type 0 where
@@ -166,10 +177,11 @@ pub record IsTyped (us : List ProgramUnit) (declared : ℕ) (facts : Facts) (pc 
   pub ahead : AllByRecursion (IsAhead us pc) tos
   pub enters : AllByRecursion (Enters facts after) tos
 
--- what is known on entry: where R1 and R10 point, and no byte of the stack
+-- what is known on entry: where R1 and R10 point, and nothing of the stack
 pub record IsEntry (fact : Fact) : Type 0 where
   pub types : fact.types ≡ entry_types
   pub places : (p : ℕ) → Has fact.stack p → ⊥
+  pub notes : fact.notes ≡ no_notes
 
 -- the first unit's fact takes in the entry, and each reached unit is well typed
 pub record Covers (us : List ProgramUnit) (declared : ℕ) (facts : Facts) : Type 0 where

@@ -1,6 +1,6 @@
 -- Definitions: what is known before each unit of a program, and the first unit that the rules refuse (this profile,
 -- type rules).
-use Rattle.std.specs.Prelude.{ℕ, zero, suc, ◌+◌, ℤ, pos, ◌==◌, ◌&&◌, ◌||◌, is_some, if◌then◌else◌, Bool, true, false, List, [], ◌∷◌, length, drop, slice_get, slice_index_or, Option, Some, None, Result, Ok, Err}
+use Rattle.std.specs.Prelude.{ℕ, zero, suc, ◌+◌, ℤ, pos, ◌==◌, ◌&&◌, ◌||◌, is_some, if◌then◌else◌, Bool, true, false, List, [], ◌∷◌, length, drop, replicate, slice_get, slice_index_or, nat_lt, ◌*◌, Option, Some, None, Result, Ok, Err}
 use Rattle.bpf_model.specs.declared.instruction.Inst.{Inst}
 use Rattle.bpf_model.specs.declared.instruction.Form.{Form}
 use Rattle.bpf_model.specs.declared.instruction.Form.TheVariants.{Wide, Goto, GotoLong, Branch, Exit}
@@ -16,7 +16,7 @@ use Rattle.reg_types.specs.declared.types.Effect.{Effect}
 use Rattle.reg_types.specs.declared.types.Flaw.{Flaw}
 use Rattle.reg_types.specs.declared.refusal.TypeFault.{TypeFault}
 use Rattle.reg_types.specs.Refusals.{located}
-use Rattle.reg_types.specs.Rules.{join_type, judged}
+use Rattle.reg_types.specs.Rules.{join_type, is_unset, note_of, judged}
 
 -- ---- sets of stack bytes: truth values from the lowest byte on; a byte past their end isn't in the set
 
@@ -32,6 +32,29 @@ marked zero zero set = set
 marked zero (suc len) set = true ∷ marked zero len (drop 1 set)
 marked (suc at) len set = slice_index_or set 0 false ∷ marked at len (drop 1 set)
 
+-- the set without `len` bytes from `at` on
+abbrev pub cleared : ℕ → ℕ → List Bool → List Bool
+cleared zero zero set = set
+cleared zero (suc len) set = false ∷ cleared zero len (drop 1 set)
+cleared (suc at) len set = slice_index_or set 0 false ∷ cleared at len (drop 1 set)
+
+-- ---- notes of the 64 aligned places, from the lowest on
+
+-- equal notes stay, and others give none
+abbrev pub join_notes : List ℕ → List ℕ → List ℕ
+join_notes [] bs = []
+join_notes (a ∷ rest) [] = []
+join_notes (a ∷ rest) (b ∷ bs) = (if a == b then a else 0) ∷ join_notes rest bs
+
+-- a store of `len` bytes from `at` on writes a byte of aligned place k
+abbrev pub touches : ℕ → ℕ → ℕ → Bool
+touches at len k = nat_lt at (8 * k + 8) && nat_lt (8 * k) (at + len)
+
+-- the notes, from that of place k on, once those of the touched places have become n
+abbrev pub renoted : ℕ → ℕ → ℕ → ℕ → List ℕ → List ℕ
+renoted n at len k [] = []
+renoted n at len k (m ∷ rest) = (if touches at len k then n else m) ∷ renoted n at len (suc k) rest
+
 -- ---- facts
 
 abbrev pub join_types : List RegType → List RegType → List RegType
@@ -41,20 +64,33 @@ join_types (a ∷ rest) (b ∷ bs) = join_type a b ∷ join_types rest bs
 
 -- what two facts both say
 abbrev pub join_fact : Fact → Fact → Fact
-join_fact a b = record { types = join_types a.types b.types; stack = common a.stack b.stack }
+join_fact a b =
+    record { types = join_types a.types b.types; stack = common a.stack b.stack; notes = join_notes a.notes b.notes }
 
 -- the types on entry
 abbrev pub entry_types : List RegType
 entry_types =
     Anything ∷ Ctx 0 ∷ Anything ∷ Anything ∷ Anything ∷ Anything ∷ Anything ∷ Anything ∷ Anything ∷ Anything ∷ Stk (pos 0) ∷ []
 
--- on entry no byte is set
+abbrev pub no_notes : List ℕ
+no_notes = replicate 64 0
+
+-- on entry no byte is set, and no pointer is kept
 abbrev pub entry_fact : Fact
-entry_fact = record { types = entry_types; stack = [] }
+entry_fact = record { types = entry_types; stack = []; notes = no_notes }
+
+-- the bytes of a number are set, and those of a pointer aren't
+abbrev pub set_after : Effect → List Bool → List Bool
+set_after effect set = if is_unset effect.kept then marked effect.at effect.len set else cleared effect.at effect.len set
 
 -- what is known after an instruction with this effect
 abbrev pub fact_after : Fact → Effect → Fact
-fact_after fact effect = record { types = effect.types; stack = marked effect.at effect.len fact.stack }
+fact_after fact effect =
+    record {
+      types = effect.types;
+      stack = set_after effect fact.stack;
+      notes = renoted (note_of effect.kept) effect.at effect.len 0 fact.notes;
+    }
 
 -- ---- one unit
 

@@ -21,10 +21,11 @@ use Rattle.reg_types.specs.Inference.{flaw_under, arrived, passed, inferred, fir
 
 -- ---- facts that say the same
 
--- the same types, and the same bytes of the stack
+-- the same types, the same bytes of the stack, and the same notes
 pub record IsSame (a b : Fact) : Type 0 where
   pub types : a.types ≡ b.types
   pub places : (p : ℕ) → Has a.stack p ↔ Has b.stack p
+  pub notes : a.notes ≡ b.notes
 
 abbrev pub AreSame : Option Fact → Option Fact → Type 0
 AreSame None None = ⊤

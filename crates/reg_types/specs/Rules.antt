@@ -1,5 +1,5 @@
 -- Definitions: the typing rules, as functions (this profile, type rules). A program which they accept is good.
-use Rattle.std.specs.Prelude.{ℕ, zero, suc, ◌+◌, ◌*◌, ◌/◌, ◌%◌, ◌-◌, ◌^◌, ◌==◌, nat_le, Bool, true, false, ◌&&◌, ◌||◌, if◌then◌else◌, ℤ, pos, negsuc, neg_ℤ, ◌+ℤ◌, int_le, List, ◌∷◌, drop, slice_set, slice_index_or, Option, Some, None, is_some, Result, Ok, Err}
+use Rattle.std.specs.Prelude.{ℕ, zero, suc, ◌+◌, ◌*◌, ◌/◌, ◌%◌, ◌-◌, ◌^◌, ◌==◌, nat_le, Bool, true, false, ◌&&◌, ◌||◌, if◌then◌else◌, ℤ, pos, negsuc, neg_ℤ, ◌+ℤ◌, int_le, List, ◌∷◌, drop, slice_set, slice_index, slice_index_or, Option, Some, None, is_some, Result, Ok, Err}
 use Rattle.std.specs.Ordering.{int_eq}
 use Rattle.std.specs.Int.{cast_unsigned, w32}
 use Rattle.bpf_model.specs.declared.instruction.Inst.{Inst}
@@ -13,7 +13,7 @@ use Rattle.bpf_model.specs.declared.instruction.Form.{Form}
 use Rattle.bpf_model.specs.declared.instruction.Form.TheVariants.{Arithmetic, Wide, Load, LoadSigned, StoreImmediate, StoreRegister, Goto, GotoLong, Branch, Call, Exit}
 use Rattle.bpf_model.specs.Reading.{bytes_in}
 use Rattle.bpf_model.specs.Arithmetic.{low}
-use Rattle.bpf_model.specs.Machine.{shifted, immediate}
+use Rattle.bpf_model.specs.Machine.{shifted, immediate, is_aligned}
 use Rattle.helpers.specs.declared.Kind.{Kind}
 use Rattle.helpers.specs.declared.Kind.TheVariants.{Nothing, Number, Counter, Place}
 use Rattle.helpers.specs.Calls.{signature}
@@ -111,7 +111,7 @@ operand_type Register w i types = type_at types i.src
 -- ---- what an instruction leaves
 
 abbrev pub unmarked : List RegType → Effect
-unmarked types = record { types = types; at = 0; len = 0 }
+unmarked types = record { types = types; at = 0; len = 0; kept = Unset }
 
 abbrev pub put_type : List RegType → ℕ → Result RegType Flaw → Result Effect Flaw
 put_type types dst (Err e) = Err e
@@ -151,9 +151,40 @@ load_type set (Const c) i size = Err NotAPointer
 load_type set (Ctx k) i size = number_at (shifted k i.offset (64 - size))
 load_type set (Stk k) i size = number_set set size (shifted (lowest k) i.offset (512 - size))
 
+-- a note is the type of a pointer kept in the stack, as a number: 0 for none, 1 to 65 for Ctx 0 to 64, and 66 to 578 for
+-- Stk -512 to 0, which are all that pointers have
+abbrev pub note_of : RegType → ℕ
+note_of (Ctx k) = if nat_le k 64 then k + 1 else 0
+note_of (Stk k) = if nat_le (lowest k) 512 then 66 + lowest k else 0
+note_of Unset = 0
+note_of Num = 0
+note_of (Const c) = 0
+
+abbrev pub noted_type : ℕ → RegType
+noted_type n = if n == 0 then Unset else (if nat_le n 65 then Ctx (n - 1) else Stk (pos (n - 66) +ℤ negsuc 511))
+
+-- the type noted for the bytes that are read, or Unset
+abbrev pub note_in : List ℕ → ℕ → Option ℕ → RegType
+note_in notes size None = Unset
+note_in notes size (Some at) = if is_aligned size at then noted_type (slice_index notes (at / 8)) else Unset
+
+abbrev pub kept_type : List ℕ → RegType → Inst → ℕ → RegType
+kept_type notes (Stk k) i size = note_in notes size (shifted (lowest k) i.offset (512 - size))
+kept_type notes (Ctx k) i size = Unset
+kept_type notes (Const c) i size = Unset
+kept_type notes Num i size = Unset
+kept_type notes Unset i size = Unset
+
+abbrev pub kept_or : RegType → Result RegType Flaw → Result RegType Flaw
+kept_or t r = if is_unset t then r else Ok t
+
+-- a load that can find a pointer
+abbrev pub loaded_type : List Bool → List ℕ → RegType → Inst → ℕ → Result RegType Flaw
+loaded_type set notes base i size = kept_or (kept_type notes base i size) (load_type set base i size)
+
 abbrev pub marks : List RegType → ℕ → Option ℕ → Result Effect Flaw
 marks types size None = Err OutOfRange
-marks types size (Some at) = Ok (record { types = types; at = at; len = size })
+marks types size (Some at) = Ok (record { types = types; at = at; len = size; kept = Unset })
 
 abbrev pub store_type : List RegType → RegType → Inst → ℕ → Result Effect Flaw
 store_type types Unset i size = Err NotAPointer
@@ -162,14 +193,18 @@ store_type types (Const c) i size = Err NotAPointer
 store_type types (Ctx k) i size = Err StoreToContext
 store_type types (Stk k) i size = marks types size (shifted (lowest k) i.offset (512 - size))
 
--- the flaw of a pointer that is stored comes after those of its place
-abbrev pub unless_pointer : Bool → Result Effect Flaw → Result Effect Flaw
-unless_pointer pointer (Err e) = Err e
-unless_pointer pointer (Ok e) = if pointer then Err StorePointer else Ok e
+-- a pointer is kept where its bytes are an aligned place
+abbrev pub keeps : RegType → Effect → Result Effect Flaw
+keeps value e = if is_aligned e.len e.at then Ok (record e { kept = value }) else Err StorePointer
+
+-- the flaw of a pointer that can't be kept comes after those of its place
+abbrev pub keeps_pointer : RegType → Result Effect Flaw → Result Effect Flaw
+keeps_pointer value (Err e) = Err e
+keeps_pointer value (Ok e) = if is_pointer value then keeps value e else Ok e
 
 abbrev pub store_register : List RegType → RegType → RegType → Inst → ℕ → Result Effect Flaw
 store_register types base value i size =
-    if is_unset value then Err (NotANumber i.src) else unless_pointer (is_pointer value) (store_type types base i size)
+    if is_unset value then Err (NotANumber i.src) else keeps_pointer value (store_type types base i size)
 
 -- ---- comparisons and exits
 
@@ -222,7 +257,7 @@ after_call types = Num ∷ Unset ∷ Unset ∷ Unset ∷ Unset ∷ Unset ∷ dro
 
 abbrev pub marks_record : List RegType → Option ℕ → Effect
 marks_record types None = unmarked types
-marks_record types (Some at) = record { types = types; at = at; len = 16 }
+marks_record types (Some at) = record { types = types; at = at; len = 16; kept = Unset }
 
 abbrev pub record_at : Kind → RegType → Option ℕ
 record_at Place t = place_by t
@@ -253,7 +288,7 @@ abbrev pub effect : ℕ → Fact → Inst → ℤ → Form → Result Effect Fla
 effect declared f i upper (Arithmetic op w s) =
     set_type f.types i.dst (alu_type op w s i (type_at f.types i.dst) (operand_type s w i f.types))
 effect declared f i upper Wide = set_type f.types i.dst (Ok (Const (cast_unsigned w32 upper * 2 ^ 32 + cast_unsigned w32 i.imm)))
-effect declared f i upper (Load size) = set_type f.types i.dst (load_type f.stack (type_at f.types i.src) i (bytes_in size))
+effect declared f i upper (Load size) = set_type f.types i.dst (loaded_type f.stack f.notes (type_at f.types i.src) i (bytes_in size))
 effect declared f i upper (LoadSigned size) = set_type f.types i.dst (load_type f.stack (type_at f.types i.src) i (bytes_in size))
 effect declared f i upper (StoreImmediate size) = store_type f.types (type_at f.types i.dst) i (bytes_in size)
 effect declared f i upper (StoreRegister size) =

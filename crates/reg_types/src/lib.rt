@@ -1,6 +1,7 @@
 // The verifier: types of registers, facts, and programs that never get stuck.
 #![tactic(auto)]
 
+mod notes;
 mod refusal;
 mod rules;
 mod table;

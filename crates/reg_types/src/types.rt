@@ -1,11 +1,13 @@
 // What is known before an instruction.
 
-ghost use Rattle.std.specs.Prelude.{◌≡◌, ◌≤◌, ◌+◌};
-ghost use Rattle.reg_types.specs.Rules.{type_at, is_unset, is_pointer, is_numeric, join_type};
-ghost use Rattle.reg_types.specs.Facts.{IsAfter, IsEntry, jump_of, next_of};
-ghost use Rattle.reg_types.specs.Inference.{join_fact};
+ghost use Rattle.std.specs.Prelude.{◌≡◌, ℕ, ◌↔◌, ◌≤◌, ◌+◌};
+ghost use Rattle.stack_map.specs.Places.{Has};
+ghost use Rattle.reg_types.specs.Rules.{type_at, is_unset, is_pointer, is_numeric, join_type, note_of as note_by};
+ghost use Rattle.reg_types.specs.Facts.{HasAfter, IsAfter, IsEntry, jump_of, next_of};
+ghost use Rattle.reg_types.specs.Inference.{join_fact, renoted};
 ghost use Rattle.reg_types.specs.Passing.{IsSame};
 
+use crate::notes::{join_notes, note_of, put_note};
 use stack_map::StackMap;
 
 /// What is known of a register: nothing, that it holds a number or which one, or where it points: so many bytes from
@@ -19,11 +21,14 @@ pub enum RegType {
     Stk(i32),
 }
 
-/// What is known before an instruction: the types of registers 0 to 10, and which bytes of the stack are set.
+/// What is known before an instruction: the types of registers 0 to 10, which bytes of the stack are set, and for each
+/// of the stack's 64 aligned places of eight bytes, from the lowest on, a note of the pointer that is kept there: 0 for
+/// none, 1 to 65 for `Ctx(0)` to `Ctx(64)`, and 66 to 578 for `Stk(-512)` to `Stk(0)`.
 #[derive(Clone, Copy, Debug, PartialEq, Eq)]
 pub struct Fact {
     pub types: [RegType; 11],
     pub stack: StackMap,
+    pub notes: [u16; 64],
 }
 
 /// What is known before the unit `at`.
@@ -40,12 +45,14 @@ pub struct Running {
     pub fact: Fact,
 }
 
-/// What an instruction leaves: the types, and the bytes of the stack that it sets, `len` of them from `at` on.
+/// What an instruction leaves: the types, and the bytes of the stack that it writes, `len` of them from `at` on, with
+/// the type of the pointer that it keeps there, or `Unset` where it sets them.
 #[derive(Clone, Copy, Debug, PartialEq, Eq)]
 pub struct Effect {
     pub types: [RegType; 11],
     pub at: u32,
     pub len: u32,
+    pub kept: RegType,
 }
 
 /// What is wrong with an instruction under a fact.
@@ -153,6 +160,7 @@ impl Fact {
         Fact {
             types,
             stack: StackMap::empty(),
+            notes: [0; 64],
         }
     }
 
@@ -164,6 +172,7 @@ impl Fact {
             self.types[r] = self.types[r].join(other.types[r]);
         }
         self.stack.meet(&other.stack);
+        join_notes(&mut self.notes, &other.notes);
     }
 
     /// Becomes what is known after an instruction with this effect.
@@ -172,6 +181,23 @@ impl Fact {
         ensures { IsAfter self.old effect.now self.new }
     {
         self.types = effect.types;
-        self.stack.mark(effect.at, effect.len);
+        if effect.at > 0 || effect.len > 0 {
+            self.write(effect);
+        }
+    }
+
+    // The bytes that an instruction writes.
+    fn write(&mut self, effect: &Effect)
+        requires { effect.now.at + effect.now.len ≤ 512 }
+        ensures types { self.new.types ≡ self.old.types }
+        ensures places { (p : ℕ) → Has self.new.stack p ↔ HasAfter (is_unset effect.now.kept) self.old.stack effect.now.at effect.now.len p }
+        ensures notes { self.new.notes ≡ renoted (note_by effect.now.kept) effect.now.at effect.now.len 0 self.old.notes }
+    {
+        if effect.kept.is_nothing() {
+            self.stack.mark(effect.at, effect.len);
+        } else {
+            self.stack.clear(effect.at, effect.len);
+        }
+        put_note(&mut self.notes, note_of(effect.kept), effect.at, effect.len);
     }
 }

@@ -1,12 +1,12 @@
 -- Which places the words of a set stand for, and what masks do to them.
 use Rattle.std.proofs.Common.{◌≡◌, ◌≢◌, ℕ, zero, suc, ◌+◌, ◌-◌, ◌*◌, ◌/◌, ◌%◌, ◌^◌, ◌<◌, ◌≤◌, ◌⊎◌, ◌↔◌, List, [], ◌∷◌, ◌++◌, Bool, true, false, refl, sym, ap, ◌∙◌, subst, inl, inr, arith, length, replicate, bit_and, bit_or, min, max}
 use Rattle.std.specs.Prelude.{◌==◌, slice_index_or, slice_set}
-use Rattle.std.specs.Int.{bit_at}
+use Rattle.std.specs.Int.{bit_at, bit_not, w64}
 use Rattle.std.specs.List.{AllByRecursion}
 use Rattle.std.proofs.lemmas.Bool.{cases_lt, cases_eq, eqb-true, eq-eqb}
 use Rattle.std.proofs.lemmas.List.{get_or-set_other, get_or-set_same, length-set}
 use Rattle.std.proofs.lemmas.Nat.{or_lt, and_le_l, and_le_r, pow-add, pow_below, pow_pos}
-use Rattle.std.proofs.lemmas.Nat.Bits.{bit_at_lowest, bit_at-suc, bit_at-zero, bit_at-lt, bit_at_and, bit_at_or, bit_at_above, bit_at_cat_low, bit_at_mask_inside, same_from_bits_below}
+use Rattle.std.proofs.lemmas.Nat.Bits.{bit_at_lowest, bit_at-suc, bit_at-zero, bit_at-lt, bit_at_and, bit_at_or, bit_at_above, bit_at_cat_low, bit_at_mask_inside, bit_at_not, same_from_bits_below}
 use Rattle.stack_map.specs.Places.{Has, Within, bits_of, places_of, AreWords, IsMarked}
 
 bit_true : (word : ℕ) → ((word % 2 == 1) ≡ true) ↔ (bit_at word 0 ≡ 1)
@@ -195,6 +195,51 @@ taken_all words old at len k l taken p =
     let is = marked_is words p in (
       λ h. elim ((taken p).0 (is.0 h)) [ inl o ↦ inl o | inr w ↦ inr w.0 ],
       λ h. is.1 ((taken p).1 (elim h [ inl o ↦ inl o | inr w ↦ inr (w, let b = w.1 in omega (arith, b, l)) ])),
+    )
+
+-- ---- the places of a run are taken out, word by word
+
+none_left : (b : ℕ) → b < 2 → (1 - b ≡ 1) ↔ ¬ (b ≡ 1)
+none_left b l = (λ e h. omega (arith, e, h), λ h. elim (cases_eq b 1) [ inl e ↦ absurd (h e) | inr n ↦ omega (arith, l, n) ])
+
+without_is : (a mask i : ℕ) → mask < 2 ^ 64 → i < 64 → (bit_at (bit_and a (bit_not w64 mask)) i ≡ 1) ↔ ((bit_at a i ≡ 1) × ¬ (bit_at mask i ≡ 1))
+without_is a mask i small l =
+    let both = and_is a (bit_not w64 mask) i in
+    let other = bit_at_not w64 mask i small l in
+    let none = none_left (bit_at mask i) (bit_at-lt mask i) in
+    (λ e. let h = both.0 e in (h.0, none.0 (sym other ∙ h.1)), λ h. both.1 (h.0, other ∙ none.1 h.1))
+
+-- the places of the run in the words before k are gone
+abbrev pub IsFreed : List ℕ → List Bool → ℕ → ℕ → ℕ → Type 0
+IsFreed words old at len k = (p : ℕ) → IsMarked words p ↔ (Has old p × (Within at len p → 64 * k ≤ p))
+
+pub freed_none : (words : List ℕ) (old : List Bool) (at len : ℕ) → places_of words ≡ old → IsFreed words old at len (at / 64)
+freed_none words old at len e p =
+    let is = marked_is words p in
+    (λ m. (subst (λ set. Has set p) e (is.1 m), λ w. let a = w.0 in omega (arith, a)), λ h. is.0 (subst (λ set. Has set p) (sym e) h.0))
+
+pub freed_more : (words : List ℕ) (old : List Bool) (at len k mask : ℕ) → k < length words → mask < 2 ^ 64 → IsMask mask k at len → IsFreed words old at len k → IsFreed (slice_set words k (bit_and (slice_index_or words k 0) (bit_not w64 mask))) old at len (k + 1)
+freed_more words old at len k mask l small is freed p = elim (cases_eq (p / 64) k) [
+  | inl here ↦
+      let without = without_is (slice_index_or words k 0) mask (p % 64) small (omega arith) in
+      let set = word_set words k (bit_and (slice_index_or words k 0) (bit_not w64 mask)) p here l in
+      let was = at_word words p k here in
+      let run = mask_at mask k at len p is here in (
+        λ e. let h = without.0 (set.0 e) in (((freed p).0 (was.1 h.0)).0, λ w. absurd (h.1 (run.1 w))),
+        λ h. set.1 (without.1 (was.0 ((freed p).1 (h.0, λ w. omega (arith, here))), λ m. let b = h.1 (run.0 m) in omega (arith, b, here))),
+      )
+  | inr apart ↦
+      let kept = word_kept words k (bit_and (slice_index_or words k 0) (bit_not w64 mask)) p apart in (
+        λ e. let h = (freed p).0 (kept.0 e) in (h.0, λ w. let b = h.1 w in omega (arith, b, apart)),
+        λ h. kept.1 ((freed p).1 (h.0, λ w. let b = h.1 w in omega (arith, b))),
+      )
+]
+
+pub freed_all : (words : List ℕ) (old : List Bool) (at len k : ℕ) → at + len ≤ 64 * k → IsFreed words old at len k → (p : ℕ) → Has (places_of words) p ↔ (Has old p × ¬ (Within at len p))
+freed_all words old at len k l freed p =
+    let is = marked_is words p in (
+      λ h. let x = (freed p).0 (is.0 h) in (x.0, λ w. let a = x.1 w in let b = w.1 in omega (arith, a, b, l)),
+      λ h. is.1 ((freed p).1 (h.0, λ w. absurd (h.1 w))),
     )
 
 -- ---- the places in both sets, word by word

@@ -1,4 +1,4 @@
-use Rattle.std.proofs.Common.{◌≡◌, ℕ, ◌+◌, ◌-◌, ◌*◌, ◌^◌, ◌<◌, ◌≤◌, arith, ap, ◌∙◌, sym}
+use Rattle.std.proofs.Common.{◌-◌, ◌*◌, ◌≤◌, arith, ap, ◌∙◌, sym}
 use Rattle.std.specs.Int.{bit_at}
 use Rattle.stack_map.proofs.Marking.{mask_is, mask_of_low}
 use Rattle.stack_map.proofs.mask_of.Goals as goal

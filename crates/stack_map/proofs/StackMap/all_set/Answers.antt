@@ -1,5 +1,5 @@
-use Rattle.std.proofs.Common.{◌<◌, ◌^◌, ◌≤◌, arith, rules, refl, subst, sym, length}
-use Rattle.stack_map.specs.Places.{Has, Within, places_of}
+use Rattle.std.proofs.Common.{◌<◌, ◌^◌, arith, rules, refl, subst, sym}
+use Rattle.stack_map.specs.Places.{Has}
 use Rattle.stack_map.proofs.Marking.{marked_is, held_more, not_held}
 use Rattle.stack_map.proofs.StackMap.all_set.Goals as goal
 

@@ -1,4 +1,4 @@
-use Rattle.std.proofs.Common.{◌<◌, ◌^◌, ◌≤◌, ◌+◌, ◌*◌, arith, rules, length}
+use Rattle.std.proofs.Common.{◌<◌, ◌^◌, arith, rules}
 use Rattle.stack_map.proofs.Marking.{words_or, taken_none, taken_more, taken_all}
 use Rattle.stack_map.proofs.StackMap.mark.Goals as goal
 

@@ -1,4 +1,4 @@
-use Rattle.std.proofs.Common.{◌<◌, ◌≤◌, arith, rules, length}
+use Rattle.std.proofs.Common.{arith}
 use Rattle.stack_map.proofs.Marking.{words_and, met_none, met_more, met_all}
 use Rattle.stack_map.proofs.StackMap.meet.Goals as goal
 

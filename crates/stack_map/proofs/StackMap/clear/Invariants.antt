@@ -1,0 +1,10 @@
+use Rattle.stack_map.specs.Places.{AreWords}
+use Rattle.stack_map.proofs.Marking.{IsFreed}
+use Rattle.stack_map.proofs.StackMap.clear.Given as goal
+
+abbrev pub invariant-loop-k : goal.invariant-loop-k
+invariant-loop-k l =
+    record {
+      words : AreWords l.self-inside.words;
+      freed : IsFreed l.self-inside.words l.fn.self l.at l.len l.k;
+    }
