@@ -51,6 +51,7 @@ impl Doors for TcpDoors<'_> {
             reader,
             reads: 0,
             failures: 0,
+            asked: 0,
         };
         let output = StreamOut {
             writer,

@@ -1,4 +1,5 @@
 pub mod Answer
+pub mod Blocks
 pub mod Count
 pub mod Gives
 pub mod Grammar

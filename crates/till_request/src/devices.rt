@@ -17,6 +17,7 @@ pub struct MemoryIn {
     pub good: Option<u64>,
     pub reads: u64,
     pub failures: u64,
+    pub asked: u64,
     ghost within: { at ≤ length bytes.items },
 }
 
@@ -29,6 +30,7 @@ impl MemoryIn {
         ensures good { result.good ≡ good }
         ensures reads { result.reads ≡ 0 }
         ensures failures { result.failures ≡ 0 }
+        ensures asked { result.asked ≡ 0 }
     {
         MemoryIn {
             bytes,
@@ -37,6 +39,7 @@ impl MemoryIn {
             good,
             reads: 0,
             failures: 0,
+            asked: 0,
         }
     }
 }
@@ -71,9 +74,12 @@ impl LineIn for MemoryIn {
 
     ghost failures = { λ s. s.failures };
 
+    ghost asked = { λ s. s.asked };
+
     fn read(&mut self, buffer: &mut [u8]) -> Result<usize, DeviceFault> {
         let size = size_at(&self.sizes, self.reads);
         self.reads = self.reads.wrapping_add(1);
+        self.asked = self.asked.wrapping_add(buffer.len() as u64);
         if self.good == Some(0) {
             self.failures = self.failures.wrapping_add(1);
             return Err(DeviceFault);
@@ -92,6 +98,7 @@ pub struct StreamIn<R: Read> {
     pub reader: R,
     pub reads: u64,
     pub failures: u64,
+    pub asked: u64,
 }
 
 impl<R: Read + Drop> LineIn for StreamIn<R> {
@@ -101,8 +108,11 @@ impl<R: Read + Drop> LineIn for StreamIn<R> {
 
     ghost failures = { λ s. s.failures };
 
+    ghost asked = { λ s. s.asked };
+
     fn read(&mut self, buffer: &mut [u8]) -> Result<usize, DeviceFault> {
         self.reads = self.reads.wrapping_add(1);
+        self.asked = self.asked.wrapping_add(buffer.len() as u64);
         match self.reader.read(buffer) {
             Ok(count) => Ok(count),
             Err(_) => {
