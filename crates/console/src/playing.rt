@@ -3,7 +3,7 @@ ghost use Rattle.std.specs.Prelude.{◌≡◌, ◌≤◌, ◌-◌, ℕ, IfOk, On
 ghost use Rattle.till_request.specs.Count.{RoseBy, one_if};
 ghost use Rattle.line_session.specs.Talk.{is_read, is_write};
 ghost use Rattle.site_core.specs.Site.{new_site};
-ghost use Rattle.console.specs.Play.{PlaysOut, PlayBreaks};
+ghost use Rattle.console.specs.Play.{PlaysOut, PlayBreaks, PlaysAlike};
 
 use crate::player::Player;
 use line_session::{Ended, READS, SessionFault, talk_within};
@@ -55,3 +55,12 @@ pub fn play<I: LineIn, O: LineOut>(
     let mut left = READS;
     play_within(alloc, config, input, output, &mut left)
 }
+
+/// Whatever sizes the reads of a script give, the same is answered: two plays of the same bytes on one configuration that
+/// both end wrote the same and left the same site, where neither was refused memory at a line.
+///
+/// `play` tells what it took and wrote by the bytes that its input has, whatever its device, so by this law how a script
+/// is cut changes nothing.
+pub fn law_of_the_cut()
+    ensures { PlaysAlike }
+{}
