@@ -90,7 +90,7 @@ fn journals_are_judged(rt: HostRuntime) {
 }
 
 /// The journal of that delivery.
-fn journal_of(alloc: Global) -> Option<String> {
+pub fn journal_of(alloc: Global) -> Option<String> {
     let text = String::from_utf8(answers(alloc, STATION, PAID)?).ok()?;
     let mut journal = String::new(alloc);
     for line in text.as_str().lines().skip(14) {

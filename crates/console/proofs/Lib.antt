@@ -1,2 +1,3 @@
+pub mod Alike
 pub mod Fronts
 pub mod Journals

@@ -7,7 +7,7 @@ use Rattle.std.specs.List.{join_with_byte}
 use Rattle.bpf_model.specs.Runs.{IsGood}
 use Rattle.reg_types.specs.declared.refusal.Refusal.{Refusal}
 use Rattle.reg_types.specs.Refusals.{shown_by}
-use Rattle.reg_types.specs.Shown.{IsRefused}
+use Rattle.reg_types.specs.Shown.{IsRefused, IsRefusal, refusal_of}
 use Rattle.till_request.specs.declared.act.Act.{Act}
 use Rattle.till_request.specs.declared.act.Act.TheVariants as acts
 use Rattle.till_request.specs.declared.act.Answer.{Answer}
@@ -20,6 +20,7 @@ use Rattle.site_core.specs.Site.{SiteValue, Enters}
 use Rattle.site_core.specs.State.{counter_of}
 use Rattle.site_core.specs.Histories.{IsJournal}
 use Rattle.line_session.specs.Talk.{Ends, Breaks, drops_none}
+use Rattle.line_session.specs.Cut.{NoWantTold, EndAlike}
 use Rattle.console.specs.declared.script.ScriptLine.{ScriptLine}
 use Rattle.console.specs.declared.script.ScriptLine.TheVariants as lines
 use Rattle.console.specs.Script.{line_of}
@@ -36,13 +37,19 @@ EventAnswered old moment act (answers.Program number unit part) new = ⊥
 pub record ProgramRefused (old : SiteValue) (bytes : List ℕ) (mask number : ℕ) (unit part : Option ℕ) (new : SiteValue) : Type 0 where
   pub refusal : Refusal
   pub refused : IsRefused bytes mask refusal
+  pub answers : IsRefusal (refusal_of bytes mask) refusal
   pub shown : shown_by refusal ≡ Some (number, unit, part)
   pub same : new ≡ old
 
--- what a load is answered: a program that is entered is good
+-- the bytes are a good program, and the verifier refuses nothing of them
+pub record IsAccepted (bytes : List ℕ) (mask : ℕ) : Type 0 where
+  pub good : IsGood bytes mask
+  pub accepted : refusal_of bytes mask ≡ None
+
+-- what a load is answered: a program that is entered is accepted
 abbrev pub LoadAnswered : SiteValue → ℕ → ℕ → ℕ → List ℕ → Answer → SiteValue → Type 0
-LoadAnswered old moment slot mask bytes (answers.Entered number reply) new = IsGood bytes mask × EventAnswered old moment (acts.Load slot mask bytes) (answers.Entered number reply) new
-LoadAnswered old moment slot mask bytes answers.JournalFull new = IsGood bytes mask × EventAnswered old moment (acts.Load slot mask bytes) answers.JournalFull new
+LoadAnswered old moment slot mask bytes (answers.Entered number reply) new = IsAccepted bytes mask × EventAnswered old moment (acts.Load slot mask bytes) (answers.Entered number reply) new
+LoadAnswered old moment slot mask bytes answers.JournalFull new = IsAccepted bytes mask × EventAnswered old moment (acts.Load slot mask bytes) answers.JournalFull new
 LoadAnswered old moment slot mask bytes answers.OutOfMemory new = new ≡ old
 LoadAnswered old moment slot mask bytes (answers.Line fault) new = ⊥
 LoadAnswered old moment slot mask bytes (answers.Program number unit part) new = ProgramRefused old bytes mask number unit part new
@@ -91,3 +98,13 @@ pub record PlayBreaks (site : SiteValue) (in_old in_new out_old out_new : Option
   pub moment : ℕ
   pub left : SiteValue
   pub breaks : Breaks Plays drops_none (0, site) (moment, left) in_old in_new out_old out_new
+
+-- two plays of the same bytes on sites of one configuration that both end, behind the same output, wrote the same and left the same moment and site,
+-- where neither was refused memory at a line
+abbrev pub PlaysAlike : Type 0
+PlaysAlike =
+    (site : SiteValue) (bytes out out_t out_u : List ℕ) (in_t in_u : Option (List ℕ)) (count_t count_u : ℕ) (cut_t cut_u : Option LineFault)
+    → (one : PlaysOut site (Some bytes) in_t (Some out) (Some out_t) count_t cut_t)
+    → (other : PlaysOut site (Some bytes) in_u (Some out) (Some out_u) count_u cut_u)
+    → NoWantTold one.ends.talks.texts → NoWantTold other.ends.talks.texts
+    → EndAlike {S = ℕ × SiteValue} (one.moment, one.left) (other.moment, other.left) out_t out_u count_t count_u cut_t cut_u

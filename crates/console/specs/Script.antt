@@ -1,8 +1,7 @@
 -- Definitions: the lines of a script (this profile). They are those of all roles, and `moment N`, `counter C` and `journal`,
 -- which are read by the same rules: where the words have no form, the line is bad; else its value is read.
-use Rattle.std.specs.Prelude.{ℕ, List, [], ◌∷◌, codes, Bool, ◌&&◌, Result, Ok, Err, if◌then◌else◌}
+use Rattle.std.specs.Prelude.{ℕ, List, [], ◌∷◌, codes, Bool, ◌&&◌, Result, Ok, if◌then◌else◌}
 use Rattle.std.specs.Str.{bytes_eq}
-use Rattle.till_request.specs.declared.act.Act.{Act}
 use Rattle.till_request.specs.declared.act.LineFault.{LineFault}
 use Rattle.till_request.specs.declared.act.Role.TheVariants.{All}
 use Rattle.till_request.specs.Grammar.{words, number, is_some_word, act_of_words, ◌>>=◌}

@@ -1,6 +1,6 @@
 //! Acts as events of a site.
 ghost use Rattle.std.specs.Prelude.{◌≡◌, ℕ, List};
-ghost use Rattle.reg_types.specs.Shown.{IsRefused};
+ghost use Rattle.reg_types.specs.Shown.{IsRefused, IsRefusal, refusal_of};
 ghost use Rattle.site_core.specs.Site.{SiteValue, act_of};
 ghost use Rattle.console.specs.Play.{EventAnswered, LoadAnswered, ActAnswered};
 
@@ -34,7 +34,7 @@ fn enter_event(site: &mut Site, moment: u64, what: What) -> Answer
 
 /// The answer to bytes that were refused.
 fn answer_refusal(refusal: Refusal) -> Answer
-    ensures { (old : SiteValue) (moment slot mask : ℕ) (bytes : List ℕ) → IsRefused bytes mask refusal → LoadAnswered old moment slot mask bytes result old }
+    ensures { (old : SiteValue) (moment slot mask : ℕ) (bytes : List ℕ) → IsRefused bytes mask refusal → IsRefusal (refusal_of bytes mask) refusal → LoadAnswered old moment slot mask bytes result old }
 {
     match refusal.shown() {
         Some((number, unit, part)) => Answer::Program(number, unit, part),

@@ -14,7 +14,7 @@ pub use job_texts::{
 };
 pub use line_session::{Ended, READS, SessionFault};
 pub use player::Player;
-pub use playing::{play, play_within};
+pub use playing::{law_of_the_cut, play, play_within};
 pub use script::{ScriptLine, parse_script_line};
 pub use site_config::{
     ConfigFault, MOST_BYTES, Serve, Settings, config_part, read_config, read_head,

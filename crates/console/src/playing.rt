@@ -3,7 +3,7 @@ ghost use Rattle.std.specs.Prelude.{◌≡◌, ◌≤◌, ◌-◌, ℕ, IfOk, On
 ghost use Rattle.till_request.specs.Count.{RoseBy, one_if};
 ghost use Rattle.line_session.specs.Talk.{is_read, is_write};
 ghost use Rattle.site_core.specs.Site.{new_site};
-ghost use Rattle.console.specs.Play.{PlaysOut, PlayBreaks};
+ghost use Rattle.console.specs.Play.{PlaysOut, PlayBreaks, PlaysAlike};
 
 use crate::player::Player;
 use line_session::{Ended, READS, SessionFault, talk_within};
@@ -27,6 +27,7 @@ pub fn play_within<I: LineIn, O: LineOut>(
     ensures left { left.new ≤ left.old }
     ensures spent { result ≡ Err SessionFault.ReadsSpent → left.new ≡ 0 }
     ensures counted { RoseBy (left.old - left.new) (I.reads input.old) (I.reads input.new) }
+    ensures asked { RoseBy (left.old - left.new) (I.asked input.old) (I.asked input.new) }
 {
     let Ok(mut site) = Site::start(alloc, config) else {
         return Err(SessionFault::OutOfMemory);
@@ -48,8 +49,18 @@ pub fn play<I: LineIn, O: LineOut>(
     ensures broken { OnErr result (PlayBreaks (new_site config) (I.remaining input.old) (I.remaining input.new) (O.written output.old) (O.written output.new)) }
     ensures read_fault { RoseBy (one_if (is_read result)) (I.failures input.old) (I.failures input.new) }
     ensures write_fault { RoseBy (one_if (is_write result)) (O.failures output.old) (O.failures output.new) }
-    ensures reads { (k : ℕ) × (k ≤ 67108864) × RoseBy k (I.reads input.old) (I.reads input.new) × (result ≡ Err SessionFault.ReadsSpent → k ≡ 67108864) }
+    ensures reads { (k : ℕ) × (k ≤ 67108864) × RoseBy k (I.reads input.old) (I.reads input.new) × (result ≡ Err SessionFault.ReadsSpent → k ≡ 67108864)
+        × RoseBy k (I.asked input.old) (I.asked input.new) }
 {
     let mut left = READS;
     play_within(alloc, config, input, output, &mut left)
 }
+
+/// Whatever sizes the reads of a script give, the same is answered: two plays of the same bytes on one configuration that
+/// both end wrote the same and left the same site, where neither was refused memory at a line.
+///
+/// `play` tells what it took and wrote by the bytes that its input has, whatever its device, so by this law how a script
+/// is cut changes nothing.
+pub fn law_of_the_cut()
+    ensures { PlaysAlike }
+{}

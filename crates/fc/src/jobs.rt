@@ -141,6 +141,7 @@ fn play_input(rt: &HostRuntime) -> io::Result<u8> {
         reader: BufReader::new(rt.alloc(), rt.reader())?,
         reads: 0,
         failures: 0,
+        asked: 0,
     };
     let mut left = READS;
     let head = match read_head(rt.alloc(), &mut input, &mut left) {
@@ -197,6 +198,7 @@ fn play_files(rt: &HostRuntime, config: &str, script: &str) -> io::Result<u8> {
             reader: BufReader::new(rt.alloc(), file)?,
             reads: 0,
             failures: 0,
+            asked: 0,
         },
         progress: Progress::new(rt.stderr(), is_silent),
     };
@@ -223,6 +225,7 @@ fn audit_files(rt: &HostRuntime, config: &str, journal: &str) -> io::Result<u8> 
             reader: file,
             reads: 0,
             failures: 0,
+            asked: 0,
         },
         progress: Progress::new(rt.stderr(), true),
     };

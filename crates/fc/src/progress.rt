@@ -69,6 +69,8 @@ impl<I: LineIn + Drop> LineIn for Watched<I> {
 
     ghost failures = { λ s. I.failures s.input };
 
+    ghost asked = { λ s. I.asked s.input };
+
     fn read(&mut self, buffer: &mut [u8]) -> Result<usize, DeviceFault> {
         let count = self.input.read(buffer)?;
         if count == 0 {

@@ -1,3 +1,4 @@
+pub mod Cut
 pub mod Faults
 pub mod Serving
 pub mod Session

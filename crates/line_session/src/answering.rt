@@ -100,6 +100,7 @@ pub fn talk_within<I: LineIn, O: LineOut, A, B, S: Speaker<A, B>>(
     ensures left { left.new ≤ left.old }
     ensures spent { result ≡ Err SessionFault.ReadsSpent → left.new ≡ 0 }
     ensures counted { RoseBy (left.old - left.new) (I.reads input.old) (I.reads input.new) }
+    ensures asked { RoseBy (left.old - left.new) (I.asked input.old) (I.asked input.new) }
 {
     let mut count = 0u64;
     'turns: loop {
@@ -145,7 +146,8 @@ pub fn talk<I: LineIn, O: LineOut, A, B, S: Speaker<A, B>>(
         (I.remaining input.old) (I.remaining input.new) (O.written output.old) (O.written output.new)) }
     ensures read_fault { RoseBy (one_if (is_read result)) (I.failures input.old) (I.failures input.new) }
     ensures write_fault { RoseBy (one_if (is_write result)) (O.failures output.old) (O.failures output.new) }
-    ensures reads { (k : ℕ) × (k ≤ 67108864) × RoseBy k (I.reads input.old) (I.reads input.new) × (result ≡ Err SessionFault.ReadsSpent → k ≡ 67108864) }
+    ensures reads { (k : ℕ) × (k ≤ 67108864) × RoseBy k (I.reads input.old) (I.reads input.new) × (result ≡ Err SessionFault.ReadsSpent → k ≡ 67108864)
+        × RoseBy k (I.asked input.old) (I.asked input.new) }
 {
     let mut left = READS;
     talk_within(alloc, input, output, speaker, first, second, &mut left)

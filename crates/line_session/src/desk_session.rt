@@ -28,7 +28,8 @@ pub fn session<I: LineIn, O: LineOut, C: Clock, D: Desk>(
         (I.remaining input.old) (I.remaining input.new) (O.written output.old) (O.written output.new)) }
     ensures read_fault { RoseBy (one_if (is_read result)) (I.failures input.old) (I.failures input.new) }
     ensures write_fault { RoseBy (one_if (is_write result)) (O.failures output.old) (O.failures output.new) }
-    ensures reads { (k : ℕ) × (k ≤ 67108864) × RoseBy k (I.reads input.old) (I.reads input.new) × (result ≡ Err SessionFault.ReadsSpent → k ≡ 67108864) }
+    ensures reads { (k : ℕ) × (k ≤ 67108864) × RoseBy k (I.reads input.old) (I.reads input.new) × (result ≡ Err SessionFault.ReadsSpent → k ≡ 67108864)
+        × RoseBy k (I.asked input.old) (I.asked input.new) }
 {
     talk(alloc, input, output, &AtDesk { role }, clock, desk)
 }

@@ -3,6 +3,7 @@
 
 mod answering;
 mod at_desk;
+mod cut;
 mod desk;
 mod desk_session;
 mod doors;
@@ -13,6 +14,7 @@ mod tests;
 
 pub use answering::{Ended, READS, SessionFault, talk, talk_within};
 pub use at_desk::AtDesk;
+pub use cut::{law_of_the_cut, law_of_the_cut_at_desks};
 pub use desk::{Clock, Desk};
 pub use desk_session::session;
 pub use doors::Doors;

@@ -89,6 +89,7 @@ impl<'a, R: Clock, N: Notices> TcpDoors<'a, R, N> {
             reader,
             reads: 0,
             failures: 0,
+            asked: 0,
         };
         let output = StreamOut {
             writer,

@@ -1,5 +1,6 @@
 -- Counters that wrap.
-use Rattle.std.proofs.Common.{◌≡◌, ℕ, ◌+◌, ◌-◌, ◌≤◌, ◌%◌, arith}
+use Rattle.std.proofs.Common.{◌≡◌, ℕ, ◌+◌, ◌-◌, ◌≤◌, ◌*◌, ◌%◌, arith}
+use Rattle.std.proofs.Math.Nat.{add-mul}
 use Rattle.till_request.specs.Count.{RoseBy}
 
 mod_more : (a b c j k : ℕ) → b % 18446744073709551616 ≡ (a + j) % 18446744073709551616 → c % 18446744073709551616 ≡ (b + k) % 18446744073709551616 → c % 18446744073709551616 ≡ (a + (j + k)) % 18446744073709551616
@@ -11,3 +12,7 @@ rose_more {a} {b} {c} {j} {k} h g = record { same = mod_more a b c j k h.same g.
 -- what is left falls as the counter rises
 pub rose_left : (p q r : ℕ) {a b c : ℕ} → q ≤ p → r ≤ q → RoseBy (p - q) a b → RoseBy (q - r) b c → RoseBy (p - r) a c
 rose_left p q r h k s t = let e : (p - q) + (q - r) ≡ p - r = omega arith in rw (← e) (rose_more s t)
+
+-- the same, where each of them counts for n
+pub rose_left_times : (p q r n : ℕ) {a b c : ℕ} → q ≤ p → r ≤ q → RoseBy ((p - q) * n) a b → RoseBy ((q - r) * n) b c → RoseBy ((p - r) * n) a c
+rose_left_times p q r n h k s t = let e : (p - q) + (q - r) ≡ p - r = omega arith in rw (← e, add-mul (p - q) (q - r) n) (rose_more s t)

@@ -1,7 +1,8 @@
 -- What is taken piece by piece.
 use Rattle.std.proofs.Common.{◌≢◌, ℕ, List, [], ◌∷◌, ◌++◌, Some, None, Option, Result, Ok, Err, OnErr, sym, ◌∙◌, ap, append_assoc}
 use Rattle.std.specs.Io.KnownBytes.{Consumes, Appends}
-use Rattle.till_request.specs.Line.{HasNoLf}
+use Rattle.till_request.specs.Blocks.{TakesPart}
+use Rattle.till_request.specs.Line.{HasNoLf, IsLine}
 
 pub consumes_more : (a b c : Option (List ℕ)) (xs ys : List ℕ) → Consumes a b xs → Consumes b c ys → Consumes a c (xs ++ ys)
 consumes_more None b c xs ys h k = tt
@@ -26,3 +27,7 @@ on_err_always (Err e) p = p
 pub given_so : {T E : Type 0} (r : Result T E) (a c : Option (List ℕ)) (xs : List ℕ) → Consumes a c xs → OnErr r ((bytes : List ℕ) × Consumes a c bytes)
 given_so (Ok x) a c xs h = tt
 given_so (Err e) a c xs h = (xs, h)
+
+pub part_given : {T E : Type 0} (r : Result T E) (a c : Option (List ℕ)) (xs : List ℕ) → Consumes a c xs → IsLine xs → OnErr r (TakesPart a c)
+part_given (Ok x) a c xs h l = tt
+part_given (Err e) a c xs h l = (xs, h, l)

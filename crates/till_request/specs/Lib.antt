@@ -1,5 +1,7 @@
 pub mod Answer
+pub mod Blocks
 pub mod Count
+pub mod Devices
 pub mod Gives
 pub mod Grammar
 pub mod Line

@@ -18,12 +18,16 @@ pub trait LineIn {
     /// How many of them failed, modulo 2^64.
     ghost failures: { Self → ℕ };
 
+    /// How many bytes they asked for, which is the length of their buffers, modulo 2^64.
+    ghost asked: { Self → ℕ };
+
     /// Reads into the front of the buffer, and answers how many bytes: 0 at the end.
     fn read(&mut self, buffer: &mut [u8]) -> Result<usize, DeviceFault>
         ensures bound { IfOk result (λ n. n ≤ length buffer.new) }
         ensures bytes { ReadConsumes (remaining self.old) (remaining self.new) result buffer.new }
         ensures counted { RoseBy 1 (reads self.old) (reads self.new) }
-        ensures failed { RoseBy (one_if (is_err result)) (failures self.old) (failures self.new) };
+        ensures failed { RoseBy (one_if (is_err result)) (failures self.old) (failures self.new) }
+        ensures asked_for { RoseBy (length buffer.new) (asked self.old) (asked self.new) };
 }
 
 /// A sink of bytes.

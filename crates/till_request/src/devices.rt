@@ -1,5 +1,8 @@
 //! Readers and writers in memory, which cut and fail as they are told to, and those of the system.
-ghost use Rattle.std.specs.Prelude.{◌≡◌, ◌<◌, ◌≤◌, [], Some, drop, take, length};
+ghost use Rattle.std.specs.Prelude.{◌≡◌, ◌↔◌, ◌<◌, ◌≤◌, ◌-◌, min, [], Some, IfOk, IsTrue, is_err, drop, take, length};
+ghost use Rattle.std.specs.Io.KnownBytes.{ReadConsumes, WriteAppends};
+ghost use Rattle.till_request.specs.Count.{RoseBy, one_if};
+ghost use Rattle.till_request.specs.Devices.{piece_size, one_less};
 
 use crate::device::{DeviceFault, LineIn, LineOut};
 use std::alloc::Global;
@@ -8,54 +11,60 @@ use std::io::{Read, Write};
 /// Bytes in memory, given out in any cut.
 ///
 /// The nth read since the counter was 0 gives at most `sizes[n]` bytes, and at least one where
-/// there is one; reads past the list give what they can. After `good` more reads each read fails.
+/// there is one; reads past the list give at most `each`. After `good` more reads each read fails.
 #[derive(Drop)]
 pub struct MemoryIn {
     pub bytes: Vec<u8>,
     pub at: usize,
     pub sizes: Vec<usize>,
+    pub each: usize,
     pub good: Option<u64>,
     pub reads: u64,
     pub failures: u64,
+    pub asked: u64,
     ghost within: { at ≤ length bytes.items },
 }
 
 impl MemoryIn {
-    /// All the bytes, in pieces of these sizes; after `good` reads each read fails.
+    /// All the bytes, in pieces of these sizes and then in whole; after `good` reads each read fails.
     pub fn new(bytes: Vec<u8>, sizes: Vec<usize>, good: Option<u64>) -> Self
         ensures bytes { result.bytes ≡ bytes }
         ensures start { result.at ≡ 0 }
         ensures sizes { result.sizes ≡ sizes }
+        ensures each { result.each ≡ 18446744073709551615 }
         ensures good { result.good ≡ good }
-        ensures reads { result.reads ≡ 0 }
-        ensures failures { result.failures ≡ 0 }
+        ensures counts { (result.reads ≡ 0) × (result.failures ≡ 0) × (result.asked ≡ 0) }
     {
         MemoryIn {
             bytes,
             at: 0,
             sizes,
+            each: usize::MAX,
             good,
             reads: 0,
             failures: 0,
+            asked: 0,
         }
     }
 }
 
 /// The size of a call's piece: the one at its number, if there is one, and at least 1.
-fn size_at(sizes: &[usize], call: u64) -> usize
-    ensures { 0 < result }
+fn size_at(sizes: &[usize], each: usize, call: u64) -> usize
+    ensures { result ≡ piece_size sizes.now each call }
 {
-    match usize::try_from(call) {
-        Ok(call) => sizes.get(call).copied().unwrap_or(usize::MAX).max(1),
-        Err(_) => usize::MAX,
+    let call = call as usize;
+    if call < sizes.len() {
+        sizes[call].max(1)
+    } else {
+        each.max(1)
     }
 }
 
 /// Copies at most so many bytes, and answers how many.
 fn give(from: &[u8], most: usize, buffer: &mut [u8]) -> usize
     requires { 0 < most }
-    ensures fits { result ≤ length buffer.new }
-    ensures held { result ≤ length from.now }
+    ensures count { result ≡ min (min (length from.now) (length buffer.new)) most }
+    ensures same { length buffer.new ≡ length buffer.old }
     ensures copied { take result buffer.new ≡ take result from.now }
     ensures none { result ≡ 0 → 0 < length buffer.new → from.now ≡ [] }
 {
@@ -71,9 +80,22 @@ impl LineIn for MemoryIn {
 
     ghost failures = { λ s. s.failures };
 
-    fn read(&mut self, buffer: &mut [u8]) -> Result<usize, DeviceFault> {
-        let size = size_at(&self.sizes, self.reads);
+    ghost asked = { λ s. s.asked };
+
+    fn read(&mut self, buffer: &mut [u8]) -> Result<usize, DeviceFault>
+        ensures bound { IfOk result (λ n. n ≤ length buffer.new) }
+        ensures bytes { ReadConsumes (Some (drop self.old.at self.old.bytes.items)) (Some (drop self.new.at self.new.bytes.items)) result buffer.new }
+        ensures counted { RoseBy 1 self.old.reads self.new.reads }
+        ensures failed { RoseBy (one_if (is_err result)) self.old.failures self.new.failures }
+        ensures asked_for { RoseBy (length buffer.new) self.old.asked self.new.asked }
+        ensures fails { IsTrue (is_err result) ↔ (self.old.good ≡ Some 0) }
+        ensures good { self.new.good ≡ one_less self.old.good }
+        ensures given { IfOk result (λ n. n ≡ min (min (length self.old.bytes.items - self.old.at) (length buffer.new)) (piece_size self.old.sizes.items self.old.each self.old.reads)) }
+        ensures kept { (self.new.bytes ≡ self.old.bytes) × (self.new.sizes ≡ self.old.sizes) × (self.new.each ≡ self.old.each) }
+    {
+        let size = size_at(&self.sizes, self.each, self.reads);
         self.reads = self.reads.wrapping_add(1);
+        self.asked = self.asked.wrapping_add(buffer.len() as u64);
         if self.good == Some(0) {
             self.failures = self.failures.wrapping_add(1);
             return Err(DeviceFault);
@@ -92,6 +114,7 @@ pub struct StreamIn<R: Read> {
     pub reader: R,
     pub reads: u64,
     pub failures: u64,
+    pub asked: u64,
 }
 
 impl<R: Read + Drop> LineIn for StreamIn<R> {
@@ -101,8 +124,11 @@ impl<R: Read + Drop> LineIn for StreamIn<R> {
 
     ghost failures = { λ s. s.failures };
 
+    ghost asked = { λ s. s.asked };
+
     fn read(&mut self, buffer: &mut [u8]) -> Result<usize, DeviceFault> {
         self.reads = self.reads.wrapping_add(1);
+        self.asked = self.asked.wrapping_add(buffer.len() as u64);
         match self.reader.read(buffer) {
             Ok(count) => Ok(count),
             Err(_) => {
@@ -116,29 +142,31 @@ impl<R: Read + Drop> LineIn for StreamIn<R> {
 /// What was written, in memory.
 ///
 /// The nth write takes at most `sizes[n]` bytes, and at least one of a piece that isn't empty;
-/// writes past the list take all. After `good` more writes each write fails, as does one that
-/// memory is refused to.
+/// writes past the list take at most `each`. After `good` more writes each write fails, as does one
+/// that memory is refused to.
 #[derive(Drop)]
 pub struct MemoryOut {
     pub bytes: Vec<u8>,
     pub sizes: Vec<usize>,
+    pub each: usize,
     pub good: Option<u64>,
     pub writes: u64,
     pub failures: u64,
 }
 
 impl MemoryOut {
-    /// No byte yet; takes pieces of these sizes, and after `good` writes each write fails.
+    /// No byte yet; takes pieces of these sizes and then whole ones, and after `good` writes each write fails.
     pub fn new(alloc: Global, sizes: Vec<usize>, good: Option<u64>) -> Self
         ensures bytes { result.bytes.items ≡ [] }
         ensures sizes { result.sizes ≡ sizes }
+        ensures each { result.each ≡ 18446744073709551615 }
         ensures good { result.good ≡ good }
-        ensures writes { result.writes ≡ 0 }
-        ensures failures { result.failures ≡ 0 }
+        ensures counts { (result.writes ≡ 0) × (result.failures ≡ 0) }
     {
         MemoryOut {
             bytes: Vec::new(alloc),
             sizes,
+            each: usize::MAX,
             good,
             writes: 0,
             failures: 0,
@@ -151,8 +179,20 @@ impl LineOut for MemoryOut {
 
     ghost failures = { λ s. s.failures };
 
-    fn write(&mut self, piece: &[u8]) -> Result<usize, DeviceFault> {
-        let count = piece.len().min(size_at(&self.sizes, self.writes));
+    fn write(&mut self, piece: &[u8]) -> Result<usize, DeviceFault>
+        ensures bound { IfOk result (λ n. n ≤ length piece.now) }
+        ensures some { IfOk result (λ n. 0 < length piece.now → 0 < n) }
+        ensures bytes { WriteAppends (Some self.old.bytes.items) (Some self.new.bytes.items) result piece.now }
+        ensures failed { RoseBy (one_if (is_err result)) self.old.failures self.new.failures }
+        ensures fails { self.old.good ≡ Some 0 → IsTrue (is_err result) }
+        ensures good { self.new.good ≡ one_less self.old.good }
+        ensures counted { RoseBy 1 self.old.writes self.new.writes }
+        ensures taken { IfOk result (λ n. n ≡ min (length piece.now) (piece_size self.old.sizes.items self.old.each self.old.writes)) }
+        ensures kept { (self.new.sizes ≡ self.old.sizes) × (self.new.each ≡ self.old.each) }
+    {
+        let count = piece
+            .len()
+            .min(size_at(&self.sizes, self.each, self.writes));
         let fails = self.good == Some(0);
         self.writes = self.writes.wrapping_add(1);
         self.good = self.good.map(|k| k.saturating_sub(1));

@@ -4,6 +4,7 @@
 
 mod act;
 mod answer;
+mod block;
 mod device;
 pub mod devices;
 mod form;
@@ -15,6 +16,7 @@ mod tests;
 mod write;
 
 pub use act::{Act, Answer, Bytes, LineFault, Reply, Request, Role};
+pub use block::Block;
 pub use device::{DeviceFault, LineIn, LineOut};
 pub use grammar::{number_u32, number_u64, parse_line, parse_words, split_words};
 pub use line::{InputFault, LINE_BYTES, LineReadFault, NextLine, next_byte, next_line, read_line};

@@ -10,6 +10,7 @@ turns-init g c = record {
   talks = talks_none _ _ _ _;
   within = search rules;
   reads = search rules;
+  asked = search rules;
   read = search rules;
   write = search rules;
 }
@@ -44,6 +45,7 @@ turns-preserved g c =
       talks = talks_more _ _ _ _ _ _ _ _ _ _ c.turns.count c.in-Line.line.items c.turns.invariant.talks t.1 t.0 (rw c.deref.ensures.value at c.in_ok-speak-in-Line.ensures.ok);
       within = omega (arith, c.in_ok-line.ensures.used);
       reads = rose_left c.args.left.now c.turns.left c.next_line.new.left (omega arith) (omega (arith, c.in_ok-line.ensures.left)) c.turns.invariant.reads c.in_ok-line.ensures.counted;
+      asked = rose_left c.args.left.now c.turns.left c.next_line.new.left (omega arith) (omega (arith, c.in_ok-line.ensures.left)) c.turns.invariant.asked c.in_ok-line.ensures.asked;
       read = rose_more c.turns.invariant.read c.in_ok-line.ensures.failed;
       write = rose_more c.turns.invariant.write c.in_ok-speak-in-Line.ensures.failed;
     }

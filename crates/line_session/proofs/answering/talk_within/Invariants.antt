@@ -9,6 +9,7 @@ invariant-turns g l = record {
   talks : Talks (g.S.Speaker.says l.speaker) (l.initial.first, l.initial.second) (l.first, l.second) (g.I.LineIn.remaining l.initial.input) (g.I.LineIn.remaining l.input) (g.O.LineOut.written l.initial.output) (g.O.LineOut.written l.output) l.count [] [];
   within : l.count + l.left ≤ l.initial.left;
   reads : RoseBy (l.initial.left - l.left) (g.I.LineIn.reads l.initial.input) (g.I.LineIn.reads l.input);
+  asked : RoseBy (l.initial.left - l.left) (g.I.LineIn.asked l.initial.input) (g.I.LineIn.asked l.input);
   read : RoseBy 0 (g.I.LineIn.failures l.initial.input) (g.I.LineIn.failures l.input);
   write : RoseBy 0 (g.O.LineOut.failures l.initial.output) (g.O.LineOut.failures l.output);
 }
