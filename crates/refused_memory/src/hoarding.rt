@@ -40,3 +40,8 @@ pub fn rooms(alloc: Global, step: usize, turns: usize) -> Result<Vec<Vec<u8>>, A
     }
     Ok(blocks)
 }
+
+/// The room of a turn, from 0 on; the 60th has over 80,000 bytes.
+pub fn room_of(turn: usize) -> usize {
+    turn.wrapping_mul(turn).wrapping_mul(24)
+}

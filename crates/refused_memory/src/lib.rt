@@ -3,6 +3,14 @@
 #![tactic(auto)]
 
 #[cfg(test)]
+mod calls;
+#[cfg(test)]
+mod desks;
+#[cfg(test)]
 mod events;
 #[cfg(test)]
 mod hoarding;
+#[cfg(test)]
+mod narrow;
+#[cfg(test)]
+mod plays;

@@ -1,0 +1,180 @@
+//! Plays one of whose lines finds too little memory: the line is answered `S31` and changes nothing, or the play ends for want of memory behind
+//! the answers of the lines before it, or nothing is refused.
+use crate::hoarding::room_of;
+use crate::narrow::Narrow;
+use console::{play, read_config};
+use line_session::SessionFault;
+use std::alloc::Global;
+use std::test::Fail;
+use till_request::devices::{MemoryIn, MemoryOut};
+
+const KIOSK: &str =
+    "tills = 1\nprice_slot = 2\nprices = [1799, 1849, 0, 0, 0, 0, 0, 0]\n[[point]]\nrelease = 0\npreset = 1\n";
+
+pub const STATION: &str =
+    "tills = 2\nprice_slot = 2\nprices = [1799, 1849, 0, 0, 0, 0, 0, 0]\n[[point]]\nrelease = 0\npreset = 1\n[[point]]\nrelease = 0\npreset = 1\n[[counter]]\nvalue = 0\nbound = 2\n";
+
+const RELEASE: &str =
+    "load 0 0 79101800000000009500000000000000\ntill 1 open 1\ntill 1 release 1 8000\ntill 1 release 1 8000\n";
+
+const SENT_AGAIN: &str =
+    "load 0 0 79101800000000009500000000000000\ntill 1 open 1\ntill 1 show 1\ntill 1 show 1\ntill 1 release 1 8000\ntill 1 release 1 8000\n";
+
+const COUNTED: &str =
+    "load 1 1 b701000000000000b70200000100000085000000020000009500000000000000\ntill 1 open 1\ntill 1 preset 1 100\ntill 1 preset 1 100\ntill 1 preset 1 100\n";
+
+pub const DELIVERY: &str =
+    "load 0 0 79101800000000009500000000000000\ntill 1 open 1\ndisp 1 up 1\ntill 1 release 1 8000\ndisp 1 order\ndisp 1 started\ndisp 1 flow 2500 1390\ndisp 1 down\ntill 1 lock 1 1\ntill 2 lock 1 1\ntill 2 clear 1 1\ntill 1 clear 1 1\ntill 1 clear 1 1\ntill 1 show 1\n";
+
+/// The most rooms that are tried.
+const TURNS: usize = 60;
+
+/// How a play ended, and what it wrote.
+#[derive(Drop)]
+struct Outcome {
+    text: Vec<u8>,
+    is_want: bool,
+    is_done: bool,
+}
+
+/// A play whose line of this number finds so much memory.
+fn played(alloc: Global, site: &str, script: &[u8], line: usize, size: usize) -> Option<Outcome> {
+    let settings = read_config(alloc, site.as_bytes()).ok()?;
+    let input = MemoryIn::new(Vec::from_slice(alloc, script).ok()?, Vec::new(alloc), None);
+    let mut input = Narrow::new(alloc, input, line, size).ok()?;
+    let mut output = MemoryOut::new(alloc, Vec::new(alloc), None);
+    output.bytes = Vec::with_capacity(alloc, 65_536).ok()?;
+    let ended = play(alloc, settings.config, &mut input, &mut output);
+    drop(input);
+    Some(Outcome {
+        text: output.bytes,
+        is_want: ended == Err(SessionFault::OutOfMemory),
+        is_done: ended.is_ok(),
+    })
+}
+
+/// The first lines of a text, so many.
+pub fn first_lines(text: &[u8], lines: usize) -> &[u8] {
+    let mut left = lines;
+    for (at, byte) in text.iter().enumerate() {
+        if left == 0 {
+            return text.get(..at).unwrap_or(text);
+        }
+        if *byte == b'\n' {
+            left = left.saturating_sub(1);
+        }
+    }
+    text
+}
+
+/// The text without its line of this number.
+pub fn without(alloc: Global, text: &[u8], line: usize) -> Option<Vec<u8>> {
+    let before = first_lines(text, line);
+    let upto = first_lines(text, line.wrapping_add(1));
+    let mut rest = Vec::from_slice(alloc, before).ok()?;
+    rest.extend_from_slice(text.get(upto.len()..)?).ok()?;
+    Some(rest)
+}
+
+/// The text with `S31` before its line of this number.
+pub fn with_want(alloc: Global, text: &[u8], line: usize) -> Option<Vec<u8>> {
+    let before = first_lines(text, line);
+    let mut all = Vec::from_slice(alloc, before).ok()?;
+    all.extend_from_slice(b"S31\n").ok()?;
+    all.extend_from_slice(text.get(before.len()..)?).ok()?;
+    Some(all)
+}
+
+/// How often a line was answered `S31` and how often its play ended for want of memory, in rooms that grow until nothing is refused. None where
+/// a refusal left another answer, or nothing ended unhindered.
+fn refused_at(alloc: Global, site: &str, script: &str, line: usize) -> Option<(u32, u32)> {
+    let lines = script.len();
+    let unhindered = played(alloc, site, script.as_bytes(), lines, 0)?.text;
+    let less = without(alloc, script.as_bytes(), line)?;
+    let changed_nothing = played(alloc, site, &less, lines, 0)?.text;
+    let told = with_want(alloc, &changed_nothing, line)?;
+    let (mut wanted, mut ended) = (0u32, 0u32);
+    for turn in 0..TURNS {
+        let found = played(alloc, site, script.as_bytes(), line, room_of(turn))?;
+        if found.is_want {
+            ended = ended.wrapping_add(1);
+            if found.text.as_slice() != first_lines(&unhindered, line) {
+                return None;
+            }
+        } else if !found.is_done {
+            return None;
+        } else if found.text.as_slice() == unhindered.as_slice() {
+            return Some((wanted, ended));
+        } else if found.text.as_slice() == told.as_slice() {
+            wanted = wanted.wrapping_add(1);
+        } else {
+            return None;
+        }
+    }
+    None
+}
+
+/// Each line in turn: how often its act was refused, of the lines that saw it, and how often its line or answer.
+fn refused_in(alloc: Global, site: &str, script: &str, lines: usize) -> Option<(u32, u32)> {
+    let (mut wanted, mut ended) = (0u32, 0u32);
+    for line in 0..lines {
+        let (one, other) = refused_at(alloc, site, script, line)?;
+        if one > 0 {
+            wanted = wanted.wrapping_add(1);
+        }
+        if other > 0 {
+            ended = ended.wrapping_add(1);
+        }
+    }
+    Some((wanted, ended))
+}
+
+// The history's list has room for four entries, so the first release whose entry takes memory is the fifth line's. It is refused, and granted
+// when it is sent again.
+#[test]
+fn a_refused_release_is_sent_again(rt: HostRuntime) -> Result<(), Fail> {
+    let alloc = rt.alloc();
+    let less = without(alloc, SENT_AGAIN.as_bytes(), 4).ok_or("a script")?;
+    let granted = played(alloc, KIOSK, &less, SENT_AGAIN.len(), 0).ok_or("a play")?;
+    let told = with_want(alloc, &granted.text, 4).ok_or("answers")?;
+    assert_eq!(rt;
+        told.as_slice(),
+        "1 version 1\n2 done\n3 point 3 0 0 0 0 0 0\n4 point 3 0 0 0 0 0 0\nS31\n5 granted 8000 by 1\n".as_bytes()
+    );
+    let (wanted, ended) = refused_at(alloc, KIOSK, SENT_AGAIN, 4).ok_or("another answer")?;
+    assert!(rt;
+        wanted > 0 && ended > 0,
+        "{wanted} answers S31, {ended} ends"
+    );
+    Ok(())
+}
+
+#[test]
+fn each_growth_refused_in_a_release(rt: HostRuntime) -> Result<(), Fail> {
+    let (wanted, ended) = refused_in(rt.alloc(), KIOSK, RELEASE, 4).ok_or("another answer")?;
+    assert!(rt;
+        wanted > 0 && ended == 4,
+        "{wanted} lines S31, {ended} ends"
+    );
+    Ok(())
+}
+
+#[test]
+fn each_growth_refused_in_counted_presets(rt: HostRuntime) -> Result<(), Fail> {
+    let (wanted, ended) = refused_in(rt.alloc(), STATION, COUNTED, 5).ok_or("another answer")?;
+    assert!(rt;
+        wanted > 0 && ended == 5,
+        "{wanted} lines S31, {ended} ends"
+    );
+    Ok(())
+}
+
+#[test]
+fn each_growth_refused_in_a_delivery(rt: HostRuntime) -> Result<(), Fail> {
+    let (wanted, ended) = refused_in(rt.alloc(), STATION, DELIVERY, 14).ok_or("another answer")?;
+    assert!(rt;
+        wanted > 0 && ended == 14,
+        "{wanted} lines S31, {ended} ends"
+    );
+    Ok(())
+}
