@@ -11,7 +11,7 @@ use Rattle.bpf_model.specs.Reading.{form_of, units}
 use Rattle.bpf_model.specs.Flow.{IsAhead, GoesForward}
 use Rattle.bpf_model.specs.Runs.{IsGood}
 use Rattle.reg_types.specs.declared.types.Fact.{Fact}
-use Rattle.reg_types.specs.declared.types.Effect.{Effect}
+use Rattle.reg_types.specs.Effects.{Effect}
 use Rattle.reg_types.specs.declared.types.Flaw.{Flaw}
 use Rattle.reg_types.specs.declared.refusal.TypeFault.{TypeFault}
 use Rattle.reg_types.specs.Facts.{IsBelow, IsSound, IsTyped, Enters, Covers, IsCovered}

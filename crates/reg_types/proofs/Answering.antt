@@ -15,7 +15,7 @@ use Rattle.flow_check.specs.declared.FlowFault.{FlowFault}
 use Rattle.flow_check.specs.declared.FlowFault.TheVariants.{BackwardJump, JumpOut, JumpIntoWide, OutOfMemory as NoMemoryForFlow}
 use Rattle.flow_check.specs.Faults.{IsShown as IsFlowShown}
 use Rattle.reg_types.specs.declared.types.Fact.{Fact}
-use Rattle.reg_types.specs.declared.types.Effect.{Effect}
+use Rattle.reg_types.specs.Effects.{Effect}
 use Rattle.reg_types.specs.declared.types.Flaw.{Flaw}
 use Rattle.reg_types.specs.declared.refusal.TypeFault.{TypeFault}
 use Rattle.reg_types.specs.declared.refusal.Refusal.{Refusal}

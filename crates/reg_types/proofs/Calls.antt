@@ -18,7 +18,7 @@ use Rattle.helpers.specs.declared.Kind.{Kind}
 use Rattle.helpers.specs.Calls.{kinds}
 use Rattle.reg_types.specs.declared.types.RegType.{RegType}
 use Rattle.reg_types.specs.declared.types.RegType.TheVariants.{Unset as Anything, Num, Const, Ctx, Stk}
-use Rattle.reg_types.specs.declared.types.Effect.{Effect}
+use Rattle.reg_types.specs.Effects.{Effect}
 use Rattle.reg_types.specs.declared.types.Flaw.{Flaw}
 use Rattle.reg_types.specs.declared.types.Flaw.TheVariants.{BadArgument, UndeclaredCounter}
 use Rattle.reg_types.specs.Rules.{type_at, is_numeric, natural, lowest, place_by, fits_counter, declares, after_call, unmarked, marks_record, kind_at, call_with, call_type}

@@ -15,7 +15,7 @@ use Rattle.reg_types.specs.declared.types.RegType.{RegType}
 use Rattle.reg_types.specs.declared.types.RegType.TheVariants.{Unset as Anything, Num, Const, Ctx, Stk}
 use Rattle.reg_types.specs.Rules.{is_unset, is_pointer, natural, lowest, note_of, noted_type}
 use Rattle.reg_types.specs.declared.types.Fact.{Fact}
-use Rattle.reg_types.specs.declared.types.Effect.{Effect}
+use Rattle.reg_types.specs.Effects.{Effect}
 use Rattle.reg_types.specs.Facts.{FitsType, IsKept, HasAfter, IsAfter}
 use Rattle.reg_types.specs.Inference.{no_notes, touches, renoted, join_notes}
 
@@ -389,4 +389,13 @@ unwritten fact after e at len types stack notes =
           notes ∙ renoted_none (note_of e.kept) 0 fact.notes
           ∙ ap (λ a. renoted (note_of e.kept) a 0 0 fact.notes) (sym at)
           ∙ ap (λ l. renoted (note_of e.kept) e.at l 0 fact.notes) (sym len);
+    }
+
+-- what follows from a fact with other types follows from this one
+pub after_of : (fact typed after : Fact) (e : Effect) → typed.stack ≡ fact.stack → typed.notes ≡ fact.notes → IsAfter typed e after → IsAfter fact e after
+after_of fact typed after e stack notes h =
+    record {
+      types = h.types;
+      places = subst (λ set. (p : ℕ) → Has after.stack p ↔ HasAfter (is_unset e.kept) set e.at e.len p) stack h.places;
+      notes = subst (λ ns. after.notes ≡ renoted (note_of e.kept) e.at e.len 0 ns) notes h.notes;
     }

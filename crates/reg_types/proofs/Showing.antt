@@ -21,7 +21,7 @@ use Rattle.helpers.specs.Calls.{kinds}
 use Rattle.reg_types.specs.declared.types.RegType.{RegType}
 use Rattle.reg_types.specs.declared.types.RegType.TheVariants.{Unset, Num, Const, Ctx, Stk}
 use Rattle.reg_types.specs.declared.types.Fact.{Fact}
-use Rattle.reg_types.specs.declared.types.Effect.{Effect}
+use Rattle.reg_types.specs.Effects.{Effect}
 use Rattle.reg_types.specs.declared.types.Flaw.{Flaw}
 use Rattle.reg_types.specs.declared.types.Flaw.TheVariants.{FallsOff, WriteR10, NotANumber, NotAPointer, OutOfRange, UnsetBytes, StoreToContext, StorePointer, PointerArithmetic, NoSuchHelper, BadArgument, UndeclaredCounter}
 use Rattle.reg_types.specs.Rules.{type_at, is_unset, is_pointer, is_numeric, is_plain, one_number, two_numbers, ctx_at, sum_type, copied_type, alu_type, operand_type, put_type, all_in, lowest, number_at, number_set, load_type, kept_type, loaded_type, marks, store_type, keeps_pointer, fits_kind, is_declared, call_with, call_type, kind_at, unmarked, marks_record, record_at, after_call, effect, falls_off, judged}

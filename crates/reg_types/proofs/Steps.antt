@@ -21,7 +21,7 @@ use Rattle.bpf_model.specs.Machine.{Next, Goes, Exits, Stuck, Place, InContext, 
 use Rattle.reg_types.specs.declared.types.RegType.{RegType}
 use Rattle.reg_types.specs.declared.types.RegType.TheVariants.{Unset as Anything, Num, Const, Ctx, Stk}
 use Rattle.reg_types.specs.declared.types.Fact.{Fact}
-use Rattle.reg_types.specs.declared.types.Effect.{Effect}
+use Rattle.reg_types.specs.Effects.{Effect}
 use Rattle.reg_types.specs.declared.types.Flaw.{Flaw}
 use Rattle.reg_types.specs.declared.types.Flaw.TheVariants.{WriteR10, NotANumber, UnsetBytes, StorePointer}
 use Rattle.reg_types.specs.Rules.{type_at, is_numeric, is_unset, is_pointer, operand_type, alu_type, unmarked, put_type, set_type, natural, lowest, number_at, number_set, all_in, load_type, noted_type, note_in, kept_type, loaded_type, marks, store_type, keeps, keeps_pointer, after_call, effect}

@@ -13,7 +13,7 @@ use Rattle.bpf_model.specs.Flow.{IsAhead, target, distance_by, distance_of}
 use Rattle.bpf_model.proofs.Reading.{wide_at, count_of_units}
 use Rattle.reg_types.specs.declared.types.Fact.{Fact}
 use Rattle.reg_types.specs.declared.types.Stored.{Stored}
-use Rattle.reg_types.specs.declared.types.Effect.{Effect}
+use Rattle.reg_types.specs.Effects.{Effect}
 use Rattle.reg_types.specs.declared.types.Flaw.{Flaw}
 use Rattle.reg_types.specs.declared.types.Successors.{Successors}
 use Rattle.reg_types.specs.declared.types.Successors.TheVariants.{End, Next, Jump, Either}

@@ -11,7 +11,7 @@ use Rattle.bpf_model.specs.Machine.{and_then, shifted}
 use Rattle.bpf_model.specs.Flow.{distance_by, distance_of, target}
 use Rattle.bpf_model.proofs.Reading.{wide_at}
 use Rattle.reg_types.specs.declared.types.Fact.{Fact}
-use Rattle.reg_types.specs.declared.types.Effect.{Effect}
+use Rattle.reg_types.specs.Effects.{Effect}
 use Rattle.reg_types.specs.declared.types.Flaw.{Flaw}
 use Rattle.reg_types.specs.Inference.{known, inferred, entry_fact, leads, option_cons, instruction_of, instruction_at, ruled, arrived_all, fact_after, passed_by, passed_from, passed, goes, is_entered}
 use Rattle.reg_types.specs.Passing.{target_by, following, IsBrought, AreWalked}

@@ -8,7 +8,7 @@ use Rattle.bpf_model.specs.Reading.{form_of}
 use Rattle.reg_types.specs.declared.types.RegType.{RegType}
 use Rattle.reg_types.specs.declared.types.RegType.TheVariants.{Ctx}
 use Rattle.reg_types.specs.declared.types.Fact.{Fact}
-use Rattle.reg_types.specs.declared.types.Effect.{Effect}
+use Rattle.reg_types.specs.Effects.{Effect}
 use Rattle.reg_types.specs.Rules.{type_at, is_numeric, judged}
 use Rattle.reg_types.specs.Inference.{entry_types}
 

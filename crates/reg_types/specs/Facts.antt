@@ -21,7 +21,7 @@ use Rattle.reg_types.specs.declared.types.RegType.TheVariants.{Unset as Anything
 use Rattle.reg_types.specs.declared.types.Fact.{Fact}
 use Rattle.reg_types.specs.declared.types.Stored.{Stored}
 use Rattle.reg_types.specs.declared.types.Running.{Running}
-use Rattle.reg_types.specs.declared.types.Effect.{Effect}
+use Rattle.reg_types.specs.Effects.{Effect}
 use Rattle.reg_types.specs.declared.types.Successors.{Successors}
 use Rattle.reg_types.specs.declared.types.Successors.TheVariants.{End, Next, Jump, Either}
 use Rattle.reg_types.specs.Rules.{type_at, is_unset, note_of, noted_type, judged}

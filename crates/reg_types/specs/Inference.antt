@@ -12,7 +12,7 @@ use Rattle.bpf_model.specs.Flow.{target}
 use Rattle.reg_types.specs.declared.types.RegType.{RegType}
 use Rattle.reg_types.specs.declared.types.RegType.TheVariants.{Unset as Anything, Ctx, Stk}
 use Rattle.reg_types.specs.declared.types.Fact.{Fact}
-use Rattle.reg_types.specs.declared.types.Effect.{Effect}
+use Rattle.reg_types.specs.Effects.{Effect}
 use Rattle.reg_types.specs.declared.types.Flaw.{Flaw}
 use Rattle.reg_types.specs.declared.refusal.TypeFault.{TypeFault}
 use Rattle.reg_types.specs.Refusals.{located}

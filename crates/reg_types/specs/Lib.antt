@@ -1,4 +1,5 @@
 pub mod Rules
+pub mod Effects
 pub mod Facts
 pub mod Inference
 pub mod Passing

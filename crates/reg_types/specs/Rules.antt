@@ -20,7 +20,7 @@ use Rattle.helpers.specs.Calls.{signature}
 use Rattle.reg_types.specs.declared.types.RegType.{RegType}
 use Rattle.reg_types.specs.declared.types.RegType.TheVariants.{Unset, Num, Const, Ctx, Stk}
 use Rattle.reg_types.specs.declared.types.Fact.{Fact}
-use Rattle.reg_types.specs.declared.types.Effect.{Effect}
+use Rattle.reg_types.specs.Effects.{Effect}
 use Rattle.reg_types.specs.declared.types.Flaw.{Flaw}
 use Rattle.reg_types.specs.declared.types.Flaw.TheVariants.{FallsOff, WriteR10, NotANumber, NotAPointer, OutOfRange, UnsetBytes, StoreToContext, StorePointer, PointerArithmetic, NoSuchHelper, BadArgument, UndeclaredCounter}
 

@@ -3,6 +3,7 @@
 ghost use Rattle.std.specs.Prelude.{◌≡◌, ℕ, ◌↔◌, ◌≤◌, ◌+◌};
 ghost use Rattle.stack_map.specs.Places.{Has};
 ghost use Rattle.reg_types.specs.Rules.{type_at, is_unset, is_pointer, is_numeric, join_type, note_of as note_by};
+ghost use Rattle.reg_types.specs.Effects.{effect_of};
 ghost use Rattle.reg_types.specs.Facts.{HasAfter, IsAfter, IsEntry, jump_of, next_of};
 ghost use Rattle.reg_types.specs.Inference.{join_fact, renoted};
 ghost use Rattle.reg_types.specs.Passing.{IsSame};
@@ -45,11 +46,10 @@ pub struct Running {
     pub fact: Fact,
 }
 
-/// What an instruction leaves: the types, and the bytes of the stack that it writes, `len` of them from `at` on, with
-/// the type of the pointer that it keeps there, or `Unset` where it sets them.
+/// The bytes of the stack that an instruction writes, `len` of them from `at` on, with the type of the pointer that it
+/// keeps there, or `Unset` where it sets them.
 #[derive(Clone, Copy, Debug, PartialEq, Eq)]
-pub struct Effect {
-    pub types: [RegType; 11],
+pub struct Mark {
     pub at: u32,
     pub len: u32,
     pub kept: RegType,
@@ -175,29 +175,28 @@ impl Fact {
         join_notes(&mut self.notes, &other.notes);
     }
 
-    /// Becomes what is known after an instruction with this effect.
-    pub fn apply(&mut self, effect: &Effect)
-        requires { effect.now.at + effect.now.len ≤ 512 }
-        ensures { IsAfter self.old effect.now self.new }
+    /// Becomes what is known after an instruction that writes these bytes, and has left these types.
+    pub fn apply(&mut self, mark: Mark)
+        requires { mark.at + mark.len ≤ 512 }
+        ensures { IsAfter self.old (effect_of self.old.types mark) self.new }
     {
-        self.types = effect.types;
-        if effect.at > 0 || effect.len > 0 {
-            self.write(effect);
+        if mark.at > 0 || mark.len > 0 {
+            self.write(mark);
         }
     }
 
     // The bytes that an instruction writes.
-    fn write(&mut self, effect: &Effect)
-        requires { effect.now.at + effect.now.len ≤ 512 }
+    fn write(&mut self, mark: Mark)
+        requires { mark.at + mark.len ≤ 512 }
         ensures types { self.new.types ≡ self.old.types }
-        ensures places { (p : ℕ) → Has self.new.stack p ↔ HasAfter (is_unset effect.now.kept) self.old.stack effect.now.at effect.now.len p }
-        ensures notes { self.new.notes ≡ renoted (note_by effect.now.kept) effect.now.at effect.now.len 0 self.old.notes }
+        ensures places { (p : ℕ) → Has self.new.stack p ↔ HasAfter (is_unset mark.kept) self.old.stack mark.at mark.len p }
+        ensures notes { self.new.notes ≡ renoted (note_by mark.kept) mark.at mark.len 0 self.old.notes }
     {
-        if effect.kept.is_nothing() {
-            self.stack.mark(effect.at, effect.len);
+        if mark.kept.is_nothing() {
+            self.stack.mark(mark.at, mark.len);
         } else {
-            self.stack.clear(effect.at, effect.len);
+            self.stack.clear(mark.at, mark.len);
         }
-        put_note(&mut self.notes, note_of(effect.kept), effect.at, effect.len);
+        put_note(&mut self.notes, note_of(mark.kept), mark.at, mark.len);
     }
 }
