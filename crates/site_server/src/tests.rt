@@ -1,5 +1,8 @@
 //! Serving over loopback: the peers are a thread of the test.
-use crate::{Crew, ListenFault, Listeners, Notices, ServeFault, Served, TcpDoors, serve_site};
+use crate::{
+    Breach, Crew, Limiter, ListenFault, Listeners, Notices, ServeFault, Served, TcpDoors,
+    serve_site,
+};
 use decision_journal::write_entries;
 use line_session::Doors;
 use site_core::{Config, Site};
