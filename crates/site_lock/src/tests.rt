@@ -58,6 +58,7 @@ struct Left {
     second: Option<usize>,
     refused: Option<CloseRefusal>,
     handed_back: usize,
+    halted: usize,
     entries: Option<usize>,
 }
 
@@ -90,6 +91,7 @@ fn two<L: Yard + Send + Sync, R: Threads + Wait + Sync>(
         second: rising(b.receipts()),
         refused: None,
         handed_back: 0,
+        halted: 0,
         entries: None,
     };
     passes.push(a)?;
@@ -98,6 +100,7 @@ fn two<L: Yard + Send + Sync, R: Threads + Wait + Sync>(
         Err(kept) => {
             left.refused = Some(kept.why);
             left.handed_back = kept.passes.len();
+            left.halted = kept.forecourt.history().len();
             (kept.forecourt.reopen(), kept.passes)
         }
     };
@@ -120,6 +123,7 @@ fn two_threads_of_a_thousand(rt: HostRuntime) -> Result<(), Fail> {
     assert_eq!(rt; left.second, Some(1000));
     assert_eq!(rt; left.refused, Some(CloseRefusal::PassMissing));
     assert_eq!(rt; left.handed_back, 1);
+    assert_eq!(rt; left.halted, 2000);
     assert_eq!(rt; left.entries, Some(2000));
     Ok(())
 }
