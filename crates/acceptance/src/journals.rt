@@ -21,7 +21,7 @@ fn audited(alloc: Global, site: &str, journal: &str) -> Option<String> {
     }
 }
 
-fn is_audited(alloc: Global, site: &str, journal: &str, text: &str) -> bool {
+pub fn is_audited(alloc: Global, site: &str, journal: &str, text: &str) -> bool {
     match audited(alloc, site, journal) {
         Some(told) => told.as_str() == text,
         None => false,

@@ -2,7 +2,7 @@
 
 use crate::programs::{Shown, answer_to, refusal_of};
 use counters::Counters;
-use reg_types::verify;
+use reg_types::{Layout, verify};
 use std::alloc::Global;
 
 // The context's first byte or another one, the end of the stack, and a place in it, each kept and found again.
@@ -175,7 +175,9 @@ fn shown_of(alloc: Global, units: &[[u8; 8]]) -> Option<Shown> {
     for unit in units {
         bytes.extend_from_slice(unit.as_slice()).ok()?;
     }
-    verify(alloc, bytes.as_slice(), 0).err()?.shown()
+    verify(alloc, bytes.as_slice(), 0, Layout::One)
+        .err()?
+        .shown()
 }
 
 // r1 is kept 16 bytes below the stack's end; a number is stored so many bytes below, by this opcode and registers, and

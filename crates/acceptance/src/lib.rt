@@ -8,6 +8,8 @@ mod journals;
 #[cfg(test)]
 mod kept_pointers;
 #[cfg(test)]
+mod layouts;
+#[cfg(test)]
 mod points;
 #[cfg(test)]
 mod programs;
@@ -15,6 +17,8 @@ mod programs;
 mod random_programs;
 #[cfg(test)]
 mod releases;
+#[cfg(test)]
+mod second_layout;
 #[cfg(test)]
 mod sessions;
 #[cfg(test)]

@@ -2,14 +2,14 @@
 
 use counters::Counters;
 use helpers::{PointView, View};
-use interp::run;
-use reg_types::{Refusal, verify};
+use interp::{Context, Layout, run};
+use reg_types::{Program, Refusal, verify};
 use std::alloc::Global;
 
 pub type Shown = (u32, Option<u32>, Option<u32>);
 
 // A context of a release of 8,000 at point 1, which is idle.
-fn release() -> [u8; 64] {
+fn release() -> Context {
     let mut context = [0; 64];
     context[0] = 1;
     context[4] = 1;
@@ -17,7 +17,7 @@ fn release() -> [u8; 64] {
     context[12] = 3;
     context[24] = 64;
     context[25] = 31;
-    context
+    Context::One(context)
 }
 
 // Point 1 is idle.
@@ -43,15 +43,25 @@ fn bytes_of(alloc: Global, text: &str) -> Option<Vec<u8>> {
     hex::decode(alloc, text).ok()
 }
 
+/// What a program answers to a context of its layout; none to another.
+pub fn answer_on(program: &Program, context: &Context, counters: &mut Counters) -> Option<u64> {
+    if context.layout() != program.layout() {
+        return None;
+    }
+    Some(run(program, context, &world(), counters))
+}
+
 pub fn answer_to(alloc: Global, text: &str, mask: u32, counters: &mut Counters) -> Option<u64> {
     let bytes = bytes_of(alloc, text)?;
-    let program = verify(alloc, bytes.as_slice(), mask).ok()?;
-    Some(run(&program, &release(), &world(), counters))
+    let program = verify(alloc, bytes.as_slice(), mask, Layout::One).ok()?;
+    answer_on(&program, &release(), counters)
 }
 
 pub fn refusal_of(alloc: Global, text: &str, mask: u32) -> Option<Shown> {
     let bytes = bytes_of(alloc, text)?;
-    verify(alloc, bytes.as_slice(), mask).err()?.shown()
+    verify(alloc, bytes.as_slice(), mask, Layout::One)
+        .err()?
+        .shown()
 }
 
 #[test]
@@ -268,22 +278,17 @@ fn longest_program(rt: HostRuntime) {
     bytes
         .extend_from_slice(&[0x95, 0, 0, 0, 0, 0, 0, 0])
         .expect(&rt, "memory");
-    let program = verify(rt.alloc(), bytes.as_slice(), 0).expect(&rt, "a program");
+    let program = verify(rt.alloc(), bytes.as_slice(), 0, Layout::One).expect(&rt, "a program");
     assert_eq!(rt; program.units(), 512);
     assert_eq!(rt;
-        run(
-            &program,
-            &release(),
-            &world(),
-            &mut Counters::new([(0, 0); 32])
-        ),
-        1
+        answer_on(&program, &release(), &mut Counters::new([(0, 0); 32])),
+        Some(1)
     );
     bytes
         .extend_from_slice(&[0x95, 0, 0, 0, 0, 0, 0, 0])
         .expect(&rt, "memory");
     assert!(rt;
-        verify(rt.alloc(), bytes.as_slice(), 0).err()
+        verify(rt.alloc(), bytes.as_slice(), 0, Layout::One).err()
             == Some(Refusal::Decode(bpf_decode::DecodeFault::Length))
     );
 }
@@ -364,11 +369,11 @@ fn random_programs(rt: HostRuntime) {
         bytes
             .extend_from_slice(&[0x95, 0, 0, 0, 0, 0, 0, 0])
             .expect(&rt, "memory");
-        match verify(rt.alloc(), bytes.as_slice(), 7) {
+        match verify(rt.alloc(), bytes.as_slice(), 7, Layout::One) {
             Ok(program) => {
                 accepted = accepted.max(round);
                 let mut counters = Counters::new([(1, 5); 32]);
-                let _answer = run(&program, &release(), &world(), &mut counters);
+                assert!(rt; answer_on(&program, &release(), &mut counters).is_some());
                 assert_eq!(rt; counters.get(9), 1);
             }
             Err(refusal) => match refusal.shown() {

@@ -2,7 +2,7 @@
 
 use counters::Counters;
 use helpers::{PointView, View};
-use interp::run;
+use interp::{Context, Layout, run};
 use reg_types::verify;
 use std::alloc::{AllocError, Global};
 use std::test::Fail;
@@ -142,10 +142,10 @@ fn world() -> View {
 }
 
 fn judged(alloc: Global, bytes: &[u8]) -> Option<Verdict> {
-    match verify(alloc, bytes, 0) {
+    match verify(alloc, bytes, 0, Layout::One) {
         Ok(program) => {
             let mut counters = Counters::new([(0, 0); 32]);
-            Some(Verdict::Answered(run(&program, &[1; 64], &world(), &mut counters)))
+            Some(Verdict::Answered(run(&program, &Context::One([1; 64]), &world(), &mut counters)))
         }
         Err(refusal) => {
             let (number, _, _) = refusal.shown()?;

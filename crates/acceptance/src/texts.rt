@@ -1,6 +1,7 @@
 //! Rules as text, program files, and one till's session.
 use crate::sites::{KIOSK, is_answered};
 use console::{asm_file, dis_file, verify_file};
+use reg_types::Layout;
 
 /// A rule that releases only to product 4, and grants what is asked.
 const RULE: &str =
@@ -52,23 +53,47 @@ fn programs_are_told_as_text(rt: HostRuntime) {
 
 #[test]
 fn program_files_are_verified(rt: HostRuntime) {
-    for (name, file, told, status) in [
+    let (one, two) = (Layout::One, Layout::Two);
+    for (name, file, layout, told, status) in [
         (
             "a rule",
             "7910180000000000 9500000000000000",
+            one,
             "accepted 2\n",
             0,
         ),
-        ("no answer", "9500000000000000", "V11 0 0\n", 1),
-        ("half a byte", "9", "H1\n", 1),
+        ("no answer", "9500000000000000", one, "V11 0 0\n", 1),
+        ("half a byte", "9", one, "H1\n", 1),
         (
             "a unit that is never reached",
             "b700000001000000 9500000000000000 8500000063000000",
+            one,
             "accepted 3\n",
             0,
         ),
+        (
+            "place 64",
+            "7910400000000000 9500000000000000",
+            one,
+            "V13 0\n",
+            1,
+        ),
+        (
+            "and in layout 2",
+            "7910400000000000 9500000000000000",
+            two,
+            "accepted 2\n",
+            0,
+        ),
+        (
+            "places to 80",
+            "7910490000000000 9500000000000000",
+            two,
+            "V13 0\n",
+            1,
+        ),
     ] {
-        match verify_file(rt.alloc(), file.as_bytes(), 0) {
+        match verify_file(rt.alloc(), file.as_bytes(), 0, layout) {
             Ok(said) => assert!(rt;
                 said.text.as_str() == told && said.status == status,
                 "{name}"

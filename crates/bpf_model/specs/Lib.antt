@@ -1,3 +1,4 @@
+pub mod Layouts
 pub mod Reading
 pub mod Arithmetic
 pub mod Machine

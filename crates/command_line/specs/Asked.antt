@@ -1,12 +1,14 @@
 -- Definitions: what words ask for, as `clap` reads them. The first word is the program's name.
-use Rattle.std.specs.Prelude.{◌≡◌, ◌≢◌, ◌⊎◌, ◌<◌, ◌^◌, ℕ, List, [], ◌∷◌, codes, Bool, true, false, Option, Some, None, option_and_then, option_map, if◌then◌else◌, string_bytes, pos, ⊤}
+use Rattle.std.specs.Prelude.{◌≡◌, ◌≢◌, ◌⊎◌, ◌<◌, ◌^◌, ℕ, List, [], ◌∷◌, codes, true, Option, Some, None, option_and_then, option_map, if◌then◌else◌, string_bytes, pos}
 use Rattle.std.specs.Str.{bytes_eq}
 use Rattle.std.specs.Str.Parse.{IsNumeral, digits_value, without_leading_plus}
-use Rattle.clap.specs.Words.{App, Row, Rule, Text, new_app, new_rule, with_rule, with_subcommand, first_of, one_of, subcommand_of}
+use Rattle.clap.specs.Words.{App, Row, Rule, Text, new_app, new_rule, with_rule, with_subcommand, first_of, one_of}
 use Rattle.clap.specs.Kinds.{Kinds, IsAmong}
 use Rattle.clap.specs.declared.error.kind.ErrorKind.{ErrorKind}
 use Rattle.clap.specs.declared.error.kind.ErrorKind.TheVariants as kind
 use Rattle.clap.specs.declared.builder.value_parser.ValueParser.TheVariants as parser
+use Rattle.bpf_model.specs.declared.context.Layout.{Layout}
+use Rattle.bpf_model.specs.declared.context.Layout.TheVariants as layouts
 use Rattle.command_line.specs.declared.job.Job.{Job}
 use Rattle.command_line.specs.declared.job.Job.TheVariants as job
 use Rattle.command_line.specs.declared.job.CommandFault.{CommandFault}
@@ -28,6 +30,11 @@ mask_rule =
       required = true;
     }
 
+-- --context LAYOUT, 1 where nothing is said
+abbrev pub context_rule : Rule
+context_rule =
+    record (new_rule (codes "context")) { long = Some (codes "context"); value_names = 1; defaults = codes "1" ∷ [] }
+
 -- --journal FILE
 abbrev pub journal_rule : Rule
 journal_rule = record (new_rule (codes "journal")) { long = Some (codes "journal"); value_names = 1 }
@@ -45,7 +52,7 @@ abbrev pub dis_app : App
 dis_app = of_file (codes "dis") (codes "file")
 
 abbrev pub verify_app : App
-verify_app = with_rule (of_file (codes "verify") (codes "file")) mask_rule
+verify_app = with_rule (with_rule (of_file (codes "verify") (codes "file")) mask_rule) context_rule
 
 abbrev pub play_app : App
 play_app = of_files (codes "play") (codes "config") (codes "script")
@@ -59,7 +66,8 @@ serve_app = with_rule (of_file (codes "serve") (codes "config")) journal_rule
 abbrev pub top_app : App
 top_app = record (new_app (codes "fc")) { top = record (new_app (codes "fc")).top { has_version = true } }
 
--- asm FILE, dis FILE, verify --counters MASK FILE, play CONFIG SCRIPT, audit CONFIG JOURNAL, serve [--journal FILE] CONFIG
+-- asm FILE, dis FILE, verify --counters MASK [--context LAYOUT] FILE, play CONFIG SCRIPT, audit CONFIG JOURNAL,
+-- serve [--journal FILE] CONFIG
 abbrev pub fc_app : App
 fc_app =
     with_subcommand (with_subcommand (with_subcommand (with_subcommand (with_subcommand (with_subcommand top_app
@@ -71,7 +79,7 @@ pub data Asked : Type 0 where
   nothing : Asked
   asm : Text → Asked
   dis : Text → Asked
-  verify : ℕ → Text → Asked
+  verify : ℕ → Layout → Text → Asked
   play : Text → Text → Asked
   audit : Text → Text → Asked
   serve : Text → Asked
@@ -88,8 +96,18 @@ files_in first second ask rows =
 abbrev pub mask_in : List Row → Option ℕ
 mask_in rows = option_map (λ (t : Text). digits_value 10 (without_leading_plus t)) (one_of (codes "counters") rows)
 
+-- the layout that a text names
+abbrev pub layout_named : Text → Option Layout
+layout_named t =
+    if bytes_eq t (codes "1") then Some layouts.One else if bytes_eq t (codes "2") then Some layouts.Two else None
+
+abbrev pub layout_in : List Row → Option Layout
+layout_in rows = option_and_then layout_named (first_of (codes "context") rows)
+
 abbrev pub verify_in : List Row → Option Asked
-verify_in rows = option_and_then (λ (n : ℕ). option_map (verify n) (first_of (codes "file") rows)) (mask_in rows)
+verify_in rows =
+    option_and_then (λ (n : ℕ). option_and_then (λ (layout : Layout). option_map (verify n layout) (first_of (codes "file") rows))
+    (layout_in rows)) (mask_in rows)
 
 -- a site to serve, and the file that keeps its journal where one is named
 abbrev pub serve_by : Option Text → Text → Asked
@@ -119,7 +137,7 @@ abbrev pub asked : Job → Option Asked
 asked job.NoWords = Some nothing
 asked (job.Asm file) = Some (asm (string_bytes file))
 asked (job.Dis file) = Some (dis (string_bytes file))
-asked (job.Verify counters file) = Some (verify counters (string_bytes file))
+asked (job.Verify counters context file) = Some (verify counters context (string_bytes file))
 asked (job.Play config script) = Some (play (string_bytes config) (string_bytes script))
 asked (job.Audit config journal) = Some (audit (string_bytes config) (string_bytes journal))
 asked (job.Serve config) = Some (serve (string_bytes config))

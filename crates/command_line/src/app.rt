@@ -2,7 +2,7 @@
 ghost use Rattle.std.specs.Prelude.{◌≡◌, false, IfOk, codes};
 ghost use Rattle.clap.specs.Words.{app_of, with_rule, new_app, rule_of};
 ghost use Rattle.clap.specs.declared.builder.command.Command.TheViews.{out-Command};
-ghost use Rattle.command_line.specs.Asked.{file_rule, journal_rule, mask_rule, of_file, asm_app, dis_app, verify_app, play_app, audit_app, serve_app, fc_app};
+ghost use Rattle.command_line.specs.Asked.{context_rule, file_rule, journal_rule, mask_rule, of_file, asm_app, dis_app, verify_app, play_app, audit_app, serve_app, fc_app};
 
 use clap::{Arg, Command, value_parser};
 use std::alloc::{AllocError, Global};
@@ -26,6 +26,18 @@ fn mask_arg<'a>(alloc: Global) -> Arg<'a>
         .help("the declared counters: bit c of this number for counter c")
         .required(true)
         .value_parser(value_parser!(u32))
+}
+
+/// The layout of the context that a program is loaded for.
+fn context_arg<'a>(alloc: Global) -> Arg<'a>
+    ensures rule { rule_of result ≡ context_rule }
+    ensures local { result.global ≡ false }
+{
+    Arg::new(alloc, "context")
+        .long("context")
+        .value_name("LAYOUT")
+        .help("the layout of the context: 1 as load gives it, 2 as load2 does")
+        .default_value("1")
 }
 
 /// The file in which a served site keeps its journal.
@@ -107,7 +119,8 @@ fn verify<'a>(alloc: Global) -> Result<Command<'a>, AllocError>
         "file",
         PROGRAM,
     )?;
-    let command = some.arg(mask_arg(alloc))?;
+    let masked = some.arg(mask_arg(alloc))?;
+    let command = masked.arg(context_arg(alloc))?;
     Ok(command)
 }
 
@@ -174,7 +187,7 @@ Without words it reads a configuration, a line ---, and a script from standard i
 const AFTER: &str = "Example: fc play site.toml day.script
 
 Faults: A assembler text, C closing a site, F an entry that is not legal, H hexadecimal, J journal text,
-K configuration, L line, N device, S refusal of the site, V program refused. docs/reference.md names each.
+K configuration, L line, N device, S refusal of the site, V program refused. docs/use/reference.md names each.
 Status: 0 done, 1 the input is refused, 2 the words are wrong, 3 a device failed or memory ran out.";
 
 /// The program's command.

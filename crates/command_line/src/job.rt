@@ -1,6 +1,7 @@
 //! What the words ask for.
 ghost use Rattle.std.specs.Prelude.{◌≡◌};
 
+use bpf_model::context::Layout;
 use std::alloc::AllocError;
 
 /// What the words ask for. Files are named as the words name them.
@@ -12,16 +13,29 @@ pub enum Job {
     Asm(String),
     /// A program file to text of the assembler.
     Dis(String),
-    /// Whether a program file is accepted; bit c of `counters` declares counter c.
-    Verify { counters: u32, file: String },
+    /// Whether a program file is accepted, for contexts of this layout; bit c of `counters` declares counter c.
+    Verify {
+        counters: u32,
+        context: Layout,
+        file: String,
+    },
     /// A script's answers.
-    Play { config: String, script: String },
+    Play {
+        config: String,
+        script: String,
+    },
     /// Whether a journal is a legal history.
-    Audit { config: String, journal: String },
+    Audit {
+        config: String,
+        journal: String,
+    },
     /// A site served on loopback, whose journal is printed at the end.
     Serve(String),
     /// A site served on loopback, whose journal is kept in a file as it happens.
-    ServeKept { config: String, journal: String },
+    ServeKept {
+        config: String,
+        journal: String,
+    },
     /// The text that help or the version is answered with.
     Show(String),
 }

@@ -13,7 +13,16 @@ fn job_text(alloc: Global, line: &str) -> Result<String, Fail> {
         Ok(Job::NoWords) => Ok(String::from_str(alloc, "nothing")?),
         Ok(Job::Asm(file)) => Ok(format!(in alloc; "asm {file}")?),
         Ok(Job::Dis(file)) => Ok(format!(in alloc; "dis {file}")?),
-        Ok(Job::Verify { counters, file }) => Ok(format!(in alloc; "verify {counters} {file}")?),
+        Ok(
+            Job::Verify {
+                counters,
+                context,
+                file,
+            },
+        ) => {
+            let bytes = context.len();
+            Ok(format!(in alloc; "verify {counters} {bytes} {file}")?)
+        }
         Ok(Job::Play { config, script }) => Ok(format!(in alloc; "play {config} {script}")?),
         Ok(Job::Audit { config, journal }) => Ok(format!(in alloc; "audit {config} {journal}")?),
         Ok(Job::Serve(config)) => Ok(format!(in alloc; "serve {config}")?),
@@ -39,13 +48,13 @@ fn words_ask_for_jobs(rt: HostRuntime) -> Result<(), Fail> {
         ("fc", "nothing"),
         ("fc asm rule.bpf", "asm rule.bpf"),
         ("fc dis rule.hex", "dis rule.hex"),
-        ("fc verify --counters 3 rule.hex", "verify 3 rule.hex"),
+        ("fc verify --counters 3 rule.hex", "verify 3 64 rule.hex"),
         (
             "fc verify rule.hex --counters=4294967295",
-            "verify 4294967295 rule.hex",
+            "verify 4294967295 64 rule.hex",
         ),
-        ("fc verify --counters +5 rule.hex", "verify 5 rule.hex"),
-        ("fc verify --counters 007 rule.hex", "verify 7 rule.hex"),
+        ("fc verify --counters +5 rule.hex", "verify 5 64 rule.hex"),
+        ("fc verify --counters 007 rule.hex", "verify 7 64 rule.hex"),
         ("fc play site.toml day.script", "play site.toml day.script"),
         (
             "fc audit site.toml day.journal",
@@ -73,6 +82,25 @@ fn words_ask_for_jobs(rt: HostRuntime) -> Result<(), Fail> {
         ("fc verify --counters 0x1 rule.hex", "usage"),
         ("fc play site.toml", "usage"),
         ("fc --counters 1", "usage"),
+        (
+            "fc verify --counters 3 --context 1 rule.hex",
+            "verify 3 64 rule.hex",
+        ),
+        (
+            "fc verify --context=2 rule.hex --counters 0",
+            "verify 0 80 rule.hex",
+        ),
+        ("fc verify --counters 0 --context 0 rule.hex", "usage"),
+        ("fc verify --counters 0 --context 3 rule.hex", "usage"),
+        ("fc verify --counters 0 --context 02 rule.hex", "usage"),
+        ("fc verify --counters 0 --context +1 rule.hex", "usage"),
+        ("fc verify --counters 0 --context= rule.hex", "usage"),
+        ("fc verify --counters 0 rule.hex --context", "usage"),
+        (
+            "fc verify --counters 0 --context 1 --context 2 rule.hex",
+            "usage",
+        ),
+        ("fc asm --context 2 rule.bpf", "usage"),
     ] {
         let found = job_text(rt.alloc(), line)?;
         assert_eq!(rt; found.as_str(), want, "{line}");

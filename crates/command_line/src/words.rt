@@ -2,11 +2,12 @@
 ghost use Rattle.std.specs.Prelude.{◌≡◌, IsTrue, IsSome, None, false, [], IfOk, IfErr, OnOk, map, codes, option_map, string_bytes, ◌↔◌};
 ghost use Rattle.clap.specs.Words.{first_of, rows_of, found_of, subcommand_of, subcommand_rows_of, takes, fault_of};
 ghost use Rattle.clap.specs.Values.{kind_of};
-ghost use Rattle.command_line.specs.Asked.{fc_app, asked, asked_of, IsShown, MayShow, RefusesBy};
+ghost use Rattle.command_line.specs.Asked.{fc_app, asked, asked_of, layout_in, layout_named, IsShown, MayShow, RefusesBy};
 ghost use Rattle.command_line.specs.Refusing.{Finds, FindsIn, ReadsMask, IsUnasked, IsRefusalOf};
 
 use crate::app::fc;
 use crate::job::{CommandFault, Job};
+use bpf_model::context::Layout;
 use clap::error::ErrorKind;
 use clap::{ArgMatches, Error};
 use std::alloc::{AllocError, Global};
@@ -29,6 +30,29 @@ fn mask_of(matches: &ArgMatches) -> Option<u32>
     ensures { ReadsMask (rows_of (found_of matches.now)) result }
 {
     matches.get_one::<u32>("counters")
+}
+
+/// The layout that the text names.
+fn layout_named(text: &str) -> Option<Layout>
+    ensures { result ≡ layout_named text.now }
+{
+    if text == "1" {
+        Some(Layout::One)
+    } else if text == "2" {
+        Some(Layout::Two)
+    } else {
+        None
+    }
+}
+
+/// The layout of the contexts, where the words name one.
+fn layout_of(matches: &ArgMatches) -> Option<Layout>
+    ensures { result ≡ layout_in (rows_of (found_of matches.now)) }
+{
+    match matches.get_str("context") {
+        Some(text) => layout_named(text),
+        None => None,
+    }
 }
 
 fn asm_of(alloc: Global, matches: &ArgMatches) -> Result<Option<Job>, AllocError>
@@ -55,8 +79,15 @@ fn verify_of(alloc: Global, matches: &ArgMatches) -> Result<Option<Job>, AllocEr
     let Some(counters) = mask_of(matches) else {
         return Ok(None);
     };
+    let Some(context) = layout_of(matches) else {
+        return Ok(None);
+    };
     match file_of(alloc, matches, "file")? {
-        Some(file) => Ok(Some(Job::Verify { counters, file })),
+        Some(file) => Ok(Some(Job::Verify {
+            counters,
+            context,
+            file,
+        })),
         None => Ok(None),
     }
 }
@@ -128,7 +159,13 @@ fn job_of(alloc: Global, matches: &ArgMatches) -> Result<Option<Job>, AllocError
     }
 }
 
-/// The job that was found; where there is none the words are refused, with nothing to tell.
+/// What is told of words that `clap` takes and that ask for nothing.
+const USAGE: &str = "error: --context takes 1 or 2
+
+For more information, try '--help'.
+";
+
+/// The job that was found; where there is none the words are refused.
 fn found_job(alloc: Global, matches: &ArgMatches) -> Result<Job, CommandFault>
     ensures asked { IfOk result (λ job. asked_of (subcommand_rows_of matches.now) ≡ asked job) }
     ensures some { IfOk result (λ job. IsSome (asked job)) }
@@ -136,7 +173,7 @@ fn found_job(alloc: Global, matches: &ArgMatches) -> Result<Job, CommandFault>
 {
     match job_of(alloc, matches)? {
         Some(job) => Ok(job),
-        None => Err(CommandFault::Usage(String::new(alloc))),
+        None => Err(CommandFault::Usage(String::from_str(alloc, USAGE)?)),
     }
 }
 

@@ -4,6 +4,7 @@ use Rattle.reg_types.specs.declared.refusal.Refusal.{Refusal}
 use Rattle.reg_types.specs.declared.refusal.Refusal.TheVariants as refusals
 use Rattle.reg_types.specs.Refusals.{Numbers, shown_by}
 use Rattle.reg_types.specs.Shown.{IsRefusal, refusal_of}
+use Rattle.bpf_model.specs.Program.{ProgramText, as_loaded}
 use Rattle.till_request.specs.declared.act.Act.{Act}
 use Rattle.till_request.specs.declared.act.Act.TheVariants as acts
 use Rattle.till_request.specs.declared.act.Answer.{Answer}
@@ -16,7 +17,7 @@ use Rattle.line_session.proofs.Cutting.{cuts_alike}
 use Rattle.console.specs.declared.script.ScriptLine.{ScriptLine}
 use Rattle.console.specs.declared.script.ScriptLine.TheVariants as lines
 use Rattle.console.specs.Script.{line_of}
-use Rattle.console.specs.Play.{EventAnswered, IsAccepted, LoadAnswered, ActAnswered, LineSaid, Plays, PlaysAlike}
+use Rattle.console.specs.Play.{EventAnswered, IsAccepted, LoadAnswered, load_of, ActAnswered, LineSaid, Plays, PlaysAlike}
 
 second : {A B : Type 0} → A × B → B
 second p = p.1
@@ -48,25 +49,25 @@ wanted_is wanted (refusals.«Type» fault) numbers h e = h
 some_alike : (x y : Numbers) → Some x ≡ Some y → x ≡ y
 some_alike x y e = cc
 
-module _ (old : SiteValue) (moment slot mask : ℕ) (bytes : List ℕ) where
-  not_both : (number : ℕ) (unit part : Option ℕ) (other : SiteValue) → IsAccepted bytes mask → LoadAnswered old moment slot mask bytes (answers.Program number unit part) other → ⊥
+module _ (old : SiteValue) (moment slot : ℕ) (text : ProgramText) where
+  not_both : (number : ℕ) (unit part : Option ℕ) (other : SiteValue) → IsAccepted text → LoadAnswered old moment slot text (answers.Program number unit part) other → ⊥
   not_both number unit part other h k =
-      let some : refusal_of bytes mask ≡ Some k.refusal = wanted_is (refusal_of bytes mask) k.refusal (number, unit, part) k.answers k.shown in
+      let some : refusal_of text ≡ Some k.refusal = wanted_is (refusal_of text) k.refusal (number, unit, part) k.answers k.shown in
       let none : None ≡ Some k.refusal = sym h.accepted ∙ some in absurd (cc)
 
-  load_alike : (a b : Answer) (new other : SiteValue) → LoadAnswered old moment slot mask bytes a new → LoadAnswered old moment slot mask bytes b other
+  load_alike : (a b : Answer) (new other : SiteValue) → LoadAnswered old moment slot text a new → LoadAnswered old moment slot text b other
       → ¬ (a ≡ answers.OutOfMemory) → ¬ (b ≡ answers.OutOfMemory) → (a ≡ b) × (new ≡ other)
   load_alike (answers.Entered number reply) (answers.Entered n r) new other h k p q =
-      event_alike old moment (acts.Load slot mask bytes) (answers.Entered number reply) (answers.Entered n r) new other (second h) (second k) p q
+      event_alike old moment (load_of slot text) (answers.Entered number reply) (answers.Entered n r) new other (second h) (second k) p q
   load_alike (answers.Entered number reply) answers.JournalFull new other h k p q =
-      event_alike old moment (acts.Load slot mask bytes) (answers.Entered number reply) answers.JournalFull new other (second h) (second k) p q
+      event_alike old moment (load_of slot text) (answers.Entered number reply) answers.JournalFull new other (second h) (second k) p q
   load_alike (answers.Entered number reply) answers.OutOfMemory new other h k p q = absurd (q refl)
   load_alike (answers.Entered number reply) (answers.Line fault) new other h k p q = absurd k
   load_alike (answers.Entered number reply) (answers.Program n u t) new other h k p q = absurd (not_both n u t other h.0 k)
   load_alike answers.JournalFull (answers.Entered n r) new other h k p q =
-      event_alike old moment (acts.Load slot mask bytes) answers.JournalFull (answers.Entered n r) new other (second h) (second k) p q
+      event_alike old moment (load_of slot text) answers.JournalFull (answers.Entered n r) new other (second h) (second k) p q
   load_alike answers.JournalFull answers.JournalFull new other h k p q =
-      event_alike old moment (acts.Load slot mask bytes) answers.JournalFull answers.JournalFull new other (second h) (second k) p q
+      event_alike old moment (load_of slot text) answers.JournalFull answers.JournalFull new other (second h) (second k) p q
   load_alike answers.JournalFull answers.OutOfMemory new other h k p q = absurd (q refl)
   load_alike answers.JournalFull (answers.Line fault) new other h k p q = absurd k
   load_alike answers.JournalFull (answers.Program n u t) new other h k p q = absurd (not_both n u t other h.0 k)
@@ -77,8 +78,8 @@ module _ (old : SiteValue) (moment slot mask : ℕ) (bytes : List ℕ) where
   load_alike (answers.Program number unit part) answers.OutOfMemory new other h k p q = absurd (q refl)
   load_alike (answers.Program number unit part) (answers.Line fault) new other h k p q = absurd k
   load_alike (answers.Program number unit part) (answers.Program n u t) new other h k p q =
-      let one : refusal_of bytes mask ≡ Some h.refusal = wanted_is (refusal_of bytes mask) h.refusal (number, unit, part) h.answers h.shown in
-      let two : refusal_of bytes mask ≡ Some k.refusal = wanted_is (refusal_of bytes mask) k.refusal (n, u, t) k.answers k.shown in
+      let one : refusal_of text ≡ Some h.refusal = wanted_is (refusal_of text) h.refusal (number, unit, part) h.answers h.shown in
+      let two : refusal_of text ≡ Some k.refusal = wanted_is (refusal_of text) k.refusal (n, u, t) k.answers k.shown in
       let same : h.refusal ≡ k.refusal = cc in
       let numbers : Numbers = (number, unit, part) in
       let others : Numbers = (n, u, t) in
@@ -92,7 +93,7 @@ act_alike : (old : SiteValue) (moment : ℕ) (act : Act) (a b : Answer) (new oth
     → ¬ (a ≡ answers.OutOfMemory) → ¬ (b ≡ answers.OutOfMemory) → (a ≡ b) × (new ≡ other)
 act_alike old moment (acts.Till till request) a b new other h k p q = event_alike old moment (acts.Till till request) a b new other h k p q
 act_alike old moment (acts.Dispenser point event) a b new other h k p q = event_alike old moment (acts.Dispenser point event) a b new other h k p q
-act_alike old moment (acts.Load slot mask bytes) a b new other h k p q = load_alike old moment slot mask bytes a b new other h k p q
+act_alike old moment (acts.Load slot mask layout bytes) a b new other h k p q = load_alike old moment slot (as_loaded bytes mask layout) a b new other h k p q
 
 line_alike : (line : Result ScriptLine LineFault) (s : ℕ × SiteValue) (text other : List ℕ) (m n : ℕ × SiteValue) → LineSaid line s text m → LineSaid line s other n
     → ¬ IsWantTold text → ¬ IsWantTold other → (text ≡ other) × (m ≡ n)

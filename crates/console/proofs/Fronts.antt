@@ -6,7 +6,7 @@ use Rattle.line_session.specs.declared.answering.Ended.{Ended}
 use Rattle.line_session.specs.Talk.{Breaks, Ends, drops_none}
 use Rattle.site_core.specs.Site.{SiteValue}
 use Rattle.console.specs.Play.{Plays, PlaysOut, PlayBreaks}
-use Rattle.line_session.proofs.Saying.{consumes_none, appends_none}
+use Rattle.line_session.proofs.Saying.{consumes_none, appends_none, is_line_empty}
 
 take_front : (ws rest : List ℕ) → take (length ws) (ws ++ rest) ≡ ws
 take_front [] rest = refl
@@ -28,7 +28,7 @@ breaks_none says drops s i o = record {
   dropped = inl refl;
   taken = consumes_none i;
   cut = None;
-  is_cut = tt;
+  is_cut = inl is_line_empty;
   front = [];
   after = [];
   written = appends_none o;

@@ -4,7 +4,7 @@
 use Rattle.std.specs.Prelude.{◌≡◌, ◌≢◌, ℕ, List, [], ◌∷◌, ◌++◌, length, codes, Option, Some, None, Result, Ok, Err}
 use Rattle.std.specs.Fmt.{decimal}
 use Rattle.std.specs.List.{join_with_byte}
-use Rattle.bpf_model.specs.Runs.{IsGood}
+use Rattle.bpf_model.specs.Program.{ProgramText, IsGood, as_loaded}
 use Rattle.reg_types.specs.declared.refusal.Refusal.{Refusal}
 use Rattle.reg_types.specs.Refusals.{shown_by}
 use Rattle.reg_types.specs.Shown.{IsRefused, IsRefusal, refusal_of}
@@ -34,30 +34,34 @@ EventAnswered old moment act (answers.Line fault) new = ⊥
 EventAnswered old moment act (answers.Program number unit part) new = ⊥
 
 -- the verifier's refusal of the bytes shows these numbers, and the site stays as it was
-pub record ProgramRefused (old : SiteValue) (bytes : List ℕ) (mask number : ℕ) (unit part : Option ℕ) (new : SiteValue) : Type 0 where
+pub record ProgramRefused (old : SiteValue) (p : ProgramText) (number : ℕ) (unit part : Option ℕ) (new : SiteValue) : Type 0 where
   pub refusal : Refusal
-  pub refused : IsRefused bytes mask refusal
-  pub answers : IsRefusal (refusal_of bytes mask) refusal
+  pub refused : IsRefused p refusal
+  pub answers : IsRefusal (refusal_of p) refusal
   pub shown : shown_by refusal ≡ Some (number, unit, part)
   pub same : new ≡ old
 
 -- the bytes are a good program, and the verifier refuses nothing of them
-pub record IsAccepted (bytes : List ℕ) (mask : ℕ) : Type 0 where
-  pub good : IsGood bytes mask
-  pub accepted : refusal_of bytes mask ≡ None
+pub record IsAccepted (p : ProgramText) : Type 0 where
+  pub good : IsGood p
+  pub accepted : refusal_of p ≡ None
+
+-- a program's load as an act
+abbrev pub load_of : ℕ → ProgramText → Act
+load_of slot p = acts.Load slot p.declared p.layout p.bytes
 
 -- what a load is answered: a program that is entered is accepted
-abbrev pub LoadAnswered : SiteValue → ℕ → ℕ → ℕ → List ℕ → Answer → SiteValue → Type 0
-LoadAnswered old moment slot mask bytes (answers.Entered number reply) new = IsAccepted bytes mask × EventAnswered old moment (acts.Load slot mask bytes) (answers.Entered number reply) new
-LoadAnswered old moment slot mask bytes answers.JournalFull new = IsAccepted bytes mask × EventAnswered old moment (acts.Load slot mask bytes) answers.JournalFull new
-LoadAnswered old moment slot mask bytes answers.OutOfMemory new = new ≡ old
-LoadAnswered old moment slot mask bytes (answers.Line fault) new = ⊥
-LoadAnswered old moment slot mask bytes (answers.Program number unit part) new = ProgramRefused old bytes mask number unit part new
+abbrev pub LoadAnswered : SiteValue → ℕ → ℕ → ProgramText → Answer → SiteValue → Type 0
+LoadAnswered old moment slot p (answers.Entered number reply) new = IsAccepted p × EventAnswered old moment (load_of slot p) (answers.Entered number reply) new
+LoadAnswered old moment slot p answers.JournalFull new = IsAccepted p × EventAnswered old moment (load_of slot p) answers.JournalFull new
+LoadAnswered old moment slot p answers.OutOfMemory new = new ≡ old
+LoadAnswered old moment slot p (answers.Line fault) new = ⊥
+LoadAnswered old moment slot p (answers.Program number unit part) new = ProgramRefused old p number unit part new
 
 abbrev pub ActAnswered : SiteValue → ℕ → Act → Answer → SiteValue → Type 0
 ActAnswered old moment (acts.Till till request) answer new = EventAnswered old moment (acts.Till till request) answer new
 ActAnswered old moment (acts.Dispenser point event) answer new = EventAnswered old moment (acts.Dispenser point event) answer new
-ActAnswered old moment (acts.Load slot mask bytes) answer new = LoadAnswered old moment slot mask bytes answer new
+ActAnswered old moment (acts.Load slot mask layout bytes) answer new = LoadAnswered old moment slot (as_loaded bytes mask layout) answer new
 
 -- the text is the line of such an answer
 pub record ActSaid (old : SiteValue) (moment : ℕ) (act : Act) (text : List ℕ) (new : SiteValue) : Type 0 where

@@ -1,10 +1,11 @@
 //! Acts as events of a site.
-ghost use Rattle.std.specs.Prelude.{◌≡◌, ℕ, List};
+ghost use Rattle.std.specs.Prelude.{◌≡◌, ℕ};
+ghost use Rattle.bpf_model.specs.Program.{ProgramText, as_loaded};
 ghost use Rattle.reg_types.specs.Shown.{IsRefused, IsRefusal, refusal_of};
 ghost use Rattle.site_core.specs.Site.{SiteValue, act_of};
 ghost use Rattle.console.specs.Play.{EventAnswered, LoadAnswered, ActAnswered};
 
-use reg_types::{Refusal, verify};
+use reg_types::{Layout, Refusal, verify};
 use site_core::{CallFault, Event, Site, What};
 use std::alloc::Global;
 use std::sync::Arc;
@@ -34,7 +35,7 @@ fn enter_event(site: &mut Site, moment: u64, what: What) -> Answer
 
 /// The answer to bytes that were refused.
 fn answer_refusal(refusal: Refusal) -> Answer
-    ensures { (old : SiteValue) (moment slot mask : ℕ) (bytes : List ℕ) → IsRefused bytes mask refusal → IsRefusal (refusal_of bytes mask) refusal → LoadAnswered old moment slot mask bytes result old }
+    ensures { (old : SiteValue) (moment slot : ℕ) (p : ProgramText) → IsRefused p refusal → IsRefusal (refusal_of p) refusal → LoadAnswered old moment slot p result old }
 {
     match refusal.shown() {
         Some((number, unit, part)) => Answer::Program(number, unit, part),
@@ -49,11 +50,12 @@ fn enter_load(
     moment: u64,
     slot: u32,
     mask: u32,
+    layout: Layout,
     bytes: Bytes,
 ) -> Answer
-    ensures { LoadAnswered site.old moment slot mask bytes result site.new }
+    ensures { LoadAnswered site.old moment slot (as_loaded bytes mask layout) result site.new }
 {
-    match verify(alloc, bytes.as_slice(), mask) {
+    match verify(alloc, bytes.as_slice(), mask, layout) {
         Ok(program) => match Arc::new(alloc, program) {
             Ok(program) => enter_event(site, moment, What::Load { slot, program }),
             Err(_) => Answer::OutOfMemory,
@@ -71,6 +73,11 @@ pub fn enter(alloc: Global, site: &mut Site, moment: u64, act: Act) -> Answer
         Act::Dispenser { point, event } => {
             enter_event(site, moment, What::Dispenser { point, event })
         }
-        Act::Load { slot, mask, bytes } => enter_load(alloc, site, moment, slot, mask, bytes),
+        Act::Load {
+            slot,
+            mask,
+            layout,
+            bytes,
+        } => enter_load(alloc, site, moment, slot, mask, layout, bytes),
     }
 }

@@ -2,6 +2,7 @@
 use crate::files::{Text, read_file};
 use crate::progress::{Progress, Watched};
 use crate::serve::serve_settings;
+use bpf_model::context::Layout;
 use console::{
     ConfigFault, Ended, Job, MOST_BYTES, READS, SessionFault, Settings, asm_file, audit_journal,
     config_part, dis_file, journal_fault_line, play, play_within, read_config, read_head,
@@ -36,7 +37,11 @@ pub fn do_job<H: Net<Listener = TcpListener, Stream = TcpStream> + Threads + Wai
         Job::Show(text) => say(rt, text, DONE),
         Job::Asm(file) => tell_of(rt, &file, Tell::Asm),
         Job::Dis(file) => tell_of(rt, &file, Tell::Dis),
-        Job::Verify { counters, file } => tell_of(rt, &file, Tell::Verify(counters)),
+        Job::Verify {
+            counters,
+            context,
+            file,
+        } => tell_of(rt, &file, Tell::Verify(counters, context)),
         Job::Play { config, script } => play_files(rt, &config, &script),
         Job::Audit { config, journal } => audit_files(rt, &config, &journal),
         Job::Serve(config) => serve_file(rt, host, &config, None),
@@ -74,7 +79,7 @@ fn serve_file<H: Net<Listener = TcpListener, Stream = TcpStream> + Threads + Wai
 enum Tell {
     Asm,
     Dis,
-    Verify(u32),
+    Verify(u32, Layout),
 }
 
 fn tell_of(rt: &HostRuntime, path: &str, tell: Tell) -> io::Result<u8> {
@@ -86,7 +91,7 @@ fn tell_of(rt: &HostRuntime, path: &str, tell: Tell) -> io::Result<u8> {
     let told = match tell {
         Tell::Asm => asm_file(rt.alloc(), &text)?,
         Tell::Dis => dis_file(rt.alloc(), &text)?,
-        Tell::Verify(counters) => verify_file(rt.alloc(), &text, counters)?,
+        Tell::Verify(counters, context) => verify_file(rt.alloc(), &text, counters, context)?,
     };
     say(rt, told.text, told.status)
 }
@@ -102,12 +107,18 @@ pub fn cannot_read(rt: &HostRuntime, path: &str, error: io::Error) -> io::Result
     Ok(FAILED)
 }
 
+/// Says that memory was refused, and answers the status.
+pub fn out_of_memory(rt: &HostRuntime) -> u8 {
+    let _ = eprintln!(rt; "fc: out of memory");
+    FAILED
+}
+
 fn refuse_config(rt: &HostRuntime, fault: ConfigFault) -> io::Result<u8> {
     match fault {
         ConfigFault::K1 => refuse(rt, "K1"),
         ConfigFault::K2 => refuse(rt, "K2"),
         ConfigFault::K3 => refuse(rt, "K3"),
-        ConfigFault::OutOfMemory => Ok(FAILED),
+        ConfigFault::OutOfMemory => Ok(out_of_memory(rt)),
     }
 }
 
@@ -238,6 +249,9 @@ fn audit_files(rt: &HostRuntime, config: &str, journal: &str) -> io::Result<u8> 
 }
 
 pub fn tell_journal_fault(rt: &HostRuntime, journal: &str, fault: JournalFault) -> io::Result<u8> {
+    if fault == JournalFault::OutOfMemory {
+        return Ok(out_of_memory(rt));
+    }
     match journal_fault_line(rt.alloc(), fault)? {
         Some(told) => say(rt, told.text, told.status),
         None => {

@@ -9,8 +9,8 @@ mod progress;
 mod serve;
 
 use console::{CommandFault, Job, command};
-use jobs::{FAILED, USAGE, do_job};
-use std::io;
+use jobs::{USAGE, do_job, out_of_memory};
+use std::io::{self, ErrorKind};
 use std::process::ExitCode;
 
 /// The words of the command line, the program's name first.
@@ -22,9 +22,13 @@ fn words_of(rt: &HostRuntime) -> io::Result<Vec<String>> {
 
 /// What the words ask for, or the exit status where they ask for nothing.
 fn job_of(rt: &HostRuntime) -> Result<Job, u8> {
-    let Ok(words) = words_of(rt) else {
-        let _ = eprintln!(rt; "fc: the words are not text; see fc --help");
-        return Err(USAGE);
+    let words = match words_of(rt) {
+        Ok(words) => words,
+        Err(error) if error.kind() == ErrorKind::OutOfMemory => return Err(out_of_memory(rt)),
+        Err(_) => {
+            let _ = eprintln!(rt; "fc: the words are not text; see fc --help");
+            return Err(USAGE);
+        }
     };
     match command(rt.alloc(), words) {
         Ok(job) => Ok(job),
@@ -32,7 +36,7 @@ fn job_of(rt: &HostRuntime) -> Result<Job, u8> {
             let _ = eprint!(rt; "{text}");
             Err(USAGE)
         }
-        Err(CommandFault::OutOfMemory) => Err(FAILED),
+        Err(CommandFault::OutOfMemory) => Err(out_of_memory(rt)),
     }
 }
 

@@ -7,6 +7,7 @@ mod rebasing;
 mod running;
 mod words;
 
+pub use bpf_model::context::{Context, Layout};
 pub use rebasing::rebase;
 pub use running::run;
 

@@ -4,9 +4,11 @@ ghost use Rattle.std.specs.Prelude.{◌≡◌, ℕ};
 ghost use Rattle.bpf_model.specs.Machine.{counter};
 ghost use Rattle.bpf_model.specs.Runs.{Ended};
 ghost use Rattle.bpf_model.specs.Program.{outcome};
+ghost use Rattle.bpf_model.specs.Layouts.{layout_of, bytes_of};
 ghost use Rattle.counters.specs.Changes.{adopted};
 ghost use Rattle.interp.specs.Depends.{Agrees};
 
+use bpf_model::context::Context;
 use counters::Counters;
 use helpers::View;
 use reg_types::Program;
@@ -16,19 +18,21 @@ use reg_types::Program;
 /// counters of `now` become those of `after`, and the others stay, as that run would leave them.
 pub fn rebase(
     program: &Program,
-    context: &[u8; 64],
+    context: &Context,
     view: &View,
     before: &Counters,
     answer: u64,
     after: &Counters,
     now: &mut Counters,
 )
-    requires ran { outcome program.now context.now view.now before.now ≡ Ended answer after.now }
+    requires layout { layout_of context.now ≡ program.now.layout }
+    requires ran { outcome program.now (bytes_of context.now) view.now before.now ≡ Ended answer after.now }
     requires agree { Agrees program.now.declared before.now now.old }
-    ensures ran { outcome program.now context.now view.now now.old ≡ Ended answer now.new }
+    ensures ran { outcome program.now (bytes_of context.now) view.now now.old ≡ Ended answer now.new }
     ensures counters { (c : ℕ) → counter now.new c ≡ adopted program.now.declared after.now now.old c }
 {
     let _flow = program.flow();
+    let _bytes = context.bytes();
     let _before = before.get(0);
     let _old = now.get(0);
     now.adopt(program.declared(), after);

@@ -1,5 +1,8 @@
 //! A run, and the same run carried over to other counters.
-use crate::{rebase, run};
+ghost use Rattle.std.specs.Prelude.{◌≡◌};
+ghost use Rattle.bpf_model.specs.Layouts.{layout_of};
+
+use crate::{Context, Layout, rebase, run};
 use counters::Counters;
 use helpers::{PointView, View};
 use reg_types::{Program, verify};
@@ -16,7 +19,9 @@ const EMPTY: View = View {
 };
 
 /// A run from some counters, carried over to the same counters: its answer, and counter 0 after it.
-fn carried(program: &Program, context: &[u8; 64], before: Counters) -> (u64, u64) {
+fn carried(program: &Program, context: &Context, before: Counters) -> (u64, u64)
+    requires { layout_of context.now ≡ program.now.layout }
+{
     let mut after = before;
     let answer = run(program, context, &EMPTY, &mut after);
     let mut now = before;
@@ -31,9 +36,23 @@ fn a_run_is_carried_over(rt: HostRuntime) {
         0xb7, 1, 0, 0, 0, 0, 0, 0, 0xb7, 2, 0, 0, 1, 0, 0, 0, 0x85, 0, 0, 0, 2, 0, 0, 0, 0x95, 0,
         0, 0, 0, 0, 0, 0,
     ];
-    let program = verify(rt.alloc(), &bytes, 1).expect(&rt, "a program");
+    let program = verify(rt.alloc(), &bytes, 1, Layout::One).expect(&rt, "a program");
     let counters = Counters::new([(0, 2); 32]);
-    let (answer, value) = carried(&program, &[0; 64], counters);
+    let (answer, value) = carried(&program, &Context::One([0; 64]), counters);
     assert_eq!(rt; answer, 1);
     assert_eq!(rt; value, 1);
+}
+
+// It answers the u64 at 64, behind a context of the first layout.
+#[test]
+fn a_longer_context_is_read_to_its_end(rt: HostRuntime) {
+    let bytes = [0x79, 0x10, 64, 0, 0, 0, 0, 0, 0x95, 0, 0, 0, 0, 0, 0, 0];
+    let program = verify(rt.alloc(), &bytes, 0, Layout::Two).expect(&rt, "a program");
+    assert_eq!(rt; program.layout(), Layout::Two);
+    let mut context = [0; 80];
+    context[64] = 7;
+    context[65] = 1;
+    let mut counters = Counters::new([(0, 0); 32]);
+    let answer = run(&program, &Context::Two(context), &EMPTY, &mut counters);
+    assert_eq!(rt; answer, 263);
 }

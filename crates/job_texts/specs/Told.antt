@@ -1,7 +1,8 @@
 -- Definitions: what the program says of a program file (this profile).
 use Rattle.std.specs.Prelude.{◌≡◌, ◌⊎◌, ℕ, ◌/◌, List, [], ◌++◌, length, codes, Option, Some, Result, Ok, Err, string_bytes}
 use Rattle.std.specs.Fmt.{decimal}
-use Rattle.bpf_model.specs.Runs.{IsGood}
+use Rattle.bpf_model.specs.declared.context.Layout.{Layout}
+use Rattle.bpf_model.specs.Program.{ProgramText, IsGood, as_loaded}
 use Rattle.program_file.specs.declared.ProgramFileFault.{ProgramFileFault}
 use Rattle.program_file.specs.declared.ProgramFileFault.TheVariants.{TooLong, BadDigits, OutOfMemory}
 use Rattle.program_file.specs.Digits.{program_in}
@@ -23,24 +24,25 @@ file_fault TooLong = codes "L1\n"
 file_fault BadDigits = codes "H1\n"
 file_fault OutOfMemory = []
 
--- a program that is accepted is good for the counters that it declares
-abbrev pub Accepted : List ℕ → ℕ → Told → Type 0
-Accepted bytes counters told = IsGood bytes counters × IsSaid told (codes "accepted " ++ decimal (length bytes / 8) ++ codes "\n") 0
+-- a program that is accepted is good for the counters that it declares, on contexts of its layout
+abbrev pub Accepted : ProgramText → Told → Type 0
+Accepted p told = IsGood p × IsSaid told (codes "accepted " ++ decimal (length p.bytes / 8) ++ codes "\n") 0
 
 -- a refusal is one that the bytes show, and its numbers are printed
-pub record Refused (bytes : List ℕ) (counters : ℕ) (told : Told) : Type 0 where
+pub record Refused (p : ProgramText) (told : Told) : Type 0 where
   pub refusal : Refusal
-  pub refused : IsRefused bytes counters refusal
+  pub refused : IsRefused p refusal
   pub number : ℕ
   pub unit : Option ℕ
   pub part : Option ℕ
   pub shown : shown_by refusal ≡ Some (number, unit, part)
   pub said : IsSaid told (answer_line (Program number unit part)) 1
 
--- what is said of a file whose program declares these counters
-abbrev pub VerifyOf : Result (List ℕ) ProgramFileFault → ℕ → Told → Type 0
-VerifyOf (Ok bytes) counters told = Accepted bytes counters told ⊎ Refused bytes counters told
-VerifyOf (Err fault) counters told = IsSaid told (file_fault fault) 1
+-- what is said of a file whose program declares these counters, for contexts of this layout
+abbrev pub VerifyOf : Result (List ℕ) ProgramFileFault → ℕ → Layout → Told → Type 0
+VerifyOf (Ok bytes) counters layout told =
+    Accepted (as_loaded bytes counters layout) told ⊎ Refused (as_loaded bytes counters layout) told
+VerifyOf (Err fault) counters layout told = IsSaid told (file_fault fault) 1
 
-abbrev pub VerifyTells : List ℕ → ℕ → Told → Type 0
-VerifyTells file counters told = VerifyOf (program_in file) counters told
+abbrev pub VerifyTells : List ℕ → ℕ → Layout → Told → Type 0
+VerifyTells file counters layout told = VerifyOf (program_in file) counters layout told

@@ -3,6 +3,7 @@ use crate::{
     Told, asm_file, audit_entries, audit_journal, dis_file, journal_fault_line, verify_file,
 };
 use decision_journal::JournalFault;
+use reg_types::Layout;
 use site_core::Config;
 use std::alloc::Global;
 use std::test::Fail;
@@ -49,14 +50,23 @@ fn programs_are_read_back(rt: HostRuntime) -> Result<(), Fail> {
 
 #[test]
 fn programs_are_verified(rt: HostRuntime) -> Result<(), Fail> {
-    for (file, counters, want, status) in [
-        ("7910180000000000\n9500000000000000\n", 0, "accepted 2\n", 0),
-        ("9500000000000000", 0, "V11 0 0\n", 1),
-        ("0500ffff00000000 9500000000000000", 0, "V6 0\n", 1),
-        ("9", 0, "H1\n", 1),
-        ("9500000000", 0, "V1\n", 1),
+    let (one, two) = (Layout::One, Layout::Two);
+    for (file, context, want, status) in [
+        (
+            "7910180000000000\n9500000000000000\n",
+            one,
+            "accepted 2\n",
+            0,
+        ),
+        ("9500000000000000", one, "V11 0 0\n", 1),
+        ("0500ffff00000000 9500000000000000", one, "V6 0\n", 1),
+        ("9", two, "H1\n", 1),
+        ("9500000000", two, "V1\n", 1),
+        ("7910400000000000 9500000000000000", one, "V13 0\n", 1),
+        ("7910400000000000 9500000000000000", two, "accepted 2\n", 0),
+        ("7910490000000000 9500000000000000", two, "V13 0\n", 1),
     ] {
-        let told = verify_file(rt.alloc(), file.as_bytes(), counters)?;
+        let told = verify_file(rt.alloc(), file.as_bytes(), 0, context)?;
         assert!(rt; is_told(&told, want, status), "{file}");
     }
     Ok(())
@@ -65,7 +75,7 @@ fn programs_are_verified(rt: HostRuntime) -> Result<(), Fail> {
 #[test]
 fn files_have_a_limit(rt: HostRuntime) -> Result<(), Fail> {
     let file = vec![in rt.alloc(); b'0'; 65_537]?;
-    let verified = verify_file(rt.alloc(), file.as_slice(), 0)?;
+    let verified = verify_file(rt.alloc(), file.as_slice(), 0, Layout::One)?;
     assert!(rt; is_told(&verified, "L1\n", 1));
     let read_back = dis_file(rt.alloc(), file.as_slice())?;
     assert!(rt; is_told(&read_back, "L1\n", 1));

@@ -8,7 +8,10 @@ use Rattle.till_request.specs.declared.act.LineFault.{LineFault}
 use Rattle.till_request.specs.Line.{IsLine}
 use Rattle.till_request.specs.declared.act.Answer.TheVariants.{Line}
 use Rattle.till_request.specs.Answer.{answer_line}
-use Rattle.line_session.specs.Talk.{with_lf, Said, Half, Silent, Dropped, SaysAll, Talks, IsCut, Breaks}
+use Rattle.line_session.specs.Talk.{with_lf, Said, Half, Silent, Dropped, SaysAll, Talks, IsCut, IsUpToLine, Breaks}
+
+pub is_line_empty : IsLine []
+is_line_empty = (tt, omega arith)
 
 abbrev same : List ℕ → List ℕ
 same t = t
@@ -55,8 +58,8 @@ module _ {A B : Type 0} (says : A × B → List ℕ → List ℕ → A × B → 
 
   module _ (drops : A × B → List ℕ → A × B → Type 0) where
     pub breaks_here : (s m : A × B) (i j o p : Option (List ℕ)) (count : ℕ) (k : Option (List ℕ)) (more : List ℕ)
-        → Talks says s m i j o p count [] [] → Consumes j k more → Breaks says drops s m i k o p
-    breaks_here s m i j o p count k more t taken = record {
+        → Talks says s m i j o p count [] [] → Consumes j k more → IsUpToLine more → Breaks says drops s m i k o p
+    breaks_here s m i j o p count k more t taken is = record {
       lines = t.lines;
       texts = t.texts;
       each = t.each;
@@ -66,7 +69,7 @@ module _ {A B : Type 0} (says : A × B → List ℕ → List ℕ → A × B → 
       dropped = inl refl;
       taken = consumes_more i j k (flat_map with_lf t.lines) more (rw append-nil at t.taken) taken;
       cut = None;
-      is_cut = tt;
+      is_cut = is;
       front = flat_map same t.texts;
       after = [];
       written = rw append-nil at t.written;
@@ -76,7 +79,7 @@ module _ {A B : Type 0} (says : A × B → List ℕ → List ℕ → A × B → 
     pub breaks_line : {O : Type 0} (out : O → Option (List ℕ)) (s m s' : A × B) (i j k : Option (List ℕ)) (o : Option (List ℕ)) (p q : O) (count : ℕ) (l : List ℕ)
         → Talks says s m i j o (out p) count [] [] → IsLine l → Consumes j k (l ++ 10 ∷ []) → (Silent m.0 m.1 p s'.0 s'.1 q ⊎ (Dropped drops l m s' p q ⊎ Half says l m s' (out p) (out q)))
         → Breaks says drops s s' i k o (out q)
-    breaks_line out s m s' i j k o p q count l t whole taken (inl a) = rw (a.first, a.second, a.output) (breaks_here s m i j o (out p) count k (l ++ 10 ∷ []) t taken)
+    breaks_line out s m s' i j k o p q count l t whole taken (inl a) = rw (a.first, a.second, a.output) (breaks_here s m i j o (out p) count k (l ++ 10 ∷ []) t taken (inr (l, whole, refl)))
     breaks_line out s m s' i j k o p q count l t whole taken (inr (inl a)) = rw a.output record {
       lines = t.lines;
       texts = t.texts;
@@ -87,7 +90,7 @@ module _ {A B : Type 0} (says : A × B → List ℕ → List ℕ → A × B → 
       dropped = inr (l, whole, refl, a.drops_it);
       taken = consumes_more i j k (flat_map with_lf t.lines) (with_lf l) (rw append-nil at t.taken) taken;
       cut = None;
-      is_cut = tt;
+      is_cut = inr (l, whole, refl);
       front = flat_map same t.texts;
       after = [];
       written = rw append-nil at t.written;
@@ -103,7 +106,7 @@ module _ {A B : Type 0} (says : A × B → List ℕ → List ℕ → A × B → 
       dropped = inl refl;
       taken = rw (append-nil, flat_more with_lf t.lines l) (consumes_more i j k (flat_map with_lf t.lines) (with_lf l) (rw append-nil at t.taken) taken);
       cut = None;
-      is_cut = tt;
+      is_cut = inl is_line_empty;
       front = flat_map same t.texts ++ take a.kept a.text;
       after = drop a.kept a.text;
       written = appends_more o (out p) (out q) (flat_map same t.texts) (take a.kept a.text) (rw append-nil at t.written) a.written;

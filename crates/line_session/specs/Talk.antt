@@ -96,9 +96,14 @@ pub record Ends {S : Type 0} (says : S → List ℕ → List ℕ → S → Type 
   pub is_cut : IsCut cut in_new rest
   pub counted : count ≡ answered + cut_count cut
 
--- a cut that is answered, be it by a front of the answer, is one
+-- a beginning of a line, or a line with its LF
+abbrev pub IsUpToLine : List ℕ → Type 0
+IsUpToLine rest = IsLine rest ⊎ ((line : List ℕ) × IsLine line × (rest ≡ with_lf line))
+
+-- what was taken behind the last line that was answered: at most the line that stands next; a cut that is answered, be it by a front of
+-- the answer, is one
 abbrev pub AnswersCut : Option LineFault → Option (List ℕ) → List ℕ → Type 0
-AnswersCut None in_new rest = Unit {0}
+AnswersCut None in_new rest = IsUpToLine rest
 AnswersCut (Some fault) in_new rest = IsCut (Some fault) in_new rest
 
 -- no line more was taken up, or the one that stands next was dropped

@@ -21,6 +21,11 @@ pub trait Doors {
         ensures ok { IfOk result (λ door. opens self.old door.0 door.1 self.new) }
         ensures err { OnErr result (fails self.old self.new) };
 
+    /// Whether a further line is there already, so that its answer may be written with the one before. It is free not to know.
+    fn has_line(&self, _input: &Self::In) -> bool {
+        false
+    }
+
     /// Is told how a session at one of its doors ended. It is free to do nothing.
     fn ended(&self, _outcome: &Result<Ended, SessionFault>) {}
 }

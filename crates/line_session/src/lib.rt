@@ -1,6 +1,7 @@
 //! Sessions: lines in, answers out, one for each line in order.
 #![tactic(auto)]
 
+mod ahead;
 mod answering;
 mod at_desk;
 mod cut;
@@ -12,6 +13,7 @@ mod speaker;
 #[cfg(test)]
 mod tests;
 
+pub use ahead::session_ahead;
 pub use answering::{Ended, READS, SessionFault, talk, talk_within};
 pub use at_desk::AtDesk;
 pub use cut::{law_of_the_cut, law_of_the_cut_at_desks};

@@ -3,9 +3,9 @@ ghost use Rattle.std.specs.Prelude.{◌≡◌, ◌≤◌};
 ghost use Rattle.line_session.specs.Session.{desk_says, desk_drops};
 ghost use Rattle.line_session.specs.Serving.{Serves, Sits, Visits, one_good};
 
+use crate::ahead::session_ahead;
 use crate::answering::{Ended, SessionFault};
 use crate::desk::{Clock, Desk};
-use crate::desk_session::session;
 use crate::doors::Doors;
 use std::alloc::Global;
 use till_request::Role;
@@ -23,7 +23,7 @@ fn attend<S: Doors, C: Clock, D: Desk>(
 {
     match doors.next() {
         Ok((mut input, mut output)) => {
-            let outcome = session(alloc, role, &mut input, &mut output, clock, desk);
+            let outcome = session_ahead(alloc, role, doors, &mut input, &mut output, clock, desk);
             doors.ended(&outcome);
             Some(outcome)
         }

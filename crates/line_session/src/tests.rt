@@ -1,5 +1,5 @@
 //! Sessions over memory devices, with a desk that numbers what it is asked.
-use crate::{Clock, Desk, Doors, Ended, SessionFault, session, worker};
+use crate::{Clock, Desk, Doors, Ended, SessionFault, session, session_ahead, worker};
 use std::alloc::Global;
 use std::test::Fail;
 use till_request::devices::{MemoryIn, MemoryOut};
@@ -205,4 +205,95 @@ fn a_worker_serves_each_door(rt: HostRuntime) {
     assert_eq!(rt; served(rt.alloc(), &doors, 4), (2, 4, 3, 3));
     assert_eq!(rt; served(rt.alloc(), &doors, 5), (3, 5, 4, 4));
     assert_eq!(rt; served(rt.alloc(), &doors, 0), (0, 0, 0, 0));
+}
+
+/// A door whose first bytes, so many, have come already.
+#[derive(Drop)]
+struct Arrived {
+    bytes: usize,
+}
+
+impl Doors for Arrived {
+    type In = MemoryIn;
+
+    type Out = MemoryOut;
+
+    ghost opens = { λ _ _ _ _. Unit {0} };
+
+    ghost fails = { λ _ _. Unit {0} };
+
+    fn next(&mut self) -> Result<(MemoryIn, MemoryOut), DeviceFault> {
+        Err(DeviceFault)
+    }
+
+    fn has_line(&self, input: &MemoryIn) -> bool {
+        match input.bytes.get(input.at..self.bytes) {
+            Some(ahead) => ahead.contains(&b'\n'),
+            None => false,
+        }
+    }
+}
+
+/// What a session over a script, of which so many bytes have come, writes, and in how many writes.
+fn written_ahead(
+    alloc: Global,
+    script: &[u8],
+    arrived: usize,
+    good_writes: Option<u64>,
+) -> Option<(Result<Ended, SessionFault>, Vec<u8>, u64, u32)> {
+    let bytes = Vec::from_slice(alloc, script).ok()?;
+    let mut input = MemoryIn::new(bytes, Vec::new(alloc), None);
+    let mut output = MemoryOut::new(alloc, Vec::new(alloc), good_writes);
+    let mut clock = Ticks { moment: 0 };
+    let mut desk = Numbers { entries: 0 };
+    let doors = Arrived { bytes: arrived };
+    let ended = session_ahead(
+        alloc,
+        Role::Till,
+        &doors,
+        &mut input,
+        &mut output,
+        &mut clock,
+        &mut desk,
+    );
+    Some((ended, output.bytes, output.writes, desk.entries))
+}
+
+const THREE: &[u8] = b"till 1 open 1\ntill 1 show 1\ntill 1 show 1\n";
+
+const ANSWERS: &[u8] = b"1 granted 1 by 7\n2 granted 2 by 7\n3 granted 3 by 7\n";
+
+#[test]
+fn answers_that_are_ready_are_written_at_once(rt: HostRuntime) {
+    // Of 42 bytes so many have come when the first line is read: no whole further line, one, and two.
+    for (arrived, wanted) in [(14, 3), (27, 3), (28, 2), (41, 2), (42, 1)] {
+        match written_ahead(rt.alloc(), THREE, arrived, None) {
+            Some((ended, text, writes, entries)) => {
+                assert_eq!(rt;
+                    ended,
+                    Ok(Ended {
+                        lines: 3,
+                        cut: None
+                    })
+                );
+                assert_eq!(rt; text.as_slice(), ANSWERS);
+                assert_eq!(rt; writes, wanted);
+                assert_eq!(rt; entries, 3);
+            }
+            None => assert!(rt; false),
+        }
+    }
+}
+
+#[test]
+fn a_failed_write_leaves_the_events_of_its_answers(rt: HostRuntime) {
+    match written_ahead(rt.alloc(), THREE, 28, Some(0)) {
+        Some((ended, text, writes, entries)) => {
+            assert_eq!(rt; ended, Err(SessionFault::Write));
+            assert!(rt; text.is_empty());
+            assert_eq!(rt; writes, 1);
+            assert_eq!(rt; entries, 2);
+        }
+        None => assert!(rt; false),
+    }
 }

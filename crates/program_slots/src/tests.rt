@@ -1,7 +1,7 @@
 //! All versions that there can be.
 
 use crate::{SlotFault, Slots};
-use reg_types::verify;
+use reg_types::{Layout, verify};
 use std::sync::Arc;
 use std::test::Fail;
 
@@ -11,7 +11,7 @@ const FIVE: [u8; 16] = [0xb7, 0, 0, 0, 5, 0, 0, 0, 0x95, 0, 0, 0, 0, 0, 0, 0];
 #[test]
 fn versions_end_at_4096(rt: HostRuntime) -> Result<(), Fail> {
     let alloc = rt.alloc();
-    let program = verify(alloc, &FIVE, 0).ok().ok_or("refused")?;
+    let program = verify(alloc, &FIVE, 0, Layout::One).ok().ok_or("refused")?;
     let program = Arc::new(alloc, program)?;
     let mut slots = Slots::new(alloc);
     assert_eq!(rt; slots.installed(0), None);

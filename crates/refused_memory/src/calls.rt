@@ -1,31 +1,16 @@
 //! Calls one by one that find too little memory: each tells so, and what it had been lent is as it was, or it answers as with ample memory.
-use crate::hoarding::{HELD, hoard, room_of};
-use crate::plays::STATION;
-use bpf_asm::{AsmFault, assemble, disassemble};
-use bpf_decode::{Code, DecodeFault, decode, encode};
-use console::{ConfigFault, audit_journal, read_config};
-use decision_journal::{Entry, JournalFault, read_entries, write_entries};
-use reg_types::{Refusal, verify};
-use site_core::{AuditFault, Config, Site, audit};
+use crate::hoarding::{TURNS, leave_few, room_of};
+use crate::programs::{assembles, checks_flow, decodes, disassembles, encodes, installs, verifies};
+use crate::sites::{
+    applies_fifth_load, applies_load, applies_request, audits, commits, copies_config,
+    loads_before_commit, makes_event, replaces, runs, starts,
+};
+use crate::texts::{
+    audits_journal, commands_help, commands_job, commands_usage, parses_line, reads_config,
+    reads_entries, reads_head, reads_line, tells_text, tells_units, writes_answer, writes_entries,
+};
 use std::alloc::Global;
 use std::test::Fail;
-use till_request::devices::{MemoryIn, MemoryOut};
-use till_request::{
-    Answer, LineFault, LineReadFault, Role, WriteFault, parse_line, read_line, write_answer,
-};
-
-/// A rule that grants what is asked, its text, a line that loads it, and a journal.
-const RULE: [u8; 16] = [0x79, 0x10, 0x18, 0, 0, 0, 0, 0, 0x95, 0, 0, 0, 0, 0, 0, 0];
-
-const TEXT: &str = "r0 = *(u64 *)(r1 + 24)\nexit\n";
-
-const LINE: &str = "load 0 0 79101800000000009500000000000000\n";
-
-const JOURNAL: &str =
-    "1 1 0 load 0 0 79101800000000009500000000000000 = version 1\n2 1 0 till 1 open 1 = done\n";
-
-/// The most rooms that are tried.
-const TURNS: usize = 60;
 
 /// The calls that are tried.
 #[derive(Clone, Copy, Debug)]
@@ -35,136 +20,68 @@ enum Call {
     Assemble,
     Disassemble,
     Verify,
+    Install,
     ParseLine,
     ReadLine,
     WriteAnswer,
     WriteEntries,
     ReadEntries,
     AuditJournal,
+    ReadConfig,
+    ReadHead,
+    TellUnits,
+    TellText,
+    CommandOfJob,
+    CommandOfHelp,
+    CommandOfUsage,
+    CopyConfig,
+    MakeEvent,
     Start,
     Audit,
-    ReadConfig,
+    ApplyRequest,
+    ApplyLoad,
+    ApplyFifthLoad,
+    Commit,
+    LoadBeforeCommit,
 }
 
-/// What the calls are lent.
-#[derive(Drop)]
-struct Things {
-    code: Code,
-    entries: Vec<Entry>,
-    config: Config,
-    line: MemoryIn,
-    journal: MemoryIn,
-    output: MemoryOut,
-}
-
-fn device(alloc: Global, text: &str) -> Option<MemoryIn> {
-    let bytes = Vec::from_slice(alloc, text.as_bytes()).ok()?;
-    Some(MemoryIn::new(bytes, Vec::new(alloc), None))
-}
-
-fn lent(alloc: Global) -> Option<Things> {
-    let entries = read_entries(alloc, &mut device(alloc, JOURNAL)?).ok()?;
-    let mut output = MemoryOut::new(alloc, Vec::new(alloc), None);
-    output.bytes = Vec::with_capacity(alloc, 4096).ok()?;
-    Some(Things {
-        code: decode(alloc, &RULE).ok()?,
-        entries,
-        config: read_config(alloc, STATION.as_bytes()).ok()?.config,
-        line: device(alloc, LINE)?,
-        journal: device(alloc, JOURNAL)?,
-        output,
-    })
-}
-
-/// Whether a call was answered as with ample memory; an error is want of memory, and none is any other answer.
-fn made(alloc: Global, call: Call, lent: Things) -> Option<bool> {
-    let Things {
-        code,
-        entries,
-        config,
-        mut line,
-        mut journal,
-        mut output,
-    } = lent;
-    match call {
-        Call::Decode => match decode(alloc, &RULE) {
-            Ok(_) => Some(true),
-            Err(fault) => (fault == DecodeFault::OutOfMemory).then_some(false),
-        },
-        Call::Encode => match encode(alloc, &code) {
-            Ok(bytes) => (bytes.as_slice() == RULE.as_slice()).then_some(true),
-            Err(_) => Some(false),
-        },
-        Call::Assemble => match assemble(alloc, TEXT.as_bytes()) {
-            Ok(_) => Some(true),
-            Err(fault) => (fault == AsmFault::OutOfMemory).then_some(false),
-        },
-        Call::Disassemble => match disassemble(alloc, &code) {
-            Ok(text) => (text.as_str() == TEXT).then_some(true),
-            Err(_) => Some(false),
-        },
-        Call::Verify => match verify(alloc, &RULE, 0) {
-            Ok(_) => Some(true),
-            Err(fault) => (fault == Refusal::OutOfMemory).then_some(false),
-        },
-        Call::ParseLine => match parse_line(alloc, Role::Till, b"till 1 release 1 8000") {
-            Ok(_) => Some(true),
-            Err(fault) => (fault == LineFault::OutOfMemory).then_some(false),
-        },
-        Call::ReadLine => match read_line(alloc, Role::Owner, &mut line, &mut 100) {
-            Ok(_) => Some(true),
-            Err(fault) => (fault == LineReadFault::Line(LineFault::OutOfMemory)).then_some(false),
-        },
-        Call::WriteAnswer => match write_answer(alloc, &mut output, &Answer::OutOfMemory) {
-            Ok(()) => Some(true),
-            Err(fault) => {
-                (fault == WriteFault::OutOfMemory && output.bytes.is_empty()).then_some(false)
-            }
-        },
-        Call::WriteEntries => match write_entries(alloc, &entries, &mut output) {
-            Ok(()) => (output.bytes.as_slice() == JOURNAL.as_bytes()).then_some(true),
-            Err(fault) => (fault == JournalFault::OutOfMemory
-                && JOURNAL.as_bytes().starts_with(&output.bytes)).then_some(false),
-        },
-        Call::ReadEntries => match read_entries(alloc, &mut journal) {
-            Ok(found) => (found.len() == 2).then_some(true),
-            Err(fault) => (fault == JournalFault::OutOfMemory).then_some(false),
-        },
-        Call::AuditJournal => match audit_journal(alloc, config, &mut journal) {
-            Ok(told) => (told.text.as_str() == "legal 2\n").then_some(true),
-            Err(fault) => (fault == JournalFault::OutOfMemory).then_some(false),
-        },
-        Call::Start => match Site::start(alloc, config) {
-            Ok(site) => site.history().is_empty().then_some(true),
-            Err(_) => Some(false),
-        },
-        Call::Audit => match audit(alloc, config, &entries) {
-            Ok(site) => (site.history().len() == 2).then_some(true),
-            Err(fault) => matches!(fault, AuditFault::OutOfMemory).then_some(false),
-        },
-        Call::ReadConfig => match read_config(alloc, STATION.as_bytes()) {
-            Ok(_) => Some(true),
-            Err(fault) => matches!(fault, ConfigFault::OutOfMemory).then_some(false),
-        },
-    }
-}
-
-/// A call that finds so much memory.
+/// Whether a call that finds so much memory was answered as with ample memory; none where neither that nor want of memory was told.
 fn made_in(alloc: Global, call: Call, size: usize) -> Option<bool> {
-    let lent = lent(alloc)?;
-    let room: Vec<u8> = Vec::with_capacity(alloc, size.saturating_add(HELD)).ok()?;
-    let mut all = Vec::with_capacity(alloc, 200_000).ok()?;
-    hoard(alloc, &mut all, 46);
-    drop(room);
-    let held: Option<Vec<u8>> = Vec::with_capacity(alloc, HELD).ok();
-    let answer = made(alloc, call, lent);
-    drop(held);
-    drop(all);
-    answer
+    match call {
+        Call::Decode => decodes(alloc, size),
+        Call::Encode => encodes(alloc, size),
+        Call::Assemble => assembles(alloc, size),
+        Call::Disassemble => disassembles(alloc, size),
+        Call::Verify => verifies(alloc, size),
+        Call::Install => installs(alloc, size),
+        Call::ParseLine => parses_line(alloc, size),
+        Call::ReadLine => reads_line(alloc, size),
+        Call::WriteAnswer => writes_answer(alloc, size),
+        Call::WriteEntries => writes_entries(alloc, size),
+        Call::ReadEntries => reads_entries(alloc, size),
+        Call::AuditJournal => audits_journal(alloc, size),
+        Call::ReadConfig => reads_config(alloc, size),
+        Call::ReadHead => reads_head(alloc, size),
+        Call::TellUnits => tells_units(alloc, size),
+        Call::TellText => tells_text(alloc, size),
+        Call::CommandOfJob => commands_job(alloc, size),
+        Call::CommandOfHelp => commands_help(alloc, size),
+        Call::CommandOfUsage => commands_usage(alloc, size),
+        Call::CopyConfig => copies_config(alloc, size),
+        Call::MakeEvent => makes_event(alloc, size),
+        Call::Start => starts(alloc, size),
+        Call::Audit => audits(alloc, size),
+        Call::ApplyRequest => applies_request(alloc, size),
+        Call::ApplyLoad => applies_load(alloc, size),
+        Call::ApplyFifthLoad => applies_fifth_load(alloc, size),
+        Call::Commit => commits(alloc, size),
+        Call::LoadBeforeCommit => loads_before_commit(alloc, size),
+    }
 }
 
 /// How often a call was refused, in rooms that grow until it is answered.
 fn refused(alloc: Global, call: Call) -> Option<u32> {
+    let _few = leave_few(alloc)?;
     let mut refused = 0u32;
     for turn in 0..TURNS {
         if made_in(alloc, call, room_of(turn))? {
@@ -183,10 +100,12 @@ fn each_growth_refused_to_a_program(rt: HostRuntime) -> Result<(), Fail> {
         Call::Assemble,
         Call::Disassemble,
         Call::Verify,
+        Call::Install,
     ] {
         let refused = refused(rt.alloc(), call).ok_or("another answer")?;
         assert!(rt; refused > 0, "{call:?}");
     }
+    assert!(rt; checks_flow(rt.alloc(), 0) == Some(true));
     Ok(())
 }
 
@@ -209,10 +128,90 @@ fn each_growth_refused_to_a_journal(rt: HostRuntime) -> Result<(), Fail> {
 }
 
 #[test]
-fn each_growth_refused_to_a_site(rt: HostRuntime) -> Result<(), Fail> {
-    for call in [Call::Start, Call::Audit, Call::ReadConfig] {
+fn each_growth_refused_to_a_file(rt: HostRuntime) -> Result<(), Fail> {
+    for call in [
+        Call::ReadConfig,
+        Call::ReadHead,
+        Call::TellUnits,
+        Call::TellText,
+    ] {
         let refused = refused(rt.alloc(), call).ok_or("another answer")?;
         assert!(rt; refused > 0, "{call:?}");
     }
+    Ok(())
+}
+
+#[test]
+fn each_growth_refused_to_words(rt: HostRuntime) -> Result<(), Fail> {
+    for call in [
+        Call::CommandOfJob,
+        Call::CommandOfHelp,
+        Call::CommandOfUsage,
+    ] {
+        let refused = refused(rt.alloc(), call).ok_or("another answer")?;
+        assert!(rt; refused > 0, "{call:?}");
+    }
+    Ok(())
+}
+
+#[test]
+fn each_growth_refused_to_a_site(rt: HostRuntime) -> Result<(), Fail> {
+    for call in [
+        Call::CopyConfig,
+        Call::MakeEvent,
+        Call::Start,
+        Call::Audit,
+        Call::ApplyRequest,
+        Call::ApplyLoad,
+        Call::ApplyFifthLoad,
+        Call::Commit,
+    ] {
+        let refused = refused(rt.alloc(), call).ok_or("another answer")?;
+        assert!(rt; refused > 0, "{call:?}");
+    }
+    Ok(())
+}
+
+// Where the results had room and no entry had, a site without entries; then one with four, since a list begins with room for four.
+#[test]
+fn each_growth_refused_in_a_run_of_events(rt: HostRuntime) -> Result<(), Fail> {
+    let _few = leave_few(rt.alloc()).ok_or("memory")?;
+    let (mut none, mut four) = (0u32, 0u32);
+    for turn in 0..TURNS {
+        match runs(rt.alloc(), room_of(turn)).ok_or("another answer")? {
+            0 => none = none.wrapping_add(1),
+            4 => four = four.wrapping_add(1),
+            entered => {
+                assert!(rt;
+                    entered == 5 && none > 0 && four > 0,
+                    "{none} without entries, {four} with four, {entered}"
+                );
+                return Ok(());
+            }
+        }
+    }
+    assert!(rt; false, "no run was entered whole");
+    Ok(())
+}
+
+// A rule is replaced while a run on it is made. The load is refused memory for its bytes. The two commits need none; with one entry more
+// before them, at which the history's list has to grow, both are refused.
+#[test]
+fn each_growth_refused_while_a_rule_is_replaced(rt: HostRuntime) -> Result<(), Fail> {
+    let alloc = rt.alloc();
+    let loads = refused(alloc, Call::LoadBeforeCommit).ok_or("another answer")?;
+    assert!(rt; loads > 0 && replaces(alloc, 0, 0) == Some((true, true)));
+    let _few = leave_few(alloc).ok_or("memory")?;
+    let mut wanted = 0u32;
+    for turn in 0..TURNS {
+        match replaces(alloc, 1, room_of(turn)).ok_or("another answer")? {
+            (false, false) => wanted = wanted.wrapping_add(1),
+            both => {
+                assert!(rt; both == (true, true) && wanted > 0, "{wanted} refused");
+                return Ok(());
+            }
+        }
+    }
+    assert!(rt; false, "no run was entered");
     Ok(())
 }

@@ -1,10 +1,10 @@
 //! Sessions at a desk over a forecourt, one of whose lines finds too little memory: the same as of plays, and the pass closes with the site.
 ghost use Rattle.std.specs.Prelude.{◌≡◌, [], None};
 
-use crate::hoarding::{HELD, hoard, room_of};
+use crate::hoarding::{TURNS, leave_few, room_of};
 use crate::narrow::Narrow;
-use crate::plays::{DELIVERY, STATION, first_lines, with_want, without};
-use console::read_config;
+use crate::plays::{DELIVERY, first_lines, with_want, without};
+use crate::texts::{output, station};
 use line_session::{Clock, SessionFault, session};
 use site_core::Config;
 use site_lock::{Forecourt, PassDesk, Straight, Yard};
@@ -14,14 +14,11 @@ use std::sync::Wait;
 use std::sync::ledger::Blank;
 use std::test::Fail;
 use till_request::Role;
-use till_request::devices::{MemoryIn, MemoryOut};
-
-/// The most rooms that are tried.
-const TURNS: usize = 60;
+use till_request::devices::MemoryIn;
 
 /// Tells 0.
 #[derive(Drop)]
-struct Still;
+pub struct Still;
 
 impl Clock for Still {
     ghost tick = { λ _ _ _. Unit {0} };
@@ -46,7 +43,7 @@ fn seat<L: Yard, R: Wait>(
     alloc: Global,
     blank: Blank,
     config: Config,
-    mut input: Narrow<MemoryIn>,
+    mut input: Narrow,
 ) -> Result<Outcome, Fail>
     requires name { blank.name ≡ L.name }
     requires parts { blank.parts ≡ L.parts }
@@ -56,8 +53,7 @@ fn seat<L: Yard, R: Wait>(
 {
     let (yard, mut passes) = Forecourt::<L>::start(alloc, config, 1, blank)?;
     let pass = passes.pop().ok_or("a pass")?;
-    let mut output = MemoryOut::new(alloc, Vec::new(alloc), None);
-    output.bytes = Vec::with_capacity(alloc, 65_536)?;
+    let mut output = output(alloc, 65_536).ok_or("an output")?;
     let mut clock = Still;
     let mut desk = PassDesk::new(rt, alloc, &yard, pass, Straight { calls: 0 });
     let ended = session(
@@ -79,12 +75,7 @@ fn seat<L: Yard, R: Wait>(
     })
 }
 
-fn seat_of<R: Wait>(
-    rt: &R,
-    alloc: Global,
-    config: Config,
-    input: Narrow<MemoryIn>,
-) -> Result<Outcome, Fail> {
+fn seat_of<R: Wait>(rt: &R, alloc: Global, config: Config, input: Narrow) -> Result<Outcome, Fail> {
     seat::<Brand, R>(rt, alloc, Blank::new(1), config, input)
 }
 
@@ -95,16 +86,9 @@ fn seated<R: Wait>(
     line: usize,
     size: usize,
 ) -> Result<Outcome, Fail> {
-    let settings = read_config(alloc, STATION.as_bytes())
-        .ok()
-        .ok_or("a configuration")?;
+    let config = station(alloc).ok_or("a configuration")?;
     let input = MemoryIn::new(Vec::from_slice(alloc, script)?, Vec::new(alloc), None);
-    seat_of(
-        rt,
-        alloc,
-        settings.config,
-        Narrow::new(alloc, input, line, size)?,
-    )
+    seat_of(rt, alloc, config, Narrow::new(alloc, input, line, size))
 }
 
 /// Something where it holds.
@@ -120,6 +104,7 @@ fn refused_at<R: Wait>(rt: &R, alloc: Global, line: usize) -> Result<(u32, u32),
     let less = without(alloc, script, line).ok_or("a script")?;
     let changed_nothing = seated(rt, alloc, &less, script.len(), 0)?.text;
     let told = with_want(alloc, &changed_nothing, line).ok_or("answers")?;
+    let _few = leave_few(alloc).ok_or("memory")?;
     let (mut wanted, mut ended) = (0u32, 0u32);
     for turn in 0..TURNS {
         let found = seated(rt, alloc, script, line, room_of(turn))?;
@@ -160,59 +145,6 @@ fn refused_from<R: Wait>(
         }
     }
     Ok((wanted, ended))
-}
-
-/// Whether a forecourt that finds so much memory starts.
-fn start_in<L: Yard, R: Wait>(
-    rt: &R,
-    alloc: Global,
-    blank: Blank,
-    config: Config,
-    size: usize,
-) -> Result<bool, Fail>
-    requires name { blank.name ≡ L.name }
-    requires parts { blank.parts ≡ L.parts }
-    requires config { config ≡ L.config }
-    requires new { (L.base ≡ []) × (L.taken ≡ None) }
-    requires one { blank.parts ≡ 1 }
-{
-    let room: Vec<u8> = Vec::with_capacity(alloc, size.saturating_add(HELD))?;
-    let mut all = Vec::with_capacity(alloc, 200_000)?;
-    hoard(alloc, &mut all, 46);
-    drop(room);
-    let held: Option<Vec<u8>> = Vec::with_capacity(alloc, HELD).ok();
-    let started = Forecourt::<L>::start(alloc, config, 1, blank);
-    drop(held);
-    drop(all);
-    match started {
-        Ok((yard, passes)) => {
-            let closed = yard.close(rt, passes).ok().ok_or("a closed site")?;
-            Ok(closed.site.history().is_empty())
-        }
-        Err(_) => Ok(false),
-    }
-}
-
-fn start_of<R: Wait>(rt: &R, alloc: Global, config: Config, size: usize) -> Result<bool, Fail> {
-    start_in::<Brand, R>(rt, alloc, Blank::new(1), config, size)
-}
-
-#[test]
-fn each_growth_refused_to_a_forecourt(rt: HostRuntime) -> Result<(), Fail> {
-    let mut refused = 0u32;
-    for turn in 0..TURNS {
-        let settings = read_config(rt.alloc(), STATION.as_bytes())
-            .ok()
-            .ok_or("a configuration")?;
-        let size = room_of(turn);
-        if start_of(&rt, rt.alloc(), settings.config, size)? {
-            assert!(rt; refused > 0);
-            return Ok(());
-        }
-        refused = refused.wrapping_add(1);
-    }
-    assert!(rt; false, "no forecourt started");
-    Ok(())
 }
 
 #[test]

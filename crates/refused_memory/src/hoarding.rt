@@ -1,8 +1,11 @@
 //! All memory, but for a room.
-use std::alloc::{AllocError, Global};
+use std::alloc::Global;
 
 /// A freed block of up to 1,032 bytes serves its own size alone, so a room is a larger block of which so much is taken again.
-pub const HELD: usize = 1080;
+const HELD: usize = 1080;
+
+/// The most rooms that a call is tried in.
+pub const TURNS: usize = 120;
 
 /// Takes every block of `size` bytes that memory still has.
 fn take_all(alloc: Global, blocks: &mut Vec<Vec<u8>>, size: usize) {
@@ -18,30 +21,39 @@ fn take_all(alloc: Global, blocks: &mut Vec<Vec<u8>>, size: usize) {
     }
 }
 
-/// Takes all that memory still has, in blocks from 2^`top` bytes down to the least.
-pub fn hoard(alloc: Global, blocks: &mut Vec<Vec<u8>>, top: u32) {
-    for less in 0..64u32 {
-        if less > top || top - less < 11 || top > 62 {
-            break;
-        }
-        take_all(alloc, blocks, 1usize << (top - less));
+/// Takes all that memory still has, in blocks from 2^46 bytes down to the least.
+fn hoard(alloc: Global, blocks: &mut Vec<Vec<u8>>) {
+    for less in 0..36u32 {
+        take_all(alloc, blocks, 1usize << (46 - less));
     }
     for step in 0..129usize {
         take_all(alloc, blocks, (128 - step) * 16 + 8);
     }
 }
 
-/// One block for each turn, the n-th of `HELD` and `step` times n bytes.
-pub fn rooms(alloc: Global, step: usize, turns: usize) -> Result<Vec<Vec<u8>>, AllocError> {
-    let mut blocks = Vec::with_capacity(alloc, turns)?;
-    for turn in 0..turns {
-        let size = turn.saturating_mul(step).saturating_add(HELD);
-        blocks.push(Vec::with_capacity(alloc, size)?)?;
-    }
-    Ok(blocks)
+/// All memory but a room. It is given back when this is dropped.
+#[derive(Drop)]
+pub struct Taken {
+    blocks: Vec<Vec<u8>>,
+    held: Option<Vec<u8>>,
 }
 
-/// The room of a turn, from 0 on; the 60th has over 80,000 bytes.
+/// Takes all memory but one room of so many bytes.
+pub fn take_but(alloc: Global, size: usize) -> Option<Taken> {
+    let room: Vec<u8> = Vec::with_capacity(alloc, size.saturating_add(HELD)).ok()?;
+    let mut blocks = Vec::with_capacity(alloc, 200_000).ok()?;
+    hoard(alloc, &mut blocks);
+    drop(room);
+    let held = Vec::with_capacity(alloc, HELD).ok();
+    Some(Taken { blocks, held })
+}
+
+/// Takes all memory but 64 MB, which are enough for what a test makes: then each further room costs a hundredth of the time.
+pub fn leave_few(alloc: Global) -> Option<Taken> {
+    take_but(alloc, 1 << 26)
+}
+
+/// The room of a turn, from 0 on; the last has over 80,000 bytes.
 pub fn room_of(turn: usize) -> usize {
-    turn.wrapping_mul(turn).wrapping_mul(24)
+    turn.wrapping_mul(turn).wrapping_mul(6)
 }

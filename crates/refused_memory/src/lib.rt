@@ -7,10 +7,20 @@ mod calls;
 #[cfg(test)]
 mod desks;
 #[cfg(test)]
-mod events;
-#[cfg(test)]
 mod hoarding;
+#[cfg(test)]
+mod many;
 #[cfg(test)]
 mod narrow;
 #[cfg(test)]
 mod plays;
+#[cfg(test)]
+mod programs;
+#[cfg(test)]
+mod sites;
+#[cfg(test)]
+mod texts;
+#[cfg(test)]
+mod workers;
+#[cfg(test)]
+mod yards;

@@ -1,12 +1,13 @@
 //! Plays one of whose lines finds too little memory: the line is answered `S31` and changes nothing, or the play ends for want of memory behind
 //! the answers of the lines before it, or nothing is refused.
-use crate::hoarding::room_of;
+use crate::hoarding::{TURNS, leave_few, room_of};
 use crate::narrow::Narrow;
+use crate::texts::output;
 use console::{play, read_config};
 use line_session::SessionFault;
 use std::alloc::Global;
 use std::test::Fail;
-use till_request::devices::{MemoryIn, MemoryOut};
+use till_request::devices::MemoryIn;
 
 const KIOSK: &str =
     "tills = 1\nprice_slot = 2\nprices = [1799, 1849, 0, 0, 0, 0, 0, 0]\n[[point]]\nrelease = 0\npreset = 1\n";
@@ -18,16 +19,13 @@ const RELEASE: &str =
     "load 0 0 79101800000000009500000000000000\ntill 1 open 1\ntill 1 release 1 8000\ntill 1 release 1 8000\n";
 
 const SENT_AGAIN: &str =
-    "load 0 0 79101800000000009500000000000000\ntill 1 open 1\ntill 1 show 1\ntill 1 show 1\ntill 1 release 1 8000\ntill 1 release 1 8000\n";
+    "till 1 show 1\ntill 1 show 1\nload 0 0 79101800000000009500000000000000\ntill 1 open 1\ntill 1 release 1 8000\ntill 1 release 1 8000\n";
 
 const COUNTED: &str =
     "load 1 1 b701000000000000b70200000100000085000000020000009500000000000000\ntill 1 open 1\ntill 1 preset 1 100\ntill 1 preset 1 100\ntill 1 preset 1 100\n";
 
 pub const DELIVERY: &str =
     "load 0 0 79101800000000009500000000000000\ntill 1 open 1\ndisp 1 up 1\ntill 1 release 1 8000\ndisp 1 order\ndisp 1 started\ndisp 1 flow 2500 1390\ndisp 1 down\ntill 1 lock 1 1\ntill 2 lock 1 1\ntill 2 clear 1 1\ntill 1 clear 1 1\ntill 1 clear 1 1\ntill 1 show 1\n";
-
-/// The most rooms that are tried.
-const TURNS: usize = 60;
 
 /// How a play ended, and what it wrote.
 #[derive(Drop)]
@@ -41,9 +39,8 @@ struct Outcome {
 fn played(alloc: Global, site: &str, script: &[u8], line: usize, size: usize) -> Option<Outcome> {
     let settings = read_config(alloc, site.as_bytes()).ok()?;
     let input = MemoryIn::new(Vec::from_slice(alloc, script).ok()?, Vec::new(alloc), None);
-    let mut input = Narrow::new(alloc, input, line, size).ok()?;
-    let mut output = MemoryOut::new(alloc, Vec::new(alloc), None);
-    output.bytes = Vec::with_capacity(alloc, 65_536).ok()?;
+    let mut input = Narrow::new(alloc, input, line, size);
+    let mut output = output(alloc, 65_536)?;
     let ended = play(alloc, settings.config, &mut input, &mut output);
     drop(input);
     Some(Outcome {
@@ -93,6 +90,7 @@ fn refused_at(alloc: Global, site: &str, script: &str, line: usize) -> Option<(u
     let less = without(alloc, script.as_bytes(), line)?;
     let changed_nothing = played(alloc, site, &less, lines, 0)?.text;
     let told = with_want(alloc, &changed_nothing, line)?;
+    let _few = leave_few(alloc)?;
     let (mut wanted, mut ended) = (0u32, 0u32);
     for turn in 0..TURNS {
         let found = played(alloc, site, script.as_bytes(), line, room_of(turn))?;
@@ -129,8 +127,8 @@ fn refused_in(alloc: Global, site: &str, script: &str, lines: usize) -> Option<(
     Some((wanted, ended))
 }
 
-// The history's list has room for four entries, so the first release whose entry takes memory is the fifth line's. It is refused, and granted
-// when it is sent again.
+// The history's list begins with room for four entries and is next refused memory at its fifth, so two lines stand before the load, the
+// opening and the release. The release is refused, and granted when it is sent again.
 #[test]
 fn a_refused_release_is_sent_again(rt: HostRuntime) -> Result<(), Fail> {
     let alloc = rt.alloc();
@@ -139,7 +137,7 @@ fn a_refused_release_is_sent_again(rt: HostRuntime) -> Result<(), Fail> {
     let told = with_want(alloc, &granted.text, 4).ok_or("answers")?;
     assert_eq!(rt;
         told.as_slice(),
-        "1 version 1\n2 done\n3 point 3 0 0 0 0 0 0\n4 point 3 0 0 0 0 0 0\nS31\n5 granted 8000 by 1\n".as_bytes()
+        "1 point 2 0 0 0 0 0 0\n2 point 2 0 0 0 0 0 0\n3 version 1\n4 done\nS31\n5 granted 8000 by 1\n".as_bytes()
     );
     let (wanted, ended) = refused_at(alloc, KIOSK, SENT_AGAIN, 4).ok_or("another answer")?;
     assert!(rt;

@@ -21,6 +21,9 @@ use Rattle.bpf_model.specs.Reading.{bytes_in, form_of, units}
 use Rattle.bpf_model.specs.Arithmetic.{low}
 use Rattle.bpf_model.specs.Machine.{shifted, immediate}
 use Rattle.bpf_model.proofs.Reading.{wide_at}
+use Rattle.reg_types.specs.declared.types.Terms.{Terms}
+use Rattle.bpf_model.specs.declared.context.Layout.{Layout}
+use Rattle.bpf_model.specs.Layouts.{context_len}
 use Rattle.reg_types.specs.declared.types.RegType.{RegType}
 use Rattle.reg_types.specs.declared.types.RegType.TheVariants.{Unset, Num, Const, Ctx, Stk}
 use Rattle.reg_types.specs.declared.types.Flaw.{Flaw}
@@ -66,25 +69,25 @@ plain_move false n = refl
 gives : (o : Typed) → o ≡ Ok Num → GivesNumber o
 gives o e = subst GivesNumber (sym e) refl
 
-numbers_ok : (op : Operator) (w : Width) (i : Inst) (a : RegType) (n : ℕ) → is_numeric a ≡ true → GivesNumber (alu_type op w Immediate i a (Const n))
-numbers_ok Sum Full i Num n h = refl
-numbers_ok Sum Narrow i Num n h = refl
-numbers_ok Sum Full i (Const c) n h = refl
-numbers_ok Sum Narrow i (Const c) n h = refl
-numbers_ok Difference Full i Num n h = refl
-numbers_ok Difference Narrow i Num n h = refl
-numbers_ok Difference Full i (Const c) n h = refl
-numbers_ok Difference Narrow i (Const c) n h = refl
-numbers_ok Sum w i Unset n h = absurd (cc)
-numbers_ok Sum w i (Ctx k) n h = absurd (cc)
-numbers_ok Sum w i (Stk k) n h = absurd (cc)
-numbers_ok Difference w i Unset n h = absurd (cc)
-numbers_ok Difference w i (Ctx k) n h = absurd (cc)
-numbers_ok Difference w i (Stk k) n h = absurd (cc)
-numbers_ok Move w i a n h = plain_move (is_plain i.offset) (low w (immediate w i.imm))
-numbers_ok Negate w i a n h = gives (one_number i.dst a) (one_ok i.dst a h)
-numbers_ok SwapBytes w i a n h = gives (one_number i.dst a) (one_ok i.dst a h)
-numbers_ok op w i a n h = gives (two_numbers i.dst i.src a (Const n)) (two_ok i.dst i.src n a h)
+numbers_ok : (layout : Layout) (op : Operator) (w : Width) (i : Inst) (a : RegType) (n : ℕ) → is_numeric a ≡ true → GivesNumber (alu_type layout op w Immediate i a (Const n))
+numbers_ok layout Sum Full i Num n h = refl
+numbers_ok layout Sum Narrow i Num n h = refl
+numbers_ok layout Sum Full i (Const c) n h = refl
+numbers_ok layout Sum Narrow i (Const c) n h = refl
+numbers_ok layout Difference Full i Num n h = refl
+numbers_ok layout Difference Narrow i Num n h = refl
+numbers_ok layout Difference Full i (Const c) n h = refl
+numbers_ok layout Difference Narrow i (Const c) n h = refl
+numbers_ok layout Sum w i Unset n h = absurd (cc)
+numbers_ok layout Sum w i (Ctx k) n h = absurd (cc)
+numbers_ok layout Sum w i (Stk k) n h = absurd (cc)
+numbers_ok layout Difference w i Unset n h = absurd (cc)
+numbers_ok layout Difference w i (Ctx k) n h = absurd (cc)
+numbers_ok layout Difference w i (Stk k) n h = absurd (cc)
+numbers_ok layout Move w i a n h = plain_move (is_plain i.offset) (low w (immediate w i.imm))
+numbers_ok layout Negate w i a n h = gives (one_number i.dst a) (one_ok i.dst a h)
+numbers_ok layout SwapBytes w i a n h = gives (one_number i.dst a) (one_ok i.dst a h)
+numbers_ok layout op w i a n h = gives (two_numbers i.dst i.src a (Const n)) (two_ok i.dst i.src n a h)
 
 -- what is left has plain types
 abbrev Accepted : Result Effect Flaw → Type 0
@@ -111,17 +114,17 @@ load_ok None h = absurd (cc)
 load_ok (Some at) h = refl
 
 -- a load from the context through R1, at which no pointer is noted
-loaded_first : (fact : Fact) (i : Inst) (size : Size) → LoadsArgument i size → 2 ≤ length fact.types → type_at fact.types 1 ≡ Ctx 0 → Accepted (set_type fact.types i.dst (loaded_type fact.stack fact.notes (type_at fact.types i.src) i (bytes_in size)))
-loaded_first fact i size f l b =
-    let o = loaded_type fact.stack fact.notes (type_at fact.types i.src) i (bytes_in size) in
-    let same : loaded_type fact.stack fact.notes (Ctx 0) i (bytes_in size) ≡ o = ap (λ t. loaded_type fact.stack fact.notes t i (bytes_in size)) (sym (ap (type_at fact.types) f.1 ∙ b)) in
-    set_dst fact.types i.dst o f.0 l b (subst GivesNumber same (load_ok (shifted 0 i.offset (64 - bytes_in size)) f.2))
+loaded_first : (layout : Layout) (fact : Fact) (i : Inst) (size : Size) → LoadsArgument layout i size → 2 ≤ length fact.types → type_at fact.types 1 ≡ Ctx 0 → Accepted (set_type fact.types i.dst (loaded_type layout fact.stack fact.notes (type_at fact.types i.src) i (bytes_in size)))
+loaded_first layout fact i size f l b =
+    let o = loaded_type layout fact.stack fact.notes (type_at fact.types i.src) i (bytes_in size) in
+    let same : loaded_type layout fact.stack fact.notes (Ctx 0) i (bytes_in size) ≡ o = ap (λ t. loaded_type layout fact.stack fact.notes t i (bytes_in size)) (sym (ap (type_at fact.types) f.1 ∙ b)) in
+    set_dst fact.types i.dst o f.0 l b (subst GivesNumber same (load_ok (shifted 0 i.offset (context_len layout - bytes_in size)) f.2))
 
-load_first : (fact : Fact) (i : Inst) (size : Size) → LoadsArgument i size → 2 ≤ length fact.types → type_at fact.types 1 ≡ Ctx 0 → Accepted (set_type fact.types i.dst (load_type fact.stack (type_at fact.types i.src) i (bytes_in size)))
-load_first fact i size f l b =
-    let o = load_type fact.stack (type_at fact.types i.src) i (bytes_in size) in
-    let same : load_type fact.stack (Ctx 0) i (bytes_in size) ≡ o = ap (λ t. load_type fact.stack t i (bytes_in size)) (sym (ap (type_at fact.types) f.1 ∙ b)) in
-    set_dst fact.types i.dst o f.0 l b (subst GivesNumber same (load_ok (shifted 0 i.offset (64 - bytes_in size)) f.2))
+load_first : (layout : Layout) (fact : Fact) (i : Inst) (size : Size) → LoadsArgument layout i size → 2 ≤ length fact.types → type_at fact.types 1 ≡ Ctx 0 → Accepted (set_type fact.types i.dst (load_type layout fact.stack (type_at fact.types i.src) i (bytes_in size)))
+load_first layout fact i size f l b =
+    let o = load_type layout fact.stack (type_at fact.types i.src) i (bytes_in size) in
+    let same : load_type layout fact.stack (Ctx 0) i (bytes_in size) ≡ o = ap (λ t. load_type layout fact.stack t i (bytes_in size)) (sym (ap (type_at fact.types) f.1 ∙ b)) in
+    set_dst fact.types i.dst o f.0 l b (subst GivesNumber same (load_ok (shifted 0 i.offset (context_len layout - bytes_in size)) f.2))
 
 compare_ok : (types : List RegType) (dst src n : ℕ) (a : RegType) → is_numeric a ≡ true → ArePlain types → Accepted (compared types dst src a (Const n))
 compare_ok types dst src n a h p =
@@ -131,46 +134,46 @@ exit_ok : (types : List RegType) → ArePlain types → Accepted (exited types (
 exit_ok types p = (unmarked types, ap (λ b. cond b (ok_of (unmarked types)) (Err (NotANumber 0))) p.number, p)
 
 -- a plain instruction is accepted where R0 has a number
-plain_effect : (declared : ℕ) (fact : Fact) (i : Inst) (upper : ℤ) (form : Form) → ArePlain fact.types → IsPlainForm i form → Accepted (effect declared fact i upper form)
-plain_effect declared fact i upper Goto p f = (unmarked fact.types, refl, p)
-plain_effect declared fact i upper GotoLong p f = (unmarked fact.types, refl, p)
-plain_effect declared fact i upper Exit p f = exit_ok fact.types p
-plain_effect declared fact i upper Wide p f =
+plain_effect : (terms : Terms) (fact : Fact) (i : Inst) (upper : ℤ) (form : Form) → ArePlain fact.types → IsPlainForm terms.layout i form → Accepted (effect terms fact i upper form)
+plain_effect terms fact i upper Goto p f = (unmarked fact.types, refl, p)
+plain_effect terms fact i upper GotoLong p f = (unmarked fact.types, refl, p)
+plain_effect terms fact i upper Exit p f = exit_ok fact.types p
+plain_effect terms fact i upper Wide p f =
     let o : Typed = Ok (Const (cast_unsigned w32 upper * 2 ^ 32 + cast_unsigned w32 i.imm)) in
     set_dst fact.types i.dst o f p.long p.base refl
-plain_effect declared fact i upper (Branch c w Immediate) p f =
+plain_effect terms fact i upper (Branch c w Immediate) p f =
     compare_ok fact.types i.dst i.src (immediate w i.imm) (type_at fact.types i.dst) (ap (λ d. is_numeric (type_at fact.types d)) f ∙ p.number) p
-plain_effect declared fact i upper (Arithmetic SwapBytes w s) p f =
+plain_effect terms fact i upper (Arithmetic SwapBytes w s) p f =
     let h = ap (λ d. is_numeric (type_at fact.types d)) f ∙ p.number in
     set_dst fact.types i.dst (one_number i.dst (type_at fact.types i.dst)) f p.long p.base (gives (one_number i.dst (type_at fact.types i.dst)) (one_ok i.dst (type_at fact.types i.dst) h))
-plain_effect declared fact i upper (Arithmetic op w Immediate) p f =
+plain_effect terms fact i upper (Arithmetic op w Immediate) p f =
     let h = ap (λ d. is_numeric (type_at fact.types d)) f ∙ p.number in
-    set_dst fact.types i.dst (alu_type op w Immediate i (type_at fact.types i.dst) (Const (immediate w i.imm))) f p.long p.base (numbers_ok op w i (type_at fact.types i.dst) (immediate w i.imm) h)
-plain_effect declared fact i upper (Load size) p f = loaded_first fact i size f p.long p.base
-plain_effect declared fact i upper (LoadSigned size) p f = load_first fact i size f p.long p.base
-plain_effect declared fact i upper (Arithmetic op w Register) p f = absurd f
-plain_effect declared fact i upper (Branch c w Register) p f = absurd f
-plain_effect declared fact i upper (StoreImmediate size) p f = absurd f
-plain_effect declared fact i upper (StoreRegister size) p f = absurd f
-plain_effect declared fact i upper Call p f = absurd f
+    set_dst fact.types i.dst (alu_type terms.layout op w Immediate i (type_at fact.types i.dst) (Const (immediate w i.imm))) f p.long p.base (numbers_ok terms.layout op w i (type_at fact.types i.dst) (immediate w i.imm) h)
+plain_effect terms fact i upper (Load size) p f = loaded_first terms.layout fact i size f p.long p.base
+plain_effect terms fact i upper (LoadSigned size) p f = load_first terms.layout fact i size f p.long p.base
+plain_effect terms fact i upper (Arithmetic op w Register) p f = absurd f
+plain_effect terms fact i upper (Branch c w Register) p f = absurd f
+plain_effect terms fact i upper (StoreImmediate size) p f = absurd f
+plain_effect terms fact i upper (StoreRegister size) p f = absurd f
+plain_effect terms fact i upper Call p f = absurd f
 
 -- the first instruction sets R0, and R1 points to the context there
-first_effect : (declared : ℕ) (fact : Fact) (i : Inst) (upper : ℤ) (form : Form) → 2 ≤ length fact.types → type_at fact.types 1 ≡ Ctx 0 → IsPlainForm i form → SetsFirst form → Accepted (effect declared fact i upper form)
-first_effect declared fact i upper Wide l b f s =
+first_effect : (terms : Terms) (fact : Fact) (i : Inst) (upper : ℤ) (form : Form) → 2 ≤ length fact.types → type_at fact.types 1 ≡ Ctx 0 → IsPlainForm terms.layout i form → SetsFirst form → Accepted (effect terms fact i upper form)
+first_effect terms fact i upper Wide l b f s =
     let o : Typed = Ok (Const (cast_unsigned w32 upper * 2 ^ 32 + cast_unsigned w32 i.imm)) in set_dst fact.types i.dst o f l b refl
-first_effect declared fact i upper (Load size) l b f s = loaded_first fact i size f l b
-first_effect declared fact i upper (LoadSigned size) l b f s = load_first fact i size f l b
-first_effect declared fact i upper (Arithmetic Move w Immediate) l b f s =
-    set_dst fact.types i.dst (alu_type Move w Immediate i (type_at fact.types i.dst) (Const (immediate w i.imm))) f l b (plain_move (is_plain i.offset) (low w (immediate w i.imm)))
-first_effect declared fact i upper (Arithmetic Move w Register) l b f s = absurd s
-first_effect declared fact i upper (Arithmetic op w source) l b f s = absurd s
-first_effect declared fact i upper Goto l b f s = absurd s
-first_effect declared fact i upper GotoLong l b f s = absurd s
-first_effect declared fact i upper Exit l b f s = absurd s
-first_effect declared fact i upper (Branch c w source) l b f s = absurd s
-first_effect declared fact i upper (StoreImmediate size) l b f s = absurd s
-first_effect declared fact i upper (StoreRegister size) l b f s = absurd s
-first_effect declared fact i upper Call l b f s = absurd s
+first_effect terms fact i upper (Load size) l b f s = loaded_first terms.layout fact i size f l b
+first_effect terms fact i upper (LoadSigned size) l b f s = load_first terms.layout fact i size f l b
+first_effect terms fact i upper (Arithmetic Move w Immediate) l b f s =
+    set_dst fact.types i.dst (alu_type terms.layout Move w Immediate i (type_at fact.types i.dst) (Const (immediate w i.imm))) f l b (plain_move (is_plain i.offset) (low w (immediate w i.imm)))
+first_effect terms fact i upper (Arithmetic Move w Register) l b f s = absurd s
+first_effect terms fact i upper (Arithmetic op w source) l b f s = absurd s
+first_effect terms fact i upper Goto l b f s = absurd s
+first_effect terms fact i upper GotoLong l b f s = absurd s
+first_effect terms fact i upper Exit l b f s = absurd s
+first_effect terms fact i upper (Branch c w source) l b f s = absurd s
+first_effect terms fact i upper (StoreImmediate size) l b f s = absurd s
+first_effect terms fact i upper (StoreRegister size) l b f s = absurd s
+first_effect terms fact i upper Call l b f s = absurd s
 
 -- joins of plain facts are plain
 join_numeric : (a b : RegType) → is_numeric a ≡ true → is_numeric b ≡ true → is_numeric (join_type a b) ≡ true
@@ -205,7 +208,7 @@ is_exit : Form → Bool
 is_exit Exit = true
 is_exit form = false
 
-module _ (bytes : List ℕ) (us : List ProgramUnit) (reads : units bytes ≡ Some us) (plain : ArePlainUnits us) (pc : ℕ) (i : Inst) (at : slice_get us pc ≡ Some (First i)) where
+module _ (bytes : List ℕ) (us : List ProgramUnit) (terms : Terms) (reads : units bytes ≡ Some us) (plain : ArePlainUnits terms.layout us) (pc : ℕ) (i : Inst) (at : slice_get us pc ≡ Some (First i)) where
   -- the last unit is an exit
   exits_last : (form : Form) → form_of i.opcode ≡ Some form → length us ≤ pc + 1 → Exit ≡ form
   exits_last form is l =
@@ -248,22 +251,22 @@ module _ (bytes : List ℕ) (us : List ProgramUnit) (reads : units bytes ≡ Som
   stays_on (Branch c w s) is = no_exit (Branch c w s) is (λ e. cc)
   stays_on Call is = no_exit Call is (λ e. cc)
 
-  accepted : (declared : ℕ) (fact : Fact) (upper : ℤ) (form : Form) → form_of i.opcode ≡ Some form → Accepted (effect declared fact i upper form) → Accepted (judged (length us) pc declared fact i upper form)
-  accepted declared fact upper form is x =
-      (x.0, ap (λ b. cond b (Err FallsOff) (effect declared fact i upper form)) (stays_on form is) ∙ x.1, x.2)
+  accepted : (fact : Fact) (upper : ℤ) (form : Form) → form_of i.opcode ≡ Some form → Accepted (effect terms fact i upper form) → Accepted (judged (length us) pc terms fact i upper form)
+  accepted fact upper form is x =
+      (x.0, ap (λ b. cond b (Err FallsOff) (effect terms fact i upper form)) (stays_on form is) ∙ x.1, x.2)
 
-  plain_here : (declared : ℕ) (fact : Fact) (upper : ℤ) (form : Form) → form_of i.opcode ≡ Some form → PlainTypesAt pc fact.types → Accepted (judged (length us) pc declared fact i upper form)
-  plain_here declared fact upper form is (inr p) =
-      accepted declared fact upper form is (plain_effect declared fact i upper form p (plain.each pc i form at is))
-  plain_here declared fact upper form is (inl z) =
+  plain_here : (fact : Fact) (upper : ℤ) (form : Form) → form_of i.opcode ≡ Some form → PlainTypesAt pc fact.types → Accepted (judged (length us) pc terms fact i upper form)
+  plain_here fact upper form is (inr p) =
+      accepted fact upper form is (plain_effect terms fact i upper form p (plain.each pc i form at is))
+  plain_here fact upper form is (inl z) =
       let two : 2 ≤ length fact.types = let e = ap (λ l. length l) z.1 in omega (arith, e) in
       let base : type_at fact.types 1 ≡ Ctx 0 = ap (λ l. type_at l 1) z.1 in
       let sets = plain.sets i form (subst (λ k. slice_get us k ≡ Some (First i)) z.0 at) is in
-      accepted declared fact upper form is (first_effect declared fact i upper form two base (plain.each pc i form at is) sets)
+      accepted fact upper form is (first_effect terms fact i upper form two base (plain.each pc i form at is) sets)
 
-pub plain_accepts : (bytes : List ℕ) (us : List ProgramUnit) (declared : ℕ) → units bytes ≡ Some us → ArePlainUnits us → AcceptsAll us declared
-plain_accepts bytes us declared reads plain =
-    record { each = λ pc i fact at types upper form is. plain_here bytes us reads plain pc i at declared fact upper form is types }
+pub plain_accepts : (bytes : List ℕ) (us : List ProgramUnit) (terms : Terms) → units bytes ≡ Some us → ArePlainUnits terms.layout us → AcceptsAll us terms
+plain_accepts bytes us terms reads plain =
+    record { each = λ pc i fact at types upper form is. plain_here bytes us terms reads plain pc i at fact upper form is types }
 
 -- ---- what is known of a plain program
 
@@ -307,43 +310,43 @@ known_option : (q : ℕ) (o : Option Fact) → PlainOption o → PlainKnown q o
 known_option q None p = tt
 known_option q (Some fact) p = inr p
 
-module _ (us : List ProgramUnit) (declared : ℕ) (all : AcceptsAll us declared) where
-  ruled_plain : (pc : ℕ) (fact : Fact) (x : Inst × Form) → PlainTypesAt pc fact.types → instruction_at us pc ≡ Some x → Accepted (ruled us declared pc fact x)
+module _ (us : List ProgramUnit) (terms : Terms) (all : AcceptsAll us terms) where
+  ruled_plain : (pc : ℕ) (fact : Fact) (x : Inst × Form) → PlainTypesAt pc fact.types → instruction_at us pc ≡ Some x → Accepted (ruled us terms pc fact x)
   ruled_plain pc fact x p at =
       let is = instruction_is (slice_get us pc) x at in
       all.each pc x.0 fact is.0 p (upper_of us pc) x.1 is.1
 
-  passed_plain : (pc q : ℕ) (fact : Fact) (o : Option (Inst × Form)) (old : Option Fact) → PlainTypesAt pc fact.types → instruction_at us pc ≡ o → PlainOption old → PlainOption (passed_from us declared pc fact o q old)
+  passed_plain : (pc q : ℕ) (fact : Fact) (o : Option (Inst × Form)) (old : Option Fact) → PlainTypesAt pc fact.types → instruction_at us pc ≡ o → PlainOption old → PlainOption (passed_from us terms pc fact o q old)
   passed_plain pc q fact None old p at before = before
   passed_plain pc q fact (Some x) old p at before =
       let r = ruled_plain pc fact x p at in
       subst (λ e. PlainOption (passed_by q fact e (leads pc x.0 x.1) old)) (sym r.1) (plain_by q fact r.0 (leads pc x.0 x.1) old r.2 before)
 
-  plain_past : (pc q : ℕ) (here old : Option Fact) → PlainKnown pc here → PlainOption old → PlainOption (passed us declared pc here q old)
+  plain_past : (pc q : ℕ) (here old : Option Fact) → PlainKnown pc here → PlainOption old → PlainOption (passed us terms pc here q old)
   plain_past pc q None old p before = before
   plain_past pc q (Some fact) old p before = passed_plain pc q fact (instruction_at us pc) old p refl before
 
-  plain_start : (q : ℕ) → PlainKnown q (known us declared 0 q)
+  plain_start : (q : ℕ) → PlainKnown q (known us terms 0 q)
   unfolding known
   plain_start q = cond_both (q == 0) (Some entry_fact) None (PlainKnown q) (λ e. inl (eqb-true q 0 e, refl)) (λ e. tt)
 
-  plain_known : (n q : ℕ) → n ≤ q → PlainKnown q (known us declared n q)
+  plain_known : (n q : ℕ) → n ≤ q → PlainKnown q (known us terms n q)
   unfolding known
   plain_known zero q l = plain_start q
   plain_known (suc n) q l =
-      known_option q (known us declared (suc n) q)
-      (plain_past n q (known us declared n n) (known us declared n q) (plain_known n n (omega arith)) (plain_option n q (known us declared n q) (omega arith) (plain_known n q (omega arith))))
+      known_option q (known us terms (suc n) q)
+      (plain_past n q (known us terms n n) (known us terms n q) (plain_known n n (omega arith)) (plain_option n q (known us terms n q) (omega arith) (plain_known n q (omega arith))))
 
-  no_flaw_of : (pc : ℕ) (fact : Fact) (o : Option (Inst × Form)) → PlainTypesAt pc fact.types → instruction_at us pc ≡ o → flaw_of us declared pc fact o ≡ None
+  no_flaw_of : (pc : ℕ) (fact : Fact) (o : Option (Inst × Form)) → PlainTypesAt pc fact.types → instruction_at us pc ≡ o → flaw_of us terms pc fact o ≡ None
   no_flaw_of pc fact None p at = refl
   no_flaw_of pc fact (Some x) p at = ap (flaw_in pc) (ruled_plain pc fact x p at).1
 
-  no_flaw_under : (pc : ℕ) (o : Option Fact) → PlainKnown pc o → flaw_under us declared pc o ≡ None
+  no_flaw_under : (pc : ℕ) (o : Option Fact) → PlainKnown pc o → flaw_under us terms pc o ≡ None
   no_flaw_under pc None p = refl
   no_flaw_under pc (Some fact) p = no_flaw_of pc fact (instruction_at us pc) p refl
 
-  pub plain_flawless : (n : ℕ) → first_flaw_below us declared n ≡ None
+  pub plain_flawless : (n : ℕ) → first_flaw_below us terms n ≡ None
   unfolding first_flaw_below
   plain_flawless zero = refl
   plain_flawless (suc n) =
-      ap (λ o. or_else o (flaw_under us declared n (inferred us declared n))) (plain_flawless n) ∙ no_flaw_under n (inferred us declared n) (plain_known n n (omega arith))
+      ap (λ o. or_else o (flaw_under us terms n (inferred us terms n))) (plain_flawless n) ∙ no_flaw_under n (inferred us terms n) (plain_known n n (omega arith))

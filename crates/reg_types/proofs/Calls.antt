@@ -12,7 +12,7 @@ use Rattle.bpf_model.specs.declared.machine.View.{View}
 use Rattle.bpf_model.specs.declared.machine.PointView.{PointView}
 use Rattle.bpf_model.specs.declared.machine.Helper.{Helper}
 use Rattle.bpf_model.specs.declared.machine.Helper.TheVariants.{CounterGet, CounterAdd, CounterTake, PointState, PointRecord, PriceOf}
-use Rattle.bpf_model.specs.Machine.{Counters, counter, counter_argument, Answer, answer, added, taken, written, record_bytes, record_place, map_option, and_then, number, stack_place, InStack, shifted, point, point_or_zero, is_there, price}
+use Rattle.bpf_model.specs.Machine.{Counters, counter, counter_argument, Answer, answer, added, taken, written, record_bytes, record_place, map_option, and_then, number, shifted, point, point_or_zero, is_there, price}
 use Rattle.bpf_model.specs.Runs.{AreCounters}
 use Rattle.helpers.specs.declared.Kind.{Kind}
 use Rattle.helpers.specs.Calls.{kinds}
@@ -125,7 +125,7 @@ place_of (Stk k) (Stack n) h e =
     let x = some_of (shifted (lowest k) (pos 0) 496) e in
     let there : lowest k ≡ n = ap natural (sym h) in
     let y : shifted n (pos 0) 496 ≡ Some x.0 = ap (λ m. shifted m (pos 0) 496) (sym there) ∙ x.1 in
-    (x.0, x.1, ap (λ o. stack_place (map_option InStack o)) y, at_most n (pos 0) x.0 496 y)
+    (x.0, x.1, y, at_most n (pos 0) x.0 496 y)
 place_of Anything v h e = absurd (cc)
 place_of Num v h e = absurd (cc)
 place_of (Const c) v h e = absurd (cc)

@@ -10,6 +10,8 @@ use Rattle.bpf_model.specs.declared.instruction.Form.TheVariants.{Load, LoadSign
 use Rattle.bpf_model.specs.Reading.{bytes_in}
 use Rattle.bpf_model.specs.Machine.{shifted}
 use Rattle.stack_map.specs.Places.{Has, Within}
+use Rattle.reg_types.specs.declared.types.Terms.{Terms}
+use Rattle.bpf_model.specs.declared.context.Layout.{Layout}
 use Rattle.reg_types.specs.declared.types.RegType.{RegType}
 use Rattle.reg_types.specs.declared.types.RegType.TheVariants.{Unset, Num, Const, Ctx, Stk}
 use Rattle.reg_types.specs.declared.types.Fact.{Fact}
@@ -223,26 +225,26 @@ number_same : (a b : List Bool) → ((p : ℕ) → Has a p ↔ Has b p) → (siz
 number_same a b h size None = refl
 number_same a b h size (Some at) = ap (λ t. cond t (Ok Num) (Err UnsetBytes)) (all_in_same a b h at size)
 
-load_same : (a b : List Bool) → ((p : ℕ) → Has a p ↔ Has b p) → (base : RegType) (i : Inst) (size : ℕ) → load_type a base i size ≡ load_type b base i size
-load_same a b h Unset i size = refl
-load_same a b h Num i size = refl
-load_same a b h (Const c) i size = refl
-load_same a b h (Ctx k) i size = refl
-load_same a b h (Stk k) i size = number_same a b h size (shifted (lowest k) i.offset (512 - size))
+load_same : (layout : Layout) (a b : List Bool) → ((p : ℕ) → Has a p ↔ Has b p) → (base : RegType) (i : Inst) (size : ℕ) → load_type layout a base i size ≡ load_type layout b base i size
+load_same layout a b h Unset i size = refl
+load_same layout a b h Num i size = refl
+load_same layout a b h (Const c) i size = refl
+load_same layout a b h (Ctx k) i size = refl
+load_same layout a b h (Stk k) i size = number_same a b h size (shifted (lowest k) i.offset (512 - size))
 
-set_same : (declared : ℕ) (types : List RegType) (a b : List Bool) (notes : List ℕ) → ((p : ℕ) → Has a p ↔ Has b p) → (i : Inst) (upper : ℤ) (form : Form) → effect declared (record { types = types; stack = a; notes = notes }) i upper form ≡ effect declared (record { types = types; stack = b; notes = notes }) i upper form
-set_same declared types a b notes h i upper (Load size) = ap (λ r. set_type types i.dst (kept_or (kept_type notes (type_at types i.src) i (bytes_in size)) r)) (load_same a b h (type_at types i.src) i (bytes_in size))
-set_same declared types a b notes h i upper (LoadSigned size) = ap (set_type types i.dst) (load_same a b h (type_at types i.src) i (bytes_in size))
-set_same declared types a b notes h i upper form = refl
+set_same : (terms : Terms) (types : List RegType) (a b : List Bool) (notes : List ℕ) → ((p : ℕ) → Has a p ↔ Has b p) → (i : Inst) (upper : ℤ) (form : Form) → effect terms (record { types = types; stack = a; notes = notes }) i upper form ≡ effect terms (record { types = types; stack = b; notes = notes }) i upper form
+set_same terms types a b notes h i upper (Load size) = ap (λ r. set_type types i.dst (kept_or (kept_type notes (type_at types i.src) i (bytes_in size)) r)) (load_same terms.layout a b h (type_at types i.src) i (bytes_in size))
+set_same terms types a b notes h i upper (LoadSigned size) = ap (set_type types i.dst) (load_same terms.layout a b h (type_at types i.src) i (bytes_in size))
+set_same terms types a b notes h i upper form = refl
 
-effect_same : (declared : ℕ) (a b : Fact) → IsSame a b → (i : Inst) (upper : ℤ) (form : Form) → effect declared a i upper form ≡ effect declared b i upper form
-effect_same declared a b f i upper form =
-    set_same declared a.types a.stack b.stack a.notes f.places i upper form
-    ∙ ap (λ types. effect declared (record { types = types; stack = b.stack; notes = a.notes }) i upper form) f.types
-    ∙ ap (λ notes. effect declared (record { types = b.types; stack = b.stack; notes = notes }) i upper form) f.notes
+effect_same : (terms : Terms) (a b : Fact) → IsSame a b → (i : Inst) (upper : ℤ) (form : Form) → effect terms a i upper form ≡ effect terms b i upper form
+effect_same terms a b f i upper form =
+    set_same terms a.types a.stack b.stack a.notes f.places i upper form
+    ∙ ap (λ types. effect terms (record { types = types; stack = b.stack; notes = a.notes }) i upper form) f.types
+    ∙ ap (λ notes. effect terms (record { types = b.types; stack = b.stack; notes = notes }) i upper form) f.notes
 
-pub judged_same : (count pc declared : ℕ) (a b : Fact) → IsSame a b → (i : Inst) (upper : ℤ) (form : Form) → judged count pc declared a i upper form ≡ judged count pc declared b i upper form
-judged_same count pc declared a b f i upper form = ap (λ r. cond (falls_off count pc form) (Err FallsOff) r) (effect_same declared a b f i upper form)
+pub judged_same : (count pc : ℕ) (terms : Terms) (a b : Fact) → IsSame a b → (i : Inst) (upper : ℤ) (form : Form) → judged count pc terms a i upper form ≡ judged count pc terms b i upper form
+judged_same count pc terms a b f i upper form = ap (λ r. cond (falls_off count pc form) (Err FallsOff) r) (effect_same terms a b f i upper form)
 
 -- ---- one unit
 
@@ -251,27 +253,27 @@ passed_by_same q a b (Err flaw) tos x y f g = g
 passed_by_same q a b (Ok e) None x y f g = g
 passed_by_same q a b (Ok e) (Some tos) x y f g = arrived_all_same q tos x y (fact_after a e) (fact_after b e) g (after_same a b e f)
 
-module _ (us : List ProgramUnit) (declared pc : ℕ) where
-  ruled_same : (a b : Fact) → IsSame a b → (x : Inst × Form) → ruled us declared pc a x ≡ ruled us declared pc b x
-  ruled_same a b f x = judged_same (length us) pc declared a b f x.0 (upper_of us pc) x.1
+module _ (us : List ProgramUnit) (terms : Terms) (pc : ℕ) where
+  ruled_same : (a b : Fact) → IsSame a b → (x : Inst × Form) → ruled us terms pc a x ≡ ruled us terms pc b x
+  ruled_same a b f x = judged_same (length us) pc terms a b f x.0 (upper_of us pc) x.1
 
-  passed_from_same : (a b : Fact) (o : Option (Inst × Form)) (q : ℕ) (x y : Option Fact) → IsSame a b → AreSame x y → AreSame (passed_from us declared pc a o q x) (passed_from us declared pc b o q y)
+  passed_from_same : (a b : Fact) (o : Option (Inst × Form)) (q : ℕ) (x y : Option Fact) → IsSame a b → AreSame x y → AreSame (passed_from us terms pc a o q x) (passed_from us terms pc b o q y)
   passed_from_same a b None q x y f g = g
   passed_from_same a b (Some i) q x y f g =
-      subst (λ r. AreSame (passed_by q a (ruled us declared pc a i) (leads pc i.0 i.1) x) (passed_by q b r (leads pc i.0 i.1) y)) (ruled_same a b f i)
-      (passed_by_same q a b (ruled us declared pc a i) (leads pc i.0 i.1) x y f g)
+      subst (λ r. AreSame (passed_by q a (ruled us terms pc a i) (leads pc i.0 i.1) x) (passed_by q b r (leads pc i.0 i.1) y)) (ruled_same a b f i)
+      (passed_by_same q a b (ruled us terms pc a i) (leads pc i.0 i.1) x y f g)
 
-  pub passed_same : (a b : Option Fact) (q : ℕ) (x y : Option Fact) → AreSame a b → AreSame x y → AreSame (passed us declared pc a q x) (passed us declared pc b q y)
+  pub passed_same : (a b : Option Fact) (q : ℕ) (x y : Option Fact) → AreSame a b → AreSame x y → AreSame (passed us terms pc a q x) (passed us terms pc b q y)
   passed_same None None q x y f g = g
   passed_same None (Some b) q x y f g = absurd f
   passed_same (Some a) None q x y f g = absurd f
   passed_same (Some a) (Some b) q x y f g = passed_from_same a b (instruction_at us pc) q x y f g
 
-  flaw_of_same : (a b : Fact) (o : Option (Inst × Form)) → IsSame a b → flaw_of us declared pc a o ≡ flaw_of us declared pc b o
+  flaw_of_same : (a b : Fact) (o : Option (Inst × Form)) → IsSame a b → flaw_of us terms pc a o ≡ flaw_of us terms pc b o
   flaw_of_same a b None f = refl
   flaw_of_same a b (Some i) f = ap (flaw_in pc) (ruled_same a b f i)
 
-  pub flaw_same : (a b : Option Fact) → AreSame a b → flaw_under us declared pc a ≡ flaw_under us declared pc b
+  pub flaw_same : (a b : Option Fact) → AreSame a b → flaw_under us terms pc a ≡ flaw_under us terms pc b
   flaw_same None None f = refl
   flaw_same None (Some b) f = absurd f
   flaw_same (Some a) None f = absurd f

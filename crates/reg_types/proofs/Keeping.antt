@@ -129,38 +129,38 @@ lt_from m n e = grind (arith, nat_tests)
 not_below : (m n : ℕ) → nat_lt m n ≡ false → n ≤ m
 not_below m n e = grind (arith, nat_tests)
 
-pub noted_context : (k : ℕ) → k ≤ 64 → noted_type (k + 1) ≡ Ctx k
+pub noted_context : (k : ℕ) → k ≤ 80 → noted_type (k + 1) ≡ Ctx k
 noted_context k l =
     let some : (k + 1 == 0) ≡ false = grind (arith, nat_tests) in
-    let small : nat_le (k + 1) 65 ≡ true = grind (arith, nat_tests) in
+    let small : nat_le (k + 1) 81 ≡ true = grind (arith, nat_tests) in
     let back : k + 1 - 1 ≡ k = omega arith in
-    ap (λ b. cond b Anything (cond (nat_le (k + 1) 65) (Ctx (k + 1 - 1)) (Stk (pos (k + 1 - 66) +ℤ negsuc 511)))) some
-    ∙ ap (λ b. cond b (Ctx (k + 1 - 1)) (Stk (pos (k + 1 - 66) +ℤ negsuc 511))) small
+    ap (λ b. cond b Anything (cond (nat_le (k + 1) 81) (Ctx (k + 1 - 1)) (Stk (pos (k + 1 - 82) +ℤ negsuc 511)))) some
+    ∙ ap (λ b. cond b (Ctx (k + 1 - 1)) (Stk (pos (k + 1 - 82) +ℤ negsuc 511))) small
     ∙ ap Ctx back
 
-pub noted_stack : (m : ℕ) → noted_type (66 + m) ≡ Stk (pos m +ℤ negsuc 511)
+pub noted_stack : (m : ℕ) → noted_type (82 + m) ≡ Stk (pos m +ℤ negsuc 511)
 noted_stack m =
-    let some : (66 + m == 0) ≡ false = grind (arith, nat_tests) in
-    let large : nat_le (66 + m) 65 ≡ false = grind (arith, nat_tests) in
-    let back : 66 + m - 66 ≡ m = omega arith in
-    ap (λ b. cond b Anything (cond (nat_le (66 + m) 65) (Ctx (66 + m - 1)) (Stk (pos (66 + m - 66) +ℤ negsuc 511)))) some
-    ∙ ap (λ b. cond b (Ctx (66 + m - 1)) (Stk (pos (66 + m - 66) +ℤ negsuc 511))) large
+    let some : (82 + m == 0) ≡ false = grind (arith, nat_tests) in
+    let large : nat_le (82 + m) 81 ≡ false = grind (arith, nat_tests) in
+    let back : 82 + m - 82 ≡ m = omega arith in
+    ap (λ b. cond b Anything (cond (nat_le (82 + m) 81) (Ctx (82 + m - 1)) (Stk (pos (82 + m - 82) +ℤ negsuc 511)))) some
+    ∙ ap (λ b. cond b (Ctx (82 + m - 1)) (Stk (pos (82 + m - 82) +ℤ negsuc 511))) large
     ∙ ap (λ x. Stk (pos x +ℤ negsuc 511)) back
 
 pub back_again : (m : ℕ) → pos m ≡ ((pos m +ℤ negsuc 511) +ℤ pos 512)
 back_again m = omega (arith, ints)
 
-context_note : (b : Bool) (k n : ℕ) → (b ≡ true → k ≤ 64) → n ≡ k → is_unset (noted_type (cond b (k + 1) 0)) ≡ false → FitsType (noted_type (cond b (k + 1) 0)) (Context n)
+context_note : (b : Bool) (k n : ℕ) → (b ≡ true → k ≤ 80) → n ≡ k → is_unset (noted_type (cond b (k + 1) 0)) ≡ false → FitsType (noted_type (cond b (k + 1) 0)) (Context n)
 context_note true k n l e u = subst (λ t. FitsType t (Context n)) (sym (noted_context k (l refl))) e
 context_note false k n l e u = absurd (cc)
 
-stack_note : (b : Bool) (m n : ℕ) → n ≡ m → is_unset (noted_type (cond b (66 + m) 0)) ≡ false → FitsType (noted_type (cond b (66 + m) 0)) (Stack n)
+stack_note : (b : Bool) (m n : ℕ) → n ≡ m → is_unset (noted_type (cond b (82 + m) 0)) ≡ false → FitsType (noted_type (cond b (82 + m) 0)) (Stack n)
 stack_note true m n e u = subst (λ t. FitsType t (Stack n)) (sym (noted_stack m)) (ap pos e ∙ back_again m)
 stack_note false m n e u = absurd (cc)
 
 -- what fits a type fits its note's
 pub note_fits : (t : RegType) (v : Value) → FitsType t v → is_unset (noted_type (note_of t)) ≡ false → FitsType (noted_type (note_of t)) v
-note_fits (Ctx k) (Context n) h u = context_note (nat_le k 64) k n (λ e. le_from k 64 e) h u
+note_fits (Ctx k) (Context n) h u = context_note (nat_le k 80) k n (λ e. le_from k 80 e) h u
 note_fits (Stk k) (Stack n) h u = stack_note (nat_le (lowest k) 512) (lowest k) n (sym (ap natural (sym h))) u
 note_fits Anything v h u = absurd (cc)
 note_fits Num v h u = absurd (cc)

@@ -18,6 +18,9 @@ use Rattle.bpf_model.specs.Reading.{bytes_in}
 use Rattle.bpf_model.specs.Machine.{map_option, helper_of, shifted, is_aligned}
 use Rattle.helpers.specs.declared.Kind.TheVariants.{Nothing, Number, Counter, Place}
 use Rattle.helpers.specs.Calls.{kinds}
+use Rattle.reg_types.specs.declared.types.Terms.{Terms}
+use Rattle.bpf_model.specs.declared.context.Layout.{Layout}
+use Rattle.bpf_model.specs.Layouts.{context_len}
 use Rattle.reg_types.specs.declared.types.RegType.{RegType}
 use Rattle.reg_types.specs.declared.types.RegType.TheVariants.{Unset, Num, Const, Ctx, Stk}
 use Rattle.reg_types.specs.declared.types.Fact.{Fact}
@@ -98,20 +101,20 @@ module _ (P : Flaw → Type 0) (flaw : Flaw) where
   set_place_shown set size None p q e = this OutOfRange e p
   set_place_shown set size (Some at) p q e = bytes_shown (all_in set at size) q e
 
-  load_shown : (set : List Bool) (base : RegType) (i : Inst) (size : ℕ) → P NotAPointer → P OutOfRange → P UnsetBytes → load_type set base i size ≡ bad flaw → P flaw
-  load_shown set Unset i size p q r e = this NotAPointer e p
-  load_shown set Num i size p q r e = this NotAPointer e p
-  load_shown set (Const c) i size p q r e = this NotAPointer e p
-  load_shown set (Ctx k) i size p q r e = place_shown (shifted k i.offset (64 - size)) q e
-  load_shown set (Stk k) i size p q r e = set_place_shown set size (shifted (lowest k) i.offset (512 - size)) q r e
+  load_shown : (layout : Layout) (set : List Bool) (base : RegType) (i : Inst) (size : ℕ) → P NotAPointer → P OutOfRange → P UnsetBytes → load_type layout set base i size ≡ bad flaw → P flaw
+  load_shown layout set Unset i size p q r e = this NotAPointer e p
+  load_shown layout set Num i size p q r e = this NotAPointer e p
+  load_shown layout set (Const c) i size p q r e = this NotAPointer e p
+  load_shown layout set (Ctx k) i size p q r e = place_shown (shifted k i.offset (context_len layout - size)) q e
+  load_shown layout set (Stk k) i size p q r e = set_place_shown set size (shifted (lowest k) i.offset (512 - size)) q r e
 
   kept_shown : (b : Bool) (t : RegType) (r : Typed) → (r ≡ bad flaw → P flaw) → cond b r (Ok t) ≡ bad flaw → P flaw
   kept_shown true t r all e = all e
   kept_shown false t r all e = no_flaw t e
 
-  loaded_shown : (set : List Bool) (notes : List ℕ) (base : RegType) (i : Inst) (size : ℕ) → P NotAPointer → P OutOfRange → P UnsetBytes → loaded_type set notes base i size ≡ bad flaw → P flaw
-  loaded_shown set notes base i size p q r e =
-      kept_shown (is_unset (kept_type notes base i size)) (kept_type notes base i size) (load_type set base i size) (λ h. load_shown set base i size p q r h) e
+  loaded_shown : (layout : Layout) (set : List Bool) (notes : List ℕ) (base : RegType) (i : Inst) (size : ℕ) → P NotAPointer → P OutOfRange → P UnsetBytes → loaded_type layout set notes base i size ≡ bad flaw → P flaw
+  loaded_shown layout set notes base i size p q r e =
+      kept_shown (is_unset (kept_type notes base i size)) (kept_type notes base i size) (load_type layout set base i size) (λ h. load_shown layout set base i size p q r h) e
 
   marks_shown : (types : List RegType) (size : ℕ) (o : Option ℕ) → P OutOfRange → marks types size o ≡ wrong flaw → P flaw
   marks_shown types size None p e = this_effect OutOfRange e p
@@ -188,29 +191,29 @@ module _ (count pc : ℕ) (i : Inst) (types : List RegType) (flaw : Flaw) where
       two_shown (MayHave count pc i form) flaw i.dst i.src (is_unset a) (is_unset (operand_type s w i types)) (is_pointer a || is_pointer (operand_type s w i types)) p (λ u. q (second_by s w i types u)) r e
 
   -- ADD and SUB
-  moved_shows : (op : Operator) → MayHave count pc i (Arithmetic op Full Immediate) OutOfRange → MayHave count pc i (Arithmetic op Full Immediate) (NotANumber i.dst) → (z : ℤ) (a : RegType) → sum_type Full Immediate i z a (operand_type Immediate Full i types) ≡ bad flaw → MayHave count pc i (Arithmetic op Full Immediate) flaw
-  moved_shows op p q z (Ctx k) e = ctx_shown (MayHave count pc i (Arithmetic op Full Immediate)) flaw (shifted k z 64) p e
-  moved_shows op p q z (Stk k) e = stk_shown (MayHave count pc i (Arithmetic op Full Immediate)) flaw (int_le (negsuc 511) (k +ℤ z) && int_le (k +ℤ z) (pos 0)) (k +ℤ z) p e
-  moved_shows op p q z Unset e = this (MayHave count pc i (Arithmetic op Full Immediate)) flaw (NotANumber i.dst) e q
-  moved_shows op p q z Num e = no_flaw (MayHave count pc i (Arithmetic op Full Immediate)) flaw Num e
-  moved_shows op p q z (Const c) e = no_flaw (MayHave count pc i (Arithmetic op Full Immediate)) flaw Num e
+  moved_shows : (layout : Layout) (op : Operator) → MayHave count pc i (Arithmetic op Full Immediate) OutOfRange → MayHave count pc i (Arithmetic op Full Immediate) (NotANumber i.dst) → (z : ℤ) (a : RegType) → sum_type layout Full Immediate i z a (operand_type Immediate Full i types) ≡ bad flaw → MayHave count pc i (Arithmetic op Full Immediate) flaw
+  moved_shows layout op p q z (Ctx k) e = ctx_shown (MayHave count pc i (Arithmetic op Full Immediate)) flaw (shifted k z (context_len layout)) p e
+  moved_shows layout op p q z (Stk k) e = stk_shown (MayHave count pc i (Arithmetic op Full Immediate)) flaw (int_le (negsuc 511) (k +ℤ z) && int_le (k +ℤ z) (pos 0)) (k +ℤ z) p e
+  moved_shows layout op p q z Unset e = this (MayHave count pc i (Arithmetic op Full Immediate)) flaw (NotANumber i.dst) e q
+  moved_shows layout op p q z Num e = no_flaw (MayHave count pc i (Arithmetic op Full Immediate)) flaw Num e
+  moved_shows layout op p q z (Const c) e = no_flaw (MayHave count pc i (Arithmetic op Full Immediate)) flaw Num e
 
-  alu_shows : (op : Operator) (w : Width) (s : Source) (a : RegType) → alu_type op w s i a (operand_type s w i types) ≡ bad flaw → MayHave count pc i (Arithmetic op w s) flaw
-  alu_shows Sum Full Immediate a e = moved_shows Sum (inr tt) refl i.imm a e
-  alu_shows Sum Full Register a e = numbers_shows (Arithmetic Sum Full Register) Register Full a (inl refl) (λ h. h) tt e
-  alu_shows Sum Narrow s a e = numbers_shows (Arithmetic Sum Narrow s) s Narrow a (first_by s i) (λ h. h) tt e
-  alu_shows Difference Full Immediate a e = moved_shows Difference (inr tt) refl (neg_ℤ i.imm) a e
-  alu_shows Difference Full Register a e = numbers_shows (Arithmetic Difference Full Register) Register Full a (inl refl) (λ h. h) tt e
-  alu_shows Difference Narrow s a e = numbers_shows (Arithmetic Difference Narrow s) s Narrow a (first_by s i) (λ h. h) tt e
-  alu_shows Move w Immediate a e = no_flaw (MayHave count pc i (Arithmetic Move w Immediate)) flaw _ e
-  alu_shows Move Narrow Register a e = one_shown (MayHave count pc i (Arithmetic Move Narrow Register)) flaw i.src (is_unset (type_at types i.src)) (is_pointer (type_at types i.src)) refl tt e
-  alu_shows Move Full Register a e =
+  alu_shows : (layout : Layout) (op : Operator) (w : Width) (s : Source) (a : RegType) → alu_type layout op w s i a (operand_type s w i types) ≡ bad flaw → MayHave count pc i (Arithmetic op w s) flaw
+  alu_shows layout Sum Full Immediate a e = moved_shows layout Sum (inr tt) refl i.imm a e
+  alu_shows layout Sum Full Register a e = numbers_shows (Arithmetic Sum Full Register) Register Full a (inl refl) (λ h. h) tt e
+  alu_shows layout Sum Narrow s a e = numbers_shows (Arithmetic Sum Narrow s) s Narrow a (first_by s i) (λ h. h) tt e
+  alu_shows layout Difference Full Immediate a e = moved_shows layout Difference (inr tt) refl (neg_ℤ i.imm) a e
+  alu_shows layout Difference Full Register a e = numbers_shows (Arithmetic Difference Full Register) Register Full a (inl refl) (λ h. h) tt e
+  alu_shows layout Difference Narrow s a e = numbers_shows (Arithmetic Difference Narrow s) s Narrow a (first_by s i) (λ h. h) tt e
+  alu_shows layout Move w Immediate a e = no_flaw (MayHave count pc i (Arithmetic Move w Immediate)) flaw _ e
+  alu_shows layout Move Narrow Register a e = one_shown (MayHave count pc i (Arithmetic Move Narrow Register)) flaw i.src (is_unset (type_at types i.src)) (is_pointer (type_at types i.src)) refl tt e
+  alu_shows layout Move Full Register a e =
       plain_or (is_plain i.offset) (copied_type i.src (type_at types i.src)) (one_number i.src (type_at types i.src)) flaw (MayHave count pc i (Arithmetic Move Full Register)) e
       (λ g. copied_shown (MayHave count pc i (Arithmetic Move Full Register)) flaw i.src (is_unset (type_at types i.src)) (type_at types i.src) refl g)
       (λ no g. one_shown (MayHave count pc i (Arithmetic Move Full Register)) flaw i.src (is_unset (type_at types i.src)) (is_pointer (type_at types i.src)) refl (not_plain i.offset no) g)
-  alu_shows Negate w s a e = one_shown (MayHave count pc i (Arithmetic Negate w s)) flaw i.dst (is_unset a) (is_pointer a) refl tt e
-  alu_shows SwapBytes w s a e = one_shown (MayHave count pc i (Arithmetic SwapBytes w s)) flaw i.dst (is_unset a) (is_pointer a) refl tt e
-  alu_shows op w s a e = numbers_shows (Arithmetic op w s) s w a (first_by s i) (λ h. h) tt e
+  alu_shows layout Negate w s a e = one_shown (MayHave count pc i (Arithmetic Negate w s)) flaw i.dst (is_unset a) (is_pointer a) refl tt e
+  alu_shows layout SwapBytes w s a e = one_shown (MayHave count pc i (Arithmetic SwapBytes w s)) flaw i.dst (is_unset a) (is_pointer a) refl tt e
+  alu_shows layout op w s a e = numbers_shows (Arithmetic op w s) s w a (first_by s i) (λ h. h) tt e
 
   -- ---- calls
 
@@ -248,32 +251,32 @@ call_shows count pc i types PointerArithmetic h = absurd h
 
 -- ---- one instruction
 
-effect_shows : (count pc declared : ℕ) (fact : Fact) (i : Inst) (upper : ℤ) (form : Form) (flaw : Flaw) → effect declared fact i upper form ≡ wrong flaw → MayHave count pc i form flaw
-effect_shows count pc declared fact i upper (Arithmetic op w s) flaw e =
-    set_shown (MayHave count pc i (Arithmetic op w s)) flaw (i.dst == 10) fact.types i.dst (alu_type op w s i (type_at fact.types i.dst) (operand_type s w i fact.types)) (ten i.dst)
-    (λ f h. alu_shows count pc i fact.types f op w s (type_at fact.types i.dst) h) e
-effect_shows count pc declared fact i upper Wide flaw e =
+effect_shows : (count pc : ℕ) (terms : Terms) (fact : Fact) (i : Inst) (upper : ℤ) (form : Form) (flaw : Flaw) → effect terms fact i upper form ≡ wrong flaw → MayHave count pc i form flaw
+effect_shows count pc terms fact i upper (Arithmetic op w s) flaw e =
+    set_shown (MayHave count pc i (Arithmetic op w s)) flaw (i.dst == 10) fact.types i.dst (alu_type terms.layout op w s i (type_at fact.types i.dst) (operand_type s w i fact.types)) (ten i.dst)
+    (λ f h. alu_shows count pc i fact.types f terms.layout op w s (type_at fact.types i.dst) h) e
+effect_shows count pc terms fact i upper Wide flaw e =
     set_shown (MayHave count pc i Wide) flaw (i.dst == 10) fact.types i.dst (Ok (Const _)) (ten i.dst) (λ f h. no_flaw (MayHave count pc i Wide) f _ h) e
-effect_shows count pc declared fact i upper (Load size) flaw e =
-    set_shown (MayHave count pc i (Load size)) flaw (i.dst == 10) fact.types i.dst (loaded_type fact.stack fact.notes (type_at fact.types i.src) i (bytes_in size)) (ten i.dst)
-    (λ f h. loaded_shown (MayHave count pc i (Load size)) f fact.stack fact.notes (type_at fact.types i.src) i (bytes_in size) (inl tt) (inl (inl tt)) tt h) e
-effect_shows count pc declared fact i upper (LoadSigned size) flaw e =
-    set_shown (MayHave count pc i (LoadSigned size)) flaw (i.dst == 10) fact.types i.dst (load_type fact.stack (type_at fact.types i.src) i (bytes_in size)) (ten i.dst)
-    (λ f h. load_shown (MayHave count pc i (LoadSigned size)) f fact.stack (type_at fact.types i.src) i (bytes_in size) (inl tt) (inl (inl tt)) tt h) e
-effect_shows count pc declared fact i upper (StoreImmediate size) flaw e =
+effect_shows count pc terms fact i upper (Load size) flaw e =
+    set_shown (MayHave count pc i (Load size)) flaw (i.dst == 10) fact.types i.dst (loaded_type terms.layout fact.stack fact.notes (type_at fact.types i.src) i (bytes_in size)) (ten i.dst)
+    (λ f h. loaded_shown (MayHave count pc i (Load size)) f terms.layout fact.stack fact.notes (type_at fact.types i.src) i (bytes_in size) (inl tt) (inl (inl tt)) tt h) e
+effect_shows count pc terms fact i upper (LoadSigned size) flaw e =
+    set_shown (MayHave count pc i (LoadSigned size)) flaw (i.dst == 10) fact.types i.dst (load_type terms.layout fact.stack (type_at fact.types i.src) i (bytes_in size)) (ten i.dst)
+    (λ f h. load_shown (MayHave count pc i (LoadSigned size)) f terms.layout fact.stack (type_at fact.types i.src) i (bytes_in size) (inl tt) (inl (inl tt)) tt h) e
+effect_shows count pc terms fact i upper (StoreImmediate size) flaw e =
     store_shown (MayHave count pc i (StoreImmediate size)) flaw fact.types (type_at fact.types i.dst) i (bytes_in size) (inr tt) (inl (inr tt)) tt e
-effect_shows count pc declared fact i upper (StoreRegister size) flaw e =
+effect_shows count pc terms fact i upper (StoreRegister size) flaw e =
     let stored = store_type fact.types (type_at fact.types i.dst) i (bytes_in size) in
     unset_shown (MayHave count pc i (StoreRegister size)) flaw (is_unset (type_at fact.types i.src)) i.src (keeps_pointer (type_at fact.types i.src) stored) refl
     (λ g. pointer_shown (MayHave count pc i (StoreRegister size)) flaw (type_at fact.types i.src) stored tt
     (λ h. store_shown (MayHave count pc i (StoreRegister size)) flaw fact.types (type_at fact.types i.dst) i (bytes_in size) (inr tt) (inl (inr tt)) tt h) g) e
-effect_shows count pc declared fact i upper Goto flaw e = no_effect (MayHave count pc i Goto) flaw _ e
-effect_shows count pc declared fact i upper GotoLong flaw e = no_effect (MayHave count pc i GotoLong) flaw _ e
-effect_shows count pc declared fact i upper (Branch c w s) flaw e =
+effect_shows count pc terms fact i upper Goto flaw e = no_effect (MayHave count pc i Goto) flaw _ e
+effect_shows count pc terms fact i upper GotoLong flaw e = no_effect (MayHave count pc i GotoLong) flaw _ e
+effect_shows count pc terms fact i upper (Branch c w s) flaw e =
     compared_shown (MayHave count pc i (Branch c w s)) flaw i.dst i.src (is_numeric (type_at fact.types i.dst)) (is_numeric (operand_type s w i fact.types)) (unmarked fact.types) (first_by s i) (second_counted s w i fact.types) e
-effect_shows count pc declared fact i upper Exit flaw e =
+effect_shows count pc terms fact i upper Exit flaw e =
     exited_shown (MayHave count pc i Exit) flaw (is_numeric (type_at fact.types 0)) (unmarked fact.types) refl e
-effect_shows count pc declared fact i upper Call flaw e = call_shows count pc i fact.types flaw (calls count pc i fact.types flaw (helper_of i.imm) declared e)
+effect_shows count pc terms fact i upper Call flaw e = call_shows count pc i fact.types flaw (calls count pc i fact.types flaw (helper_of i.imm) terms.mask e)
 
 falls_shows : (count pc : ℕ) (form : Form) → falls_off count pc form ≡ true → FallsOffEnd count pc form
 falls_shows count pc Exit e = absurd (cc)
@@ -287,6 +290,6 @@ judged_shown P true r flaw p q e = is_wrong P FallsOff flaw e (p refl)
 judged_shown P false r flaw p q e = q e
 
 -- where the rules find a flaw, the form can have it
-pub judged_shows : (count pc declared : ℕ) (fact : Fact) (i : Inst) (upper : ℤ) (form : Form) (flaw : Flaw) → judged count pc declared fact i upper form ≡ wrong flaw → MayHave count pc i form flaw
-judged_shows count pc declared fact i upper form flaw e =
-    judged_shown (MayHave count pc i form) (falls_off count pc form) (effect declared fact i upper form) flaw (falls_shows count pc form) (effect_shows count pc declared fact i upper form flaw) e
+pub judged_shows : (count pc : ℕ) (terms : Terms) (fact : Fact) (i : Inst) (upper : ℤ) (form : Form) (flaw : Flaw) → judged count pc terms fact i upper form ≡ wrong flaw → MayHave count pc i form flaw
+judged_shows count pc terms fact i upper form flaw e =
+    judged_shown (MayHave count pc i form) (falls_off count pc form) (effect terms fact i upper form) flaw (falls_shows count pc form) (effect_shows count pc terms fact i upper form flaw) e

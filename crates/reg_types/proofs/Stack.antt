@@ -13,7 +13,7 @@ use Rattle.bpf_model.specs.declared.machine.Value.TheVariants.{Unset, Number, Co
 use Rattle.bpf_model.specs.declared.machine.Cell.{Cell}
 use Rattle.bpf_model.specs.declared.machine.Cell.TheVariants.{Empty, Byte}
 use Rattle.bpf_model.specs.Reading.{bytes_in}
-use Rattle.bpf_model.specs.Machine.{cell_at, low_byte, number_in, written, map_option, shifted, mem, stack_place, InStack, InContext}
+use Rattle.bpf_model.specs.Machine.{cell_at, low_byte, number_in, written, shifted, stack_at}
 use Rattle.stack_map.specs.Places.{Has, Within}
 use Rattle.reg_types.specs.Rules.{all_in}
 use Rattle.reg_types.specs.Facts.{HasByte, Covered}
@@ -79,19 +79,11 @@ at_most k (negsuc n) at limit e =
     let l : k - suc n ≤ limit = le_from _ _ t.1 in
     omega (arith, h.1)
 
-place_is : (o : Option ℕ) (at : ℕ) → stack_place (map_option InStack o) ≡ Some at → o ≡ Some at
-place_is None at e = absurd (cc)
-place_is (Some n) at e = e
-
-no_context : (o : Option ℕ) (at : ℕ) → stack_place (map_option InContext o) ≡ Some at → ⊥
-no_context None at e = cc
-no_context (Some n) at e = cc
-
 -- the bytes of a store lie inside
-pub store_inside : (v : Value) (i : Inst) (size at : ℕ) → size ≤ 8 → stack_place (mem v i.offset size) ≡ Some at → at + size ≤ 512
+pub store_inside : (v : Value) (i : Inst) (size at : ℕ) → size ≤ 8 → stack_at v i.offset size ≡ Some at → at + size ≤ 512
 store_inside (Stack n) i size at small e =
-    let l = at_most n i.offset at (512 - size) (place_is (shifted n i.offset (512 - size)) at e) in omega (arith, l)
-store_inside (Context n) i size at small e = absurd (no_context (shifted n i.offset (64 - size)) at e)
+    let l = at_most n i.offset at (512 - size) e in omega (arith, l)
+store_inside (Context n) i size at small e = absurd (cc)
 store_inside Unset i size at small e = absurd (cc)
 store_inside (Number n) i size at small e = absurd (cc)
 

@@ -1,6 +1,6 @@
 -- Stored facts: where they are found, changed and added.
 use Rattle.std.proofs.Common.{◌≡◌, ◌≢◌, ℕ, zero, suc, ◌+◌, ◌<◌, ◌≤◌, List, [], ◌∷◌, ◌++◌, Option, Some, None, Bool, true, false, refl, sym, ap, ◌∙◌, subst, inl, inr, arith, length}
-use Rattle.std.specs.Prelude.{◌==◌, cond, slice_index, slice_index_or, slice_set, is_some, replicate}
+use Rattle.std.specs.Prelude.{◌==◌, cond, slice_index, slice_index_or, slice_set, is_some, replicate, IfSome, IsTrue}
 use Rattle.std.proofs.lemmas.List.{get_or-set_other, get_or-set_same, get_or_append_left, get_or_past, get_or-replicate, length-set, length-append, length-replicate}
 use Rattle.std.proofs.Math.Seq.{get_or-append_seam}
 use Rattle.std.proofs.lemmas.Bool.{cases_eq, cases_lt, eq-eqb, ne_eqb, cond-true, cond-false}
@@ -94,6 +94,9 @@ stored_pushed (s ∷ rest) at f none q =
           ∙ sym (not_arrived q at f (stored (s ∷ rest) q) n)
     ]
 
+pub stored_here : (facts : List Stored) (at k : ℕ) (f : Fact) → IsPlace facts at k → stored (slice_set facts k (stored_fact at f)) at ≡ Some f
+stored_here facts at k f p = stored_set facts at k f p at ∙ cond-true (at == at) (Some f) (stored facts at) (eq-eqb at at refl)
+
 -- the first stored fact of the unit takes one in
 module _ (facts : List Stored) (at k : ℕ) (d : Stored) (f fact : Fact) (p : IsPlace facts at k) (same : IsSame f (join_fact (slice_index_or facts k d).fact fact)) where
   set_here : (q : ℕ) → q ≡ at → stored (slice_set facts k (stored_fact at f)) q ≡ Some f
@@ -121,6 +124,12 @@ module _ (facts : List Stored) (at k : ℕ) (d : Stored) (f fact : Fact) (p : Is
         each = joined_each;
         kept = λ q. elim (cases_eq q at) [ inl e ↦ ap is_some (set_here q e) ∙ sym (ap is_some (held_here q e)) | inr n ↦ ap is_some (set_elsewhere q n) ];
       }
+
+-- where a unit's fact is stored, what enters there is taken in
+pub entered_at : (facts new : List Stored) (at : ℕ) (fact : Fact) (o : Option ℕ) (b : Bool) → is_some o ≡ true → IfSome o (λ k. IsPlace facts at k) → (IsTrue b → IsJoined at fact (stored facts) (stored new)) → (b ≡ false → stored facts at ≡ None) → (q : ℕ) → AreSame (stored new q) (arrived q fact at (stored facts q))
+entered_at facts new at fact None b some place joined none q = absurd (no_some (sym some))
+entered_at facts new at fact (Some k) true some place joined none q = (joined refl).each q
+entered_at facts new at fact (Some k) false some place joined none q = absurd (no_some (ap is_some (sym (stored_at facts at k (stored_fact at fact) place) ∙ none refl)))
 
 -- ---- where each is found
 

@@ -112,10 +112,10 @@ below_right a b j e h n =
     }
 
 -- one register more is joined
-pub join_step : (ts a b : List RegType) (r : ℕ) (v : RegType) → r < length ts → v ≡ join_type (type_at ts r) (type_at b r) → type_at ts r ≡ type_at a r → ((k : ℕ) → k < r → type_at ts k ≡ join_type (type_at a k) (type_at b k)) → (k : ℕ) → k < r + 1 → type_at (slice_set ts r v) k ≡ join_type (type_at a k) (type_at b k)
-join_step ts a b r v l e same below k h =
+pub join_step : (ts a b : List RegType) (r : ℕ) (v : RegType) → r < length ts → v ≡ join_type (type_at a r) (type_at b r) → ((k : ℕ) → k < r → type_at ts k ≡ join_type (type_at a k) (type_at b k)) → (k : ℕ) → k < r + 1 → type_at (slice_set ts r v) k ≡ join_type (type_at a k) (type_at b k)
+join_step ts a b r v l e below k h =
     elim (cases_eq k r) [
-      | inl at ↦ subst (λ q. type_at (slice_set ts r v) q ≡ join_type (type_at a q) (type_at b q)) (sym at) (get_or-set_same ts r v Anything l ∙ e ∙ ap (λ t. join_type t (type_at b r)) same)
+      | inl at ↦ subst (λ q. type_at (slice_set ts r v) q ≡ join_type (type_at a q) (type_at b q)) (sym at) (get_or-set_same ts r v Anything l ∙ e)
       | inr other ↦ get_or-set_other ts r k v Anything other ∙ below k (omega arith)
     ]
 

@@ -12,6 +12,8 @@ use Rattle.bpf_model.specs.declared.instruction.Operator.{Operator}
 use Rattle.bpf_model.specs.declared.instruction.Operator.TheVariants.{Sum, Difference, Negate, Move, SwapBytes}
 use Rattle.bpf_model.specs.declared.machine.Value.{Value}
 use Rattle.bpf_model.specs.declared.machine.Value.TheVariants.{Unset, Number, Context, Stack}
+use Rattle.bpf_model.specs.declared.context.Layout.{Layout}
+use Rattle.bpf_model.specs.Layouts.{context_len}
 use Rattle.bpf_model.specs.Arithmetic.{alu, swapped, low}
 use Rattle.std.specs.Int.{cast_unsigned, w32}
 use Rattle.bpf_model.specs.Machine.{shifted, number, immediate, on_numbers, map_option, sum_value, move_value, set_value, alu_value, operand}
@@ -89,9 +91,9 @@ on_one f r a va t h e =
     let x = one r a va t h e in
     subst (λ w. Gives (map_option (λ x. Number (f x)) (number w)) t) (sym x.0.1) (subst (λ u. FitsType u (Number (f x.0.0))) x.1 tt)
 
-ctx_moved : (k : ℕ) (z : ℤ) (t : RegType) (o : Option ℕ) → o ≡ shifted k z 64 → ctx_at o ≡ Ok t → Gives (map_option Context o) t
-ctx_moved k z t None same e = absurd (cc)
-ctx_moved k z t (Some n) same e = subst (λ u. FitsType u (Context n)) (ok_inj e) refl
+ctx_moved : (k limit : ℕ) (z : ℤ) (t : RegType) (o : Option ℕ) → o ≡ shifted k z limit → ctx_at o ≡ Ok t → Gives (map_option Context o) t
+ctx_moved k limit z t None same e = absurd (cc)
+ctx_moved k limit z t (Some n) same e = subst (λ u. FitsType u (Context n)) (ok_inj e) refl
 
 stk_test : (b : Bool) (r : ℤ) (t : RegType) → cond b (Ok (Stk r)) (Err OutOfRange) ≡ ok_of t → (b ≡ true) × (Stk r ≡ t)
 stk_test true r t e = (refl, ok_inj e)
@@ -130,27 +132,28 @@ stk_moved n k (negsuc m) t h e =
     let l : m < n = grind (arith, nat_tests, d.0) in
     gives_if (nat_lt m n && nat_le (n - suc m) 512) (n - suc m) t (ap (λ b. b && nat_le (n - suc m) 512) d.0 ∙ d.1) (subst (λ u. FitsType u (Stack (n - suc m))) x.1 (down_is n m k l h))
 
-sum : (op : Operator) (w : Width) (s : Source) (i : Inst) (z : ℤ) (a b : RegType) (va vb : Value) (t : RegType) → FitsType a va → FitsType b vb → sum_type w s i z a b ≡ Ok t → Gives (sum_value op w s z i.offset va vb) t
-sum op Narrow s i z a b va vb t h g e = on_two (alu op Narrow i.offset) i.dst i.src a b va vb t h g e
-sum op Full Register i z a b va vb t h g e = on_two (alu op Full i.offset) i.dst i.src a b va vb t h g e
-sum op Full Immediate i z (Ctx k) b (Context n) vb t h g e =
-    subst (λ m. Gives (map_option Context (shifted m z 64)) t) (sym h) (ctx_moved k z t (shifted k z 64) refl e)
-sum op Full Immediate i z (Stk k) b (Stack n) vb t h g e = stk_moved n k z t h e
-sum op Full Immediate i z Num b (Number n) vb t h g e = on_two (alu op Full i.offset) i.dst i.src Num b (Number n) vb t h g e
-sum op Full Immediate i z (Const c) b (Number n) vb t h g e = on_two (alu op Full i.offset) i.dst i.src (Const c) b (Number n) vb t h g e
-sum op Full Immediate i z Anything b va vb t h g e = absurd (cc)
-sum op Full Immediate i z (Ctx k) b Unset vb t h g e = absurd h
-sum op Full Immediate i z (Ctx k) b (Number n) vb t h g e = absurd h
-sum op Full Immediate i z (Ctx k) b (Stack n) vb t h g e = absurd h
-sum op Full Immediate i z (Stk k) b Unset vb t h g e = absurd h
-sum op Full Immediate i z (Stk k) b (Number n) vb t h g e = absurd h
-sum op Full Immediate i z (Stk k) b (Context n) vb t h g e = absurd h
-sum op Full Immediate i z Num b Unset vb t h g e = absurd h
-sum op Full Immediate i z Num b (Context n) vb t h g e = absurd h
-sum op Full Immediate i z Num b (Stack n) vb t h g e = absurd h
-sum op Full Immediate i z (Const c) b Unset vb t h g e = absurd h
-sum op Full Immediate i z (Const c) b (Context n) vb t h g e = absurd h
-sum op Full Immediate i z (Const c) b (Stack n) vb t h g e = absurd h
+sum : (layout : Layout) (room : ℕ) → room ≡ context_len layout → (op : Operator) (w : Width) (s : Source) (i : Inst) (z : ℤ) (a b : RegType) (va vb : Value) (t : RegType) → FitsType a va → FitsType b vb → sum_type layout w s i z a b ≡ Ok t → Gives (sum_value room op w s z i.offset va vb) t
+sum layout room long op Narrow s i z a b va vb t h g e = on_two (alu op Narrow i.offset) i.dst i.src a b va vb t h g e
+sum layout room long op Full Register i z a b va vb t h g e = on_two (alu op Full i.offset) i.dst i.src a b va vb t h g e
+sum layout room long op Full Immediate i z (Ctx k) b (Context n) vb t h g e =
+    subst (λ m. Gives (map_option Context (shifted m z room)) t) (sym h)
+    (ctx_moved k room z t (shifted k z room) refl (ap (λ l. ctx_at (shifted k z l)) long ∙ e))
+sum layout room long op Full Immediate i z (Stk k) b (Stack n) vb t h g e = stk_moved n k z t h e
+sum layout room long op Full Immediate i z Num b (Number n) vb t h g e = on_two (alu op Full i.offset) i.dst i.src Num b (Number n) vb t h g e
+sum layout room long op Full Immediate i z (Const c) b (Number n) vb t h g e = on_two (alu op Full i.offset) i.dst i.src (Const c) b (Number n) vb t h g e
+sum layout room long op Full Immediate i z Anything b va vb t h g e = absurd (cc)
+sum layout room long op Full Immediate i z (Ctx k) b Unset vb t h g e = absurd h
+sum layout room long op Full Immediate i z (Ctx k) b (Number n) vb t h g e = absurd h
+sum layout room long op Full Immediate i z (Ctx k) b (Stack n) vb t h g e = absurd h
+sum layout room long op Full Immediate i z (Stk k) b Unset vb t h g e = absurd h
+sum layout room long op Full Immediate i z (Stk k) b (Number n) vb t h g e = absurd h
+sum layout room long op Full Immediate i z (Stk k) b (Context n) vb t h g e = absurd h
+sum layout room long op Full Immediate i z Num b Unset vb t h g e = absurd h
+sum layout room long op Full Immediate i z Num b (Context n) vb t h g e = absurd h
+sum layout room long op Full Immediate i z Num b (Stack n) vb t h g e = absurd h
+sum layout room long op Full Immediate i z (Const c) b Unset vb t h g e = absurd h
+sum layout room long op Full Immediate i z (Const c) b (Context n) vb t h g e = absurd h
+sum layout room long op Full Immediate i z (Const c) b (Stack n) vb t h g e = absurd h
 
 set_fits : (t : RegType) (v : Value) → is_unset t ≡ false → FitsType t v → Gives (set_value v) t
 set_fits Anything v e h = absurd (cc)
@@ -182,12 +185,12 @@ moved (pos (suc n)) src b vb t g e = on_one (alu Move Full (pos (suc n)) 0) src 
 moved (negsuc n) src b vb t g e = on_one (alu Move Full (negsuc n) 0) src b vb t g e
 
 -- what arithmetic gives fits the type that the rules give
-pub arithmetic : (op : Operator) (w : Width) (s : Source) (i : Inst) (registers : List Value) (a b : RegType) (va : Value) (t : RegType) → FitsType a va → FitsType b (operand s w i registers) → alu_type op w s i a b ≡ Ok t → Gives (alu_value op w s i va (operand s w i registers)) t
-arithmetic Sum w s i registers a b va t h g e = sum Sum w s i i.imm a b va (operand s w i registers) t h g e
-arithmetic Difference w s i registers a b va t h g e = sum Difference w s i (neg_ℤ i.imm) a b va (operand s w i registers) t h g e
-arithmetic Move w Immediate i registers a b va t h g e = move_fits w i i.offset t e
-arithmetic Move Narrow Register i registers a b va t h g e = on_one (alu Move Narrow i.offset 0) i.src b (operand Register Narrow i registers) t g e
-arithmetic Move Full Register i registers a b va t h g e = moved i.offset i.src b (operand Register Full i registers) t g e
-arithmetic Negate w s i registers a b va t h g e = on_one (λ x. alu Negate w i.offset x 0) i.dst a va t h e
-arithmetic SwapBytes w s i registers a b va t h g e = on_one (swapped w s (cast_unsigned w32 i.imm)) i.dst a va t h e
-arithmetic op w s i registers a b va t h g e = on_two (alu op w i.offset) i.dst i.src a b va (operand s w i registers) t h g e
+pub arithmetic : (layout : Layout) (room : ℕ) → room ≡ context_len layout → (op : Operator) (w : Width) (s : Source) (i : Inst) (registers : List Value) (a b : RegType) (va : Value) (t : RegType) → FitsType a va → FitsType b (operand s w i registers) → alu_type layout op w s i a b ≡ Ok t → Gives (alu_value room op w s i va (operand s w i registers)) t
+arithmetic layout room long Sum w s i registers a b va t h g e = sum layout room long Sum w s i i.imm a b va (operand s w i registers) t h g e
+arithmetic layout room long Difference w s i registers a b va t h g e = sum layout room long Difference w s i (neg_ℤ i.imm) a b va (operand s w i registers) t h g e
+arithmetic layout room long Move w Immediate i registers a b va t h g e = move_fits w i i.offset t e
+arithmetic layout room long Move Narrow Register i registers a b va t h g e = on_one (alu Move Narrow i.offset 0) i.src b (operand Register Narrow i registers) t g e
+arithmetic layout room long Move Full Register i registers a b va t h g e = moved i.offset i.src b (operand Register Full i registers) t g e
+arithmetic layout room long Negate w s i registers a b va t h g e = on_one (λ x. alu Negate w i.offset x 0) i.dst a va t h e
+arithmetic layout room long SwapBytes w s i registers a b va t h g e = on_one (swapped w s (cast_unsigned w32 i.imm)) i.dst a va t h e
+arithmetic layout room long op w s i registers a b va t h g e = on_two (alu op w i.offset) i.dst i.src a b va (operand s w i registers) t h g e

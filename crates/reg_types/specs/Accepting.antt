@@ -5,6 +5,7 @@ use Rattle.bpf_model.specs.declared.instruction.Form.{Form}
 use Rattle.bpf_model.specs.declared.instruction.Unit.{Unit as ProgramUnit}
 use Rattle.bpf_model.specs.declared.instruction.Unit.TheVariants.{First}
 use Rattle.bpf_model.specs.Reading.{form_of}
+use Rattle.reg_types.specs.declared.types.Terms.{Terms}
 use Rattle.reg_types.specs.declared.types.RegType.{RegType}
 use Rattle.reg_types.specs.declared.types.RegType.TheVariants.{Ctx}
 use Rattle.reg_types.specs.declared.types.Fact.{Fact}
@@ -23,14 +24,14 @@ PlainOption None = ⊤
 PlainOption (Some fact) = ArePlain fact.types
 
 -- the instruction is accepted under this fact, and leaves plain types
-abbrev pub PlainAt : List ProgramUnit → ℕ → ℕ → Inst → Fact → Type 0
-PlainAt us pc declared i fact =
-    (upper : ℤ) (form : Form) → form_of i.opcode ≡ Some form → (e : Effect) × (judged (length us) pc declared fact i upper form ≡ Ok e) × ArePlain e.types
+abbrev pub PlainAt : List ProgramUnit → ℕ → Terms → Inst → Fact → Type 0
+PlainAt us pc terms i fact =
+    (upper : ℤ) (form : Form) → form_of i.opcode ≡ Some form → (e : Effect) × (judged (length us) pc terms fact i upper form ≡ Ok e) × ArePlain e.types
 
 -- the types that a plain program can have at a unit
 abbrev pub PlainTypesAt : ℕ → List RegType → Type 0
 PlainTypesAt pc types = ((pc ≡ 0) × (types ≡ entry_types)) ⊎ ArePlain types
 
 -- every instruction is accepted under such types
-pub record AcceptsAll (us : List ProgramUnit) (declared : ℕ) : Type 0 where
-  pub each : (pc : ℕ) (i : Inst) (fact : Fact) → slice_get us pc ≡ Some (First i) → PlainTypesAt pc fact.types → PlainAt us pc declared i fact
+pub record AcceptsAll (us : List ProgramUnit) (terms : Terms) : Type 0 where
+  pub each : (pc : ℕ) (i : Inst) (fact : Fact) → slice_get us pc ≡ Some (First i) → PlainTypesAt pc fact.types → PlainAt us pc terms i fact

@@ -16,6 +16,7 @@ use Rattle.bpf_model.specs.Flow.{IsAhead, GoesForward}
 use Rattle.bpf_model.specs.Machine.{Counters, counter, register, cell_at, kept_at}
 use Rattle.bpf_model.specs.Runs.{AreCounters}
 use Rattle.stack_map.specs.Places.{Has, Within}
+use Rattle.reg_types.specs.declared.types.Terms.{Terms}
 use Rattle.reg_types.specs.declared.types.RegType.{RegType}
 use Rattle.reg_types.specs.declared.types.RegType.TheVariants.{Unset as Anything, Num, Const, Ctx, Stk}
 use Rattle.reg_types.specs.declared.types.Fact.{Fact}
@@ -165,11 +166,11 @@ pub record Enters (facts : Facts) (fact : Fact) (to : ℕ) : Type 0 where
   pub below : IsBelow fact wider
 
 -- the instruction is well typed, and the facts of the units after it take in the result
-pub record IsTyped (us : List ProgramUnit) (declared : ℕ) (facts : Facts) (pc : ℕ) (i : Inst) (fact : Fact) : Type 0 where
+pub record IsTyped (us : List ProgramUnit) (terms : Terms) (facts : Facts) (pc : ℕ) (i : Inst) (fact : Fact) : Type 0 where
   pub form : Form
   pub form_is : form_of i.opcode ≡ Some form
   pub effect : Effect
-  pub typed : judged (length us) pc declared fact i (upper_of us pc) form ≡ Ok effect
+  pub typed : judged (length us) pc terms fact i (upper_of us pc) form ≡ Ok effect
   pub after : Fact
   pub after_is : IsAfter fact effect after
   pub tos : List ℕ
@@ -184,13 +185,13 @@ pub record IsEntry (fact : Fact) : Type 0 where
   pub notes : fact.notes ≡ no_notes
 
 -- the first unit's fact takes in the entry, and each reached unit is well typed
-pub record Covers (us : List ProgramUnit) (declared : ℕ) (facts : Facts) : Type 0 where
+pub record Covers (us : List ProgramUnit) (terms : Terms) (facts : Facts) : Type 0 where
   pub unit : Inst
   pub begins : slice_get us 0 ≡ Some (First unit)
   pub start : Fact
   pub start_is : IsEntry start
   pub entered : Enters facts start 0
-  pub each : (pc : ℕ) (i : Inst) (fact : Fact) → slice_get us pc ≡ Some (First i) → facts pc ≡ Some fact → IsTyped us declared facts pc i fact
+  pub each : (pc : ℕ) (i : Inst) (fact : Fact) → slice_get us pc ≡ Some (First i) → facts pc ≡ Some fact → IsTyped us terms facts pc i fact
 
 -- a state before a reached instruction, which fits its fact
 pub record IsAt (us : List ProgramUnit) (facts : Facts) (s : State) : Type 0 where
@@ -201,10 +202,10 @@ pub record IsAt (us : List ProgramUnit) (facts : Facts) (s : State) : Type 0 whe
   pub fits : Fits fact s
 
 -- the bytes are a program, and some facts cover it
-pub record IsCovered (bytes : List ℕ) (declared : ℕ) (us : List ProgramUnit) : Type 0 where
+pub record IsCovered (bytes : List ℕ) (terms : Terms) (us : List ProgramUnit) : Type 0 where
   pub reads : units bytes ≡ Some us
   pub facts : Facts
-  pub covers : Covers us declared facts
+  pub covers : Covers us terms facts
 
 -- units of a program whose jumps all go forward to instructions
 pub record IsSound (us : List ProgramUnit) : Type 0 where

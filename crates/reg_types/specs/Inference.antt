@@ -9,6 +9,7 @@ use Rattle.bpf_model.specs.declared.instruction.Unit.TheVariants.{First, Second}
 use Rattle.bpf_model.specs.Reading.{form_of}
 use Rattle.bpf_model.specs.Machine.{shifted}
 use Rattle.bpf_model.specs.Flow.{target}
+use Rattle.reg_types.specs.declared.types.Terms.{Terms}
 use Rattle.reg_types.specs.declared.types.RegType.{RegType}
 use Rattle.reg_types.specs.declared.types.RegType.TheVariants.{Unset as Anything, Ctx, Stk}
 use Rattle.reg_types.specs.declared.types.Fact.{Fact}
@@ -130,21 +131,21 @@ abbrev pub instruction_at : List ProgramUnit → ℕ → Option (Inst × Form)
 instruction_at us pc = instruction_of (slice_get us pc)
 
 -- what the rules say of the instruction at a unit under a fact
-abbrev pub ruled : List ProgramUnit → ℕ → ℕ → Fact → Inst × Form → Result Effect Flaw
-ruled us declared pc fact x = judged (length us) pc declared fact x.0 (upper_of us pc) x.1
+abbrev pub ruled : List ProgramUnit → Terms → ℕ → Fact → Inst × Form → Result Effect Flaw
+ruled us terms pc fact x = judged (length us) pc terms fact x.0 (upper_of us pc) x.1
 
 -- the flaw of the unit's instruction; a unit that isn't reached has no fact and no flaw
 abbrev pub flaw_in : ℕ → Result Effect Flaw → Option TypeFault
 flaw_in pc (Ok effect) = None
 flaw_in pc (Err flaw) = Some (located pc flaw)
 
-abbrev pub flaw_of : List ProgramUnit → ℕ → ℕ → Fact → Option (Inst × Form) → Option TypeFault
-flaw_of us declared pc fact None = None
-flaw_of us declared pc fact (Some x) = flaw_in pc (ruled us declared pc fact x)
+abbrev pub flaw_of : List ProgramUnit → Terms → ℕ → Fact → Option (Inst × Form) → Option TypeFault
+flaw_of us terms pc fact None = None
+flaw_of us terms pc fact (Some x) = flaw_in pc (ruled us terms pc fact x)
 
-abbrev pub flaw_under : List ProgramUnit → ℕ → ℕ → Option Fact → Option TypeFault
-flaw_under us declared pc None = None
-flaw_under us declared pc (Some fact) = flaw_of us declared pc fact (instruction_at us pc)
+abbrev pub flaw_under : List ProgramUnit → Terms → ℕ → Option Fact → Option TypeFault
+flaw_under us terms pc None = None
+flaw_under us terms pc (Some fact) = flaw_of us terms pc fact (instruction_at us pc)
 
 -- ---- edges
 
@@ -167,37 +168,37 @@ passed_by q fact (Err flaw) tos old = old
 passed_by q fact (Ok effect) None old = old
 passed_by q fact (Ok effect) (Some tos) old = arrived_all q (fact_after fact effect) tos old
 
-abbrev pub passed_from : List ProgramUnit → ℕ → ℕ → Fact → Option (Inst × Form) → ℕ → Option Fact → Option Fact
-passed_from us declared pc fact None q old = old
-passed_from us declared pc fact (Some x) q old = passed_by q fact (ruled us declared pc fact x) (leads pc x.0 x.1) old
+abbrev pub passed_from : List ProgramUnit → Terms → ℕ → Fact → Option (Inst × Form) → ℕ → Option Fact → Option Fact
+passed_from us terms pc fact None q old = old
+passed_from us terms pc fact (Some x) q old = passed_by q fact (ruled us terms pc fact x) (leads pc x.0 x.1) old
 
 -- what is known of unit q once unit pc has been passed, before which this was known
-abbrev pub passed : List ProgramUnit → ℕ → ℕ → Option Fact → ℕ → Option Fact → Option Fact
-passed us declared pc None q old = old
-passed us declared pc (Some fact) q old = passed_from us declared pc fact (instruction_at us pc) q old
+abbrev pub passed : List ProgramUnit → Terms → ℕ → Option Fact → ℕ → Option Fact → Option Fact
+passed us terms pc None q old = old
+passed us terms pc (Some fact) q old = passed_from us terms pc fact (instruction_at us pc) q old
 
 -- ---- the whole program
 
 -- what is known of unit q by the entry and by the edges from the units below n: nothing where none reaches it
-unfoldable pub known : List ProgramUnit → ℕ → ℕ → ℕ → Option Fact
-known us declared zero q = if q == 0 then Some entry_fact else None
-known us declared (suc n) q = passed us declared n (known us declared n n) q (known us declared n q)
+unfoldable pub known : List ProgramUnit → Terms → ℕ → ℕ → Option Fact
+known us terms zero q = if q == 0 then Some entry_fact else None
+known us terms (suc n) q = passed us terms n (known us terms n n) q (known us terms n q)
 
 -- the fact of a unit: the join over the edges from the reached units before it
-abbrev pub inferred : List ProgramUnit → ℕ → ℕ → Option Fact
-inferred us declared q = known us declared q q
+abbrev pub inferred : List ProgramUnit → Terms → ℕ → Option Fact
+inferred us terms q = known us terms q q
 
 abbrev pub or_else : Option TypeFault → Option TypeFault → Option TypeFault
 or_else None b = b
 or_else (Some fault) b = Some fault
 
 -- the first among the first n units that is reached and that the rules refuse, with its flaw of the least number
-unfoldable pub first_flaw_below : List ProgramUnit → ℕ → ℕ → Option TypeFault
-first_flaw_below us declared zero = None
-first_flaw_below us declared (suc n) = or_else (first_flaw_below us declared n) (flaw_under us declared n (inferred us declared n))
+unfoldable pub first_flaw_below : List ProgramUnit → Terms → ℕ → Option TypeFault
+first_flaw_below us terms zero = None
+first_flaw_below us terms (suc n) = or_else (first_flaw_below us terms n) (flaw_under us terms n (inferred us terms n))
 
-abbrev pub first_flaw : List ProgramUnit → ℕ → Option TypeFault
-first_flaw us declared = first_flaw_below us declared (length us)
+abbrev pub first_flaw : List ProgramUnit → Terms → Option TypeFault
+first_flaw us terms = first_flaw_below us terms (length us)
 
 -- ---- where facts are stored: at the first unit, and where the jumps of reached units go
 
@@ -207,9 +208,9 @@ goes None q = false
 goes (Some to) q = q == to
 
 -- q is the first unit, or the jump of a reached unit below n goes to it
-unfoldable pub is_entered : List ProgramUnit → ℕ → ℕ → ℕ → Bool
-is_entered us declared zero q = q == 0
-is_entered us declared (suc n) q = is_entered us declared n q || (is_some (inferred us declared n) && goes (target us n) q)
+unfoldable pub is_entered : List ProgramUnit → Terms → ℕ → ℕ → Bool
+is_entered us terms zero q = q == 0
+is_entered us terms (suc n) q = is_entered us terms n q || (is_some (inferred us terms n) && goes (target us n) q)
 
 -- the jump of a unit below n goes to q, reached or not
 unfoldable pub is_target : List ProgramUnit → ℕ → ℕ → Bool
@@ -222,8 +223,8 @@ count_below zero is = 0
 count_below (suc n) is = if is n then suc (count_below n is) else count_below n is
 
 -- the number of units whose facts are stored
-abbrev pub facts_in : List ProgramUnit → ℕ → ℕ
-facts_in us declared = count_below (length us) (is_entered us declared (length us))
+abbrev pub facts_in : List ProgramUnit → Terms → ℕ
+facts_in us terms = count_below (length us) (is_entered us terms (length us))
 
 -- the number of different targets of jumps
 abbrev pub targets_in : List ProgramUnit → ℕ

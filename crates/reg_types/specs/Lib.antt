@@ -1,3 +1,4 @@
+pub mod Terms
 pub mod Rules
 pub mod Effects
 pub mod Facts

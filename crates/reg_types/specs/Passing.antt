@@ -5,8 +5,10 @@ use Rattle.bpf_model.specs.declared.instruction.Inst.{Inst}
 use Rattle.bpf_model.specs.declared.instruction.Unit.TheVariants.{First, Second}
 use Rattle.bpf_model.specs.declared.instruction.Form.{Form}
 use Rattle.bpf_model.specs.declared.instruction.Form.TheVariants.{Wide}
+use Rattle.reg_types.specs.declared.types.Terms.{Terms}
 use Rattle.reg_types.specs.declared.types.Stored.{Stored}
 use Rattle.bpf_model.specs.Reading.{units}
+use Rattle.bpf_model.specs.Program.{ProgramText}
 use Rattle.bpf_model.specs.Machine.{and_then, shifted}
 use Rattle.bpf_model.specs.Flow.{GoesForward, flow_fault, target, distance_by}
 use Rattle.stack_map.specs.Places.{Has}
@@ -16,6 +18,7 @@ use Rattle.flow_check.specs.declared.FlowFault.TheVariants.{OutOfMemory as NoMem
 use Rattle.reg_types.specs.declared.types.Fact.{Fact}
 use Rattle.reg_types.specs.declared.refusal.Refusal.{Refusal}
 use Rattle.reg_types.specs.declared.refusal.Refusal.TheVariants.{Decode, Flow, «Type» as TypeRefusal, OutOfMemory}
+use Rattle.reg_types.specs.Terms.{terms_of}
 use Rattle.reg_types.specs.Facts.{Facts, AreDistinct, stored}
 use Rattle.reg_types.specs.Inference.{flaw_under, arrived, passed, inferred, first_flaw, instruction_at, goes, is_entered, facts_in, targets_in}
 
@@ -79,26 +82,26 @@ abbrev pub target_by : ℕ → Form → Inst → Option ℕ
 target_by pc form i = and_then (distance_by (Some form) i) (λ z. shifted (pc + 1) z 512)
 
 -- the instruction has no flaw under the fact; its jumps have brought what they bring, and the rest is carried on
-pub record IsVisited (us : List ProgramUnit) (declared pc : ℕ) (fact : Fact) (next : Option Stored) (old new : Facts) : Type 0 where
-  pub flawless : flaw_under us declared pc (Some fact) ≡ None
-  pub ahead : (q : ℕ) → pc < q → AreSame (seen next new q) (passed us declared pc (Some fact) q (old q))
+pub record IsVisited (us : List ProgramUnit) (terms : Terms) (pc : ℕ) (fact : Fact) (next : Option Stored) (old new : Facts) : Type 0 where
+  pub flawless : flaw_under us terms pc (Some fact) ≡ None
+  pub ahead : (q : ℕ) → pc < q → AreSame (seen next new q) (passed us terms pc (Some fact) q (old q))
   pub behind : (q : ℕ) → q ≤ pc → AreSame (new q) (old q)
   pub goes_on : IsCarriedTo us (pc + 1) next
   pub kept : (q : ℕ) → is_some (new q) ≡ (is_some (old q) || goes (target us pc) q)
 
 -- the unit has no flaw, and its edges have brought what they bring
-pub record IsPassed (us : List ProgramUnit) (declared pc : ℕ) (carried next : Option Stored) (old new : Facts) : Type 0 where
-  pub flawless : flaw_under us declared pc (seen carried old pc) ≡ None
-  pub ahead : (q : ℕ) → pc < q → AreSame (seen next new q) (passed us declared pc (seen carried old pc) q (seen carried old q))
+pub record IsPassed (us : List ProgramUnit) (terms : Terms) (pc : ℕ) (carried next : Option Stored) (old new : Facts) : Type 0 where
+  pub flawless : flaw_under us terms pc (seen carried old pc) ≡ None
+  pub ahead : (q : ℕ) → pc < q → AreSame (seen next new q) (passed us terms pc (seen carried old pc) q (seen carried old q))
   pub behind : (q : ℕ) → q < pc → AreSame (new q) (old q)
   pub here : AreStored (new pc) (seen carried old pc)
   pub goes_on : IsCarriedTo us (pc + 1) next
   pub kept : (q : ℕ) → is_some (new q) ≡ (is_some (old q) || (is_some (seen carried old pc) && goes (target us pc) q))
 
 -- facts are stored of the first unit and of the units that reached jumps go to, each the fact of its unit
-pub record AreInferred (us : List ProgramUnit) (declared : ℕ) (facts : Facts) : Type 0 where
-  pub each : (q : ℕ) → q < length us → AreStored (facts q) (inferred us declared q)
-  pub kept : (q : ℕ) → is_some (facts q) ≡ is_entered us declared (length us) q
+pub record AreInferred (us : List ProgramUnit) (terms : Terms) (facts : Facts) : Type 0 where
+  pub each : (q : ℕ) → q < length us → AreStored (facts q) (inferred us terms q)
+  pub kept : (q : ℕ) → is_some (facts q) ≡ is_entered us terms (length us) q
 
 -- the unit after an instruction
 abbrev pub following : ℕ → Form → ℕ
@@ -106,32 +109,32 @@ following pc Wide = pc + 2
 following pc form = pc + 1
 
 -- what is known of a unit is what the instruction in front of it leaves
-pub record IsBrought (us : List ProgramUnit) (declared q : ℕ) : Type 0 where
+pub record IsBrought (us : List ProgramUnit) (terms : Terms) (q : ℕ) : Type 0 where
   pub before : ℕ
   pub instruction : Inst × Form
   pub stands : instruction_at us before ≡ Some instruction
   pub next : q ≡ following before instruction.1
-  pub is : inferred us declared q ≡ passed us declared before (inferred us declared before) q None
+  pub is : inferred us terms q ≡ passed us terms before (inferred us terms before) q None
 
 -- from the stored facts the others are had by going from each instruction to the next
-abbrev pub AreWalked : List ProgramUnit → ℕ → Type 0
-AreWalked us declared =
-    (q : ℕ) → is_entered us declared (length us) q ≡ false → q < length us → (inferred us declared q ≡ None) ⊎ IsBrought us declared q
+abbrev pub AreWalked : List ProgramUnit → Terms → Type 0
+AreWalked us terms =
+    (q : ℕ) → is_entered us terms (length us) q ≡ false → q < length us → (inferred us terms q ≡ None) ⊎ IsBrought us terms q
 
 -- the bytes are these units, no jump of which is at fault and in which there is no flaw, and these facts are stored of
 -- them, from which the others are had
-pub record IsAccepted (bytes : List ℕ) (declared : ℕ) (us : List ProgramUnit) (facts : List Stored) : Type 0 where
+pub record IsAccepted (bytes : List ℕ) (terms : Terms) (us : List ProgramUnit) (facts : List Stored) : Type 0 where
   pub reads : units bytes ≡ Some us
   pub forward : GoesForward us
   pub flows : flow_fault us ≡ None
-  pub flawless : first_flaw us declared ≡ None
-  pub inferred_are : AreInferred us declared (stored facts)
+  pub flawless : first_flaw us terms ≡ None
+  pub inferred_are : AreInferred us terms (stored facts)
   pub distinct : AreDistinct facts
-  pub walked : AreWalked us declared
+  pub walked : AreWalked us terms
 
 -- the number of stored facts: one for the first unit, and one for each unit that a reached jump goes to
-abbrev pub IsFactCount : List ℕ → ℕ → ℕ → Type 0
-IsFactCount bytes declared n = (us : List ProgramUnit) → units bytes ≡ Some us → n ≡ facts_in us declared
+abbrev pub IsFactCount : ProgramText → ℕ → Type 0
+IsFactCount p n = (us : List ProgramUnit) → units p.bytes ≡ Some us → n ≡ facts_in us (terms_of p)
 
 -- it is at most one more than the number of different targets of jumps
 abbrev pub IsFew : List ℕ → ℕ → Type 0
@@ -145,18 +148,18 @@ decode_told NoMemoryToDecode = OutOfMemory
 decode_told fault = Decode fault
 
 -- a refusal at a unit before which this is known
-abbrev pub IsUnitRefused : List ProgramUnit → ℕ → ℕ → Option Fact → Refusal → Type 0
-IsUnitRefused us declared pc fact (Decode fault) = ⊥
-IsUnitRefused us declared pc fact (Flow fault) = ⊥
-IsUnitRefused us declared pc fact (TypeRefusal fault) = flaw_under us declared pc fact ≡ Some fault
-IsUnitRefused us declared pc fact OutOfMemory = ⊤
+abbrev pub IsUnitRefused : List ProgramUnit → Terms → ℕ → Option Fact → Refusal → Type 0
+IsUnitRefused us terms pc fact (Decode fault) = ⊥
+IsUnitRefused us terms pc fact (Flow fault) = ⊥
+IsUnitRefused us terms pc fact (TypeRefusal fault) = flaw_under us terms pc fact ≡ Some fault
+IsUnitRefused us terms pc fact OutOfMemory = ⊤
 
 -- a refusal of the pass over the units
-abbrev pub IsPassRefused : List ProgramUnit → ℕ → Refusal → Type 0
-IsPassRefused us declared (Decode fault) = ⊥
-IsPassRefused us declared (Flow fault) = ⊥
-IsPassRefused us declared (TypeRefusal fault) = first_flaw us declared ≡ Some fault
-IsPassRefused us declared OutOfMemory = ⊤
+abbrev pub IsPassRefused : List ProgramUnit → Terms → Refusal → Type 0
+IsPassRefused us terms (Decode fault) = ⊥
+IsPassRefused us terms (Flow fault) = ⊥
+IsPassRefused us terms (TypeRefusal fault) = first_flaw us terms ≡ Some fault
+IsPassRefused us terms OutOfMemory = ⊤
 
 -- want of memory is told by itself alone, never inside another refusal
 abbrev pub IsToldAlone : Refusal → Type 0

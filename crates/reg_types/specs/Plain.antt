@@ -11,25 +11,28 @@ use Rattle.bpf_model.specs.declared.instruction.Unit.TheVariants.{First}
 use Rattle.bpf_model.specs.Reading.{bytes_in, form_of, units}
 use Rattle.bpf_model.specs.Flow.{flow_fault}
 use Rattle.bpf_model.specs.Machine.{shifted}
+use Rattle.bpf_model.specs.Program.{ProgramText}
+use Rattle.bpf_model.specs.declared.context.Layout.{Layout}
+use Rattle.bpf_model.specs.Layouts.{context_len}
 
 -- it loads into R0, through R1, from a place of the context that R1 points to on entry
-abbrev pub LoadsArgument : Inst → Size → Type 0
-LoadsArgument i size = (i.dst ≡ 0) × (i.src ≡ 1) × IsSome (shifted 0 i.offset (64 - bytes_in size))
+abbrev pub LoadsArgument : Layout → Inst → Size → Type 0
+LoadsArgument layout i size = (i.dst ≡ 0) × (i.src ≡ 1) × IsSome (shifted 0 i.offset (context_len layout - bytes_in size))
 
 -- EXIT, a jump without condition, or a form that works on R0 alone or loads into it from the context
-abbrev pub IsPlainForm : Inst → Form → Type 0
-IsPlainForm i Exit = ⊤
-IsPlainForm i Goto = ⊤
-IsPlainForm i GotoLong = ⊤
-IsPlainForm i Wide = i.dst ≡ 0
-IsPlainForm i (Arithmetic SwapBytes w s) = i.dst ≡ 0
-IsPlainForm i (Arithmetic op w Immediate) = i.dst ≡ 0
-IsPlainForm i (Arithmetic op w Register) = ⊥
-IsPlainForm i (Branch c w Immediate) = i.dst ≡ 0
-IsPlainForm i (Branch c w Register) = ⊥
-IsPlainForm i (Load size) = LoadsArgument i size
-IsPlainForm i (LoadSigned size) = LoadsArgument i size
-IsPlainForm i form = ⊥
+abbrev pub IsPlainForm : Layout → Inst → Form → Type 0
+IsPlainForm layout i Exit = ⊤
+IsPlainForm layout i Goto = ⊤
+IsPlainForm layout i GotoLong = ⊤
+IsPlainForm layout i Wide = i.dst ≡ 0
+IsPlainForm layout i (Arithmetic SwapBytes w s) = i.dst ≡ 0
+IsPlainForm layout i (Arithmetic op w Immediate) = i.dst ≡ 0
+IsPlainForm layout i (Arithmetic op w Register) = ⊥
+IsPlainForm layout i (Branch c w Immediate) = i.dst ≡ 0
+IsPlainForm layout i (Branch c w Register) = ⊥
+IsPlainForm layout i (Load size) = LoadsArgument layout i size
+IsPlainForm layout i (LoadSigned size) = LoadsArgument layout i size
+IsPlainForm layout i form = ⊥
 
 -- a MOV of an immediate, a wide load, or a load
 abbrev pub SetsFirst : Form → Type 0
@@ -40,16 +43,16 @@ SetsFirst (Arithmetic Move w Immediate) = ⊤
 SetsFirst form = ⊥
 
 -- the last unit is EXIT, each instruction is of a plain form, and the first sets R0
-pub record ArePlainUnits (us : List ProgramUnit) : Type 0 where
+pub record ArePlainUnits (layout : Layout) (us : List ProgramUnit) : Type 0 where
   pub last : Inst
   pub last_is : slice_get us (length us - 1) ≡ Some (First last)
   pub exits : form_of last.opcode ≡ Some Exit
-  pub each : (pc : ℕ) (i : Inst) (form : Form) → slice_get us pc ≡ Some (First i) → form_of i.opcode ≡ Some form → IsPlainForm i form
+  pub each : (pc : ℕ) (i : Inst) (form : Form) → slice_get us pc ≡ Some (First i) → form_of i.opcode ≡ Some form → IsPlainForm layout i form
   pub sets : (i : Inst) (form : Form) → slice_get us 0 ≡ Some (First i) → form_of i.opcode ≡ Some form → SetsFirst form
 
 -- the bytes are units, no jump is at fault, and the units are plain
-pub record IsPlain (bytes : List ℕ) : Type 0 where
+pub record IsPlain (p : ProgramText) : Type 0 where
   pub code : List ProgramUnit
-  pub reads : units bytes ≡ Some code
+  pub reads : units p.bytes ≡ Some code
   pub flows : flow_fault code ≡ None
-  pub plain : ArePlainUnits code
+  pub plain : ArePlainUnits p.layout code

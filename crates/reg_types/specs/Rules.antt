@@ -17,6 +17,9 @@ use Rattle.bpf_model.specs.Machine.{shifted, immediate, is_aligned}
 use Rattle.helpers.specs.declared.Kind.{Kind}
 use Rattle.helpers.specs.declared.Kind.TheVariants.{Nothing, Number, Counter, Place}
 use Rattle.helpers.specs.Calls.{signature}
+use Rattle.bpf_model.specs.declared.context.Layout.{Layout}
+use Rattle.bpf_model.specs.Layouts.{context_len}
+use Rattle.reg_types.specs.declared.types.Terms.{Terms}
 use Rattle.reg_types.specs.declared.types.RegType.{RegType}
 use Rattle.reg_types.specs.declared.types.RegType.TheVariants.{Unset, Num, Const, Ctx, Stk}
 use Rattle.reg_types.specs.declared.types.Fact.{Fact}
@@ -78,10 +81,10 @@ abbrev pub stk_at : ℤ → Result RegType Flaw
 stk_at k = if int_le (negsuc 511) k && int_le k (pos 0) then Ok (Stk k) else Err OutOfRange
 
 -- an immediate added or taken away moves a pointer by z
-abbrev pub sum_type : Width → Source → Inst → ℤ → RegType → RegType → Result RegType Flaw
-sum_type Full Immediate i z (Ctx k) b = ctx_at (shifted k z 64)
-sum_type Full Immediate i z (Stk k) b = stk_at (k +ℤ z)
-sum_type w s i z a b = two_numbers i.dst i.src a b
+abbrev pub sum_type : Layout → Width → Source → Inst → ℤ → RegType → RegType → Result RegType Flaw
+sum_type layout Full Immediate i z (Ctx k) b = ctx_at (shifted k z (context_len layout))
+sum_type layout Full Immediate i z (Stk k) b = stk_at (k +ℤ z)
+sum_type layout w s i z a b = two_numbers i.dst i.src a b
 
 abbrev pub copied_type : ℕ → RegType → Result RegType Flaw
 copied_type src b = if is_unset b then Err (NotANumber src) else Ok b
@@ -96,13 +99,13 @@ move_type w Immediate i b = Ok (if is_plain i.offset then Const (low w (immediat
 move_type Full Register i b = if is_plain i.offset then copied_type i.src b else one_number i.src b
 move_type Narrow Register i b = one_number i.src b
 
-abbrev pub alu_type : Operator → Width → Source → Inst → RegType → RegType → Result RegType Flaw
-alu_type Sum w s i a b = sum_type w s i i.imm a b
-alu_type Difference w s i a b = sum_type w s i (neg_ℤ i.imm) a b
-alu_type Move w s i a b = move_type w s i b
-alu_type Negate w s i a b = one_number i.dst a
-alu_type SwapBytes w s i a b = one_number i.dst a
-alu_type op w s i a b = two_numbers i.dst i.src a b
+abbrev pub alu_type : Layout → Operator → Width → Source → Inst → RegType → RegType → Result RegType Flaw
+alu_type layout Sum w s i a b = sum_type layout w s i i.imm a b
+alu_type layout Difference w s i a b = sum_type layout w s i (neg_ℤ i.imm) a b
+alu_type layout Move w s i a b = move_type w s i b
+alu_type layout Negate w s i a b = one_number i.dst a
+alu_type layout SwapBytes w s i a b = one_number i.dst a
+alu_type layout op w s i a b = two_numbers i.dst i.src a b
 
 abbrev pub operand_type : Source → Width → Inst → List RegType → RegType
 operand_type Immediate w i types = Const (immediate w i.imm)
@@ -144,24 +147,24 @@ abbrev pub number_set : List Bool → ℕ → Option ℕ → Result RegType Flaw
 number_set set size None = Err OutOfRange
 number_set set size (Some at) = if all_in set at size then Ok Num else Err UnsetBytes
 
-abbrev pub load_type : List Bool → RegType → Inst → ℕ → Result RegType Flaw
-load_type set Unset i size = Err NotAPointer
-load_type set Num i size = Err NotAPointer
-load_type set (Const c) i size = Err NotAPointer
-load_type set (Ctx k) i size = number_at (shifted k i.offset (64 - size))
-load_type set (Stk k) i size = number_set set size (shifted (lowest k) i.offset (512 - size))
+abbrev pub load_type : Layout → List Bool → RegType → Inst → ℕ → Result RegType Flaw
+load_type layout set Unset i size = Err NotAPointer
+load_type layout set Num i size = Err NotAPointer
+load_type layout set (Const c) i size = Err NotAPointer
+load_type layout set (Ctx k) i size = number_at (shifted k i.offset (context_len layout - size))
+load_type layout set (Stk k) i size = number_set set size (shifted (lowest k) i.offset (512 - size))
 
--- a note is the type of a pointer kept in the stack, as a number: 0 for none, 1 to 65 for Ctx 0 to 64, and 66 to 578 for
+-- a note is the type of a pointer kept in the stack, as a number: 0 for none, 1 to 81 for Ctx 0 to 80, and 82 to 594 for
 -- Stk -512 to 0, which are all that pointers have
 abbrev pub note_of : RegType → ℕ
-note_of (Ctx k) = if nat_le k 64 then k + 1 else 0
-note_of (Stk k) = if nat_le (lowest k) 512 then 66 + lowest k else 0
+note_of (Ctx k) = if nat_le k 80 then k + 1 else 0
+note_of (Stk k) = if nat_le (lowest k) 512 then 82 + lowest k else 0
 note_of Unset = 0
 note_of Num = 0
 note_of (Const c) = 0
 
 abbrev pub noted_type : ℕ → RegType
-noted_type n = if n == 0 then Unset else (if nat_le n 65 then Ctx (n - 1) else Stk (pos (n - 66) +ℤ negsuc 511))
+noted_type n = if n == 0 then Unset else (if nat_le n 81 then Ctx (n - 1) else Stk (pos (n - 82) +ℤ negsuc 511))
 
 -- the type noted for the bytes that are read, or Unset
 abbrev pub note_in : List ℕ → ℕ → Option ℕ → RegType
@@ -179,8 +182,8 @@ abbrev pub kept_or : RegType → Result RegType Flaw → Result RegType Flaw
 kept_or t r = if is_unset t then r else Ok t
 
 -- a load that can find a pointer
-abbrev pub loaded_type : List Bool → List ℕ → RegType → Inst → ℕ → Result RegType Flaw
-loaded_type set notes base i size = kept_or (kept_type notes base i size) (load_type set base i size)
+abbrev pub loaded_type : Layout → List Bool → List ℕ → RegType → Inst → ℕ → Result RegType Flaw
+loaded_type layout set notes base i size = kept_or (kept_type notes base i size) (load_type layout set base i size)
 
 abbrev pub marks : List RegType → ℕ → Option ℕ → Result Effect Flaw
 marks types size None = Err OutOfRange
@@ -284,21 +287,21 @@ call_type declared types (Some kinds) =
 -- ---- one instruction
 
 -- what an instruction leaves; `upper` is the upper half of a wide load's number
-abbrev pub effect : ℕ → Fact → Inst → ℤ → Form → Result Effect Flaw
-effect declared f i upper (Arithmetic op w s) =
-    set_type f.types i.dst (alu_type op w s i (type_at f.types i.dst) (operand_type s w i f.types))
-effect declared f i upper Wide = set_type f.types i.dst (Ok (Const (cast_unsigned w32 upper * 2 ^ 32 + cast_unsigned w32 i.imm)))
-effect declared f i upper (Load size) = set_type f.types i.dst (loaded_type f.stack f.notes (type_at f.types i.src) i (bytes_in size))
-effect declared f i upper (LoadSigned size) = set_type f.types i.dst (load_type f.stack (type_at f.types i.src) i (bytes_in size))
-effect declared f i upper (StoreImmediate size) = store_type f.types (type_at f.types i.dst) i (bytes_in size)
-effect declared f i upper (StoreRegister size) =
+abbrev pub effect : Terms → Fact → Inst → ℤ → Form → Result Effect Flaw
+effect terms f i upper (Arithmetic op w s) =
+    set_type f.types i.dst (alu_type terms.layout op w s i (type_at f.types i.dst) (operand_type s w i f.types))
+effect terms f i upper Wide = set_type f.types i.dst (Ok (Const (cast_unsigned w32 upper * 2 ^ 32 + cast_unsigned w32 i.imm)))
+effect terms f i upper (Load size) = set_type f.types i.dst (loaded_type terms.layout f.stack f.notes (type_at f.types i.src) i (bytes_in size))
+effect terms f i upper (LoadSigned size) = set_type f.types i.dst (load_type terms.layout f.stack (type_at f.types i.src) i (bytes_in size))
+effect terms f i upper (StoreImmediate size) = store_type f.types (type_at f.types i.dst) i (bytes_in size)
+effect terms f i upper (StoreRegister size) =
     store_register f.types (type_at f.types i.dst) (type_at f.types i.src) i (bytes_in size)
-effect declared f i upper Goto = Ok (unmarked f.types)
-effect declared f i upper GotoLong = Ok (unmarked f.types)
-effect declared f i upper (Branch c w s) =
+effect terms f i upper Goto = Ok (unmarked f.types)
+effect terms f i upper GotoLong = Ok (unmarked f.types)
+effect terms f i upper (Branch c w s) =
     compared f.types i.dst i.src (type_at f.types i.dst) (operand_type s w i f.types)
-effect declared f i upper Call = call_type declared f.types (signature i.imm)
-effect declared f i upper Exit = exited f.types (type_at f.types 0)
+effect terms f i upper Call = call_type terms.mask f.types (signature i.imm)
+effect terms f i upper Exit = exited f.types (type_at f.types 0)
 
 -- the instruction goes on to the next one, and no unit follows
 abbrev pub falls_off : ℕ → ℕ → Form → Bool
@@ -309,6 +312,6 @@ falls_off count pc Wide = nat_le count (pc + 2)
 falls_off count pc form = nat_le count (pc + 1)
 
 -- what an instruction leaves, or the first flaw of it
-abbrev pub judged : ℕ → ℕ → ℕ → Fact → Inst → ℤ → Form → Result Effect Flaw
-judged count pc declared f i upper form =
-    if falls_off count pc form then Err FallsOff else effect declared f i upper form
+abbrev pub judged : ℕ → ℕ → Terms → Fact → Inst → ℤ → Form → Result Effect Flaw
+judged count pc terms f i upper form =
+    if falls_off count pc form then Err FallsOff else effect terms f i upper form

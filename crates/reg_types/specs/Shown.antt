@@ -22,12 +22,14 @@ use Rattle.bpf_decode.specs.declared.DecodeFault.TheVariants.{Length, OutOfMemor
 use Rattle.bpf_decode.specs.Faults.{IsRefusedFor, numbered as decode_numbered}
 use Rattle.flow_check.specs.declared.FlowFault.{FlowFault}
 use Rattle.flow_check.specs.Faults.{IsShown as IsFlowShown, numbered as flow_numbered}
+use Rattle.reg_types.specs.declared.types.Terms.{Terms}
 use Rattle.reg_types.specs.declared.types.Flaw.{Flaw}
 use Rattle.reg_types.specs.declared.types.Flaw.TheVariants.{FallsOff, WriteR10, NotANumber, NotAPointer, OutOfRange, UnsetBytes, StoreToContext, StorePointer, PointerArithmetic, NoSuchHelper, BadArgument, UndeclaredCounter}
 use Rattle.reg_types.specs.declared.refusal.TypeFault.{TypeFault}
 use Rattle.reg_types.specs.declared.refusal.Refusal.{Refusal}
 use Rattle.reg_types.specs.declared.refusal.Refusal.TheVariants.{Decode, Flow, «Type» as TypeRefusal, OutOfMemory}
 use Rattle.reg_types.specs.Refusals.{located}
+use Rattle.reg_types.specs.Terms.{terms_of}
 use Rattle.reg_types.specs.Inference.{first_flaw}
 
 -- it goes on to the next instruction, and no unit follows it
@@ -162,12 +164,12 @@ IsDecodeRefused bytes fault = IsRefusedFor bytes fault
 abbrev pub IsFlowRefused : List ℕ → FlowFault → Type 0
 IsFlowRefused bytes fault = (code : List ProgramUnit) × (units bytes ≡ Some code) × IsFlowShown code fault
 
--- what a refusal says of the bytes
-abbrev pub IsRefused : List ℕ → ℕ → Refusal → Type 0
-IsRefused bytes declared (Decode fault) = IsDecodeRefused bytes fault
-IsRefused bytes declared (Flow fault) = IsFlowRefused bytes fault
-IsRefused bytes declared (TypeRefusal fault) = IsTypeShown bytes fault
-IsRefused bytes declared OutOfMemory = ⊤
+-- what a refusal says of the program
+abbrev pub IsRefused : ProgramText → Refusal → Type 0
+IsRefused p (Decode fault) = IsDecodeRefused p.bytes fault
+IsRefused p (Flow fault) = IsFlowRefused p.bytes fault
+IsRefused p (TypeRefusal fault) = IsTypeShown p.bytes fault
+IsRefused p OutOfMemory = ⊤
 
 -- ---- which refusal it is
 
@@ -191,13 +193,13 @@ abbrev pub type_refusal : Option TypeFault → Option Refusal
 type_refusal None = None
 type_refusal (Some fault) = Some (TypeRefusal fault)
 
-abbrev pub code_refusal : ℕ → Option (List ProgramUnit) → Option Refusal
-code_refusal declared None = None
-code_refusal declared (Some us) = or_refused (flow_refusal (flow_fault us)) (type_refusal (first_flaw us declared))
+abbrev pub code_refusal : Terms → Option (List ProgramUnit) → Option Refusal
+code_refusal terms None = None
+code_refusal terms (Some us) = or_refused (flow_refusal (flow_fault us)) (type_refusal (first_flaw us terms))
 
 -- the first fault of decoding, else of the jumps, else of the types; None where the bytes are a program
-unfoldable pub refusal_of : List ℕ → ℕ → Option Refusal
-refusal_of bytes declared = or_refused (decode_refusal bytes) (code_refusal declared (units bytes))
+unfoldable pub refusal_of : ProgramText → Option Refusal
+refusal_of p = or_refused (decode_refusal p.bytes) (code_refusal (terms_of p) (units p.bytes))
 
 -- the refusal is this one, or memory was wanting
 abbrev pub IsRefusal : Option Refusal → Refusal → Type 0
@@ -206,11 +208,11 @@ IsRefusal wanted (Decode fault) = wanted ≡ Some (Decode fault)
 IsRefusal wanted (Flow fault) = wanted ≡ Some (Flow fault)
 IsRefusal wanted (TypeRefusal fault) = wanted ≡ Some (TypeRefusal fault)
 
--- the answer to bytes and a mask: the program where nothing is wrong, else the refusal; or memory was wanting
-abbrev pub IsVerdict : List ℕ → ℕ → Result ProgramText Refusal → Type 0
-IsVerdict bytes declared (Ok p) = (p ≡ record { bytes = bytes; declared = declared }) × (refusal_of bytes declared ≡ None)
-IsVerdict bytes declared (Err refusal) = IsRefusal (refusal_of bytes declared) refusal
+-- the answer to bytes, a mask and a layout: the program where nothing is wrong, else the refusal; or memory was wanting
+abbrev pub IsVerdict : ProgramText → Result ProgramText Refusal → Type 0
+IsVerdict asked (Ok p) = (p ≡ asked) × (refusal_of asked ≡ None)
+IsVerdict asked (Err refusal) = IsRefusal (refusal_of asked) refusal
 
--- two answers to the same bytes and mask are the same, unless memory was wanting
+-- two answers to the same bytes, mask and layout are the same, unless memory was wanting
 abbrev pub OneAnswer : Type 0
-OneAnswer = (bytes : List ℕ) (declared : ℕ) (a b : Result ProgramText Refusal) → IsVerdict bytes declared a → IsVerdict bytes declared b → a ≢ Err OutOfMemory → b ≢ Err OutOfMemory → a ≡ b
+OneAnswer = (asked : ProgramText) (a b : Result ProgramText Refusal) → IsVerdict asked a → IsVerdict asked b → a ≢ Err OutOfMemory → b ≢ Err OutOfMemory → a ≡ b

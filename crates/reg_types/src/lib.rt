@@ -10,6 +10,7 @@ mod tests;
 mod types;
 mod verifier;
 
+pub use bpf_model::context::Layout;
 pub use refusal::{Refusal, TypeFault};
 pub use types::{Fact, RegType};
 pub use verifier::{Program, law_of_one_answer, upper_at, verify};

@@ -12,10 +12,10 @@ pub fn note_of(value: RegType) -> u16
     ensures { result ≡ note_by value }
 {
     match value {
-        RegType::Ctx(k) => if k <= 64 { k as u16 + 1 } else { 0 },
+        RegType::Ctx(k) => if k <= 80 { k as u16 + 1 } else { 0 },
         RegType::Stk(k) => {
             let up = lowest_by(k);
-            if up <= 512 { 66 + up as u16 } else { 0 }
+            if up <= 512 { 82 + up as u16 } else { 0 }
         }
         RegType::Unset | RegType::Num | RegType::Const(_) => 0,
     }
@@ -27,10 +27,10 @@ pub fn noted_type(note: u16) -> RegType
 {
     if note == 0 {
         RegType::Unset
-    } else if note <= 65 {
+    } else if note <= 81 {
         RegType::Ctx(u32::from(note - 1))
     } else {
-        RegType::Stk(i32::from(note - 66) - 512)
+        RegType::Stk(i32::from(note - 82) - 512)
     }
 }
 

@@ -3,7 +3,7 @@
 ghost use Rattle.std.specs.Prelude.{◌≡◌, ℕ, ◌≤◌, ◌∷◌, [], IfOk, IfSome, OnOk, IsTrue, false, Some, None, replicate, slice_set};
 ghost use Rattle.reg_types.specs.Facts.{IsPlace, AreDistinct, stored};
 ghost use Rattle.reg_types.specs.Inference.{arrived};
-ghost use Rattle.reg_types.specs.Passing.{AreSame, IsJoined};
+ghost use Rattle.reg_types.specs.Passing.{AreSame, IsJoined, fact_if};
 
 use crate::types::{Fact, Stored};
 use std::alloc::{AllocError, Global};
@@ -62,20 +62,26 @@ impl Table {
         }
     }
 
-    /// The stored fact of a unit.
-    pub fn get(&self, at: u32) -> Option<Fact>
+    /// The stored fact of a unit, if it has one, becomes what is known here.
+    pub fn read_at(&self, at: u32, fact: &mut Fact) -> bool
         requires { at ≤ 512 }
-        ensures { result ≡ stored self.now at }
+        ensures { fact_if result fact.new ≡ stored self.now at }
     {
-        let k = self.place_of(at)?;
-        Some(self.facts[k].fact)
+        match self.place_of(at) {
+            Some(k) => {
+                *fact = self.facts[k].fact;
+                true
+            }
+            None => false,
+        }
     }
 
-    /// The stored fact of a unit, if it has one, takes in what is known where the unit is entered.
-    pub fn join_at(&mut self, at: u32, fact: &Fact) -> bool
+    /// The stored fact of a unit, if it has one, and what is known where the unit is entered become what both say.
+    pub fn join_at(&mut self, at: u32, fact: &mut Fact) -> bool
         requires { at ≤ 512 }
-        ensures joined { IsTrue result → IsJoined at fact.now (stored self.old) (stored self.new) }
-        ensures none { result ≡ false → (stored self.old at ≡ None) × (self.new ≡ self.old) }
+        ensures joined { IsTrue result → IsJoined at fact.old (stored self.old) (stored self.new) }
+        ensures both { IsTrue result → stored self.new at ≡ Some fact.new }
+        ensures none { result ≡ false → (stored self.old at ≡ None) × (self.new ≡ self.old) × (fact.new ≡ fact.old) }
     {
         let Some(k) = self.place_of(at) else {
             return false;
@@ -99,10 +105,12 @@ impl Table {
         requires { at ≤ 512 }
         ensures { OnOk result ((q : ℕ) → AreSame (stored self.new q) (arrived q fact.now at (stored self.old q))) }
     {
-        if self.join_at(at, fact) {
-            return Ok(());
+        if self.place_of(at).is_none() {
+            return self.push(at, fact);
         }
-        self.push(at, fact)
+        let mut entering = *fact;
+        let _stored = self.join_at(at, &mut entering);
+        Ok(())
     }
 
     /// The facts, in the order in which their units were entered.

@@ -9,10 +9,11 @@ ghost use Rattle.reg_types.specs.Inference.{join_fact, renoted};
 ghost use Rattle.reg_types.specs.Passing.{IsSame};
 
 use crate::notes::{join_notes, note_of, put_note};
+use bpf_model::context::Layout;
 use stack_map::StackMap;
 
 /// What is known of a register: nothing, that it holds a number or which one, or where it points: so many bytes from
-/// the context's first byte, 0 to 64, or from the stack's end, -512 to 0.
+/// the context's first byte, 0 to 80, or from the stack's end, -512 to 0.
 #[derive(Clone, Copy, Debug, PartialEq, Eq)]
 pub enum RegType {
     Unset,
@@ -22,9 +23,16 @@ pub enum RegType {
     Stk(i32),
 }
 
+/// What a program is loaded on: the counters that it declares, as a mask, and the layout of its contexts.
+#[derive(Clone, Copy, Debug, PartialEq, Eq)]
+pub struct Terms {
+    pub mask: u32,
+    pub layout: Layout,
+}
+
 /// What is known before an instruction: the types of registers 0 to 10, which bytes of the stack are set, and for each
 /// of the stack's 64 aligned places of eight bytes, from the lowest on, a note of the pointer that is kept there: 0 for
-/// none, 1 to 65 for `Ctx(0)` to `Ctx(64)`, and 66 to 578 for `Stk(-512)` to `Stk(0)`.
+/// none, 1 to 81 for `Ctx(0)` to `Ctx(80)`, and 82 to 594 for `Stk(-512)` to `Stk(0)`, for both layouts alike.
 #[derive(Clone, Copy, Debug, PartialEq, Eq)]
 pub struct Fact {
     pub types: [RegType; 11],
@@ -122,29 +130,22 @@ impl RegType {
         matches!(self, RegType::Num | RegType::Const(_))
     }
 
-    /// The least type above both.
-    pub fn join(self, other: RegType) -> RegType
-        ensures { result ≡ join_type self other }
+    /// Both become the least type above both. They are written only where they change.
+    #[inline(always)]
+    pub fn join(&mut self, other: &mut RegType)
+        ensures joined { self.new ≡ join_type self.old other.old }
+        ensures both { other.new ≡ self.new }
     {
-        match (self, other) {
-            (RegType::Num, RegType::Num | RegType::Const(_)) | (RegType::Const(_), RegType::Num) =>
-                RegType::Num,
-            (RegType::Const(c), RegType::Const(d)) => if c == d {
-                RegType::Const(c)
-            } else {
+        if self.is_nothing() && other.is_nothing() {
+            return;
+        }
+        if *self != *other {
+            *self = if self.counts() && other.counts() {
                 RegType::Num
-            },
-            (RegType::Ctx(k), RegType::Ctx(m)) => if k == m {
-                RegType::Ctx(k)
             } else {
                 RegType::Unset
-            },
-            (RegType::Stk(k), RegType::Stk(m)) => if k == m {
-                RegType::Stk(k)
-            } else {
-                RegType::Unset
-            },
-            _ => RegType::Unset,
+            };
+            *other = *self;
         }
     }
 }
@@ -164,15 +165,19 @@ impl Fact {
         }
     }
 
-    /// Keeps what the other fact says too.
-    pub fn join(&mut self, other: &Fact)
-        ensures { IsSame self.new (join_fact self.old other.now) }
+    /// Both become what both say.
+    pub fn join(&mut self, other: &mut Fact)
+        ensures joined { IsSame self.new (join_fact self.old other.old) }
+        ensures both { other.new ≡ self.new }
     {
-        for r in 0..11 {
-            self.types[r] = self.types[r].join(other.types[r]);
-        }
         self.stack.meet(&other.stack);
         join_notes(&mut self.notes, &other.notes);
+        for r in 0..11 {
+            self.types[r].join(&mut other.types[r]);
+        }
+        // Copied last, since a processor waits where it reads widely what it has just written word by word.
+        other.stack = self.stack;
+        other.notes = self.notes;
     }
 
     /// Becomes what is known after an instruction that writes these bytes, and has left these types.

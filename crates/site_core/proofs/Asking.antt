@@ -10,6 +10,8 @@ use Rattle.fuelling_point.specs.declared.kinds.State.{State}
 use Rattle.till_request.specs.declared.act.Request.{Request}
 use Rattle.till_request.specs.declared.act.Request.TheVariants as request
 use Rattle.till_request.specs.declared.act.Reply.{Reply}
+use Rattle.bpf_model.specs.declared.context.Layout.{Layout}
+use Rattle.bpf_model.specs.Layouts.{bytes_of}
 use Rattle.site_core.specs.declared.question.Kind.TheVariants as kind
 use Rattle.site_core.specs.declared.question.Question.{Question}
 use Rattle.site_core.specs.Limits.{ConfigValue}
@@ -121,39 +123,39 @@ preset-again config s n amount p at within ready = preset-some config s n amount
 price-again : (config : ConfigValue) (product price : ℕ) (b : Bool) (busy : Option State) → (is_within 1 product 8 && is_within 1 price 9999999) ≡ true → busy ≡ None → price_at busy product price config.price_slot ≡ Ok (record { kind = kind.Price; point = 0; product = product; asked = price; slot = config.price_slot })
 price-again config product price b busy within free = rw (within, free) refl
 
-by-request : (config other : ConfigValue) (s t : SiteState) (till moment : ℕ) (r : Request) (q was : Question) → question_of other t r ≡ Some was → routed_request config s r ≡ Some q → FitsContext s q → context s till moment q ≡ context t till moment was → question_of config s r ≡ Some q
-by-request config other s t till moment (request.Release n amount) q was h routed fits same =
+by-request : (layout : Layout) (config other : ConfigValue) (s t : SiteState) (till moment : ℕ) (r : Request) (q was : Question) → question_of other t r ≡ Some was → routed_request config s r ≡ Some q → FitsContext s q → bytes_of (context layout s till moment q) ≡ bytes_of (context layout t till moment was) → question_of config s r ≡ Some q
+by-request layout config other s t till moment (request.Release n amount) q was h routed fits same =
     let asked : Question = record { kind = kind.Release; point = n; product = 0; asked = amount; slot = (slots_of config n).0 } in
     let a : Asks other t n amount was = asks other t n amount was (at_number t.points n) refl (ok-is (release_question other t n amount) was h) in
     let to : Routes s n asked q = routes s n asked q (at_number s.points n) refl routed in
     let here : q.point ≡ n = ap (λ (x : Question). x.point) to.question in
     let there : was.point ≡ n = ap (λ (x : Question). x.point) a.question in
-    let ready : is_ready to.point.state ≡ true = same-ready s t till moment n n q was to.point a.point here to.is_point there a.is_point same ∙ a.ready in
-    let few : length to.point.unpaid ≡ length a.point.unpaid = same-unpaid s t till moment n n q was to.point a.point here to.is_point there a.is_point fits.unpaid a.room same in
+    let ready : is_ready to.point.state ≡ true = same-ready layout s t till moment n n q was to.point a.point here to.is_point there a.is_point same ∙ a.ready in
+    let few : length to.point.unpaid ≡ length a.point.unpaid = same-unpaid layout s t till moment n n q was to.point a.point here to.is_point there a.is_point fits.unpaid a.room same in
     let room : nat_lt (length to.point.unpaid) 2 ≡ true = lt-ltb (length to.point.unpaid) 2 (omega (arith, few, a.room)) in
     ap result_ok (release-again config s n amount to.point to.is_point a.within ready room) ∙ ap (λ x. Some x) (sym to.question)
-by-request config other s t till moment (request.Preset n amount) q was h routed fits same =
+by-request layout config other s t till moment (request.Preset n amount) q was h routed fits same =
     let asked : Question = record { kind = kind.Preset; point = n; product = 0; asked = amount; slot = (slots_of config n).1 } in
     let a : AsksPreset other t n amount was = asks-preset other t n amount was (at_number t.points n) refl (ok-is (preset_question other t n amount) was h) in
     let to : Routes s n asked q = routes s n asked q (at_number s.points n) refl routed in
     let here : q.point ≡ n = ap (λ (x : Question). x.point) to.question in
     let there : was.point ≡ n = ap (λ (x : Question). x.point) a.question in
-    let ready : is_ready to.point.state ≡ true = same-ready s t till moment n n q was to.point a.point here to.is_point there a.is_point same ∙ a.ready in
+    let ready : is_ready to.point.state ≡ true = same-ready layout s t till moment n n q was to.point a.point here to.is_point there a.is_point same ∙ a.ready in
     ap result_ok (preset-again config s n amount to.point to.is_point a.within ready) ∙ ap (λ x. Some x) (sym to.question)
-by-request config other s t till moment (request.Price product price) q was h routed fits same =
+by-request layout config other s t till moment (request.Price product price) q was h routed fits same =
     let a : AsksPrice other t product price was = asks-price other t product price was (ok-is (price_question other t product price) was h) in
-    let free : first_busy s ≡ None = same-busy s t till moment q was fits.busy a.free same in
+    let free : first_busy s ≡ None = same-busy layout s t till moment q was fits.busy a.free same in
     ap result_ok (price-again config product price true (first_busy s) a.within free) ∙ routed
-by-request config other s t till moment _ q was h routed fits same = absurd (none-some was h)
+by-request layout config other s t till moment _ q was h routed fits same = absurd (none-some was h)
 
-by-till : (config other : ConfigValue) (s t : SiteState) (till moment : ℕ) (r : Request) (q was : Question) (b c : Bool) → (if c then question_of other t r else None) ≡ Some was → (if b then routed_request config s r else None) ≡ Some q → FitsContext s q → context s till moment q ≡ context t till moment was → (if b then question_of config s r else None) ≡ Some q
-by-till config other s t till moment r q was true true h routed fits same = by-request config other s t till moment r q was h routed fits same
-by-till config other s t till moment r q was true false h routed fits same = absurd (none-some was h)
-by-till config other s t till moment r q was false c h routed fits same = absurd (none-some q routed)
+by-till : (layout : Layout) (config other : ConfigValue) (s t : SiteState) (till moment : ℕ) (r : Request) (q was : Question) (b c : Bool) → (if c then question_of other t r else None) ≡ Some was → (if b then routed_request config s r else None) ≡ Some q → FitsContext s q → bytes_of (context layout s till moment q) ≡ bytes_of (context layout t till moment was) → (if b then question_of config s r else None) ≡ Some q
+by-till layout config other s t till moment r q was true true h routed fits same = by-request layout config other s t till moment r q was h routed fits same
+by-till layout config other s t till moment r q was true false h routed fits same = absurd (none-some was h)
+by-till layout config other s t till moment r q was false c h routed fits same = absurd (none-some q routed)
 
-pub asked-again : (config other : ConfigValue) (s t : SiteState) (till moment : ℕ) (r : Request) (q was : Question) → asked_question other t till r ≡ Some was → routed config s till r ≡ Some q → FitsContext s q → context s till moment q ≡ context t till moment was → asked_question config s till r ≡ Some q
-asked-again config other s t till moment r q was h routed fits same =
-    by-till config other s t till moment r q was (is_till config till) (is_till other till) h routed fits same
+pub asked-again : (layout : Layout) (config other : ConfigValue) (s t : SiteState) (till moment : ℕ) (r : Request) (q was : Question) → asked_question other t till r ≡ Some was → routed config s till r ≡ Some q → FitsContext s q → bytes_of (context layout s till moment q) ≡ bytes_of (context layout t till moment was) → asked_question config s till r ≡ Some q
+asked-again layout config other s t till moment r q was h routed fits same =
+    by-till layout config other s t till moment r q was (is_till config till) (is_till other till) h routed fits same
 
 -- ---- what is asked fits the place where it is granted
 

@@ -1,5 +1,5 @@
 -- What two equal contexts say of the states that they were made in.
-use Rattle.std.proofs.Common.{◌≡◌, ℕ, ◌+◌, ◌/◌, ◌%◌, ◌<◌, Bool, true, false, List, [], ◌∷◌, ◌++◌, length, map, replicate, Option, Some, None, refl, ap, ◌∙◌, sym, arith, get_or, zero, suc, cond}
+use Rattle.std.proofs.Common.{◌≡◌, ℕ, ◌+◌, ◌%◌, ◌<◌, Bool, true, false, List, [], ◌∷◌, ◌++◌, length, take, map, replicate, Option, Some, None, refl, ap, ◌∙◌, sym, arith, get_or, zero, suc, cond}
 use Rattle.std.specs.Prelude.{◌==◌, ◌||◌, ◌-◌, count_by, find, option_map}
 use Rattle.std.proofs.lemmas.List.Recursion.{is_count_by}
 use Rattle.fuelling_point.specs.Table.{PointState}
@@ -9,9 +9,18 @@ use Rattle.fuelling_point.specs.States.{is_ready, is_busy, state_number}
 use Rattle.bpf_model.specs.declared.machine.PointView.{PointView}
 use Rattle.bpf_model.specs.declared.machine.View.{View}
 use Rattle.bpf_model.specs.Machine.{no_point}
+use Rattle.byteorder.specs.Endian.{little_number, little_bytes}
+use Rattle.byteorder.specs.Numbers.{little_number-reads_back}
+use Rattle.bpf_model.specs.declared.context.Layout.{Layout}
+use Rattle.bpf_model.specs.declared.context.Layout.TheVariants as layouts
+use Rattle.bpf_model.specs.declared.context.Context.{Context}
+use Rattle.bpf_model.specs.declared.context.Context.TheVariants as contexts
+use Rattle.bpf_model.specs.Layouts.{bytes_of, layout_of}
 use Rattle.site_core.specs.declared.question.Question.{Question}
-use Rattle.site_core.specs.State.{SiteState, at_number, busy_points, first_busy, price_of, seen, view_of}
-use Rattle.site_core.specs.Context.{context, packed, le4, kind_number, told, of_point, product_of}
+use Rattle.site_core.specs.State.{SiteState, at_number, busy_points, first_busy, seen, view_of}
+use Rattle.site_core.specs.declared.context.Field.{Field}
+use Rattle.site_core.specs.declared.context.Field.TheVariants.{Four, Eight}
+use Rattle.site_core.specs.Context.{context, fields, laid, told, of_point}
 
 -- ---- fields
 
@@ -19,37 +28,62 @@ use Rattle.site_core.specs.Context.{context, packed, le4, kind_number, told, of_
 four : List ℕ → ℕ → List ℕ
 four bytes at = get_or bytes at 0 ∷ get_or bytes (at + 1) 0 ∷ get_or bytes (at + 2) 0 ∷ get_or bytes (at + 3) 0 ∷ []
 
-le4-same : (x y : ℕ) → x < 4294967296 → y < 256 → le4 x ≡ le4 y → x ≡ y
-le4-same x y fits small h =
-    let first : x % 256 ≡ y % 256 = ap (λ bytes. get_or bytes 0 0) h in
-    let second : x / 256 % 256 ≡ y / 256 % 256 = ap (λ bytes. get_or bytes 1 0) h in
-    let third : x / 65536 % 256 ≡ y / 65536 % 256 = ap (λ bytes. get_or bytes 2 0) h in
-    let fourth : x / 16777216 % 256 ≡ y / 16777216 % 256 = ap (λ bytes. get_or bytes 3 0) h in
-    omega (arith, first, second, third, fourth)
+four-same : (x y : ℕ) → x < 4294967296 → y < 256 → little_bytes 4 x ≡ little_bytes 4 y → x ≡ y
+four-same x y fits small h =
+    let mine : little_number 4 (little_bytes 4 x ++ []) ≡ x = little_number-reads_back 4 x [] (omega (arith, fits)) in
+    let theirs : little_number 4 (little_bytes 4 y ++ []) ≡ y = little_number-reads_back 4 y [] (omega (arith, small)) in
+    sym mine ∙ ap (λ bytes. little_number 4 (bytes ++ [])) h ∙ theirs
 
-packed-state : (till point kind x nozzle product asked moment price busy unpaid slot cleared : ℕ) → get_or (packed till point kind x nozzle product asked moment price busy unpaid slot cleared) 12 0 ≡ x % 256
-unfolding packed
-packed-state till point kind x nozzle product asked moment price busy unpaid slot cleared = refl
+-- the state of the question's point stands at 12, the number of busy points at 44, and that of its transactions at 48
+laid-state : (a b c x : ℕ) (rest : List Field) → get_or (laid (Four a ∷ Four b ∷ Four c ∷ Four x ∷ rest)) 12 0 ≡ x % 256
+unfolding laid
+laid-state a b c x rest = refl
 
-packed-busy : (till point kind x nozzle product asked moment price busy unpaid slot cleared : ℕ) → four (packed till point kind x nozzle product asked moment price busy unpaid slot cleared) 44 ≡ le4 busy
-unfolding packed four
-packed-busy till point kind x nozzle product asked moment price busy unpaid slot cleared = refl
+laid-busy : (a b c d e f g h i x : ℕ) (rest : List Field) → four (laid (Four a ∷ Four b ∷ Four c ∷ Four d ∷ Four e ∷ Four f ∷ Eight g ∷ Eight h ∷ Four i ∷ Four x ∷ rest)) 44 ≡ little_bytes 4 x
+unfolding laid four
+laid-busy a b c d e f g h i x rest = refl
 
-packed-unpaid : (till point kind x nozzle product asked moment price busy unpaid slot cleared : ℕ) → four (packed till point kind x nozzle product asked moment price busy unpaid slot cleared) 48 ≡ le4 unpaid
-unfolding packed four
-packed-unpaid till point kind x nozzle product asked moment price busy unpaid slot cleared = refl
+laid-unpaid : (a b c d e f g h i j x : ℕ) (rest : List Field) → four (laid (Four a ∷ Four b ∷ Four c ∷ Four d ∷ Four e ∷ Four f ∷ Eight g ∷ Eight h ∷ Four i ∷ Four j ∷ Four x ∷ rest)) 48 ≡ little_bytes 4 x
+unfolding laid four
+laid-unpaid a b c d e f g h i j x rest = refl
 
-context-state : (s : SiteState) (till moment : ℕ) (q : Question) → get_or (context s till moment q) 12 0 ≡ of_point s q (λ p. state_number p.state) % 256
+context-bytes : (layout : Layout) (s : SiteState) (till moment : ℕ) (q : Question) → bytes_of (context layout s till moment q) ≡ laid (fields layout s till moment q)
 unfolding context
-context-state s till moment q = packed-state till q.point (kind_number q.kind) (of_point s q (λ p. state_number p.state)) (of_point s q (λ p. p.nozzle)) (product_of s q) q.asked moment (price_of s (product_of s q)) (busy_points s) (of_point s q (λ p. length p.unpaid)) q.slot s.cleared
+context-bytes layouts.One s till moment q = refl
+context-bytes layouts.Two s till moment q = refl
 
-context-busy : (s : SiteState) (till moment : ℕ) (q : Question) → four (context s till moment q) 44 ≡ le4 (busy_points s)
+pub context-layout : (layout : Layout) (s : SiteState) (till moment : ℕ) (q : Question) → layout_of (context layout s till moment q) ≡ layout
 unfolding context
-context-busy s till moment q = packed-busy till q.point (kind_number q.kind) (of_point s q (λ p. state_number p.state)) (of_point s q (λ p. p.nozzle)) (product_of s q) q.asked moment (price_of s (product_of s q)) (busy_points s) (of_point s q (λ p. length p.unpaid)) q.slot s.cleared
+context-layout layouts.One s till moment q = refl
+context-layout layouts.Two s till moment q = refl
 
-context-unpaid : (s : SiteState) (till moment : ℕ) (q : Question) → four (context s till moment q) 48 ≡ le4 (of_point s q (λ p. length p.unpaid))
-unfolding context
-context-unpaid s till moment q = packed-unpaid till q.point (kind_number q.kind) (of_point s q (λ p. state_number p.state)) (of_point s q (λ p. p.nozzle)) (product_of s q) q.asked moment (price_of s (product_of s q)) (busy_points s) (of_point s q (λ p. length p.unpaid)) q.slot s.cleared
+-- contexts of one layout and the same bytes
+pub same-context : (a b : Context) → layout_of a ≡ layout_of b → bytes_of a ≡ bytes_of b → a ≡ b
+same-context (contexts.One x) (contexts.One y) l h = ap (λ bytes. contexts.One bytes) h
+same-context (contexts.Two x) (contexts.Two y) l h = ap (λ bytes. contexts.Two bytes) h
+same-context (contexts.One x) (contexts.Two y) l h = absurd (cc)
+same-context (contexts.Two x) (contexts.One y) l h = absurd (cc)
+
+fields-state : (layout : Layout) (s : SiteState) (till moment : ℕ) (q : Question) → get_or (laid (fields layout s till moment q)) 12 0 ≡ of_point s q (λ p. state_number p.state) % 256
+fields-state layouts.One s till moment q = laid-state _ _ _ _ _
+fields-state layouts.Two s till moment q = laid-state _ _ _ _ _
+
+fields-busy : (layout : Layout) (s : SiteState) (till moment : ℕ) (q : Question) → four (laid (fields layout s till moment q)) 44 ≡ little_bytes 4 (busy_points s)
+fields-busy layouts.One s till moment q = laid-busy _ _ _ _ _ _ _ _ _ _ _
+fields-busy layouts.Two s till moment q = laid-busy _ _ _ _ _ _ _ _ _ _ _
+
+fields-unpaid : (layout : Layout) (s : SiteState) (till moment : ℕ) (q : Question) → four (laid (fields layout s till moment q)) 48 ≡ little_bytes 4 (of_point s q (λ p. length p.unpaid))
+fields-unpaid layouts.One s till moment q = laid-unpaid _ _ _ _ _ _ _ _ _ _ _ _
+fields-unpaid layouts.Two s till moment q = laid-unpaid _ _ _ _ _ _ _ _ _ _ _ _
+
+context-state : (layout : Layout) (s : SiteState) (till moment : ℕ) (q : Question) → get_or (bytes_of (context layout s till moment q)) 12 0 ≡ of_point s q (λ p. state_number p.state) % 256
+context-state layout s till moment q = ap (λ bytes. get_or bytes 12 0) (context-bytes layout s till moment q) ∙ fields-state layout s till moment q
+
+context-busy : (layout : Layout) (s : SiteState) (till moment : ℕ) (q : Question) → four (bytes_of (context layout s till moment q)) 44 ≡ little_bytes 4 (busy_points s)
+context-busy layout s till moment q = ap (λ bytes. four bytes 44) (context-bytes layout s till moment q) ∙ fields-busy layout s till moment q
+
+context-unpaid : (layout : Layout) (s : SiteState) (till moment : ℕ) (q : Question) → four (bytes_of (context layout s till moment q)) 48 ≡ little_bytes 4 (of_point s q (λ p. length p.unpaid))
+context-unpaid layout s till moment q = ap (λ bytes. four bytes 48) (context-bytes layout s till moment q) ∙ fields-unpaid layout s till moment q
 
 -- ---- the question's point
 
@@ -72,19 +106,19 @@ of-point : (s : SiteState) (q : Question) (n : ℕ) (p : PointState) (field : Po
 of-point s q n p field is at = ap (λ m. told (at_number s.points m) field) is ∙ ap (λ o. told o field) at
 
 -- both points are ready, or none
-pub same-ready : (s t : SiteState) (till moment n m : ℕ) (q r : Question) (p o : PointState) → q.point ≡ n → at_number s.points n ≡ Some p → r.point ≡ m → at_number t.points m ≡ Some o → context s till moment q ≡ context t till moment r → is_ready p.state ≡ is_ready o.state
-same-ready s t till moment n m q r p o at here there_at there same =
-    let mine : get_or (context s till moment q) 12 0 ≡ state_number p.state % 256 = context-state s till moment q ∙ ap (λ x. x % 256) (of-point s q n p (λ x. state_number x.state) at here) in
-    let theirs : get_or (context t till moment r) 12 0 ≡ state_number o.state % 256 = context-state t till moment r ∙ ap (λ x. x % 256) (of-point t r m o (λ x. state_number x.state) there_at there) in
+pub same-ready : (layout : Layout) (s t : SiteState) (till moment n m : ℕ) (q r : Question) (p o : PointState) → q.point ≡ n → at_number s.points n ≡ Some p → r.point ≡ m → at_number t.points m ≡ Some o → bytes_of (context layout s till moment q) ≡ bytes_of (context layout t till moment r) → is_ready p.state ≡ is_ready o.state
+same-ready layout s t till moment n m q r p o at here there_at there same =
+    let mine : get_or (bytes_of (context layout s till moment q)) 12 0 ≡ state_number p.state % 256 = context-state layout s till moment q ∙ ap (λ x. x % 256) (of-point s q n p (λ x. state_number x.state) at here) in
+    let theirs : get_or (bytes_of (context layout t till moment r)) 12 0 ≡ state_number o.state % 256 = context-state layout t till moment r ∙ ap (λ x. x % 256) (of-point t r m o (λ x. state_number x.state) there_at there) in
     by-byte p.state ∙ ap ready-byte (sym mine ∙ ap (λ bytes. get_or bytes 12 0) same ∙ theirs) ∙ sym (by-byte o.state)
 
 -- both have as many transactions
-pub same-unpaid : (s t : SiteState) (till moment n m : ℕ) (q r : Question) (p o : PointState) → q.point ≡ n → at_number s.points n ≡ Some p → r.point ≡ m → at_number t.points m ≡ Some o → of_point s q (λ x. length x.unpaid) < 4294967296 → length o.unpaid < 2 → context s till moment q ≡ context t till moment r → length p.unpaid ≡ length o.unpaid
-same-unpaid s t till moment n m q r p o at here there_at there fits few same =
+pub same-unpaid : (layout : Layout) (s t : SiteState) (till moment n m : ℕ) (q r : Question) (p o : PointState) → q.point ≡ n → at_number s.points n ≡ Some p → r.point ≡ m → at_number t.points m ≡ Some o → of_point s q (λ x. length x.unpaid) < 4294967296 → length o.unpaid < 2 → bytes_of (context layout s till moment q) ≡ bytes_of (context layout t till moment r) → length p.unpaid ≡ length o.unpaid
+same-unpaid layout s t till moment n m q r p o at here there_at there fits few same =
     let mine : of_point s q (λ x. length x.unpaid) ≡ length p.unpaid = of-point s q n p (λ x. length x.unpaid) at here in
     let theirs : of_point t r (λ x. length x.unpaid) ≡ length o.unpaid = of-point t r m o (λ x. length x.unpaid) there_at there in
-    let bytes : le4 (of_point s q (λ x. length x.unpaid)) ≡ le4 (of_point t r (λ x. length x.unpaid)) = sym (context-unpaid s till moment q) ∙ ap (λ l. four l 48) same ∙ context-unpaid t till moment r in
-    sym mine ∙ le4-same (of_point s q (λ x. length x.unpaid)) (of_point t r (λ x. length x.unpaid)) fits (omega (arith, theirs)) bytes ∙ theirs
+    let bytes : little_bytes 4 (of_point s q (λ x. length x.unpaid)) ≡ little_bytes 4 (of_point t r (λ x. length x.unpaid)) = sym (context-unpaid layout s till moment q) ∙ ap (λ l. four l 48) same ∙ context-unpaid layout t till moment r in
+    sym mine ∙ four-same (of_point s q (λ x. length x.unpaid)) (of_point t r (λ x. length x.unpaid)) fits (omega (arith, theirs)) bytes ∙ theirs
 
 -- ---- busy points
 
@@ -127,11 +161,11 @@ unfolding first_busy busy_points
 first-none s h = ap (option_map (λ (p : PointState). p.state)) (none-counted s.points (counted s.points ∙ h))
 
 -- no point is busy in either
-pub same-busy : (s t : SiteState) (till moment : ℕ) (q r : Question) → busy_points s < 4294967296 → first_busy t ≡ None → context s till moment q ≡ context t till moment r → first_busy s ≡ None
-same-busy s t till moment q r fits none same =
+pub same-busy : (layout : Layout) (s t : SiteState) (till moment : ℕ) (q r : Question) → busy_points s < 4294967296 → first_busy t ≡ None → bytes_of (context layout s till moment q) ≡ bytes_of (context layout t till moment r) → first_busy s ≡ None
+same-busy layout s t till moment q r fits none same =
     let zero_there : busy_points t ≡ 0 = none-busy t none in
-    let bytes : le4 (busy_points s) ≡ le4 (busy_points t) = sym (context-busy s till moment q) ∙ ap (λ l. four l 44) same ∙ context-busy t till moment r in
-    first-none s (le4-same (busy_points s) (busy_points t) fits (omega (arith, zero_there)) bytes ∙ zero_there)
+    let bytes : little_bytes 4 (busy_points s) ≡ little_bytes 4 (busy_points t) = sym (context-busy layout s till moment q) ∙ ap (λ l. four l 44) same ∙ context-busy layout t till moment r in
+    first-none s (four-same (busy_points s) (busy_points t) fits (omega (arith, zero_there)) bytes ∙ zero_there)
 
 -- ---- views
 
@@ -170,3 +204,24 @@ same-view s t now view mine theirs points prices =
     let many : now.count ≡ view.count =
     ap (λ (v : View). v.count) mine ∙ sym (view-there s) ∙ ap (λ (v : View). there v.points) (sym mine) ∙ ap there points ∙ ap (λ (v : View). there v.points) theirs ∙ view-there t ∙ ap (λ (v : View). v.count) (sym theirs) in
     λ i. record { count = many i; points = points i; prices = prices i }
+
+-- ---- the context that is laid
+
+pub shared-first : (s : SiteState) (till moment : ℕ) (q : Question) → take 13 (fields layouts.Two s till moment q) ≡ fields layouts.One s till moment q
+shared-first s till moment q = refl
+
+pub one-long : (s : SiteState) (till moment : ℕ) (q : Question) → 64 ≡ length (laid (fields layouts.One s till moment q))
+unfolding laid
+one-long s till moment q = refl
+
+pub two-long : (s : SiteState) (till moment : ℕ) (q : Question) → 80 ≡ length (laid (fields layouts.Two s till moment q))
+unfolding laid
+two-long s till moment q = refl
+
+pub laid-one-context : (s : SiteState) (till moment : ℕ) (q : Question) (bytes : List ℕ) → bytes ≡ laid (fields layouts.One s till moment q) → contexts.One bytes ≡ context layouts.One s till moment q
+unfolding context
+laid-one-context s till moment q bytes h = ap (λ l. contexts.One l) h
+
+pub laid-two-context : (s : SiteState) (till moment : ℕ) (q : Question) (bytes : List ℕ) → bytes ≡ laid (fields layouts.Two s till moment q) → contexts.Two bytes ≡ context layouts.Two s till moment q
+unfolding context
+laid-two-context s till moment q bytes h = ap (λ l. contexts.Two l) h

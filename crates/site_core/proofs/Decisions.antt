@@ -6,6 +6,7 @@ use Rattle.bpf_model.specs.Machine.{Counters}
 use Rattle.bpf_model.specs.Runs.{Ended}
 use Rattle.bpf_model.specs.Program.{outcome}
 use Rattle.program_slots.specs.Slots.{Version}
+use Rattle.bpf_model.specs.Layouts.{bytes_of}
 use Rattle.site_core.specs.declared.question.Question.{Question}
 use Rattle.site_core.specs.State.{SiteState, view_of}
 use Rattle.site_core.specs.Context.{context}
@@ -20,9 +21,9 @@ pub decided-none : (past : List Entry) (s : SiteState) (till moment : ℕ) (q : 
 unfolding decided
 decided-none past s till moment q none = rw (none, decided)
 
-pub decided-some : (past : List Entry) (s : SiteState) (till moment : ℕ) (q : Question) (v : Version) → in_force q.slot past ≡ Some v → decided past s till moment (Ok q) ≡ (let r : ℕ × Counters = ran (outcome v.program (context s till moment q) (view_of s) s.counters) s.counters in verdict s till moment q v r.0 r.1)
+pub decided-some : (past : List Entry) (s : SiteState) (till moment : ℕ) (q : Question) (v : Version) → in_force q.slot past ≡ Some v → decided past s till moment (Ok q) ≡ (let r : ℕ × Counters = ran (outcome v.program (bytes_of (context v.program.layout s till moment q)) (view_of s) s.counters) s.counters in verdict s till moment q v r.0 r.1)
 unfolding decided
 decided-some past s till moment q v some = rw (some, decided)
 
-pub decided-ended : (past : List Entry) (s : SiteState) (till moment : ℕ) (q : Question) (v : Version) (r : ℕ) (counters : Counters) → in_force q.slot past ≡ Some v → outcome v.program (context s till moment q) (view_of s) s.counters ≡ Ended r counters → decided past s till moment (Ok q) ≡ verdict s till moment q v r counters
+pub decided-ended : (past : List Entry) (s : SiteState) (till moment : ℕ) (q : Question) (v : Version) (r : ℕ) (counters : Counters) → in_force q.slot past ≡ Some v → outcome v.program (bytes_of (context v.program.layout s till moment q)) (view_of s) s.counters ≡ Ended r counters → decided past s till moment (Ok q) ≡ verdict s till moment q v r counters
 decided-ended past s till moment q v r counters some ended = decided-some past s till moment q v some ∙ ap (λ o. verdict s till moment q v (ran o s.counters).0 (ran o s.counters).1) ended

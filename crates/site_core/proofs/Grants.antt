@@ -40,12 +40,13 @@ bounded-with k s n p new b le one is last =
     record {
       last = All-set (λ (x : PointState). x.last ≤ k + 1) s.points (n - 1) new (omega arith) (λ j d h. let l : (get_or s.points j d).last ≤ k = b.last j d h in omega (arith, l));
       cleared = let c : s.cleared ≤ 999999999 * k = b.cleared in omega (arith, c);
+      clears = let c : s.clears ≤ k = b.clears in omega (arith, c);
     }
 
-pub verdict-deny : (s : SiteState) (till moment r : ℕ) (q : Question) (v : Version) (c : Counters) → (r == 0) ≡ true → verdict s till moment q v r c ≡ record { reply = denied v.number; run = Some (record { slot = q.slot; version = v.number; r0 = r; context = context s till moment q; counts = counts v.program.declared s.counters c }); after = record s { counters = c } }
+pub verdict-deny : (s : SiteState) (till moment r : ℕ) (q : Question) (v : Version) (c : Counters) → (r == 0) ≡ true → verdict s till moment q v r c ≡ record { reply = denied v.number; run = Some (record { slot = q.slot; version = v.number; r0 = r; context = context v.program.layout s till moment q; counts = counts v.program.declared s.counters c }); after = record s { counters = c } }
 unfolding verdict
 verdict-deny s till moment r q v c zero = rw (zero, verdict)
 
-pub verdict-grant : (s : SiteState) (till moment r g : ℕ) (q : Question) (v : Version) (c : Counters) (new : SiteState) → (r == 0) ≡ false → grant (record s { counters = c }) till q r ≡ (g, new) → verdict s till moment q v r c ≡ record { reply = reply.Granted g v.number; run = Some (record { slot = q.slot; version = v.number; r0 = r; context = context s till moment q; counts = counts v.program.declared s.counters c }); after = new }
+pub verdict-grant : (s : SiteState) (till moment r g : ℕ) (q : Question) (v : Version) (c : Counters) (new : SiteState) → (r == 0) ≡ false → grant (record s { counters = c }) till q r ≡ (g, new) → verdict s till moment q v r c ≡ record { reply = reply.Granted g v.number; run = Some (record { slot = q.slot; version = v.number; r0 = r; context = context v.program.layout s till moment q; counts = counts v.program.declared s.counters c }); after = new }
 unfolding verdict
 verdict-grant s till moment r g q v c new some given = rw (some, given, verdict)

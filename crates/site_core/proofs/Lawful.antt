@@ -14,6 +14,7 @@ use Rattle.bpf_model.specs.Machine.{Counters}
 use Rattle.bpf_model.specs.Runs.{Outcome, Ended, Halted, Running}
 use Rattle.bpf_model.specs.Program.{outcome}
 use Rattle.program_slots.specs.Slots.{Version}
+use Rattle.bpf_model.specs.Layouts.{bytes_of}
 use Rattle.site_core.specs.declared.question.Kind.TheVariants as kind
 use Rattle.site_core.specs.declared.question.Question.{Question}
 use Rattle.site_core.specs.Limits.{ConfigValue}
@@ -78,7 +79,7 @@ grant-release : (s : SiteState) (till n amount r slot : ℕ) (p : PointState) �
 unfolding grant
 grant-release s till n amount r slot p at = rw (at, grant)
 
-by-answer : (config : ConfigValue) (past : List Entry) (s : SiteState) (till moment n amount g v r : ℕ) (q : Question) (w : Version) (c : Counters) (zero : Bool) → (r == 0) ≡ zero → Asks config s n amount q → in_force q.slot past ≡ Some w → outcome w.program (context s till moment q) (view_of s) s.counters ≡ Ended r c → reply.Granted g v ≡ (verdict s till moment q w r c).reply → LawfulRelease config past s till moment n amount g v
+by-answer : (config : ConfigValue) (past : List Entry) (s : SiteState) (till moment n amount g v r : ℕ) (q : Question) (w : Version) (c : Counters) (zero : Bool) → (r == 0) ≡ zero → Asks config s n amount q → in_force q.slot past ≡ Some w → outcome w.program (bytes_of (context w.program.layout s till moment q)) (view_of s) s.counters ≡ Ended r c → reply.Granted g v ≡ (verdict s till moment q w r c).reply → LawfulRelease config past s till moment n amount g v
 by-answer config past s till moment n amount g v r q w c true zero a some exit h = absurd (let e = h ∙ verdict-denied s till moment q w r c zero in cc)
 by-answer config past s till moment n amount g v r q w c false zero a some exit h =
     let e : reply.Granted g v ≡ reply.Granted (grant (record s { counters = c }) till q r).0 w.number = h ∙ verdict-granted s till moment q w r c zero in
@@ -93,14 +94,14 @@ by-answer config past s till moment n amount g v r q w c false zero a some exit 
       number = number;
       r = r;
       counters = c;
-      exits = sym (ap (λ x. outcome w.program (context s till moment x) (view_of s) s.counters) a.question) ∙ exit;
+      exits = sym (ap (λ x. outcome w.program (bytes_of (context w.program.layout s till moment x)) (view_of s) s.counters) a.question) ∙ exit;
       allowed = eqb-false r 0 zero;
       ready = a.ready;
       room = a.room;
       grant = given ∙ ap (λ x. (grant (record s { counters = c }) till x r).0) a.question ∙ grant-release (record s { counters = c }) till n amount r (slots_of config n).0 a.point a.is_point;
     }
 
-by-outcome : (config : ConfigValue) (past : List Entry) (s : SiteState) (till moment n amount g v : ℕ) (q : Question) (w : Version) (o : Outcome) → Asks config s n amount q → in_force q.slot past ≡ Some w → outcome w.program (context s till moment q) (view_of s) s.counters ≡ o → reply.Granted g v ≡ (verdict s till moment q w (ran o s.counters).0 (ran o s.counters).1).reply → LawfulRelease config past s till moment n amount g v
+by-outcome : (config : ConfigValue) (past : List Entry) (s : SiteState) (till moment n amount g v : ℕ) (q : Question) (w : Version) (o : Outcome) → Asks config s n amount q → in_force q.slot past ≡ Some w → outcome w.program (bytes_of (context w.program.layout s till moment q)) (view_of s) s.counters ≡ o → reply.Granted g v ≡ (verdict s till moment q w (ran o s.counters).0 (ran o s.counters).1).reply → LawfulRelease config past s till moment n amount g v
 by-outcome config past s till moment n amount g v q w (Ended r c) a some is h = by-answer config past s till moment n amount g v r q w c (r == 0) refl a some is h
 by-outcome config past s till moment n amount g v q w Halted a some is h = absurd (let e = h ∙ verdict-denied s till moment q w 0 s.counters refl in cc)
 by-outcome config past s till moment n amount g v q w (Running t) a some is h = absurd (let e = h ∙ verdict-denied s till moment q w 0 s.counters refl in cc)
@@ -109,7 +110,7 @@ by-version : (config : ConfigValue) (past : List Entry) (s : SiteState) (till mo
 by-version config past s till moment n amount g v q None a none h =
     absurd (let e : reply.Granted g v ≡ no_program q.slot = h ∙ ap (λ (x : Effect). x.reply) (decided-none past s till moment q none) in cc)
 by-version config past s till moment n amount g v q (Some w) a some h =
-    by-outcome config past s till moment n amount g v q w (outcome w.program (context s till moment q) (view_of s) s.counters) a some refl
+    by-outcome config past s till moment n amount g v q w (outcome w.program (bytes_of (context w.program.layout s till moment q)) (view_of s) s.counters) a some refl
     (h ∙ ap (λ (x : Effect). x.reply) (decided-some past s till moment q w some))
 
 by-question : (config : ConfigValue) (past : List Entry) (s : SiteState) (till moment n amount g v : ℕ) (x : Result Question Reply) → release_question config s n amount ≡ x → reply.Granted g v ≡ (decided past s till moment x).reply → LawfulRelease config past s till moment n amount g v

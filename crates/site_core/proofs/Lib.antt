@@ -11,6 +11,7 @@ pub mod Grants
 pub mod Filling
 pub mod Pairs
 pub mod Counted
+pub mod Laying
 pub mod Contexts
 pub mod Asking
 pub mod StillAsked

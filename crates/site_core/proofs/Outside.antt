@@ -17,6 +17,7 @@ use Rattle.bpf_model.specs.Program.{outcome}
 use Rattle.till_request.specs.declared.act.Reply.{Reply}
 use Rattle.program_slots.specs.Value.{SlotsValue}
 use Rattle.program_slots.specs.Slots.{Version}
+use Rattle.bpf_model.specs.Layouts.{bytes_of}
 use Rattle.site_core.specs.declared.question.Question.{Question}
 use Rattle.site_core.specs.Limits.{ConfigValue}
 use Rattle.site_core.specs.State.{SiteState, at_number, view_of}
@@ -25,7 +26,7 @@ use Rattle.site_core.specs.History.{loaded, in_force, versions}
 use Rattle.site_core.specs.Decide.{Effect, replied, no_such_till, is_decided, is_till, decided, verdict, ran, grant, release_question, preset_question, price_question}
 use Rattle.site_core.specs.Step.{effect, asked, commanded, command_effect}
 use Rattle.site_core.specs.Keeping.{Agrees, Performs}
-use Rattle.site_core.specs.Draft.{DraftValue, basis_of, routed}
+use Rattle.site_core.specs.Draft.{context_for, DraftValue, basis_of, routed}
 use Rattle.site_core.specs.Asked.{asked_question, question_of, StillAsked, IsDraft, Drafts, basis_in}
 use Rattle.site_core.specs.declared.draft.Begin.TheVariants as begin
 use Rattle.site_core.specs.Outside.{run_now, reply_now, Begins, Begun, basis}
@@ -64,7 +65,7 @@ agrees-till slots past entry till r a is =
 -- a settled run is the step's
 pub performs-settled : (config : ConfigValue) (past : List Entry) (s new : SiteState) (slots : SlotsValue) (draft : DraftValue) (q : Question) (r0 : ℕ) (after : Counters) (reply : Reply) (run : Run) → StillAsked config s slots draft q → Agrees slots past → outcome draft.version.program draft.context draft.view s.counters ≡ Ended r0 after → verdict s draft.till draft.moment q draft.version r0 after ≡ record { reply = reply; run = Some run; after = new } → Performs config past s draft.moment (act.Till draft.till draft.request) (record { moment = draft.moment; act = act.Till draft.till draft.request; reply = reply; run = Some run }) new slots
 performs-settled config past s new slots draft q r0 after reply run still agrees ran settled =
-    let ended : outcome draft.version.program (context s draft.till draft.moment q) (view_of s) s.counters ≡ Ended r0 after =
+    let ended : outcome draft.version.program (bytes_of (context draft.version.program.layout s draft.till draft.moment q)) (view_of s) s.counters ≡ Ended r0 after =
     (λ i. outcome draft.version.program (still.context_is i) (still.view_is i) s.counters) ∙ ran in
     record {
       act_is = refl;
@@ -128,7 +129,7 @@ verdict-run s till moment q v r c false some =
 -- else the version in force is run
 pub runs-some : (config : ConfigValue) (past : List Entry) (s : SiteState) (till moment : ℕ) (r : Request) (q : Question) (v : Version) → asked_question config s till r ≡ Some q → in_force q.slot past ≡ Some v → IsSome (effect config past s moment (act.Till till r)).run
 runs-some config past s till moment r q v h some =
-    let x : ℕ × Counters = ran (outcome v.program (context s till moment q) (view_of s) s.counters) s.counters in
+    let x : ℕ × Counters = ran (outcome v.program (bytes_of (context v.program.layout s till moment q)) (view_of s) s.counters) s.counters in
     subst (λ (e : Effect). IsSome e.run) (sym (effect-decided config past s till moment r q h ∙ decided-some past s till moment q v some)) (verdict-run s till moment q v x.0 x.1 (x.0 == 0) refl)
 
 -- ---- a draft
@@ -165,7 +166,9 @@ begun config history s slots till moment r draft agrees d =
       runs = runs-some config (reverse history) s till moment r q draft.version d.asked some;
       fresh = rw routed_is (record {
         version = some;
-        context = (λ i. context s (d.till_is i) (d.moment_is i) q) ∙ sym d.context_is;
+        context =
+            ap (λ o. context_for o s draft.till draft.moment q) some
+            ∙ (λ i. bytes_of (context draft.version.program.layout s (d.till_is i) (d.moment_is i) q)) ∙ sym d.context_is;
         view = sym d.view_is;
         counters = λ k bit. ap (λ c. counter c k) d.counters_are;
       });

@@ -14,7 +14,7 @@ use Rattle.site_core.specs.Limits.{ConfigValue}
 use Rattle.till_request.specs.declared.act.Reply.TheVariants as reply
 use Rattle.site_core.specs.State.{SiteState, at_number, with_point}
 use Rattle.site_core.specs.Decide.{replied, no_such_point, slots_of, release_at, preset_at, release_question, preset_question}
-use Rattle.site_core.specs.Step.{commanded, command_effect, reported, event_effect, order_reply, event_reply, fault_reply, shown, show_reply}
+use Rattle.site_core.specs.Step.{clears_by, commanded, command_effect, reported, event_effect, order_reply, event_reply, fault_reply, shown, show_reply}
 
 pub at_number-within : {T : Type 0} → (items : List T) (n : ℕ) (d : T) → 1 ≤ n → n ≤ length items → at_number items n ≡ Some (get_or items (n - 1) d)
 at_number-within items n d one le =
@@ -49,7 +49,7 @@ err_effect : (s : SiteState) (n : ℕ) (a : Answer (Option ℕ)) (p new : PointS
 err_effect s n (Ok o) p new fault h = absurd (let e : Err fault ≡ Ok o.1 = h.0 in cc)
 err_effect s n (Err f) p new fault h = (let e : Err fault ≡ Err f = h.0 in let same : f ≡ fault = cc in ap (λ x. replied (fault_reply x) s) same, h.1)
 
-ok_effect : (s : SiteState) (n : ℕ) (a : Answer (Option ℕ)) (p new : PointState) (cleared : Option ℕ) → FollowsTable a p (Ok cleared) new → command_effect s n a ≡ replied reply.Done (record (with_point s n new) { cleared = s.cleared + unwrap_or cleared 0 })
+ok_effect : (s : SiteState) (n : ℕ) (a : Answer (Option ℕ)) (p new : PointState) (cleared : Option ℕ) → FollowsTable a p (Ok cleared) new → command_effect s n a ≡ replied reply.Done (record (with_point s n new) { cleared = s.cleared + unwrap_or cleared 0; clears = s.clears + clears_by cleared })
 ok_effect s n (Ok (q, given)) p new cleared h =
     let e : Ok cleared ≡ Ok given = h.0 in
     let same : cleared ≡ given = cc in
@@ -73,7 +73,7 @@ commanded-err s till n command p new fault one le is answers =
     commanded-some s till n command p (at_number-read s.points n p one le is) ∙ e.0 ∙ ap (λ x. replied (fault_reply fault) x) (same_points s n p is ∙ ap (λ x. with_point s n x) (sym e.1))
 
 -- a command that was taken
-pub commanded-ok : (s : SiteState) (till n : ℕ) (command : Command) (p new : PointState) (cleared : Option ℕ) → 1 ≤ n → n ≤ length s.points → p ≡ get_or s.points (n - 1) p → FollowsTable (command_step p till command) p (Ok cleared) new → commanded s till n command ≡ replied reply.Done (record (with_point s n new) { cleared = s.cleared + unwrap_or cleared 0 })
+pub commanded-ok : (s : SiteState) (till n : ℕ) (command : Command) (p new : PointState) (cleared : Option ℕ) → 1 ≤ n → n ≤ length s.points → p ≡ get_or s.points (n - 1) p → FollowsTable (command_step p till command) p (Ok cleared) new → commanded s till n command ≡ replied reply.Done (record (with_point s n new) { cleared = s.cleared + unwrap_or cleared 0; clears = s.clears + clears_by cleared })
 commanded-ok s till n command p new cleared one le is answers =
     commanded-some s till n command p (at_number-read s.points n p one le is) ∙ ok_effect s n (command_step p till command) p new cleared answers
 

@@ -1,5 +1,5 @@
 -- What a comparison found, as the definitions say it.
-use Rattle.std.proofs.Common.{◌≡◌, ℕ, Some, ◌∙◌}
+use Rattle.std.proofs.Common.{◌≡◌, ℕ, Some, ap, ◌∙◌}
 use Rattle.bpf_model.specs.Machine.{counter}
 use Rattle.program_slots.specs.Value.{SlotsValue}
 use Rattle.program_slots.specs.Slots.{version_in}
@@ -9,7 +9,8 @@ use Rattle.site_core.specs.declared.why.Why.TheVariants as why
 use Rattle.site_core.specs.Limits.{ConfigValue}
 use Rattle.site_core.specs.State.{SiteState, view_of}
 use Rattle.site_core.specs.Context.{context}
-use Rattle.site_core.specs.Draft.{DraftValue, routed}
+use Rattle.bpf_model.specs.Layouts.{bytes_of}
+use Rattle.site_core.specs.Draft.{context_for, DraftValue, routed}
 use Rattle.site_core.specs.Differences.{CounterDiffers, Differs}
 use Rattle.site_core.specs.Asked.{WasAsked, FitsContext, StillAsked, basis_in}
 use Rattle.site_core.proofs.Contexts.{same-view}
@@ -19,7 +20,7 @@ use Rattle.site_core.proofs.Asking.{asked-again, well-asked, till-there}
 pub record SameBasis (config : ConfigValue) (s : SiteState) (slots : SlotsValue) (draft : DraftValue) (q : Question) : Type 0 where
   pub routed_is : routed config s draft.till draft.request ≡ Some q
   pub version : version_in slots q.slot ≡ Some draft.version
-  pub context_is : context s draft.till draft.moment q ≡ draft.context
+  pub context_is : bytes_of (context draft.version.program.layout s draft.till draft.moment q) ≡ draft.context
   pub points : (view_of s).points ≡ draft.view.points
   pub prices : (view_of s).prices ≡ draft.view.prices
   pub was : WasAsked draft
@@ -28,14 +29,18 @@ view-is : (config : ConfigValue) (s : SiteState) (slots : SlotsValue) (draft : D
 view-is config s slots draft q same =
     same-view s same.was.state (view_of s) draft.view (λ _. view_of s) same.was.view_is same.points same.prices
 
+-- the context that the version of now would be given is the draft's
+pub given : (config : ConfigValue) (s : SiteState) (slots : SlotsValue) (draft : DraftValue) (q : Question) → SameBasis config s slots draft q → context_for (version_in slots q.slot) s draft.till draft.moment q ≡ draft.context
+given config s slots draft q same = ap (λ o. context_for o s draft.till draft.moment q) same.version ∙ same.context_is
+
 pub differs-counter : (config : ConfigValue) (s : SiteState) (slots : SlotsValue) (draft : DraftValue) (q : Question) (c value : ℕ) → SameBasis config s slots draft q → CounterDiffers draft.version.program.declared s.counters draft.counters c → value ≡ (counter s.counters c).0 → Differs (basis_in config s slots draft) draft (why.Counter c value)
 differs-counter config s slots draft q c value same differs is =
-    rw same.routed_is (same.version, same.context_is, view-is config s slots draft q same, differs, is)
+    rw same.routed_is (same.version, given config s slots draft q same, view-is config s slots draft q same, differs, is)
 
 pub still-asked : (config : ConfigValue) (s : SiteState) (slots : SlotsValue) (draft : DraftValue) (q : Question) → SameBasis config s slots draft q → FitsContext s q → Agrees draft.version.program.declared draft.counters s.counters → StillAsked config s slots draft q
 still-asked config s slots draft q same fits counters =
     let was : WasAsked draft = same.was in
-    let asked = asked-again config was.config s was.state draft.till draft.moment draft.request q was.question was.asked same.routed_is fits (same.context_is ∙ was.context_is) in
+    let asked = asked-again draft.version.program.layout config was.config s was.state draft.till draft.moment draft.request q was.question was.asked same.routed_is fits (same.context_is ∙ was.context_is) in
     record {
       asked = asked;
       well = well-asked config s draft.till draft.request q asked;
@@ -43,5 +48,5 @@ still-asked config s slots draft q same fits counters =
       version_is = same.version;
       context_is = same.context_is;
       view_is = view-is config s slots draft q same;
-      fresh = rw same.routed_is (record { version = same.version; context = same.context_is; view = view-is config s slots draft q same; counters = counters });
+      fresh = rw same.routed_is (record { version = same.version; context = given config s slots draft q same; view = view-is config s slots draft q same; counters = counters });
     }

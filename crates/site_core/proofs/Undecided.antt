@@ -20,6 +20,7 @@ use Rattle.till_request.specs.declared.act.Reply.TheVariants as reply
 use Rattle.bpf_model.specs.Machine.{Counters}
 use Rattle.bpf_model.specs.Program.{outcome}
 use Rattle.program_slots.specs.Slots.{Version}
+use Rattle.bpf_model.specs.Layouts.{bytes_of}
 use Rattle.site_core.specs.declared.question.Kind.TheVariants as kind
 use Rattle.site_core.specs.declared.question.Question.{Question}
 use Rattle.site_core.specs.Limits.{ConfigValue}
@@ -82,7 +83,7 @@ verdict-tells s till moment q v r c false some =
 version-tells : (past : List Entry) (s : SiteState) (till moment : ℕ) (q : Question) (o : Option Version) → in_force q.slot past ≡ o → Tells (decided past s till moment (Ok q))
 version-tells past s till moment q None none = subst Tells (sym (decided-none past s till moment q none)) refl
 version-tells past s till moment q (Some v) some =
-    let x : ℕ × Counters = ran (outcome v.program (context s till moment q) (view_of s) s.counters) s.counters in
+    let x : ℕ × Counters = ran (outcome v.program (bytes_of (context v.program.layout s till moment q)) (view_of s) s.counters) s.counters in
     subst Tells (sym (decided-some past s till moment q v some)) (verdict-tells s till moment q v x.0 x.1 (x.0 == 0) refl)
 
 decided-tells : (past : List Entry) (s : SiteState) (till moment : ℕ) (x : Result Question Reply) → refuses x ≡ false → Tells (decided past s till moment x)
@@ -148,4 +149,4 @@ load-no false more v = refl
 pub effect-tells : (config : ConfigValue) (past : List Entry) (s : SiteState) (moment : ℕ) (a : Act) → is_decided (effect config past s moment a).reply ≡ is_some (effect config past s moment a).run
 effect-tells config past s moment (act.Till till r) = till-tells config past s till moment r (is_till config till)
 effect-tells config past s moment (act.Dispenser n event) = reported-tells s n event (at_number s.points n) refl
-effect-tells config past s moment (act.Load slot mask bytes) = load-no (nat_le slot 15) (nat_lt (versions past) 4096) (versions past + 1)
+effect-tells config past s moment (act.Load slot mask layout bytes) = load-no (nat_le slot 15) (nat_lt (versions past) 4096) (versions past + 1)

@@ -4,6 +4,7 @@ use Rattle.std.specs.Result.{result_ok}
 use Rattle.fuelling_point.specs.Table.{PointState}
 use Rattle.till_request.specs.declared.act.Request.{Request}
 use Rattle.till_request.specs.declared.act.Request.TheVariants as request
+use Rattle.bpf_model.specs.Layouts.{bytes_of}
 use Rattle.program_slots.specs.Value.{SlotsValue}
 use Rattle.program_slots.specs.Slots.{version_in}
 use Rattle.site_core.specs.declared.question.Question.{Question}
@@ -32,7 +33,7 @@ pub record WasAsked (draft : DraftValue) : Type 0 where
   pub state : SiteState
   pub question : Question
   pub asked : asked_question config state draft.till draft.request ≡ Some question
-  pub context_is : draft.context ≡ context state draft.till draft.moment question
+  pub context_is : draft.context ≡ bytes_of (context draft.version.program.layout state draft.till draft.moment question)
   pub view_is : draft.view ≡ view_of state
 
 -- numbers of the context that have room in their four bytes
@@ -48,7 +49,7 @@ pub record IsDraft (config : ConfigValue) (s : SiteState) (slots : SlotsValue) (
   pub till_is : draft.till ≡ till
   pub moment_is : draft.moment ≡ moment
   pub request_is : draft.request ≡ request
-  pub context_is : draft.context ≡ context s till moment question
+  pub context_is : draft.context ≡ bytes_of (context draft.version.program.layout s till moment question)
   pub view_is : draft.view ≡ view_of s
   pub counters_are : draft.counters ≡ s.counters
 
@@ -69,7 +70,7 @@ pub record StillAsked (config : ConfigValue) (s : SiteState) (slots : SlotsValue
   pub well : WellAsked s q
   pub till : 0 < draft.till
   pub version_is : version_in slots q.slot ≡ Some draft.version
-  pub context_is : context s draft.till draft.moment q ≡ draft.context
+  pub context_is : bytes_of (context draft.version.program.layout s draft.till draft.moment q) ≡ draft.context
   pub view_is : view_of s ≡ draft.view
   pub fresh : IsFresh (basis_in config s slots draft) draft
 

@@ -7,3 +7,4 @@ use Rattle.site_core.specs.State.{SiteState}
 pub record Bounded (n : ℕ) (s : SiteState) : Type 0 where
   pub last : All (λ (p : PointState). p.last ≤ n) s.points
   pub cleared : s.cleared ≤ 999999999 * n
+  pub clears : s.clears ≤ n

@@ -1,24 +1,23 @@
--- Definitions: the 64 bytes that a program is given, little-endian (this profile).
-use Rattle.std.specs.Prelude.{ℕ, ◌/◌, ◌%◌, List, [], ◌∷◌, ◌++◌, length, Option, Some, None}
+-- Definitions: the bytes that a program is given, as a table of fields (this profile).
+use Rattle.std.specs.Prelude.{ℕ, List, [], ◌∷◌, ◌++◌, length, Option, Some, None}
+use Rattle.byteorder.specs.Endian.{little_bytes}
 use Rattle.fuelling_point.specs.Table.{PointState}
 use Rattle.fuelling_point.specs.States.{state_number}
+use Rattle.bpf_model.specs.declared.context.Layout.{Layout}
+use Rattle.bpf_model.specs.declared.context.Layout.TheVariants as layouts
+use Rattle.bpf_model.specs.declared.context.Context.{Context}
+use Rattle.bpf_model.specs.declared.context.Context.TheVariants as contexts
 use Rattle.site_core.specs.declared.question.Kind.{Kind}
 use Rattle.site_core.specs.declared.question.Kind.TheVariants.{Release, Preset, Price}
 use Rattle.site_core.specs.declared.question.Question.{Question}
-use Rattle.site_core.specs.State.{SiteState, at_number, price_of, busy_points}
+use Rattle.site_core.specs.declared.context.Field.{Field}
+use Rattle.site_core.specs.declared.context.Field.TheVariants.{Four, Eight}
+use Rattle.site_core.specs.State.{SiteState, at_number, price_of, busy_points, open_points}
 
 abbrev pub kind_number : Kind → ℕ
 kind_number Release = 1
 kind_number Preset = 2
 kind_number Price = 3
-
--- four bytes, the least first
-abbrev pub le4 : ℕ → List ℕ
-le4 x = x % 256 ∷ x / 256 % 256 ∷ x / 65536 % 256 ∷ x / 16777216 % 256 ∷ []
-
--- eight bytes, the least first
-abbrev pub le8 : ℕ → List ℕ
-le8 x = le4 x ++ le4 (x / 4294967296)
 
 -- a field of a point, or 0
 abbrev pub told : Option PointState → (PointState → ℕ) → ℕ
@@ -33,12 +32,47 @@ of_point s q field = told (at_number s.points q.point) field
 abbrev pub product_of : SiteState → Question → ℕ
 product_of s q = elim q.kind [ Price ↦ q.product | _ ↦ of_point s q (λ p. p.nozzle) ]
 
--- the fields in their order: each stands at its place in the 64 bytes, with its size of 4 or 8
-unfoldable pub packed : ℕ → ℕ → ℕ → ℕ → ℕ → ℕ → ℕ → ℕ → ℕ → ℕ → ℕ → ℕ → ℕ → List ℕ
-packed till point kind state nozzle product asked moment price busy unpaid slot cleared =
-    le4 till ++ le4 point ++ le4 kind ++ le4 state ++ le4 nozzle ++ le4 product ++ le8 asked ++ le8 moment ++ le4 price ++ le4 busy ++ le4 unpaid ++ le4 slot ++ le8 cleared
+-- the fields that both layouts have, in their order: 64 bytes
+abbrev pub shared_fields : SiteState → ℕ → ℕ → Question → List Field
+shared_fields s till moment q =
+    Four till
+    ∷ Four q.point
+    ∷ Four (kind_number q.kind)
+    ∷ Four (of_point s q (λ p. state_number p.state))
+    ∷ Four (of_point s q (λ p. p.nozzle))
+    ∷ Four (product_of s q)
+    ∷ Eight q.asked
+    ∷ Eight moment
+    ∷ Four (price_of s (product_of s q))
+    ∷ Four (busy_points s)
+    ∷ Four (of_point s q (λ p. length p.unpaid))
+    ∷ Four q.slot
+    ∷ Eight s.cleared
+    ∷ []
 
-unfoldable pub context : SiteState → ℕ → ℕ → Question → List ℕ
-context s till moment q =
-    packed till q.point (kind_number q.kind) (of_point s q (λ p. state_number p.state)) (of_point s q (λ p. p.nozzle)) (product_of s q) q.asked moment
-    (price_of s (product_of s q)) (busy_points s) (of_point s q (λ p. length p.unpaid)) q.slot s.cleared
+-- those that the second layout has behind them: 16 bytes
+abbrev pub further_fields : SiteState → List Field
+further_fields s = Eight s.clears ∷ Four (open_points s) ∷ Four 0 ∷ []
+
+abbrev pub fields : Layout → SiteState → ℕ → ℕ → Question → List Field
+fields layouts.One s till moment q = shared_fields s till moment q
+fields layouts.Two s till moment q = shared_fields s till moment q ++ further_fields s
+
+-- how many bytes a field has
+abbrev pub size_of : Field → ℕ
+size_of (Four x) = 4
+size_of (Eight x) = 8
+
+-- a field's bytes, the least first
+abbrev pub field_bytes : Field → List ℕ
+field_bytes (Four x) = little_bytes 4 x
+field_bytes (Eight x) = little_bytes 8 x
+
+-- the bytes of fields, one field behind another
+unfoldable pub laid : List Field → List ℕ
+laid [] = []
+laid (field ∷ rest) = field_bytes field ++ laid rest
+
+unfoldable pub context : Layout → SiteState → ℕ → ℕ → Question → Context
+context layouts.One s till moment q = contexts.One (laid (fields layouts.One s till moment q))
+context layouts.Two s till moment q = contexts.Two (laid (fields layouts.Two s till moment q))

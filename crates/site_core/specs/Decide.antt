@@ -13,6 +13,7 @@ use Rattle.till_request.specs.declared.act.Reply.TheVariants as reply
 use Rattle.bpf_model.specs.Machine.{Counters, counter}
 use Rattle.bpf_model.specs.Runs.{Outcome, Ended}
 use Rattle.bpf_model.specs.Program.{outcome}
+use Rattle.bpf_model.specs.Layouts.{bytes_of}
 use Rattle.site_core.specs.Limits.{ConfigValue}
 use Rattle.site_core.specs.State.{SiteState, at_number, with_point, first_busy, view_of}
 use Rattle.site_core.specs.Context.{context}
@@ -159,7 +160,7 @@ counts mask before after = map (λ c. count_of mask before after c) (range_with_
 unfoldable pub verdict : SiteState → ℕ → ℕ → Question → Version → ℕ → Counters → Effect
 verdict s till moment q v r counters =
     let counted : SiteState = record s { counters = counters } in
-    let run : Run = record { slot = q.slot; version = v.number; r0 = r; context = context s till moment q; counts = counts v.program.declared s.counters counters } in
+    let run : Run = record { slot = q.slot; version = v.number; r0 = r; context = context v.program.layout s till moment q; counts = counts v.program.declared s.counters counters } in
     if r == 0 then record { reply = denied v.number; run = Some run; after = counted }
     else
     (let g : ℕ × SiteState = grant counted till q r in
@@ -177,6 +178,6 @@ decided past s till moment (Ok q) =
     elim (in_force q.slot past) [
       | None ↦ replied (no_program q.slot) s
       | Some v ↦
-          let r : ℕ × Counters = ran (outcome v.program (context s till moment q) (view_of s) s.counters) s.counters in
+          let r : ℕ × Counters = ran (outcome v.program (bytes_of (context v.program.layout s till moment q)) (view_of s) s.counters) s.counters in
           verdict s till moment q v r.0 r.1
     ]

@@ -6,6 +6,7 @@ use Rattle.bpf_model.specs.declared.machine.View.{View}
 use Rattle.bpf_model.specs.Machine.{Counters}
 use Rattle.bpf_model.specs.Runs.{Ended}
 use Rattle.bpf_model.specs.Program.{outcome}
+use Rattle.bpf_model.specs.Layouts.{bytes_of}
 use Rattle.program_slots.specs.Slots.{Version}
 use Rattle.site_core.specs.declared.question.Kind.TheVariants.{Release, Preset, Price}
 use Rattle.site_core.specs.declared.question.Question.{Question}
@@ -52,13 +53,19 @@ routed_request config s _ = None
 abbrev pub routed : ConfigValue → SiteState → ℕ → Request → Option Question
 routed config s till request = if is_till config till then routed_request config s request else None
 
--- What a run would be made on now. There is no version where the till or the point isn't there.
+-- What a run would be made on now: the context is of the layout of the version in the slot. There is no version where
+-- the till or the point isn't there.
 pub record Basis : Type 0 where
   pub version : Option Version
   pub context : List ℕ
   pub view : View
   pub counters : Counters
 
+-- the bytes of the context that this version would be given; none without a version
+abbrev pub context_for : Option Version → SiteState → ℕ → ℕ → Question → List ℕ
+context_for None s till moment q = []
+context_for (Some v) s till moment q = bytes_of (context v.program.layout s till moment q)
+
 abbrev pub basis_of : (ℕ → Option Version) → SiteState → ℕ → ℕ → Option Question → Basis
 basis_of installed s till moment None = record { version = None; context = []; view = view_of s; counters = s.counters }
-basis_of installed s till moment (Some q) = record { version = installed q.slot; context = context s till moment q; view = view_of s; counters = s.counters }
+basis_of installed s till moment (Some q) = record { version = installed q.slot; context = context_for (installed q.slot) s till moment q; view = view_of s; counters = s.counters }

@@ -5,12 +5,12 @@ use Rattle.till_request.specs.declared.act.Act.{Act}
 use Rattle.till_request.specs.declared.act.Act.TheVariants as act
 use Rattle.till_request.specs.declared.act.Reply.{Reply}
 use Rattle.till_request.specs.declared.act.Reply.TheVariants as reply
-use Rattle.bpf_model.specs.Program.{ProgramText}
+use Rattle.bpf_model.specs.Program.{ProgramText, as_loaded}
 use Rattle.program_slots.specs.Slots.{Version}
 
 -- A load that was answered with a version: its slot and its program.
 abbrev pub loaded : Act → Reply → Option (ℕ × ProgramText)
-loaded (act.Load slot mask bytes) (reply.Version v) = Some (slot, record { bytes = bytes; declared = mask })
+loaded (act.Load slot mask layout bytes) (reply.Version v) = Some (slot, as_loaded bytes mask layout)
 loaded _ _ = None
 
 -- how many such loads there are

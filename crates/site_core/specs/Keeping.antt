@@ -46,7 +46,7 @@ pub record Performs (config : ConfigValue) (past : List Entry) (old : SiteState)
 -- a load was answered as the step says, and the slots agree once its entry stands
 pub record Loads (old : SlotsValue) (slot : ℕ) (program : ProgramText) (past : List Entry) (reply : Reply) (new : SlotsValue) : Type 0 where
   pub reply_is : load_reply slot past ≡ reply
-  pub agrees : (entry : Entry) → entry.act ≡ act.Load slot program.declared program.bytes → entry.reply ≡ reply → Agrees new (entry ∷ past)
+  pub agrees : (entry : Entry) → entry.act ≡ act.Load slot program.declared program.layout program.bytes → entry.reply ≡ reply → Agrees new (entry ∷ past)
 
 -- the entry that a performed event makes
 abbrev pub made : List Entry → ℕ → Performed → Entry

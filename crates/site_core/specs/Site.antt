@@ -39,7 +39,7 @@ new_site config = record { config = config; history = []; state = opening_state 
 abbrev pub act_of : What → Act
 act_of (what.Till till request) = act.Till till request
 act_of (what.Dispenser point event) = act.Dispenser point event
-act_of (what.Load slot program) = act.Load slot (arc_value program).declared (arc_value program).bytes
+act_of (what.Load slot program) = act.Load slot (arc_value program).declared (arc_value program).layout (arc_value program).bytes
 
 -- the entry that an act of a pass makes at a moment
 unfoldable pub entered : SiteValue → ℕ → ℕ → Act → Entry

@@ -8,16 +8,18 @@ use Rattle.bpf_model.specs.declared.machine.View.{View}
 use Rattle.bpf_model.specs.Machine.{Counters, counter, no_point}
 use Rattle.site_core.specs.Limits.{ConfigValue}
 
--- Points and products are numbered from 1, counters from 0. Prices are in thousandths, the cleared total is in cents.
+-- Points and products are numbered from 1, counters from 0. Prices are in thousandths, the cleared total is in cents;
+-- `clears` is how many transactions were ever cleared.
 pub record SiteState : Type 0 where
   pub points : List PointState
   pub prices : List ℕ
   pub counters : Counters
   pub cleared : ℕ
+  pub clears : ℕ
 
 -- the state that a configuration names: each point closed, its prices and counters, and nothing cleared
 abbrev pub opening_state : ConfigValue → SiteState
-opening_state config = record { points = map (λ _. fresh_point) config.points; prices = config.prices; counters = config.counters; cleared = 0 }
+opening_state config = record { points = map (λ _. fresh_point) config.points; prices = config.prices; counters = config.counters; cleared = 0; clears = 0 }
 
 -- what stands at a number counted from 1
 abbrev pub at_number : {T : Type 0} → List T → ℕ → Option T
@@ -34,7 +36,11 @@ price_of s product = if nat_le 1 product then slice_index s.prices (product - 1)
 unfoldable pub busy_points : SiteState → ℕ
 busy_points s = count_by (λ (p : PointState). is_busy p.state) s.points
 
--- the state of the first such point
+-- how many points are in states 3 to 9
+unfoldable pub open_points : SiteState → ℕ
+open_points s = count_by (λ (p : PointState). nat_le 3 (state_number p.state)) s.points
+
+-- the state of the first point that is in one of states 5 to 9
 unfoldable pub first_busy : SiteState → Option State
 first_busy s = option_map (λ (p : PointState). p.state) (find (λ (p : PointState). is_busy p.state) s.points)
 

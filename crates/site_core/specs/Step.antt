@@ -36,10 +36,15 @@ shown p = reply.Point (state_number p.state) p.nozzle p.amount p.volume p.limit 
 unfoldable pub show_reply : SiteState → ℕ → Reply
 show_reply s n = elim (at_number s.points n) [ None ↦ no_such_point | Some p ↦ shown p ]
 
--- what a point answered to a till's command; what a Clear clears joins the total
+-- one for an amount that was cleared
+abbrev pub clears_by : Option ℕ → ℕ
+clears_by None = 0
+clears_by (Some amount) = 1
+
+-- what a point answered to a till's command; what a Clear clears joins the total, and is counted
 abbrev pub command_effect : SiteState → ℕ → Answer (Option ℕ) → Effect
 command_effect s n (Err fault) = replied (fault_reply fault) s
-command_effect s n (Ok (point, cleared)) = replied reply.Done (record (with_point s n point) { cleared = s.cleared + unwrap_or cleared 0 })
+command_effect s n (Ok (point, cleared)) = replied reply.Done (record (with_point s n point) { cleared = s.cleared + unwrap_or cleared 0; clears = s.clears + clears_by cleared })
 
 -- a till's command that needs no decision
 unfoldable pub commanded : SiteState → ℕ → ℕ → Command → Effect
@@ -89,7 +94,7 @@ abbrev pub effect : ConfigValue → List Entry → SiteState → ℕ → Act →
 effect config past s moment (act.Till till request) =
     if is_till config till then asked config past s till moment request else replied no_such_till s
 effect config past s moment (act.Dispenser n event) = reported s n event
-effect config past s moment (act.Load slot mask bytes) = replied (load_reply slot past) s
+effect config past s moment (act.Load slot mask layout bytes) = replied (load_reply slot past) s
 
 -- the moment that is entered: a till's request has its own, all else has 0
 abbrev pub entered_moment : Act → ℕ → ℕ

@@ -1,6 +1,6 @@
 //! The first places at which what a run is made on differs.
 
-ghost use Rattle.std.specs.Prelude.{◌≡◌, ◌≢◌, ◌↔◌, ◌<◌, IsTrue, MatchOption, MatchResult, Some, None, option_map};
+ghost use Rattle.std.specs.Prelude.{◌≡◌, ◌≢◌, ◌↔◌, ◌<◌, IsTrue, ◌^◌, length, MatchOption, MatchResult, Some, None, option_map};
 ghost use Rattle.std.specs.Arc.{arc_value};
 ghost use Rattle.interp.specs.Depends.{Agrees};
 ghost use Rattle.program_slots.specs.Slots.{Version, version_in};
@@ -23,10 +23,12 @@ pub fn look_up(slots: &Slots, slot: u32) -> Option<(u32, &Arc<Program>)>
     Some((number, program))
 }
 
-pub fn first_byte(a: &[u8; 64], b: &[u8; 64]) -> Option<u32>
+pub fn first_byte(a: &[u8], b: &[u8]) -> Option<u32>
+    requires many { length a.now ≡ length b.now }
+    requires small { length a.now < 2 ^ 32 }
     ensures { MatchOption result (a.now ≡ b.now) (FirstDiffers a.now b.now) }
 {
-    for i in 0..64 {
+    for i in 0..a.len() {
         if a[i] != b[i] {
             return Some(i as u32);
         }
@@ -83,7 +85,7 @@ pub fn first_counter(declared: u32, a: &Counters, b: &Counters) -> Option<u32>
 fn is_same_program(a: &Program, b: &Program) -> bool
     ensures { IsTrue result ↔ (a.now ≡ b.now) }
 {
-    a.declared() == b.declared() && a.bytes() == b.bytes()
+    a.declared() == b.declared() && a.layout() == b.layout() && a.bytes() == b.bytes()
 }
 
 /// Whether this is the version in the slot; the error is the number that is in it now.

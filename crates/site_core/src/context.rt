@@ -1,9 +1,40 @@
-//! The 64 bytes that a program is given.
+//! The bytes that a program is given.
 
-ghost use Rattle.std.specs.Prelude.{◌≡◌};
-ghost use Rattle.site_core.specs.Context.{packed, le4, le8, kind_number};
+ghost use Rattle.std.specs.Prelude.{◌≡◌, length};
+ghost use Rattle.site_core.specs.Context.{kind_number, size_of, field_bytes, laid};
 
 use crate::question::Kind;
+use byteorder::{ByteOrder, LittleEndian};
+
+/// A field of a context, of four or eight bytes.
+#[derive(Clone, Copy, Debug, PartialEq, Eq)]
+pub enum Field {
+    Four(u32),
+    Eight(u64),
+}
+
+impl Field {
+    /// How many bytes it has.
+    fn size(self) -> usize
+        ensures { result ≡ size_of self }
+    {
+        match self {
+            Field::Four(_) => 4,
+            Field::Eight(_) => 8,
+        }
+    }
+
+    /// Puts its bytes, the least first, into bytes that have room for just these.
+    fn put(self, bytes: &mut [u8])
+        requires { length bytes.old ≡ size_of self }
+        ensures { bytes.new ≡ field_bytes self }
+    {
+        match self {
+            Field::Four(x) => LittleEndian::write_u32(bytes, x),
+            Field::Eight(x) => LittleEndian::write_u64(bytes, x),
+        }
+    }
+}
 
 /// The number of a kind in the context.
 pub fn kind_number(kind: Kind) -> u32
@@ -16,66 +47,15 @@ pub fn kind_number(kind: Kind) -> u32
     }
 }
 
-/// The fields of a context, the least byte of each first.
-pub fn pack(
-    till: u32,
-    point: u32,
-    kind: u32,
-    state: u32,
-    nozzle: u32,
-    product: u32,
-    asked: u64,
-    moment: u64,
-    price: u32,
-    busy: u32,
-    unpaid: u32,
-    slot: u32,
-    cleared: u64,
-) -> [u8; 64]
-    ensures { result ≡ packed till point kind state nozzle product asked moment price busy unpaid slot cleared }
+/// Lays the fields into bytes that have room for just these, one field behind another.
+pub fn lay(fields: &[Field], bytes: &mut [u8])
+    requires { length bytes.old ≡ length (laid fields.now) }
+    ensures { bytes.new ≡ laid fields.now }
 {
-    let b0 = le4(till);
-    let b1 = le4(point);
-    let b2 = le4(kind);
-    let b3 = le4(state);
-    let b4 = le4(nozzle);
-    let b5 = le4(product);
-    let b6 = le8(asked);
-    let b7 = le8(moment);
-    let b8 = le4(price);
-    let b9 = le4(busy);
-    let b10 = le4(unpaid);
-    let b11 = le4(slot);
-    let b12 = le8(cleared);
-    [
-        b0[0], b0[1], b0[2], b0[3], b1[0], b1[1], b1[2], b1[3], b2[0], b2[1], b2[2], b2[3], b3[0],
-        b3[1], b3[2], b3[3], b4[0], b4[1], b4[2], b4[3], b5[0], b5[1], b5[2], b5[3], b6[0], b6[1],
-        b6[2], b6[3], b6[4], b6[5], b6[6], b6[7], b7[0], b7[1], b7[2], b7[3], b7[4], b7[5], b7[6],
-        b7[7], b8[0], b8[1], b8[2], b8[3], b9[0], b9[1], b9[2], b9[3], b10[0], b10[1], b10[2],
-        b10[3], b11[0], b11[1], b11[2], b11[3], b12[0], b12[1], b12[2], b12[3], b12[4], b12[5],
-        b12[6], b12[7],
-    ]
-}
-
-/// Four bytes, the least first.
-fn le4(x: u32) -> [u8; 4]
-    ensures { result ≡ le4 x }
-{
-    [
-        (x % 256) as u8,
-        (x / 256 % 256) as u8,
-        (x / 65536 % 256) as u8,
-        (x / 16777216 % 256) as u8,
-    ]
-}
-
-/// Eight bytes, the least first.
-fn le8(x: u64) -> [u8; 8]
-    ensures { result ≡ le8 x }
-{
-    let low = le4((x % 4294967296) as u32);
-    let high = le4((x / 4294967296) as u32);
-    [
-        low[0], low[1], low[2], low[3], high[0], high[1], high[2], high[3],
-    ]
+    let mut at = 0;
+    for field in fields {
+        let end = at + field.size();
+        field.put(&mut bytes[at..end]);
+        at = end;
+    }
 }

@@ -9,6 +9,7 @@ use crate::perform::{Performed, asked_question, routed};
 use crate::question::Question;
 use crate::station::Station;
 use crate::why::Why;
+use bpf_model::context::Context;
 use counters::Counters;
 use helpers::View;
 use interp::{rebase, run};
@@ -27,21 +28,23 @@ pub struct Draft {
     request: Request,
     version: u32,
     program: Arc<Program>,
-    context: [u8; 64],
+    context: Context,
     view: View,
     counters: Counters,
 }
 
 impl Model for Draft {
     ghost use Rattle.std.specs.Arc.{arc_value};
+    ghost use Rattle.std.specs.Prelude.{◌≡◌};
+    ghost use Rattle.bpf_model.specs.Layouts.{bytes_of, layout_of};
     ghost use Rattle.site_core.specs.Draft.{DraftValue};
     ghost use Rattle.site_core.specs.Asked.{WasAsked};
 
     ghost Value = { DraftValue };
 
-    ghost view = { λ d. record { till = d.till; moment = d.moment; request = d.request; version = record { number = d.version; program = arc_value d.program }; context = d.context; view = d.view; counters = d.counters } };
+    ghost view = { λ d. record { till = d.till; moment = d.moment; request = d.request; version = record { number = d.version; program = arc_value d.program }; context = bytes_of d.context; view = d.view; counters = d.counters } };
 
-    ghost invariant = { λ d. WasAsked (record { till = d.till; moment = d.moment; request = d.request; version = record { number = d.version; program = arc_value d.program }; context = d.context; view = d.view; counters = d.counters }) };
+    ghost invariant = { λ d. (layout_of d.context ≡ (arc_value d.program).layout) × WasAsked (record { till = d.till; moment = d.moment; request = d.request; version = record { number = d.version; program = arc_value d.program }; context = bytes_of d.context; view = d.view; counters = d.counters }) };
 }
 
 impl Draft {
@@ -65,6 +68,7 @@ impl Draft {
         let Some((version, program)) = look_up(slots, question.slot) else {
             return Ok(None);
         };
+        let layout = program.layout();
         let program = Arc::try_clone(program)?;
         Ok(Some(Draft {
             till,
@@ -72,7 +76,7 @@ impl Draft {
             request: *request,
             version,
             program,
-            context: station.context(till, moment, &question),
+            context: station.context(layout, till, moment, &question),
             view: station.view(),
             counters: station.counters(),
         }))
@@ -102,8 +106,9 @@ impl Draft {
         if let Err(now) = is_version(slots, question.slot, self.version, &self.program) {
             return Err(Why::Version(now));
         }
-        let context = station.context(self.till, self.moment, &question);
-        if let Some(at) = first_byte(&context, &self.context) {
+        let layout = self.program.layout();
+        let context = station.context(layout, self.till, self.moment, &question);
+        if let Some(at) = first_byte(context.bytes(), self.context.bytes()) {
             return Err(Why::Context(at));
         }
         let view = station.view();

@@ -16,7 +16,7 @@ const COUNTED: [u8; 24] = [
     0xb7, 1, 0, 0, 0, 0, 0, 0, 0xb7, 2, 0, 0, 1, 0, 0, 0, 0x85, 0, 0, 0, 2, 0, 0, 0,
 ];
 
-const RELEASE: Request = Request::Release(1, 8000);
+pub(crate) const RELEASE: Request = Request::Release(1, 8000);
 
 /// The run that a draft gives, or none where there is no draft.
 fn ran(begin: Begin) -> Option<Ready> {
@@ -26,13 +26,18 @@ fn ran(begin: Begin) -> Option<Ready> {
     }
 }
 
-fn decide(site: &Site, till: u32, request: Request) -> Result<Ready, Fail> {
+pub(crate) fn decide(site: &Site, till: u32, request: Request) -> Result<Ready, Fail> {
     let begin = site.begin(till, 0, &request)?;
     Ok(ran(begin).ok_or("no program would be run")?)
 }
 
 /// Commits by pass 2: the entry's reply, or why it is stale.
-fn commit(rt: &impl Abort, site: &mut Site, ready: Ready, want: Result<(u32, Reply), Why>) {
+pub(crate) fn commit(
+    rt: &impl Abort,
+    site: &mut Site,
+    ready: Ready,
+    want: Result<(u32, Reply), Why>,
+) {
     let got = match site.commit(2, ready) {
         Ok(Commit::Done(answered)) => Some(Ok((answered.number, answered.reply))),
         Ok(Commit::Stale(why)) => Some(Err(why)),
@@ -54,7 +59,7 @@ fn idle() -> Reply {
     }
 }
 
-fn open(point: u32) -> (Does, Reply) {
+pub(crate) fn open(point: u32) -> (Does, Reply) {
     (Does::Till(1, Request::OpenPoint(point)), Reply::Done)
 }
 

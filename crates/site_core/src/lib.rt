@@ -11,6 +11,8 @@ mod draft;
 mod draft_tests;
 mod events;
 mod laws;
+#[cfg(test)]
+mod layout_tests;
 mod perform;
 mod question;
 mod replies;

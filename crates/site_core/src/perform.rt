@@ -75,11 +75,16 @@ pub fn perform(
         }
         What::Load { slot, program } => {
             let bytes = Bytes::from_slice(alloc, program.bytes())?;
-            let mask = program.declared();
+            let (mask, layout) = (program.declared(), program.layout());
             let reply = load(slots, slot, program)?;
             Ok(Performed {
                 moment: 0,
-                act: Act::Load { slot, mask, bytes },
+                act: Act::Load {
+                    slot,
+                    mask,
+                    layout,
+                    bytes,
+                },
                 reply,
                 run: None,
             })
@@ -231,7 +236,8 @@ fn decide(
     let Some((number, program)) = look_up(slots, question.slot) else {
         return (no_program(question.slot), None);
     };
-    let context = station.context(till, moment, &question);
+    let layout = program.layout();
+    let context = station.context(layout, till, moment, &question);
     let view = station.view();
     let mut counters = station.counters();
     let r0 = run(program, &context, &view, &mut counters);

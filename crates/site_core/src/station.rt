@@ -2,9 +2,10 @@
 
 ghost use Rattle.std.specs.Prelude.{option_copied, ◌≡◌, ℕ, ◌+◌, ◌<◌, ◌≤◌, IfOk, length, Some, None};
 ghost use Rattle.std.specs.Bool.{OnTrue, OnFalse};
-ghost use Rattle.site_core.specs.State.{opening_state, at_number, price_of, busy_points, first_busy, view_of, counter_of};
+ghost use Rattle.site_core.specs.State.{opening_state, at_number, price_of, busy_points, open_points, first_busy, view_of, counter_of};
+ghost use Rattle.bpf_model.specs.Layouts.{layout_of};
 ghost use Rattle.site_core.specs.Bounds.{Bounded};
-ghost use Rattle.site_core.specs.Context.{context, product_of, told};
+ghost use Rattle.site_core.specs.Context.{context, fields, product_of, told};
 ghost use Rattle.site_core.specs.Asked.{FitsContext};
 ghost use Rattle.site_core.specs.Decide.{replied, verdict, grant, WellAsked, release_question, preset_question, price_question};
 ghost use Rattle.site_core.specs.Step.{commanded, reported, show_reply};
@@ -12,10 +13,11 @@ ghost use Rattle.program_slots.specs.Slots.{Version};
 ghost use Rattle.fuelling_point.specs.States.{state_number};
 
 use crate::config::Config;
-use crate::context::{kind_number, pack};
+use crate::context::{Field, kind_number, lay};
 use crate::decision::{command_of, counts, granted_point, preset_at, price_at, release_at};
 use crate::question::{Kind, Question};
 use crate::replies::{NO_SUCH_POINT, denied, event_reply, fault_reply};
+use bpf_model::context::{Context, Layout};
 use counters::Counters;
 use decision_journal::Run;
 use fuelling_point::{Command, DispenserEvent, Point, State};
@@ -25,13 +27,14 @@ use std::alloc::{AllocError, Global};
 use std::marker::Model;
 use till_request::Reply;
 
-/// The points, prices, counters and cleared total.
+/// The points, prices, counters, the cleared total and how many transactions were cleared.
 #[derive(Drop)]
 pub struct Station {
     points: Vec<Point>,
     prices: [u32; 8],
     counters: Counters,
     cleared: u64,
+    clears: u64,
 }
 
 impl Model for Station {
@@ -40,7 +43,7 @@ impl Model for Station {
 
     ghost Value = { SiteState };
 
-    ghost view = { λ s. record { points = s.points.items; prices = s.prices; counters = s.counters; cleared = s.cleared } };
+    ghost view = { λ s. record { points = s.points.items; prices = s.prices; counters = s.counters; cleared = s.cleared; clears = s.clears } };
 
     ghost invariant = { λ s. (length s.points.items ≤ 32) × (length s.prices ≡ 8) };
 }
@@ -59,6 +62,7 @@ impl Station {
             prices: config.prices(),
             counters: Counters::new(config.counters()),
             cleared: 0,
+            clears: 0,
         })
     }
 
@@ -86,6 +90,7 @@ impl Station {
             Ok(None) => Reply::Done,
             Ok(Some(amount)) => {
                 self.cleared += amount;
+                self.clears += 1;
                 Reply::Done
             }
         }
@@ -198,6 +203,19 @@ impl Station {
         count
     }
 
+    #[tactic(auto, unfolding(crate::specs::State::open_points))]
+    fn open_points(&self) -> u32
+        ensures { result ≡ open_points self.now }
+    {
+        let mut count = 0;
+        for point in &self.points {
+            if point.state().number() >= 3 {
+                count += 1;
+            }
+        }
+        count
+    }
+
     fn price_of(&self, product: u32) -> u32
         ensures { result ≡ price_of self.now product }
     {
@@ -248,31 +266,52 @@ impl Station {
         self.counters
     }
 
-    /// The 64 bytes that a program is given.
-    pub fn context(&self, till: u32, moment: u64, question: &Question) -> [u8; 64]
-        ensures context { result ≡ context self.now till moment question.now }
+    /// The context of this layout that a program is given.
+    pub fn context(&self, layout: Layout, till: u32, moment: u64, question: &Question) -> Context
+        ensures context { result ≡ context layout self.now till moment question.now }
+        ensures layout { layout_of result ≡ layout }
+        ensures fits { FitsContext self.now question.now }
+    {
+        let fields = self.fields(till, moment, question);
+        match layout {
+            Layout::One => {
+                let mut bytes = [0; 64];
+                lay(&fields[..13], &mut bytes);
+                Context::One(bytes)
+            }
+            Layout::Two => {
+                let mut bytes = [0; 80];
+                lay(&fields, &mut bytes);
+                Context::Two(bytes)
+            }
+        }
+    }
+
+    /// The fields of a context in their order, those of both layouts and then the second layout's own.
+    fn fields(&self, till: u32, moment: u64, question: &Question) -> [Field; 16]
+        ensures fields { result ≡ fields Layout.Two self.now till moment question.now }
         ensures fits { FitsContext self.now question.now }
     {
         let (state, nozzle, unpaid) = self.told_of(question.point);
         let product = self.product_of(question);
-        let kind = kind_number(question.kind);
-        let price = self.price_of(product);
-        let busy = self.busy_points();
-        pack(
-            till,
-            question.point,
-            kind,
-            state,
-            nozzle,
-            product,
-            question.asked,
-            moment,
-            price,
-            busy,
-            unpaid,
-            question.slot,
-            self.cleared,
-        )
+        [
+            Field::Four(till),
+            Field::Four(question.point),
+            Field::Four(kind_number(question.kind)),
+            Field::Four(state),
+            Field::Four(nozzle),
+            Field::Four(product),
+            Field::Eight(question.asked),
+            Field::Eight(moment),
+            Field::Four(self.price_of(product)),
+            Field::Four(self.busy_points()),
+            Field::Four(unpaid),
+            Field::Four(question.slot),
+            Field::Eight(self.cleared),
+            Field::Eight(self.clears),
+            Field::Four(self.open_points()),
+            Field::Four(0),
+        ]
     }
 
     /// The nozzle's number, or the product whose price is asked.
@@ -285,12 +324,12 @@ impl Station {
         }
     }
 
-    /// Enters what a version answered on the bytes of this question's context.
+    /// Enters what a version answered on this question's context.
     pub fn settle(
         &mut self,
         till: u32,
         question: &Question,
-        bytes: [u8; 64],
+        given: Context,
         version: u32,
         program: &Program,
         r0: u64,
@@ -299,7 +338,7 @@ impl Station {
         requires bounded { Bounded 1048575 self.old }
         requires till { 0 < till }
         requires asked { WellAsked self.old question.now }
-        ensures effect { (moment : ℕ) (v : Version) → context self.old till moment question.now ≡ bytes → v.number ≡ version → v.program ≡ program.now →
+        ensures effect { (moment : ℕ) (v : Version) → context v.program.layout self.old till moment question.now ≡ given → v.number ≡ version → v.program ≡ program.now →
             verdict self.old till moment question.now v r0 counters ≡ record { reply = result.0; run = Some result.1; after = self.new } }
         ensures bounded { (k : ℕ) → Bounded k self.old → Bounded (k + 1) self.new }
         ensures points { length self.new.points ≡ length self.old.points }
@@ -308,7 +347,7 @@ impl Station {
             slot: question.slot,
             version,
             r0,
-            context: bytes,
+            context: given,
             counts: counts(program.declared(), &self.counters, &counters),
         };
         self.counters = counters;

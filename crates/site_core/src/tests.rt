@@ -3,7 +3,7 @@
 use crate::{AuditFault, Config, Event, Site, What, audit, audit_of_its_own_history};
 use decision_journal::Entry;
 use fuelling_point::{DispenserEvent, Order};
-use reg_types::{Refusal, TypeFault, verify};
+use reg_types::{Layout, Refusal, TypeFault, verify};
 use std::alloc::{AllocError, Global};
 use std::process::Abort;
 use std::sync::Arc;
@@ -71,7 +71,7 @@ pub(crate) fn play(rt: &impl Abort, site: &mut Site, moment: u64, steps: &[(Does
     }
 }
 
-/// Loads a program that ends by EXIT.
+/// Loads a program that ends by EXIT for the first layout.
 pub(crate) fn load(
     rt: &impl Abort,
     alloc: Global,
@@ -81,9 +81,24 @@ pub(crate) fn load(
     front: &[u8],
     want: Reply,
 ) -> Result<(), Fail> {
+    load_for(rt, alloc, site, slot, mask, Layout::One, front, want)
+}
+
+pub(crate) fn load_for(
+    rt: &impl Abort,
+    alloc: Global,
+    site: &mut Site,
+    slot: u32,
+    mask: u32,
+    layout: Layout,
+    front: &[u8],
+    want: Reply,
+) -> Result<(), Fail> {
     let mut bytes = Vec::from_slice(alloc, front)?;
     bytes.extend_from_slice(&EXIT)?;
-    let program = verify(alloc, bytes.as_slice(), mask).ok().ok_or("refused")?;
+    let program = verify(alloc, bytes.as_slice(), mask, layout)
+        .ok()
+        .ok_or("refused")?;
     let program = Arc::new(alloc, program)?;
     enter(rt, site, 0, What::Load { slot, program }, want);
     Ok(())
@@ -162,7 +177,7 @@ fn a_replaced_version_decides_no_more(rt: HostRuntime) -> Result<(), Fail> {
 }
 
 /// A delivery at point 1, paid by till 1.
-fn paid(rt: &impl Abort, alloc: Global) -> Result<Site, Fail> {
+pub(crate) fn paid(rt: &impl Abort, alloc: Global) -> Result<Site, Fail> {
     let mut site = start(alloc)?;
     load(rt, alloc, &mut site, 0, 0, &ASKED, Reply::Version(1))?;
     play(rt, &mut site, 0, &[OPEN]);
@@ -194,9 +209,15 @@ fn copied(alloc: Global, entry: &Entry, at: u32, reply: Reply) -> Result<Entry, 
             point: *point,
             event: *event,
         },
-        Act::Load { slot, mask, bytes } => Act::Load {
+        Act::Load {
+            slot,
+            mask,
+            layout,
+            bytes,
+        } => Act::Load {
             slot: *slot,
             mask: *mask,
+            layout: *layout,
             bytes: Bytes::from_slice(alloc, bytes.as_slice())?,
         },
     };
@@ -394,7 +415,7 @@ fn events_are_run_in_turn(rt: HostRuntime) -> Result<(), Fail> {
     Ok(())
 }
 
-fn entry(number: u32, moment: u64, act: Act, reply: Reply) -> Entry {
+pub(crate) fn entry(number: u32, moment: u64, act: Act, reply: Reply) -> Entry {
     Entry {
         number,
         pass: 1,
@@ -405,7 +426,7 @@ fn entry(number: u32, moment: u64, act: Act, reply: Reply) -> Entry {
     }
 }
 
-fn fault(alloc: Global, entries: &[Entry]) -> Result<Option<AuditFault>, Fail> {
+pub(crate) fn fault(alloc: Global, entries: &[Entry]) -> Result<Option<AuditFault>, Fail> {
     let config = config(alloc)?.ok_or("no configuration")?;
     Ok(audit(alloc, config, entries).err())
 }
@@ -437,6 +458,7 @@ fn an_audit_names_the_first_fault(rt: HostRuntime) -> Result<(), Fail> {
     let act = Act::Load {
         slot: 99,
         mask: 0,
+        layout: Layout::One,
         bytes: Bytes::from_slice(alloc, &EXIT)?,
     };
     let load = entry(1, 0, act, refused(32));
@@ -474,6 +496,7 @@ fn a_load_into_no_slot_is_audited(rt: HostRuntime) -> Result<(), Fail> {
     let act = Act::Load {
         slot: 99,
         mask: 0,
+        layout: Layout::One,
         bytes: Bytes::from_slice(alloc, &EXIT)?,
     };
     let unset = AuditFault::BadProgram(1, Refusal::Type(TypeFault::NotANumber(0, 0)));

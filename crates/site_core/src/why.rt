@@ -5,7 +5,7 @@
 pub enum Why {
     /// The version that is installed now, if any. None too where the site lacks the till or the point.
     Version(Option<u32>),
-    /// The least place in the context, from 0 to 63.
+    /// The least place in the context, from 0 to 63, or to 79 in a context of the second layout.
     Context(u32),
     /// The least point, from 1.
     PointDiffers(u32),

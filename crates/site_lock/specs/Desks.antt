@@ -27,7 +27,7 @@ pub record DeskEnters (config : ConfigValue) (before now : PassView) (act : Act)
   pub fits : FitsIn config before.id (entered_moment act moment) act (record { number = number; reply = reply })
   pub good : IsGoodAct act
 
--- The act is a load, its bytes and mask show this refusal, and nothing has changed.
+-- The act is a load, its bytes, mask and layout show this refusal, and nothing has changed.
 pub record DeskRefuses (before now : PassView) (act : Act) (number : ℕ) (unit part : Option ℕ) : Type 0 where
   pub refusal : Refusal
   pub refused : IsRefusedAct act refusal
@@ -50,7 +50,7 @@ DeskAnswers config may_fail before now act moment (Program number unit part) = D
 abbrev pub AsksGate : ℕ → ℕ → Answer → Act → Type 0
 AsksGate before now (Entered number reply) (Till till request) = is_decided reply ≡ true → RoseWithin 1 2 before now
 AsksGate before now (Entered number reply) (Dispenser point event) = Unit {0}
-AsksGate before now (Entered number reply) (Load slot mask bytes) = Unit {0}
+AsksGate before now (Entered number reply) (Load slot mask layout bytes) = Unit {0}
 AsksGate before now JournalFull act = Unit {0}
 AsksGate before now OutOfMemory act = Unit {0}
 AsksGate before now (Line fault) act = Unit {0}

@@ -3,7 +3,7 @@ ghost use Rattle.std.specs.Prelude.{◌≡◌, [], None};
 
 use crate::tests::config;
 use crate::{Forecourt, Gate, Pass, Straight, Yard};
-use reg_types::verify;
+use reg_types::{Layout, verify};
 use site_core::{Answered, Config, Draft, Ready};
 use std::alloc::Global;
 use std::marker::Brand;
@@ -28,7 +28,7 @@ fn load<L: Yard, R: Wait>(
     pass: &mut Pass<L>,
     program: &[u8; 16],
 ) -> Option<u32> {
-    let program = verify(alloc, program.as_slice(), 0).ok()?;
+    let program = verify(alloc, program.as_slice(), 0, Layout::One).ok()?;
     let program = Arc::new(alloc, program).ok()?;
     let answered = yard.load(rt, pass, 0, program).ok()?;
     Some(answered.number)

@@ -2,7 +2,7 @@
 ghost use Rattle.std.specs.Prelude.{◌≡◌, ℕ, ◌<◌, ◌≤◌, length, IfOk, slice_index_or, vec_len};
 ghost use Rattle.site_lock.specs.Verdicts.{IsVerified};
 
-use reg_types::{Program, Refusal, TypeFault, verify};
+use reg_types::{Layout, Program, Refusal, TypeFault, verify};
 use std::alloc::{AllocError, Global};
 use std::thread;
 use std::thread::Threads;
@@ -10,10 +10,10 @@ use std::thread::Threads;
 /// What stands at an item that wasn't verified yet. No program has a unit of this number.
 const UNDECIDED: Refusal = Refusal::Type(TypeFault::FallsOff(u32::MAX));
 
-fn verified(alloc: Global, bytes: &[u8], declared: u32) -> Result<Program, Refusal>
-    ensures { IsVerified bytes.now declared result }
+fn verified(alloc: Global, item: &(Vec<u8>, u32, Layout)) -> Result<Program, Refusal>
+    ensures { IsVerified item.now.0.items item.now.1 item.now.2 result }
 {
-    verify(alloc, bytes, declared)
+    verify(alloc, item.0.as_slice(), item.1, item.2)
 }
 
 // A place for each answer.
@@ -28,25 +28,28 @@ fn places(alloc: Global, count: usize) -> Result<Vec<Result<Program, Refusal>>, 
     Ok(places)
 }
 
-/// What `verify` answers to each item's bytes and mask, in the items' order, worked out by at most `workers` threads,
-/// 1 to 16. An error means that there was no memory for the list of answers; an item for which memory is wanting is
-/// answered so in its place.
+/// What `verify` answers to each item, its bytes, mask and layout, in the items' order, worked out by at most
+/// `workers` threads, 1 to 16. An error means that there was no memory for the list of answers; an item for which
+/// memory is wanting is answered so in its place.
 pub fn verify_all<R: Threads + Sync>(
     rt: &R,
     alloc: Global,
-    items: &[(Vec<u8>, u32)],
+    items: &[(Vec<u8>, u32, Layout)],
     workers: u32,
 ) -> Result<Vec<Result<Program, Refusal>>, AllocError>
     requires { (0 < workers) × (workers ≤ 16) }
     ensures number { IfOk result (λ v. vec_len v ≡ length items.now) }
-    ensures each { IfOk result (λ v. (i : ℕ) (d : _) (e : _) → i < length items.now → IsVerified (slice_index_or items.now i d).0.items (slice_index_or items.now i d).1 (slice_index_or v.items i e)) }
+    ensures each { IfOk result (λ v. (i : ℕ) (d : _) (e : _) → i < length items.now → IsVerified (slice_index_or items.now i d).0.items (slice_index_or items.now i d).1 (slice_index_or items.now i d).2 (slice_index_or v.items i e)) }
 {
     let mut verdicts = places(alloc, items.len())?;
     thread::for_each_mut(
         rt,
         verdicts.as_mut_slice(),
         workers as usize,
-        &|i, verdict| *verdict = verified(alloc, items[i].0.as_slice(), items[i].1),
+        &|i, verdict: &mut Result<Program, Refusal>|
+            requires { i < length items.now }
+            ensures { (d : _) → IsVerified (slice_index_or items.entry.now i d).0.items (slice_index_or items.entry.now i d).1 (slice_index_or items.entry.now i d).2 verdict.exit.now }
+        { *verdict = verified(alloc, &items[i]) },
     );
     Ok(verdicts)
 }

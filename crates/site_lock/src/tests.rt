@@ -6,7 +6,7 @@ use crate::{
     session,
 };
 use fuelling_point::DispenserEvent;
-use reg_types::verify;
+use reg_types::{Layout, verify};
 use site_core::{CallFault, Config};
 use std::alloc::Global;
 use std::marker::Brand;
@@ -247,7 +247,9 @@ fn calls<L: Yard, R: Wait>(
     let (yard, mut passes) = Forecourt::<L>::start(alloc, config, 2, blank)?;
     let mut second = passes.pop().ok_or("a pass")?;
     let asked = [0x79u8, 0x10, 0x18, 0, 0, 0, 0, 0, 0x95, 0, 0, 0, 0, 0, 0, 0];
-    let program = verify(alloc, asked.as_slice(), 0).ok().ok_or("a program")?;
+    let program = verify(alloc, asked.as_slice(), 0, Layout::One)
+        .ok()
+        .ok_or("a program")?;
     let program = Arc::new(alloc, program)?;
     let loaded = yard
         .load(rt, &mut second, 16, program)

@@ -1,3 +1,4 @@
+pub mod Gathering
 pub mod Keeping
 pub mod Numbering
 pub mod Posting

@@ -1,5 +1,6 @@
 pub mod Crews
 pub mod Ending
+pub mod Handing
 pub mod Limits
 pub mod Pauses
 pub mod Posts

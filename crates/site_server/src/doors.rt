@@ -134,6 +134,11 @@ impl<R: Clock, N: Notices> Doors for TcpDoors<'_, R, N> {
         }
     }
 
+    // The bytes of a line that came with the one before stand in the connection's buffer.
+    fn has_line(&self, input: &Self::In) -> bool {
+        input.reader.buffer().contains(&b'\n')
+    }
+
     fn ended(&self, outcome: &Result<Ended, SessionFault>) {
         if let Some(breach) = breach_of(outcome) {
             self.notices.breach(self.role, self.pass, breach);

@@ -7,6 +7,7 @@ mod doors;
 mod limiter;
 mod listeners;
 mod notices;
+mod posts;
 mod serving;
 #[cfg(test)]
 mod tests;

@@ -1,8 +1,10 @@
 //! The open ports.
 ghost use Rattle.std.specs.Prelude.{◌≡◌, ◌⊎◌, IfErr};
 
+use std::alloc::Global;
 use std::io;
 use std::net::{Net, SocketAddr, TcpListener, TcpStream};
+use std::sync::Arc;
 use till_request::Role;
 
 /// A port of this machine that can't be opened.
@@ -12,19 +14,21 @@ pub struct ListenFault {
     pub error: io::Error,
 }
 
-/// Where tills, dispensers and the owner connect, on 127.0.0.1 alone.
+/// Where tills, dispensers and the owner connect, on 127.0.0.1 alone. Each worker of a role has a share of its port, which is closed
+/// when the last share is dropped.
 #[derive(Drop)]
 pub struct Listeners {
-    pub till: TcpListener,
-    pub dispenser: TcpListener,
-    pub owner: TcpListener,
+    pub till: Arc<TcpListener>,
+    pub dispenser: Arc<TcpListener>,
+    pub owner: Arc<TcpListener>,
 }
 
 /// Opens a port; 0 is a free one.
 fn listen<R: Net<Listener = TcpListener, Stream = TcpStream>>(
     rt: &R,
+    alloc: Global,
     port: u32,
-) -> Result<TcpListener, ListenFault>
+) -> Result<Arc<TcpListener>, ListenFault>
     ensures { IfErr result (λ fault. fault.port ≡ port) }
 {
     let Ok(number) = u16::try_from(port) else {
@@ -32,22 +36,33 @@ fn listen<R: Net<Listener = TcpListener, Stream = TcpStream>>(
         return Err(ListenFault { port, error });
     };
     let address = SocketAddr::from(([127, 0, 0, 1], number));
-    TcpListener::bind(rt, address).map_err(|error| ListenFault { port, error })
+    let listener = match TcpListener::bind(rt, address) {
+        Ok(listener) => listener,
+        Err(error) => return Err(ListenFault { port, error }),
+    };
+    match Arc::new(alloc, listener) {
+        Ok(listener) => Ok(listener),
+        Err(refused) => Err(ListenFault {
+            port,
+            error: io::Error::from(refused),
+        }),
+    }
 }
 
 impl Listeners {
     /// Opens the three ports; 0 is a free one.
     pub fn open<R: Net<Listener = TcpListener, Stream = TcpStream>>(
         rt: &R,
+        alloc: Global,
         till: u32,
         dispenser: u32,
         owner: u32,
     ) -> Result<Listeners, ListenFault>
         ensures { IfErr result (λ fault. (fault.port ≡ till) ⊎ (fault.port ≡ dispenser) ⊎ (fault.port ≡ owner)) }
     {
-        let till = listen(rt, till)?;
-        let dispenser = listen(rt, dispenser)?;
-        let owner = listen(rt, owner)?;
+        let till = listen(rt, alloc, till)?;
+        let dispenser = listen(rt, alloc, dispenser)?;
+        let owner = listen(rt, alloc, owner)?;
         Ok(Listeners {
             till,
             dispenser,
@@ -56,7 +71,7 @@ impl Listeners {
     }
 
     /// Where somebody of a role connects; who may send all lines connects as the owner.
-    pub fn of(&self, role: Role) -> &TcpListener
+    pub fn of(&self, role: Role) -> &Arc<TcpListener>
         ensures till { role ≡ Role.Till → result.now ≡ self.now.till }
         ensures dispenser { role ≡ Role.Dispenser → result.now ≡ self.now.dispenser }
         ensures owner { role ≡ Role.Owner → result.now ≡ self.now.owner }

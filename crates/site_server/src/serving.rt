@@ -1,16 +1,17 @@
 //! Serving a site.
-ghost use Rattle.std.specs.Prelude.{◌≡◌, ℕ, [], IfErr, IfOk, map};
+ghost use Rattle.std.specs.Prelude.{◌≡◌, ◌≢◌, ◌≤◌, ℕ, [], Err, IfErr, IfOk, length, map, vec_capacity};
 ghost use Rattle.line_session.specs.Session.{desk_says, desk_drops};
 ghost use Rattle.line_session.specs.Serving.{Serves, Sits, Visits};
-ghost use Rattle.site_server.specs.Crews.{passes_of, role_of};
+ghost use Rattle.site_server.specs.Crews.{passes_of};
 ghost use Rattle.site_server.specs.Ending.{Leaves, LeavesSince, Spoils, SpoilsSince, from_site};
+ghost use Rattle.site_server.specs.Handing.{AreWaiting, Manned, waits};
 ghost use Rattle.site_server.specs.Posts.{Worked, pass_answers, tells};
 
 use crate::clock::MachineClock;
 use crate::crew::Crew;
-use crate::doors::TcpDoors;
 use crate::listeners::Listeners;
 use crate::notices::Notices;
+use crate::posts::{Post, gather, man, posts_of};
 use line_session::{Doors, worker};
 use site_core::{Config, Site};
 use site_lock::{CloseRefusal, Forecourt, Journal, NoJournal, Pass, PassDesk, Straight, Yard};
@@ -76,45 +77,8 @@ pub fn serve_pass<L: Yard, J: Journal, S: Doors, R: Wait + Clock>(
     (desk.into_pass(), well)
 }
 
-/// Serves so many connections of the listener that is the pass's.
-fn serve_post<L: Yard, J: Journal, N: Notices, R: Wait + Clock>(
-    rt: &R,
-    alloc: Global,
-    yard: &Forecourt<L, J>,
-    pass: Pass<L>,
-    crew: Crew,
-    listeners: &Listeners,
-    notices: &N,
-    connections: u32,
-) -> (Pass<L>, u64)
-    ensures worked { Worked L.config J.may_fail (role_of crew.tills crew.dispensers pass.id) connections result.1 pass result.0 }
-    ensures id { result.0.id ≡ pass.id }
-{
-    let role = crew.role(pass.id());
-    let mut doors = TcpDoors::new(rt, alloc, listeners.of(role), notices, role, pass.id());
-    serve_pass(rt, alloc, yard, pass, role, &mut doors, connections)
-}
-
-/// The passes that the workers hand back, in a list that was empty, and how many connections ended without fault.
-fn gathered<L: Yard>(
-    room: Vec<Pass<L>>,
-    done: Vec<(Pass<L>, u64)>,
-) -> Result<(Vec<Pass<L>>, u64), AllocError>
-    requires { room.items ≡ [] }
-    ensures { IfOk result (λ r. r.0.items ≡ map (λ x. x.0) done.items) }
-{
-    let mut passes = room;
-    let mut well = 0u64;
-    for (pass, ended) in done {
-        well = well.wrapping_add(ended);
-        passes.push(pass)?;
-    }
-    Ok((passes, well))
-}
-
-/// Serves a site from where it stands: each worker of the crew serves so many connections, one after another, and then the site is
-/// closed. Each entry's line is handed to the journal before the entry is answered.
-pub fn serve_on<
+/// Serves with each post's pass, beside one another, and then closes the site. Takes no memory of its own: what it needs was made before.
+fn serve_posts<
     L: Yard + Send + Sync,
     J: Journal + Send,
     N: Notices + Sync,
@@ -122,47 +86,35 @@ pub fn serve_on<
 >(
     rt: &R,
     alloc: Global,
-    site: Site,
-    journal: J,
-    blank: Blank,
+    yard: Forecourt<L, J>,
+    posts: Vec<Post<L>>,
+    room: Vec<Pass<L>>,
     crew: Crew,
-    listeners: &Listeners,
     notices: &N,
     connections: u32,
 ) -> Result<Served<J>, ServeFault>
-    requires name { blank.name ≡ L.name }
-    requires parts { blank.parts ≡ L.parts }
-    requires config { site.config ≡ L.config }
-    requires base { site.history ≡ L.base }
-    requires taken { J.written journal ≡ L.taken }
-    requires passes { blank.parts ≡ passes_of crew.tills crew.dispensers }
-    ensures ok { IfOk result (λ served. LeavesSince (from_site site (J.written journal) crew.tills crew.dispensers) J.may_fail crew.tills crew.dispensers connections served.site (J.written served.journal)) }
-    ensures err { IfErr result (λ fault. SpoilsSince (from_site site (J.written journal) crew.tills crew.dispensers) J.may_fail crew.tills crew.dispensers connections fault) }
+    requires config { yard.config ≡ L.config }
+    requires passes { yard.passes ≡ passes_of crew.tills crew.dispensers }
+    requires posts { AreWaiting yard.passes (map (λ p. waits p.waiting) posts.items) }
+    requires room { (room.items ≡ []) × (length posts.items ≤ vec_capacity room) }
+    ensures memory { result ≢ Err ServeFault.OutOfMemory }
+    ensures ok { IfOk result (λ served. LeavesSince yard J.may_fail crew.tills crew.dispensers connections served.site (J.written served.journal)) }
+    ensures err { IfErr result (λ fault. SpoilsSince yard J.may_fail crew.tills crew.dispensers connections fault) }
 {
-    let (yard, passes) = Forecourt::<L, J>::go_on(alloc, site, journal, crew.passes(), blank)?;
-    // Room for the end is taken before anything is served: the history isn't lost for want of it.
-    let room = Vec::with_capacity(alloc, crew.passes() as usize)?;
+    let mut posts = posts;
+    let mut passes = room;
+    let workers = posts.len().max(1);
     let shared = &yard;
-    let done = thread::map_vec(
+    let all = posts.as_mut_slice();
+    thread::for_each_mut(
         rt,
-        passes,
-        &|pass: Pass<L>| -> (Pass<L>, u64)
-            ensures worked { Worked L.config J.may_fail (role_of crew.tills crew.dispensers pass.id) connections result.1 pass result.0 }
-            ensures id { result.0.id ≡ pass.id }
-        {
-            serve_post(
-                rt,
-                alloc,
-                shared,
-                pass,
-                crew,
-                listeners,
-                notices,
-                connections,
-            )
-        },
-    )?;
-    let (passes, well) = gathered(room, done)?;
+        all,
+        workers,
+        &|_: usize, post: &mut Post<L>|
+            ensures { Manned L.config J.may_fail crew.tills crew.dispensers connections post.entry.now.waiting post.exit.now.done }
+        { man(rt, alloc, shared, post, crew, notices, connections) },
+    );
+    let well = gather(all, &mut passes);
     if yard.has_stopped(rt) {
         return Err(ServeFault::Journal);
     }
@@ -176,13 +128,48 @@ pub fn serve_on<
     }
 }
 
+/// Serves a site from where it stands: each worker of the crew serves so many connections, one after another, and then the site is
+/// closed. Each entry's line is handed to the journal before the entry is answered. A role's port is closed when its last worker ends.
+///
+/// Want of memory is told only before anything is served.
+pub fn serve_on<
+    L: Yard + Send + Sync,
+    J: Journal + Send,
+    N: Notices + Sync,
+    R: Threads + Wait + Clock + Sync,
+>(
+    rt: &R,
+    alloc: Global,
+    site: Site,
+    journal: J,
+    blank: Blank,
+    crew: Crew,
+    listeners: Listeners,
+    notices: &N,
+    connections: u32,
+) -> Result<Served<J>, ServeFault>
+    requires name { blank.name ≡ L.name }
+    requires parts { blank.parts ≡ L.parts }
+    requires config { site.config ≡ L.config }
+    requires base { site.history ≡ L.base }
+    requires taken { J.written journal ≡ L.taken }
+    requires passes { blank.parts ≡ passes_of crew.tills crew.dispensers }
+    ensures ok { IfOk result (λ served. LeavesSince (from_site site (J.written journal) crew.tills crew.dispensers) J.may_fail crew.tills crew.dispensers connections served.site (J.written served.journal)) }
+    ensures err { IfErr result (λ fault. SpoilsSince (from_site site (J.written journal) crew.tills crew.dispensers) J.may_fail crew.tills crew.dispensers connections fault) }
+{
+    let (yard, passes) = Forecourt::<L, J>::go_on(alloc, site, journal, crew.passes(), blank)?;
+    let room = Vec::with_capacity(alloc, passes.len())?;
+    let posts = posts_of(alloc, passes, listeners, crew)?;
+    serve_posts(rt, alloc, yard, posts, room, crew, notices, connections)
+}
+
 /// Serves a new site of this configuration, as `serve_on`, with a ledger of its own; no journal is kept.
 pub fn serve_site<N: Notices + Sync, R: Threads + Wait + Clock + Sync>(
     rt: &R,
     alloc: Global,
     config: Config,
     crew: Crew,
-    listeners: &Listeners,
+    listeners: Listeners,
     notices: &N,
     connections: u32,
 ) -> Result<Served, ServeFault>
@@ -209,7 +196,7 @@ pub fn resume_site<J: Journal + Send, N: Notices + Sync, R: Threads + Wait + Clo
     site: Site,
     journal: J,
     crew: Crew,
-    listeners: &Listeners,
+    listeners: Listeners,
     notices: &N,
     connections: u32,
 ) -> Result<Served<J>, ServeFault>

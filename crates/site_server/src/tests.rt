@@ -112,17 +112,16 @@ fn one_of_each<R: Net<Listener = TcpListener, Stream = TcpStream> + Threads + Wa
     alloc: Global,
 ) -> Result<(Served, String), Fail> {
     let config = config(alloc).ok_or("a configuration")?;
-    let opened = Listeners::open(rt, 0, 0, 0);
+    let opened = Listeners::open(rt, alloc, 0, 0, 0);
     let listeners = match opened {
         Ok(listeners) => listeners,
         Err(_) => return Err(Fail::from("a port")),
     };
     let at = addresses_of(&listeners)?;
-    let shared = &listeners;
     let crew = Crew::new(1, 1).ok_or("a crew")?;
     let (served, heard) = join(
         rt,
-        || serve_site(rt, alloc, config, crew, shared, &Silent, 1),
+        || serve_site(rt, alloc, config, crew, listeners, &Silent, 1),
         || in_turn(rt, alloc, at),
     );
     match served {
@@ -153,7 +152,7 @@ fn leaves_at_once<R: Net<Listener = TcpListener, Stream = TcpStream> + Clock>(
     rt: &R,
     alloc: Global,
 ) -> Result<bool, Fail> {
-    let Ok(listeners) = Listeners::open(rt, 0, 0, 0) else {
+    let Ok(listeners) = Listeners::open(rt, alloc, 0, 0, 0) else {
         return Err(Fail::from("a port"));
     };
     let at = listeners.till.local_addr()?;

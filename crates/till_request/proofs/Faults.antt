@@ -1,10 +1,11 @@
 -- A line that stands for no act is a bad line or has a bad number.
-use Rattle.std.proofs.Common.{◌≡◌, ℕ, List, [], ◌∷◌, ◌++◌, Bool, true, false, cond, Option, Some, None, Result, Ok, Err, subst, sym, ap, ◌∙◌, ◌≤◌, length, find, nat_lt, ◌&&◌, ◌^◌}
+use Rattle.std.proofs.Common.{◌≡◌, ℕ, List, [], ◌∷◌, ◌++◌, Bool, true, false, cond, Option, Some, None, Result, Ok, Err, subst, sym, ap, ◌∙◌, ◌≤◌, length, find, nat_lt, ◌&&◌, ◌^◌, inr}
 use Rattle.std.proofs.lemmas.Bool.{le-ltb}
 use Rattle.std.specs.Io.KnownBytes.{Consumes}
 use Rattle.std.specs.Str.Parse.{digits_value}
 use Rattle.hex.specs.Hex.{decode_of}
 use Rattle.hex.specs.declared.error.FromHexError.{FromHexError}
+use Rattle.bpf_model.specs.declared.context.Layout.{Layout}
 use Rattle.till_request.specs.declared.act.Act.{Act}
 use Rattle.till_request.specs.declared.act.Role.{Role}
 use Rattle.till_request.specs.declared.act.LineFault.{LineFault}
@@ -72,9 +73,9 @@ IsBad-flow_of : (w v u : List ℕ) → IsBad (flow_of w v u)
 unfolding flow_of
 IsBad-flow_of w v u = IsBad-bind (number 32 w) _ (IsBad-number 32 w) (λ p. IsBad-bind (number 64 v) _ (IsBad-number 64 v) (λ a. IsBad-bind (number 64 u) _ (IsBad-number 64 u) (λ n. tt)))
 
-IsBad-load_of : (w v u : List ℕ) → IsBad (load_of w v u)
+IsBad-load_of : (layout : Layout) (w v u : List ℕ) → IsBad (load_of layout w v u)
 unfolding load_of
-IsBad-load_of w v u = IsBad-bind (number 32 w) _ (IsBad-number 32 w) (λ s. IsBad-bind (number 32 v) _ (IsBad-number 32 v) (λ m. IsBad-bind (bytes_from (decode_of u)) _ (IsBad-bytes_from (decode_of u)) (λ b. tt)))
+IsBad-load_of layout w v u = IsBad-bind (number 32 w) _ (IsBad-number 32 w) (λ s. IsBad-bind (number 32 v) _ (IsBad-number 32 v) (λ m. IsBad-bind (bytes_from (decode_of u)) _ (IsBad-bytes_from (decode_of u)) (λ b. tt)))
 
 IsBad-act_in : (form : Form) (ws : List (List ℕ)) → IsBad (act_in form ws)
 IsBad-act_in (forms.Amount verb) (k0 ∷ till ∷ k1 ∷ point ∷ amount ∷ []) = IsBad-amount_of verb till point amount
@@ -83,7 +84,7 @@ IsBad-act_in (forms.Transaction verb) (k0 ∷ till ∷ k1 ∷ point ∷ transact
 IsBad-act_in (forms.Report verb) (k0 ∷ point ∷ k1 ∷ []) = IsBad-report_of verb point
 IsBad-act_in forms.Up (k0 ∷ point ∷ k1 ∷ nozzle ∷ []) = IsBad-up_of point nozzle
 IsBad-act_in forms.Flow (k0 ∷ point ∷ k1 ∷ amount ∷ volume ∷ []) = IsBad-flow_of point amount volume
-IsBad-act_in forms.Load (k0 ∷ slot ∷ mask ∷ hex ∷ []) = IsBad-load_of slot mask hex
+IsBad-act_in (forms.Load layout) (k0 ∷ slot ∷ mask ∷ hex ∷ []) = IsBad-load_of layout slot mask hex
 IsBad-act_in form ws = tt
 
 IsBad-act_by : (form : Option Form) (ws : List (List ℕ)) → IsBad (act_by form ws)
@@ -107,4 +108,4 @@ fault_taken TooLong old new role line t l e = absurd (bad_along (sym (short_read
 fault_taken BadLine old new role line t l e = (line, t, l, e)
 fault_taken BadNumber old new role line t l e = (line, t, l, e)
 fault_taken CutLine old new role line t l e = absurd (bad_along (sym (short_read role line l.1) ∙ e) (IsBad-act_of_line role line))
-fault_taken OutOfMemory old new role line t l e = (line ++ 10 ∷ [], t)
+fault_taken OutOfMemory old new role line t l e = inr (line, t, l)

@@ -1,8 +1,7 @@
 -- What is taken piece by piece.
 use Rattle.std.proofs.Common.{◌≢◌, ℕ, List, [], ◌∷◌, ◌++◌, Some, None, Option, Result, Ok, Err, OnErr, sym, ◌∙◌, ap, append_assoc}
 use Rattle.std.specs.Io.KnownBytes.{Consumes, Appends}
-use Rattle.till_request.specs.Blocks.{TakesPart}
-use Rattle.till_request.specs.Line.{HasNoLf, IsLine}
+use Rattle.till_request.specs.Line.{HasNoLf, IsLine, TakesPart}
 
 pub consumes_more : (a b c : Option (List ℕ)) (xs ys : List ℕ) → Consumes a b xs → Consumes b c ys → Consumes a c (xs ++ ys)
 consumes_more None b c xs ys h k = tt

@@ -9,6 +9,8 @@ use Rattle.std.specs.Cmp.Lexicographic.{pointwise}
 use Rattle.std.specs.Str.Parse.{digits_value}
 use Rattle.hex.specs.Hex.{decode_of}
 use Rattle.hex.specs.declared.error.FromHexError.{FromHexError}
+use Rattle.bpf_model.specs.declared.context.Layout.{Layout}
+use Rattle.bpf_model.specs.declared.context.Layout.TheVariants as layouts
 use Rattle.fuelling_point.specs.declared.kinds.DispenserEvent.{DispenserEvent}
 use Rattle.fuelling_point.specs.declared.kinds.DispenserEvent.TheVariants as events
 use Rattle.till_request.specs.declared.act.Act.{Act}
@@ -42,7 +44,8 @@ words line = slice_split (λ b. b == 32) line
 abbrev pub text : Keyword → List ℕ
 text keywords.Till = codes "till"
 text keywords.Disp = codes "disp"
-text keywords.Load = codes "load"
+text (keywords.Load layouts.One) = codes "load"
+text (keywords.Load layouts.Two) = codes "load2"
 text keywords.Up = codes "up"
 text keywords.Flow = codes "flow"
 text (keywords.Amount amounts.Release) = codes "release"
@@ -63,7 +66,7 @@ text (keywords.Report reports.Fault) = codes "fault"
 text (keywords.Report reports.Repaired) = codes "repaired"
 text (keywords.Report reports.Order) = codes "order"
 
--- the words of a form: `till T verb P A`, `till T verb P`, `till T verb P X`, `disp P verb`, `disp P up N`, `disp P flow A V` and `load SLOT MASK HEX`
+-- the words of a form: `till T verb P A`, `till T verb P`, `till T verb P X`, `disp P verb`, `disp P up N`, `disp P flow A V`, `load SLOT MASK HEX` and `load2 SLOT MASK HEX`
 abbrev pub template : Form → List Part
 template (forms.Amount verb) = Word keywords.Till ∷ Value ∷ Word (keywords.Amount verb) ∷ Value ∷ Value ∷ []
 template (forms.Point verb) = Word keywords.Till ∷ Value ∷ Word (keywords.Point verb) ∷ Value ∷ []
@@ -71,7 +74,7 @@ template (forms.Transaction verb) = Word keywords.Till ∷ Value ∷ Word (keywo
 template (forms.Report verb) = Word keywords.Disp ∷ Value ∷ Word (keywords.Report verb) ∷ []
 template forms.Up = Word keywords.Disp ∷ Value ∷ Word keywords.Up ∷ Value ∷ []
 template forms.Flow = Word keywords.Disp ∷ Value ∷ Word keywords.Flow ∷ Value ∷ Value ∷ []
-template forms.Load = Word keywords.Load ∷ Value ∷ Value ∷ Value ∷ []
+template (forms.Load layout) = Word (keywords.Load layout) ∷ Value ∷ Value ∷ Value ∷ []
 
 -- the forms
 unfoldable pub all_forms : List Form
@@ -81,7 +84,7 @@ all_forms =
     ∷ forms.Point points.Suspend ∷ forms.Point points.Resume ∷ forms.Point points.Stop
     ∷ forms.Transaction transactions.Lock ∷ forms.Transaction transactions.Unlock ∷ forms.Transaction transactions.Clear
     ∷ forms.Report reports.Down ∷ forms.Report reports.Started ∷ forms.Report reports.Fault ∷ forms.Report reports.Repaired ∷ forms.Report reports.Order
-    ∷ forms.Up ∷ forms.Flow ∷ forms.Load ∷ []
+    ∷ forms.Up ∷ forms.Flow ∷ forms.Load layouts.One ∷ forms.Load layouts.Two ∷ []
 
 -- who sends lines of this form, beside those who may send all
 abbrev pub sender : Form → Role
@@ -91,7 +94,7 @@ sender (forms.Transaction verb) = roles.Till
 sender (forms.Report verb) = roles.Dispenser
 sender forms.Up = roles.Dispenser
 sender forms.Flow = roles.Dispenser
-sender forms.Load = roles.Owner
+sender (forms.Load layout) = roles.Owner
 
 abbrev pub allows : Role → Role → Bool
 allows roles.All by = true
@@ -205,12 +208,12 @@ flow_of point amount volume = do
   volume' ← number 64 volume
   Ok (acts.Dispenser point' (events.Flowed amount' volume'))
 
-unfoldable pub load_of : List ℕ → List ℕ → List ℕ → Result Act LineFault
-load_of slot mask hex = do
+unfoldable pub load_of : Layout → List ℕ → List ℕ → List ℕ → Result Act LineFault
+load_of layout slot mask hex = do
   slot' ← number 32 slot
   mask' ← number 32 mask
   bytes' ← bytes_from (decode_of hex)
-  Ok (acts.Load slot' mask' bytes')
+  Ok (acts.Load slot' mask' layout bytes')
 
 -- the act of words that have this form
 abbrev pub act_in : Form → List (List ℕ) → Result Act LineFault
@@ -220,7 +223,7 @@ act_in (forms.Transaction verb) (k0 ∷ till ∷ k1 ∷ point ∷ transaction �
 act_in (forms.Report verb) (k0 ∷ point ∷ k1 ∷ []) = report_of verb point
 act_in forms.Up (k0 ∷ point ∷ k1 ∷ nozzle ∷ []) = up_of point nozzle
 act_in forms.Flow (k0 ∷ point ∷ k1 ∷ amount ∷ volume ∷ []) = flow_of point amount volume
-act_in forms.Load (k0 ∷ slot ∷ mask ∷ hex ∷ []) = load_of slot mask hex
+act_in (forms.Load layout) (k0 ∷ slot ∷ mask ∷ hex ∷ []) = load_of layout slot mask hex
 act_in form ws = Err BadLine
 
 -- the act of words, by their form

@@ -1,6 +1,6 @@
 -- Promises: what is taken from an input line by line. IsLine and Takes are also definitions: a line has no LF and at
 -- most 8,400 bytes; one byte more is too long; an end without LF behind at least one byte is a cut line.
-use Rattle.std.specs.Prelude.{◌≡◌, ◌≢◌, ℕ, ◌<◌, ◌≤◌, List, [], ◌∷◌, ◌++◌, length, Option, Some, None, Result, Ok, Err, Bool, true, false}
+use Rattle.std.specs.Prelude.{◌≡◌, ◌≢◌, ◌⊎◌, ℕ, ◌<◌, ◌≤◌, List, [], ◌∷◌, ◌++◌, length, Option, Some, None, Result, Ok, Err, Bool, true, false}
 use Rattle.std.specs.List.{AllByRecursion}
 use Rattle.std.specs.Io.KnownBytes.{Consumes, IsAtEnd}
 use Rattle.till_request.specs.Grammar.{line_read}
@@ -31,6 +31,14 @@ TakesTooLong old new = (bytes : List ℕ) × Consumes old new bytes × HasNoLf b
 abbrev pub TakesCut : Option (List ℕ) → Option (List ℕ) → Type 0
 TakesCut old new = (bytes : List ℕ) × Consumes old new bytes × IsLine bytes × (0 < length bytes) × IsAtEnd new
 
+-- a beginning of a line was taken
+abbrev pub TakesPart : Option (List ℕ) → Option (List ℕ) → Type 0
+TakesPart old new = (bytes : List ℕ) × Consumes old new bytes × IsLine bytes
+
+-- a beginning of a line was taken, or a line with its LF
+abbrev pub TakesUpTo : Option (List ℕ) → Option (List ℕ) → Type 0
+TakesUpTo old new = TakesPart old new ⊎ ((line : List ℕ) × Consumes old new (line ++ 10 ∷ []) × IsLine line)
+
 -- some bytes were taken
 abbrev pub TakesSome : Option (List ℕ) → Option (List ℕ) → Type 0
 TakesSome old new = (bytes : List ℕ) × Consumes old new bytes
@@ -57,9 +65,9 @@ TakesFault old new role (reading.Line line.TooLong) = TakesTooLong old new
 TakesFault old new role (reading.Line line.BadLine) = TakesLine old new role (Err line.BadLine)
 TakesFault old new role (reading.Line line.BadNumber) = TakesLine old new role (Err line.BadNumber)
 TakesFault old new role (reading.Line line.CutLine) = TakesCut old new
-TakesFault old new role (reading.Line line.OutOfMemory) = TakesSome old new
-TakesFault old new role reading.Read = TakesSome old new
-TakesFault old new role reading.ReadsSpent = TakesSome old new
+TakesFault old new role (reading.Line line.OutOfMemory) = TakesUpTo old new
+TakesFault old new role reading.Read = TakesPart old new
+TakesFault old new role reading.ReadsSpent = TakesPart old new
 
 -- the device failed
 abbrev pub is_input_fault : {T : Type 0} → Result T InputFault → Bool

@@ -5,6 +5,7 @@ ghost use Rattle.std.proofs.Common.{rules};
 ghost use Rattle.std.specs.Cmp.Rules.{comparing};
 ghost use Rattle.std.specs.Cmp.Lexicographic.{pointwise};
 
+use bpf_model::context::Layout;
 use fuelling_point::{DispenserEvent, Order};
 use std::alloc::{AllocError, Global};
 use std::marker::Model;
@@ -89,9 +90,21 @@ pub enum Request {
 /// What happens at the site.
 #[derive(Debug, PartialEq, Drop)]
 pub enum Act {
-    Till { till: u32, request: Request },
-    Dispenser { point: u32, event: DispenserEvent },
-    Load { slot: u32, mask: u32, bytes: Bytes },
+    Till {
+        till: u32,
+        request: Request,
+    },
+    Dispenser {
+        point: u32,
+        event: DispenserEvent,
+    },
+    /// A program, with the counters that it declares and the layout of the context that it is given.
+    Load {
+        slot: u32,
+        mask: u32,
+        layout: Layout,
+        bytes: Bytes,
+    },
 }
 
 /// What is answered. Refused has the refusal's number and its value.

@@ -3,6 +3,7 @@ ghost use Rattle.std.specs.Prelude.{◌≡◌};
 ghost use Rattle.till_request.specs.Grammar.{text, template, sender, allows, amount_request, point_request, transaction_request, report_event};
 
 use crate::act::{Request, Role};
+use bpf_model::context::Layout;
 use fuelling_point::DispenserEvent;
 
 /// What a till asks with an amount or a price: `till T release P A`.
@@ -47,7 +48,7 @@ pub enum ReportVerb {
 pub enum Keyword {
     Till,
     Disp,
-    Load,
+    Load(Layout),
     Up,
     Flow,
     Amount(AmountVerb),
@@ -65,7 +66,8 @@ pub enum Form {
     Report(ReportVerb),
     Up,
     Flow,
-    Load,
+    /// `load SLOT MASK HEX`, and `load2 ..` for the longer context.
+    Load(Layout),
 }
 
 /// A word of a form: a fixed one, or a place for a value.
@@ -82,7 +84,8 @@ pub fn text_of(keyword: Keyword) -> &'static [u8]
     match keyword {
         Keyword::Till => b"till",
         Keyword::Disp => b"disp",
-        Keyword::Load => b"load",
+        Keyword::Load(Layout::One) => b"load",
+        Keyword::Load(Layout::Two) => b"load2",
         Keyword::Up => b"up",
         Keyword::Flow => b"flow",
         Keyword::Amount(AmountVerb::Release) => b"release",
@@ -124,7 +127,7 @@ pub fn sender_of(form: Form) -> Role
     match form {
         Form::Amount(_) | Form::Point(_) | Form::Transaction(_) => Role::Till,
         Form::Report(_) | Form::Up | Form::Flow => Role::Dispenser,
-        Form::Load => Role::Owner,
+        Form::Load(_) => Role::Owner,
     }
 }
 

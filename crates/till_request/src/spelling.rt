@@ -3,6 +3,7 @@ ghost use Rattle.std.specs.Prelude.{◌≡◌, IfOk, string_bytes};
 ghost use Rattle.till_request.specs.Spelling.{ReadsBack, spelling, event_words, spelled_words};
 
 use crate::act::{Act, Request};
+use bpf_model::context::Layout;
 use fuelling_point::DispenserEvent;
 use std::alloc::{AllocError, Global};
 use std::fmt;
@@ -53,6 +54,23 @@ fn spell_event(alloc: Global, point: u32, event: DispenserEvent) -> Result<Strin
     }
 }
 
+/// The line of a load, without its LF.
+fn spell_load(
+    alloc: Global,
+    slot: u32,
+    mask: u32,
+    layout: Layout,
+    bytes: &[u8],
+) -> Result<String, AllocError>
+    ensures { IfOk result (λ text. string_bytes text ≡ spelling (Act.Load slot mask layout bytes.now)) }
+{
+    let hex = hex::encode(alloc, bytes)?;
+    match layout {
+        Layout::One => format!(in alloc; "load {slot} {mask} {hex}"),
+        Layout::Two => format!(in alloc; "load2 {slot} {mask} {hex}"),
+    }
+}
+
 /// The one spelling of an act: its line, without the LF.
 pub fn spell_act(alloc: Global, act: &Act) -> Result<String, AllocError>
     ensures { IfOk result (λ text. string_bytes text ≡ spelling act.now) }
@@ -60,9 +78,11 @@ pub fn spell_act(alloc: Global, act: &Act) -> Result<String, AllocError>
     match act {
         Act::Till { till, request } => format!(in alloc; "till {till} {request}"),
         Act::Dispenser { point, event } => spell_event(alloc, *point, *event),
-        Act::Load { slot, mask, bytes } => {
-            let hex = hex::encode(alloc, bytes.as_slice())?;
-            format!(in alloc; "load {slot} {mask} {hex}")
-        }
+        Act::Load {
+            slot,
+            mask,
+            layout,
+            bytes,
+        } => spell_load(alloc, *slot, *mask, *layout, bytes.as_slice()),
     }
 }

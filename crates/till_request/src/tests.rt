@@ -5,6 +5,7 @@ use crate::{
     Act, Answer, Bytes, LineFault, LineIn, LineReadFault, Reply, Request, Role, WriteFault,
     parse_line, read_line, spell_act, spelling_is_read, write_answer,
 };
+use bpf_model::context::Layout;
 use fuelling_point::{DispenserEvent, Order};
 use std::alloc::Global;
 use std::test::Fail;
@@ -39,6 +40,7 @@ fn each_form_is_read_and_spelled(rt: HostRuntime) -> Result<(), Fail> {
         "disp 1 repaired",
         "disp 1 order",
         "load 15 4294967295 79101800000000009500000000000000",
+        "load2 15 4294967295 79104000000000009500000000000000",
     ];
     for line in lines {
         match parse_line(rt.alloc(), Role::All, line.as_bytes()) {
@@ -65,6 +67,18 @@ fn lines_stand_for_acts(rt: HostRuntime) -> Result<(), Fail> {
         Ok(Act::Load {
             slot: 2,
             mask: 3,
+            layout: Layout::One,
+            bytes
+        })
+    );
+    let bytes = Bytes::from_slice(alloc, &[149])?;
+    let loaded = parse_line(alloc, Role::All, b"load2 15 0 95");
+    assert_eq!(rt;
+        loaded,
+        Ok(Act::Load {
+            slot: 15,
+            mask: 0,
+            layout: Layout::Two,
             bytes
         })
     );
@@ -76,6 +90,10 @@ fn lines_are_refused(rt: HostRuntime) {
     for (role, line, fault) in [
         (Role::Till, "disp 1 up 1", LineFault::BadLine),
         (Role::Till, "load 0 0 95", LineFault::BadLine),
+        (Role::Till, "load2 0 0 95", LineFault::BadLine),
+        (Role::Dispenser, "load2 0 0 95", LineFault::BadLine),
+        (Role::Owner, "load1 0 0 95", LineFault::BadLine),
+        (Role::Owner, "load2 0 0 9g", LineFault::BadNumber),
         (Role::Owner, "till 1 open 1", LineFault::BadLine),
         (Role::Dispenser, "till 1 open 01", LineFault::BadLine),
         (Role::Till, "till 1 sell 1", LineFault::BadLine),

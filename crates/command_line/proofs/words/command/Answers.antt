@@ -1,10 +1,10 @@
-use Rattle.std.proofs.Common.{◌≡◌, ◌≢◌, ◌⊎◌, inl, inr, sym, subst, ◌∙◌, Bool, true, false, IfOk, IfErr, OnOk, IsSome, Option, None, Result, Ok, Err, List, [], String, Global, refl, map, string_bytes}
+use Rattle.std.proofs.Common.{◌≡◌, ◌⊎◌, inl, inr, sym, subst, ◌∙◌, Bool, true, false, IfOk, IfErr, OnOk, IsSome, Option, None, Result, Ok, Err, List, [], String, Global, refl, map, string_bytes}
 use Rattle.clap.specs.Words.{App, HasMatchesOf, Row, Text, app_of, is_simple, is_simple_and_free, fault_of, subcommand_of, subcommand_rows_of, takes, kind_of}
 use Rattle.clap.specs.Kinds.{IsAmong, Kinds}
 use Rattle.clap.specs.declared.parser.matches.ArgMatches.{ArgMatches}
 use Rattle.clap.specs.declared.error.kind.ErrorKind.{ErrorKind}
 use Rattle.clap.specs.declared.error.kind.ErrorKind.TheVariants as kind
-use Rattle.command_line.specs.Asked.{IsNothing, IsShown, MayRefuse, MayShow, RefusesBy, fc_app, asked, asked_of}
+use Rattle.command_line.specs.Asked.{IsNothing, IsShown, MayShow, RefusesBy, fc_app, asked, asked_of}
 use Rattle.command_line.specs.Refusing.{IsRefusalOf, IsUnasked}
 use Rattle.command_line.specs.declared.job.Job.{Job}
 use Rattle.command_line.specs.declared.job.CommandFault.{CommandFault}

@@ -1,4 +1,6 @@
-use Rattle.std.proofs.Common.{◌≡◌, subst}
+use Rattle.std.proofs.Common.{◌≡◌, ◌∙◌, sym, ap, subst, length}
+use Rattle.bpf_model.specs.Layouts.{context_len, bytes_of}
+use Rattle.reg_types.specs.Terms.{terms_of}
 use Rattle.bpf_model.specs.Program.{outcome}
 use Rattle.bpf_model.specs.Machine.{counter}
 use Rattle.counters.specs.Changes.{adopted}
@@ -8,5 +10,7 @@ use Rattle.interp.proofs.rebasing.rebase.Goals as goal
 pub returns-clause-ran : goal.returns-clause-ran
 unfolding outcome
 returns-clause-ran c =
-    rebased c.args.program.now.bytes c.flow-flow.result.now c.args.program.now.declared c.args.context.now c.args.view.now c.flow-flow.ensures c.args.before.now c.args.now.now c.args.after.now c.adopt.new.self c.args.answer c.get-before.ensures.right.many c.get-old.ensures.right.many c.get-new.ensures.right.many c.requires.agree c.requires.ran
+    let long : length (bytes_of c.args.context.now) ≡ context_len c.args.program.now.layout =
+    ap length (sym c.bytes-bytes.ensures.bytes) ∙ c.bytes-bytes.ensures.many ∙ ap context_len c.requires.layout in
+    rebased c.args.program.now.bytes c.flow-flow.result.now (terms_of c.args.program.now) (bytes_of c.args.context.now) long c.args.view.now c.flow-flow.ensures c.args.before.now c.args.now.now c.args.after.now c.adopt.new.self c.args.answer c.get-before.ensures.right.many c.get-old.ensures.right.many c.get-new.ensures.right.many c.requires.agree c.requires.ran
     (λ q. subst (λ d. counter c.adopt.new.self q ≡ adopted d c.args.after.now c.args.now.now q) c.declared.ensures (c.adopt.ensures q))

@@ -1,4 +1,4 @@
-use Rattle.std.proofs.Common.{arith, rules}
+use Rattle.std.proofs.Common.{arith, rules, inl}
 use Rattle.till_request.proofs.Taken.{on_err_always}
 use Rattle.till_request.proofs.Counts.{rose_more, rose_left}
 use Rattle.till_request.specs.declared.act.LineFault.TheVariants.{TooLong, CutLine}
@@ -17,7 +17,7 @@ turns-init g c = record {
 
 pub returns-in_err-line-clause-broken : goal.returns-in_err-line-clause-broken
 returns-in_err-line-clause-broken g c =
-    on_err_always _ (breaks_here _ _ _ _ _ _ _ _ c.turns.count _ c.in_err-line.ensures.given.0 c.turns.invariant.talks c.in_err-line.ensures.given.1)
+    on_err_always _ (breaks_here _ _ _ _ _ _ _ _ c.turns.count _ c.in_err-line.ensures.given.0 c.turns.invariant.talks c.in_err-line.ensures.given.1 (inl c.in_err-line.ensures.given.2))
 
 pub returns-in_err-speak-in-Line-clause-broken :
     goal.returns-in_err-speak-in-Line-clause-broken

@@ -1,5 +1,5 @@
 use Rattle.std.proofs.Common.{◌≡◌, None, subst}
-use Rattle.bpf_model.specs.Runs.{IsGood}
+use Rattle.bpf_model.specs.Program.{IsGood}
 use Rattle.reg_types.specs.Shown.{refusal_of}
 use Rattle.reg_types.proofs.Accepted.{good_by}
 use Rattle.reg_types.proofs.Answering.{accepted}
@@ -9,10 +9,10 @@ pub returns-clause-good : goal.returns-clause-good
 returns-clause-good c =
     let p = c.self.inside in
     let is = c.self.invariant in
-    subst (λ t. IsGood t.bytes t.declared) c.self.view_is (good_by p.bytes.items p.declared p.flow is.reads is.forward is.flawless)
+    subst IsGood c.self.view_is (good_by p.bytes.items p.terms p.flow is.reads is.forward is.flawless)
 
 pub returns-clause-accepted : goal.returns-clause-accepted
 returns-clause-accepted c =
     let p = c.self.inside in
     let is = c.self.invariant in
-    subst (λ t. refusal_of t.bytes t.declared ≡ None) c.self.view_is (accepted p.bytes.items p.flow p.declared is.reads is.flows is.flawless)
+    subst (λ t. refusal_of t ≡ None) c.self.view_is (accepted p.bytes.items p.flow p.terms is.reads is.flows is.flawless)

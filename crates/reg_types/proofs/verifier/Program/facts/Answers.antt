@@ -6,19 +6,19 @@ use Rattle.reg_types.proofs.verifier.Program.facts.Goals as goal
 pub overflow_cast-result : goal.overflow_cast-result
 overflow_cast-result c =
     let p = c.self.inside in
-    let l = facts_small p.bytes.items p.flow p.declared p.facts.items c.self.invariant in
+    let l = facts_small p.bytes.items p.flow p.terms p.facts.items c.self.invariant in
     record { fits = omega (arith, l, c.len.ensures) }
 
 pub returns-clause-number : goal.returns-clause-number
 returns-clause-number c =
     let p = c.self.inside in
     let n : c.len.result ≡ length p.facts.items = omega (arith, c.len.ensures) in
-    subst (λ n. IsFactCount c.args.self.now.bytes c.args.self.now.declared n) (sym n)
-    (subst (λ t. IsFactCount t.bytes t.declared (length p.facts.items)) c.self.view_is (counts p.bytes.items p.flow p.declared p.facts.items c.self.invariant))
+    subst (λ n. IsFactCount c.args.self.now n) (sym n)
+    (subst (λ t. IsFactCount t (length p.facts.items)) c.self.view_is (counts p.bytes.items p.flow p.terms p.facts.items c.self.invariant))
 
 pub returns-clause-few : goal.returns-clause-few
 returns-clause-few c =
     let p = c.self.inside in
     let n : c.len.result ≡ length p.facts.items = omega (arith, c.len.ensures) in
     subst (λ n. IsFew c.args.self.now.bytes n) (sym n)
-    (subst (λ t. IsFew t.bytes (length p.facts.items)) c.self.view_is (few p.bytes.items p.flow p.declared p.facts.items c.self.invariant))
+    (subst (λ t. IsFew t.bytes (length p.facts.items)) c.self.view_is (few p.bytes.items p.flow p.terms p.facts.items c.self.invariant))

@@ -12,14 +12,14 @@ pub returns-then-not-has_point-clause-grant : goal.returns-then-not-has_point-cl
 returns-then-not-has_point-clause-grant c =
     let none : at_number c.args.self.now.points c.args.question.now.point ≡ None = grind (arith, common_steps) in
     let q = c.args.question.now in
-    let back : c.args.self.now ≡ record { points = c.self.inside.points.items; prices = c.self.inside.prices; counters = c.self.inside.counters; cleared = c.self.inside.cleared } = sym c.self.view_is in
+    let back : c.args.self.now ≡ record { points = c.self.inside.points.items; prices = c.self.inside.prices; counters = c.self.inside.counters; cleared = c.self.inside.cleared; clears = c.self.inside.clears } = sym c.self.view_is in
     let whole = grant-none c.args.self.now c.args.till c.args.r0 q none in
     let put : SiteState → ℕ × SiteState = λ s. (q.asked, record s { prices = slice_set s.prices (q.product - 1) q.asked }) in
     whole ∙ ap put back
 
 pub returns-clause-grant : goal.returns-clause-grant
 returns-clause-grant c =
-    let old : SiteState = record { points = c.self.inside.points.items; prices = c.self.inside.prices; counters = c.self.inside.counters; cleared = c.self.inside.cleared } in
+    let old : SiteState = record { points = c.self.inside.points.items; prices = c.self.inside.prices; counters = c.self.inside.counters; cleared = c.self.inside.cleared; clears = c.self.inside.clears } in
     let q = c.args.question.now in
     let p : PointState = c.index_mut-point.result.now in
     let one : 1 ≤ q.point = grind (arith, common_steps) in
@@ -31,7 +31,7 @@ returns-clause-grant c =
 
 pub returns-clause-bounded : goal.returns-clause-bounded
 returns-clause-bounded c = λ k b.
-    let old : SiteState = record { points = c.self.inside.points.items; prices = c.self.inside.prices; counters = c.self.inside.counters; cleared = c.self.inside.cleared } in
+    let old : SiteState = record { points = c.self.inside.points.items; prices = c.self.inside.prices; counters = c.self.inside.counters; cleared = c.self.inside.cleared; clears = c.self.inside.clears } in
     let q = c.args.question.now in
     let one : 1 ≤ q.point = grind (arith, common_steps) in
     let le : q.point ≤ length old.points = grind (arith, common_steps) in

@@ -32,7 +32,7 @@ returns-clause-effect c = λ moment v shown number program.
 
 pub returns-clause-bounded : goal.returns-clause-bounded
 returns-clause-bounded c = λ k b.
-    let t : SiteState = record { points = c.self.inside.points.items; prices = c.self.inside.prices; counters = c.args.counters; cleared = c.self.inside.cleared } in
-    let old : Bounded k (record { points = c.self.inside.points.items; prices = c.self.inside.prices; counters = c.self.inside.counters; cleared = c.self.inside.cleared }) = rw (← c.self.view_is) at b in
-    let bound : Bounded k t = record { last = old.last; cleared = old.cleared } in
+    let t : SiteState = record { points = c.self.inside.points.items; prices = c.self.inside.prices; counters = c.args.counters; cleared = c.self.inside.cleared; clears = c.self.inside.clears } in
+    let old : Bounded k (record { points = c.self.inside.points.items; prices = c.self.inside.prices; counters = c.self.inside.counters; cleared = c.self.inside.cleared; clears = c.self.inside.clears }) = rw (← c.self.view_is) at b in
+    let bound : Bounded k t = record { last = old.last; cleared = old.cleared; clears = old.clears } in
     c.grant-granted.ensures.bounded k bound

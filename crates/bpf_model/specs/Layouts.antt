@@ -1,0 +1,19 @@
+-- Definitions: the layouts of the bytes that a program is given (this profile).
+use Rattle.std.specs.Prelude.{ℕ, List}
+use Rattle.bpf_model.specs.declared.context.Layout.{Layout}
+use Rattle.bpf_model.specs.declared.context.Layout.TheVariants as layout
+use Rattle.bpf_model.specs.declared.context.Context.{Context}
+use Rattle.bpf_model.specs.declared.context.Context.TheVariants as context
+
+-- so many bytes has a context of a layout
+abbrev pub context_len : Layout → ℕ
+context_len layout.One = 64
+context_len layout.Two = 80
+
+abbrev pub layout_of : Context → Layout
+layout_of (context.One bytes) = layout.One
+layout_of (context.Two bytes) = layout.Two
+
+abbrev pub bytes_of : Context → List ℕ
+bytes_of (context.One bytes) = bytes
+bytes_of (context.Two bytes) = bytes

@@ -1,0 +1,206 @@
+//! The loop over the lines at a door. Answers that are ready together are written at once.
+ghost use Rattle.std.specs.Prelude.{◌≡◌, ◌≢◌, ◌⊎◌, ◌++◌, ◌-◌, ◌≤◌, ℕ, [], take, IfOk, IfErr, OnErr, OnOk, Err, Some};
+ghost use Rattle.std.specs.Io.KnownBytes.{Appends};
+ghost use Rattle.till_request.specs.Answer.{answer_line};
+ghost use Rattle.till_request.specs.Count.{RoseBy, one_if};
+ghost use Rattle.line_session.specs.Holding.{BreaksHeld, EndsHeld, LetsGo};
+ghost use Rattle.line_session.specs.Session.{desk_says, desk_drops};
+ghost use Rattle.line_session.specs.Talk.{Ends, Breaks, Said, Half, Silent, Dropped, is_read, is_write};
+
+use crate::answering::{Ended, READS, SessionFault};
+use crate::at_desk::AtDesk;
+use crate::desk::{Clock, Desk};
+use crate::doors::Doors;
+use crate::speaker::Speaker;
+use std::alloc::Global;
+use till_request::devices::MemoryOut;
+use till_request::{
+    Answer, LineFault, LineOut, NextLine, Role, next_line, write_all, write_answer,
+};
+
+/// How many bytes of answers may wait for the lines that are there already.
+const MOST_HELD: usize = 16_384;
+
+/// Writes what is held, or a front of it; nothing is held then.
+fn let_go<O: LineOut>(output: &mut O, held: &mut MemoryOut) -> Result<(), SessionFault>
+    ensures ok { OnOk result (Appends (O.written output.old) (O.written output.new) held.old.bytes.items) }
+    ensures err { OnErr result ((k : ℕ) × Appends (O.written output.old) (O.written output.new) (take k held.old.bytes.items)) }
+    ensures none { held.new.bytes.items ≡ [] }
+    ensures failed { RoseBy (one_if (is_write result)) (O.failures output.old) (O.failures output.new) }
+    ensures cause { IfErr result (λ e. e ≡ SessionFault.Write) }
+{
+    let written = write_all(output, held.bytes.as_slice());
+    held.bytes.clear();
+    match written {
+        Ok(()) => Ok(()),
+        Err(_) => Err(SessionFault::Write),
+    }
+}
+
+/// Writes what is held, unless the door has a further line already and not too much is held.
+fn make_way<S: Doors>(
+    doors: &S,
+    input: &S::In,
+    output: &mut S::Out,
+    held: &mut MemoryOut,
+) -> Result<(), SessionFault>
+    ensures ok { OnOk result (LetsGo held.old.bytes.items held.new.bytes.items (S.Out.written output.old) (S.Out.written output.new)) }
+    ensures err { OnErr result ((k : ℕ) × Appends (S.Out.written output.old) (S.Out.written output.new) (take k held.old.bytes.items)) }
+    ensures none { OnErr result (held.new.bytes.items ≡ []) }
+    ensures failed { RoseBy (one_if (is_write result)) (S.Out.failures output.old) (S.Out.failures output.new) }
+    ensures cause { IfErr result (λ e. e ≡ SessionFault.Write) }
+{
+    if held.bytes.len() < MOST_HELD && doors.has_line(input) {
+        return Ok(());
+    }
+    let_go(output, held)
+}
+
+/// Holds the answer to a line.
+fn hold_answer<A, B, P: Speaker<A, B>>(
+    alloc: Global,
+    speaker: &P,
+    line: &[u8],
+    first: &mut A,
+    second: &mut B,
+    held: &mut MemoryOut,
+) -> Result<(), SessionFault>
+    ensures ok { OnOk result (Said (P.says speaker.now) line.now (first.old, second.old) (first.new, second.new) (Some held.old.bytes.items) (Some held.new.bytes.items)) }
+    ensures err { OnErr result (Silent first.old second.old held.old first.new second.new held.new
+        ⊎ (Dropped (P.drops speaker.now) line.now (first.old, second.old) (first.new, second.new) held.old held.new
+        ⊎ Half (P.says speaker.now) line.now (first.old, second.old) (first.new, second.new) (Some held.old.bytes.items) (Some held.new.bytes.items))) }
+    ensures cause { IfErr result (λ e. e ≡ SessionFault.OutOfMemory) }
+{
+    match speaker.speak(alloc, line, first, second, held) {
+        Ok(()) => Ok(()),
+        Err(_) => Err(SessionFault::OutOfMemory),
+    }
+}
+
+/// Holds the answer to the fault that ends a session.
+fn hold_cut(alloc: Global, held: &mut MemoryOut, fault: LineFault) -> Result<(), SessionFault>
+    ensures ok { OnOk result (held.new.bytes.items ≡ held.old.bytes.items ++ answer_line (Answer.Line fault)) }
+    ensures err { OnErr result ((k : ℕ) × (held.new.bytes.items ≡ held.old.bytes.items ++ take k (answer_line (Answer.Line fault)))) }
+    ensures cause { IfErr result (λ e. e ≡ SessionFault.OutOfMemory) }
+{
+    match write_answer(alloc, held, &Answer::Line(fault)) {
+        Ok(()) => Ok(()),
+        Err(_) => Err(SessionFault::OutOfMemory),
+    }
+}
+
+/// Answers the lines at a door in order, within so many reads. What isn't written at the end is held.
+fn talk_held<S: Doors, A, B, P: Speaker<A, B>>(
+    alloc: Global,
+    doors: &S,
+    input: &mut S::In,
+    output: &mut S::Out,
+    held: &mut MemoryOut,
+    speaker: &P,
+    first: &mut A,
+    second: &mut B,
+    left: &mut u32,
+) -> Result<Ended, SessionFault>
+    requires { (left.old ≤ 67108864) × (held.old.bytes.items ≡ []) }
+    ensures said { IfOk result (λ ended. EndsHeld (P.says speaker.now) (first.old, second.old) (first.new, second.new)
+        (S.In.remaining input.old) (S.In.remaining input.new) (S.Out.written output.old) (S.Out.written output.new) held.new.bytes.items ended.lines ended.cut) }
+    ensures broken { OnErr result (BreaksHeld (P.says speaker.now) (P.drops speaker.now) (first.old, second.old) (first.new, second.new)
+        (S.In.remaining input.old) (S.In.remaining input.new) (S.Out.written output.old) (S.Out.written output.new) held.new.bytes.items) }
+    ensures read_fault { RoseBy (one_if (is_read result)) (S.In.failures input.old) (S.In.failures input.new) }
+    ensures write_fault { RoseBy (one_if (is_write result)) (S.Out.failures output.old) (S.Out.failures output.new) }
+    ensures left { left.new ≤ left.old }
+    ensures spent { result ≡ Err SessionFault.ReadsSpent → left.new ≡ 0 }
+    ensures counted { RoseBy (left.old - left.new) (S.In.reads input.old) (S.In.reads input.new) }
+    ensures asked { RoseBy (left.old - left.new) (S.In.asked input.old) (S.In.asked input.new) }
+{
+    let mut count = 0u64;
+    'turns: loop {
+        make_way(doors, input, output, held)?;
+        match next_line(alloc, input, left)? {
+            NextLine::Line(line) => hold_answer(alloc, speaker, &line, first, second, held)?,
+            NextLine::End => {
+                return Ok(Ended {
+                    lines: count,
+                    cut: None,
+                });
+            }
+            NextLine::TooLong => {
+                hold_cut(alloc, held, LineFault::TooLong)?;
+                return Ok(Ended {
+                    lines: count + 1,
+                    cut: Some(LineFault::TooLong),
+                });
+            }
+            NextLine::Cut => {
+                hold_cut(alloc, held, LineFault::CutLine)?;
+                return Ok(Ended {
+                    lines: count + 1,
+                    cut: Some(LineFault::CutLine),
+                });
+            }
+        }
+        count += 1;
+    }
+}
+
+/// Answers the lines at a door in order, as `talk`. An answer waits only for lines that are there already.
+fn talk_ahead<S: Doors, A, B, P: Speaker<A, B>>(
+    alloc: Global,
+    doors: &S,
+    input: &mut S::In,
+    output: &mut S::Out,
+    speaker: &P,
+    first: &mut A,
+    second: &mut B,
+) -> Result<Ended, SessionFault>
+    ensures said { IfOk result (λ ended. Ends (P.says speaker.now) (first.old, second.old) (first.new, second.new)
+        (S.In.remaining input.old) (S.In.remaining input.new) (S.Out.written output.old) (S.Out.written output.new) ended.lines ended.cut) }
+    ensures broken { OnErr result (Breaks (P.says speaker.now) (P.drops speaker.now) (first.old, second.old) (first.new, second.new)
+        (S.In.remaining input.old) (S.In.remaining input.new) (S.Out.written output.old) (S.Out.written output.new)) }
+    ensures read_fault { RoseBy (one_if (is_read result)) (S.In.failures input.old) (S.In.failures input.new) }
+    ensures write_fault { RoseBy (one_if (is_write result)) (S.Out.failures output.old) (S.Out.failures output.new) }
+    ensures reads { (k : ℕ) × (k ≤ 67108864) × RoseBy k (S.In.reads input.old) (S.In.reads input.new) × (result ≡ Err SessionFault.ReadsSpent → k ≡ 67108864)
+        × RoseBy k (S.In.asked input.old) (S.In.asked input.new) }
+{
+    let mut left = READS;
+    let mut held = MemoryOut::new(alloc, Vec::new(alloc), None);
+    let outcome = talk_held(
+        alloc, doors, input, output, &mut held, speaker, first, second, &mut left,
+    );
+    match outcome {
+        Ok(ended) => {
+            let_go(output, &mut held)?;
+            Ok(ended)
+        }
+        // A door that told of a line gives it, so where a read fails nothing is held.
+        Err(SessionFault::Read) => Err(SessionFault::Read),
+        Err(SessionFault::Write) => Err(SessionFault::Write),
+        Err(fault) => {
+            let_go(output, &mut held)?;
+            Err(fault)
+        }
+    }
+}
+
+/// Answers the lines that somebody of a role sends at a door, as `session`; but where the door has further lines already, the answers
+/// are written together.
+pub fn session_ahead<S: Doors, C: Clock, D: Desk>(
+    alloc: Global,
+    role: Role,
+    doors: &S,
+    input: &mut S::In,
+    output: &mut S::Out,
+    clock: &mut C,
+    desk: &mut D,
+) -> Result<Ended, SessionFault>
+    ensures said { IfOk result (λ ended. Ends (desk_says D.step C.tick role) (clock.old, desk.old) (clock.new, desk.new)
+        (S.In.remaining input.old) (S.In.remaining input.new) (S.Out.written output.old) (S.Out.written output.new) ended.lines ended.cut) }
+    ensures broken { OnErr result (Breaks (desk_says D.step C.tick role) (desk_drops D.step C.tick role) (clock.old, desk.old) (clock.new, desk.new)
+        (S.In.remaining input.old) (S.In.remaining input.new) (S.Out.written output.old) (S.Out.written output.new)) }
+    ensures read_fault { RoseBy (one_if (is_read result)) (S.In.failures input.old) (S.In.failures input.new) }
+    ensures write_fault { RoseBy (one_if (is_write result)) (S.Out.failures output.old) (S.Out.failures output.new) }
+    ensures reads { (k : ℕ) × (k ≤ 67108864) × RoseBy k (S.In.reads input.old) (S.In.reads input.new) × (result ≡ Err SessionFault.ReadsSpent → k ≡ 67108864)
+        × RoseBy k (S.In.asked input.old) (S.In.asked input.new) }
+{
+    talk_ahead(alloc, doors, input, output, &AtDesk { role }, clock, desk)
+}

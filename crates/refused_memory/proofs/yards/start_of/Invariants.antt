@@ -1,0 +1,8 @@
+use Rattle.std.proofs.Common.{[], None}
+use Rattle.refused_memory.proofs.yards.start_of.Given as goal
+
+abbrev pub ghosts-start_in-L-Ledger : goal.ghosts-start_in-L-Ledger
+ghosts-start_in-L-Ledger g a = record { name = a.blank.name; parts = a.blank.parts }
+
+abbrev pub ghosts-start_in-L-Yard : goal.ghosts-start_in-L-Yard
+ghosts-start_in-L-Yard g a = record { config = a.config; base = []; taken = None }

@@ -1,0 +1,90 @@
+-- What the posts hand in is what all workers handed back.
+use Rattle.std.proofs.Common.{◌≡◌, ℕ, ◌+◌, ◌<◌, List, [], ◌∷◌, ◌++◌, length, map, slice_index_or, Option, Some, None, slice_get, refl, sym, ◌∙◌, ap, subst, arith, zero, suc}
+use Rattle.std.proofs.lemmas.List.{length-map}
+use Rattle.site_lock.specs.Passes.{PassView, new_pass, AreNew}
+use Rattle.site_core.specs.Limits.{ConfigValue}
+use Rattle.site_server.specs.Ending.{HandedBack, HandsBack}
+use Rattle.site_server.specs.Handing.{AreWaiting, Manned, handed_in, waits}
+use Rattle.site_server.proofs.Numbering.{handed_back}
+
+-- what stands at those posts at which something was handed back
+abbrev pub results : List (Option (PassView × ℕ)) → List (PassView × ℕ)
+results [] = []
+results (None ∷ posts) = results posts
+results (Some r ∷ posts) = r ∷ results posts
+
+pub handed_first : (posts : List (Option (PassView × ℕ))) → handed_in posts ≡ map (λ (x : PassView × ℕ). x.0) (results posts)
+handed_first [] = refl
+handed_first (None ∷ posts) = handed_first posts
+handed_first (Some r ∷ posts) = ap (λ (ps : List PassView). r.0 ∷ ps) (handed_first posts)
+
+abbrev IsThere : Option PassView → Type 0
+IsThere None = ⊥
+IsThere (Some p) = Unit {0}
+
+abbrev or_first : Option PassView → PassView
+or_first None = new_pass 0
+or_first (Some p) = p
+
+module _ (config own : ConfigValue) (same : config ≡ own) (may_fail : Type 0) (tills dispensers connections : ℕ) where
+  -- all workers from the number b + 1 on have handed their pass back
+  abbrev pub AllBack : ℕ → List (Option (PassView × ℕ)) → Type 0
+  AllBack b [] = Unit {0}
+  AllBack b (None ∷ posts) = ⊥
+  AllBack b (Some r ∷ posts) = HandedBack config may_fail tills dispensers connections b r × AllBack (b + 1) posts
+
+  one_back : {A : Type 0} (b : ℕ) (x : Option (PassView × A)) (y : Option (PassView × ℕ)) (rest : List (Option (PassView × ℕ))) → waits x ≡ Some (new_pass (b + 1))
+      → Manned own may_fail tills dispensers connections x y → AllBack (b + 1) rest → AllBack b (y ∷ rest)
+  one_back b None y rest e h more = absurd (subst IsThere (sym e) tt)
+  one_back b (Some w) None rest e h more = absurd h
+  one_back b (Some w) (Some r) rest e h more = (handed_back config may_fail tills dispensers connections own same b w.0 r (ap or_first e) h.0 h.1, more)
+
+  pub all_back : {P A : Type 0} (w : P → Option (PassView × A)) (d : P → Option (PassView × ℕ)) (b : ℕ) (xs ys : List P) → length ys ≡ length xs
+      → ((k n : ℕ) (e : Option PassView) → n ≡ b + k + 1 → k < length xs → slice_index_or (map (λ p. waits (w p)) xs) k e ≡ Some (new_pass n))
+      → ((k : ℕ) (e : P) → k < length xs → Manned own may_fail tills dispensers connections (w (slice_index_or xs k e)) (d (slice_index_or ys k e)))
+      → AllBack b (map d ys)
+  all_back w d b [] [] is waiting manned = tt
+  all_back w d b [] (y ∷ ys) is waiting manned = absurd (omega arith)
+  all_back w d b (x ∷ xs) [] is waiting manned = absurd (omega arith)
+  all_back w d b (x ∷ xs) (y ∷ ys) is waiting manned =
+      one_back b (w x) (d y) (map d ys) (waiting 0 (b + 1) None (omega arith) (omega arith)) (manned 0 x (omega arith))
+      (all_back w d (b + 1) xs ys (omega arith) (λ k n e num lt. waiting (suc k) n e (omega arith) (omega arith)) (λ k e lt. manned (suc k) e (omega arith)))
+
+  back_at : (b : ℕ) (posts : List (Option (PassView × ℕ))) → AllBack b posts → (k n : ℕ) (d : PassView × ℕ) → n ≡ b + k → k < length (results posts)
+      → HandedBack config may_fail tills dispensers connections n (slice_index_or (results posts) k d)
+  back_at b [] h k n d e lt = absurd (omega arith)
+  back_at b (None ∷ posts) h k n d e lt = absurd h
+  back_at b (Some r ∷ posts) h zero n d e lt = subst (λ (m : ℕ). HandedBack config may_fail tills dispensers connections m r) (omega arith) h.0
+  back_at b (Some r ∷ posts) h (suc k) n d e lt = back_at (b + 1) posts h.1 k n d (omega arith) (omega arith)
+
+  pub hands_back : (posts : List (Option (PassView × ℕ))) → AllBack 0 posts → HandsBack config may_fail tills dispensers connections (results posts)
+  hands_back posts h k d lt = back_at 0 posts h k k d (omega arith) lt
+
+  pub handed_length : (b : ℕ) (posts : List (Option (PassView × ℕ))) → AllBack b posts → length (handed_in posts) ≡ length posts
+  handed_length b [] h = refl
+  handed_length b (None ∷ posts) h = absurd h
+  handed_length b (Some r ∷ posts) h = (let more = handed_length (b + 1) posts h.1 in omega arith)
+
+module _ (config : ConfigValue) (may_fail : Type 0) (tills dispensers connections : ℕ) {P A : Type 0} (w : P → Option (PassView × A)) (d : P → Option (PassView × ℕ)) where
+  pub manned_so : (x y a b : P) → a ≡ x → b ≡ y → Manned config may_fail tills dispensers connections (w a) (d b) → Manned config may_fail tills dispensers connections (w x) (d y)
+  manned_so x y a b is left h = subst (λ (p : P). Manned config may_fail tills dispensers connections (w p) (d y)) is
+      (subst (λ (p : P). Manned config may_fail tills dispensers connections (w a) (d p)) left h)
+
+  pub handed_so : (passes room : List PassView) (xs ys : List P) → passes ≡ room ++ handed_in (map d xs) → room ≡ [] → xs ≡ ys → passes ≡ handed_in (map d ys)
+  handed_so passes room xs ys is none same = is ∙ ap (λ (ps : List PassView). ps ++ handed_in (map d xs)) none ∙ ap (λ (l : List P). handed_in (map d l)) same
+
+-- new passes that wait at posts
+module _ {P A : Type 0} (w : P → Option (PassView × A)) where
+  waits_at : (k : ℕ) (d : Option PassView) (p : PassView) (ps : List PassView) → slice_get ps k ≡ Some p → slice_index_or (map (λ (q : PassView). Some q) ps) k d ≡ Some p
+  waits_at k d p [] is = absurd (subst IsThere (sym is) tt)
+  waits_at zero d p (q ∷ ps) is = is
+  waits_at (suc k) d p (q ∷ ps) is = waits_at k d p ps is
+
+  pub are_waiting : (n : ℕ) (posts : List P) (ps : List PassView) → map (λ p. waits (w p)) posts ≡ map (λ (q : PassView). Some q) ps → AreNew n ps → AreWaiting n (map (λ p. waits (w p)) posts)
+  are_waiting n posts ps is new = rw is (
+    length-map ps (λ (q : PassView). Some q) ∙ new.0,
+    λ k d lt. waits_at k d (new_pass (k + 1)) ps (new.1 k lt),
+  )
+
+  pub as_many : (posts : List P) (ps : List PassView) → map (λ p. waits (w p)) posts ≡ map (λ (q : PassView). Some q) ps → length posts ≡ length ps
+  as_many posts ps is = sym (length-map posts (λ p. waits (w p))) ∙ ap length is ∙ length-map ps (λ (q : PassView). Some q)

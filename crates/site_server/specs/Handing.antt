@@ -1,0 +1,28 @@
+-- Promises: what stands at the workers' posts, before they serve and after it.
+use Rattle.std.specs.Prelude.{◌≡◌, ℕ, ◌+◌, ◌<◌, List, [], ◌∷◌, length, slice_index_or, Option, Some, None}
+use Rattle.site_core.specs.Limits.{ConfigValue}
+use Rattle.site_lock.specs.Passes.{PassView, new_pass}
+use Rattle.site_server.specs.Crews.{role_of}
+use Rattle.site_server.specs.Posts.{Worked}
+
+-- the pass with which a post waits, whatever its port
+abbrev pub waits : {A : Type 0} → Option (PassView × A) → Option PassView
+waits None = None
+waits (Some w) = Some w.0
+
+-- the passes 1 to n, without receipts, wait at so many posts
+abbrev pub AreWaiting : ℕ → List (Option PassView) → Type 0
+AreWaiting n posts = (length posts ≡ n) × ((k : ℕ) (d : Option PassView) → k < n → slice_index_or posts k d ≡ Some (new_pass (k + 1)))
+
+-- the pass that waited was handed back, after so many connections in its role
+abbrev pub Manned : {A : Type 0} → ConfigValue → Type 0 → ℕ → ℕ → ℕ → Option (PassView × A) → Option (PassView × ℕ) → Type 0
+Manned config may_fail tills dispensers connections None after = Unit {0}
+Manned config may_fail tills dispensers connections (Some w) None = ⊥
+Manned config may_fail tills dispensers connections (Some w) (Some d) =
+    (d.0.id ≡ w.0.id) × Worked config may_fail (role_of tills dispensers w.0.id) connections d.1 w.0 d.0
+
+-- the passes that were handed back, in their order
+abbrev pub handed_in : List (Option (PassView × ℕ)) → List PassView
+handed_in [] = []
+handed_in (None ∷ posts) = handed_in posts
+handed_in (Some d ∷ posts) = d.0 ∷ handed_in posts

@@ -1,0 +1,102 @@
+#!/usr/bin/env python3
+"""Holds the documentation's table of the context's fields against the definition from which contexts are laid: each
+field's place, bytes and layouts, and the word for what stands there.
+
+    fields.py     the last line is 'N passed, M failed', of fields and of the layouts' lengths
+"""
+
+import os
+import re
+import sys
+
+ROOT = os.path.join(os.path.dirname(os.path.abspath(__file__)), "..")
+DOCUMENT = "docs/use/writing-rules.md"
+FIELDS = "crates/site_core/specs/Context.antt"
+LENGTHS = "crates/bpf_model/specs/Layouts.antt"
+HEAD = "| at | bytes | layouts | what stands there |"
+SIZES = {"Four": 4, "Eight": 8}
+# Which word of the table stands for a term of the definition.
+WORDS = {
+    "till": "till",
+    "q.point": "point",
+    "(kind_number q.kind)": "kind",
+    "(of_point s q (λ p. state_number p.state))": "state",
+    "(of_point s q (λ p. p.nozzle))": "nozzle",
+    "(product_of s q)": "product",
+    "q.asked": "amount",
+    "moment": "moment",
+    "(price_of s (product_of s q))": "price",
+    "(busy_points s)": "busy",
+    "(of_point s q (λ p. length p.unpaid))": "unpaid",
+    "q.slot": "slot",
+    "s.cleared": "cents",
+    "s.clears": "transactions",
+    "(open_points s)": "open",
+    "0": "zero",
+}
+
+
+def text_of(path):
+    with open(os.path.join(ROOT, path)) as file:
+        return file.read()
+
+
+def one(pattern, text, what):
+    found = re.search(pattern, text, re.MULTILINE | re.DOTALL)
+    if not found:
+        raise SystemExit(f"{what} isn't where it was")
+    return found[1]
+
+
+def listed(name, text):
+    """A list of fields of the definition: how many bytes each has, and its word."""
+    body = one(rf"^{name} [^=\n]*=(.*?)∷ \[\]$", text, f"{FIELDS}: {name}")
+    for part in body.split("∷"):
+        size, term = part.split(None, 1)
+        yield SIZES[size], WORDS.get(term.strip(), term.strip())
+
+
+def defined():
+    """Each field's place, bytes, layouts and word."""
+    text = text_of(FIELDS)
+    shared = "shared_fields s till moment q"
+    one(rf"^fields layouts\.One s till moment q = ({shared})$", text, f"{FIELDS}: layout 1")
+    one(rf"^fields layouts\.Two s till moment q = ({shared} \+\+ further_fields s)$", text, f"{FIELDS}: layout 2")
+    place = 0
+    for name, layouts in (("shared_fields", "1, 2"), ("further_fields", "2")):
+        for size, word in listed(name, text):
+            yield place, size, layouts, word
+            place += size
+
+
+def documented():
+    rows = one(rf"^{re.escape(HEAD)}\n[-|]+\n(.*?)\n\n", text_of(DOCUMENT), f"{DOCUMENT}: the table")
+    for row in rows.splitlines():
+        at, size, layouts, told = (cell.strip() for cell in row.strip("|").split("|"))
+        yield int(at), int(size), layouts, re.match(r"\w+", told)[0]
+
+
+def main():
+    fields, rows = list(defined()), list(documented())
+    passed = failed = 0
+    for at in range(max(len(fields), len(rows))):
+        field, row = (list_of[at] if at < len(list_of) else None for list_of in (fields, rows))
+        if field == row:
+            passed += 1
+        else:
+            failed += 1
+            print(f"field {at + 1}: {FIELDS} has {field}, {DOCUMENT} has {row}")
+    lengths = text_of(LENGTHS)
+    for name, number in (("One", "1"), ("Two", "2")):
+        length = int(one(rf"^context_len layout\.{name} = (\d+)$", lengths, f"{LENGTHS}: layout {number}"))
+        laid = sum(size for _, size, layouts, _ in fields if number in layouts.split(", "))
+        if length == laid:
+            passed += 1
+        else:
+            failed += 1
+            print(f"layout {number}: {LENGTHS} says {length} bytes, its fields have {laid}")
+    print(f"{passed} passed, {failed} failed")
+    return 0 if passed and not failed else 1
+
+
+sys.exit(main())
