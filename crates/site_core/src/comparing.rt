@@ -63,7 +63,7 @@ fn is_same_counter(declared: u32, a: &Counters, b: &Counters, c: u32) -> bool
     requires { c < 32 }
     ensures { IsTrue result ↔ (IsTrue (is_declared declared c) → counter a.now c ≡ counter b.now c) }
 {
-    if declared / 2u32.pow(c) % 2 != 1 {
+    if (declared >> c) % 2 != 1 {
         return true;
     }
     a.get(c) == b.get(c) && a.bound(c) == b.bound(c)

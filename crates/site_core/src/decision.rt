@@ -101,7 +101,7 @@ fn count_of(mask: u32, before: &Counters, after: &Counters, c: u32) -> Option<(u
     requires { c < 32 }
     ensures { result ≡ count_of mask before.now after.now c }
 {
-    if mask / 2u32.pow(c) % 2 == 1 {
+    if (mask >> c) % 2 == 1 {
         Some((before.get(c), after.get(c)))
     } else {
         None

@@ -7,19 +7,13 @@ mod config;
 mod context;
 mod decision;
 mod draft;
-#[cfg(test)]
-mod draft_tests;
 mod events;
 mod laws;
-#[cfg(test)]
-mod layout_tests;
 mod perform;
 mod question;
 mod replies;
 mod site;
 mod station;
-#[cfg(test)]
-mod tests;
 mod why;
 
 pub use auditing::{AuditFault, audit, event_of};

@@ -1,10 +1,10 @@
 //! Programs of the second layout.
 
-use crate::Why;
-use crate::draft_tests::{RELEASE, commit, decide, open};
-use crate::tests::{Does, EXIT, OPEN, entry, fault, load_for, paid, play, start};
+use crate::drafts::{RELEASE, commit, decide, open};
+use crate::scripts::{Does, EXIT, OPEN, entry, fault, load_for, paid, play, start};
 use bpf_model::context::Context;
 use reg_types::{Layout, Refusal, TypeFault};
+use site_core::{AuditFault, Why};
 use std::test::Fail;
 use till_request::{Act, Bytes, Reply, Request};
 
@@ -61,7 +61,7 @@ fn another_number_of_open_points_is_another_context(rt: HostRuntime) -> Result<(
 fn a_load_is_audited_for_its_layout(rt: HostRuntime) -> Result<(), Fail> {
     let alloc = rt.alloc();
     let outside = Refusal::Type(TypeFault::OutOfRange(0));
-    let refused = crate::AuditFault::BadProgram(1, outside);
+    let refused = AuditFault::BadProgram(1, outside);
     for (layout, want) in [(Layout::Two, None), (Layout::One, Some(refused))] {
         let mut bytes = Vec::from_slice(alloc, &CLEARS)?;
         bytes.extend_from_slice(&EXIT)?;

@@ -1,9 +1,9 @@
 //! Scripts of events with the replies that the site's rules name for them.
 
-use crate::{AuditFault, Config, Event, Site, What, audit, audit_of_its_own_history};
 use decision_journal::Entry;
 use fuelling_point::{DispenserEvent, Order};
 use reg_types::{Layout, Refusal, TypeFault, verify};
+use site_core::{AuditFault, Config, Event, Site, What, audit, audit_of_its_own_history};
 use std::alloc::{AllocError, Global};
 use std::process::Abort;
 use std::sync::Arc;

@@ -1,11 +1,11 @@
 //! Decisions that are run outside the site, and what happens in between.
 
-use crate::tests::{ASKED, Does, FIVE_THOUSAND, OPEN, load, play, start};
-use crate::{
+use crate::scripts::{ASKED, Does, FIVE_THOUSAND, OPEN, load, play, start};
+use fuelling_point::DispenserEvent;
+use site_core::{
     Begin, Commit, Config, Ready, Site, Why, fresh_differs_nowhere, one_difference_is_first,
     programs_alone_decide,
 };
-use fuelling_point::DispenserEvent;
 use std::alloc::{AllocError, Global};
 use std::process::Abort;
 use std::test::Fail;

@@ -1,0 +1,10 @@
+//! Tests of the site: scripts of events, drafts and layouts. They stand apart from the crate, so that the gate proves them
+//! while it tries the wrong edits of that crate.
+#![tactic(auto)]
+
+#[cfg(test)]
+mod drafts;
+#[cfg(test)]
+mod layouts;
+#[cfg(test)]
+mod scripts;
