@@ -113,6 +113,21 @@ pub enum Type {
     Table,
 }
 
+/// How many items a list has, and how many it may have.
+#[derive(Clone, Copy)]
+struct Counted(Place, usize, usize, usize);
+
+impl fmt::Display for Counted {
+    fn fmt<W: fmt::Write>(&self, f: &mut fmt::Formatter<W>) -> fmt::Result {
+        let Counted(place, count, low, high) = *self;
+        write!(f, "'{place}' has {count} items, and not {low}")?;
+        if low < high {
+            write!(f, " to {high}")?;
+        }
+        Ok(())
+    }
+}
+
 /// What is at fault in a configuration's text: of all that is, the first in the order in which it is judged.
 #[derive(Debug, Drop, Error)]
 pub enum ConfigFlaw {
@@ -142,7 +157,7 @@ pub enum ConfigFlaw {
     #[error("{0} = {1} is not {2} to {3}")]
     OutOfRange(Place, i64, u64, u64),
     /// K3: the count of a list, and the least and the most that it may have.
-    #[error("'{0}' has {1} items, and not {2} to {3}")]
+    #[error("{}", Counted(*.0, *.1, *.2, *.3))]
     WrongCount(Place, usize, usize, usize),
     /// K3: a counter, by its place from 0, with its value and its bound.
     #[error("counter[{0}].value = {1} is over its bound, {2}")]
