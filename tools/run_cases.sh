@@ -1,8 +1,9 @@
 #!/bin/sh
 # Runs the program's own cases, the folders below cases/ that hold a file stdout. In such a folder the program is run
 # with the words of the file args, one a line, and with stdin as its input, if these are there; what it prints and its
-# status must be stdout and status (0 where there is no such file). Where there is an executable run, that is run with
-# the program's path, and drives it. Prints each case that differs, and then 'N passed, M failed'.
+# status must be stdout and status (0 where there is no such file), and what it says on standard error must be stderr
+# where there is such a file. Where there is an executable run, that is run with the program's path, and drives it.
+# Prints each case that differs, and then 'N passed, M failed'.
 # usage: tools/run_cases.sh PROGRAM [WORD]    WORD: only the cases whose path has it
 set -u
 program=$(readlink -f -- "$1") || exit 1
@@ -26,12 +27,15 @@ while IFS= read -r stdout <&3; do
     [ -x "$case/run" ] && run=./run && set -- "$program"
     (cd "$case" && timeout 120 "$run" "$@" <"$input" >"$work/stdout" 2>"$work/stderr")
     status=$?
-    if [ "$status" = "$wanted" ] && cmp -s "$work/stdout" "$case/stdout"; then
+    said=$work/stderr
+    [ -f "$case/stderr" ] && said=$case/stderr
+    if [ "$status" = "$wanted" ] && cmp -s "$work/stdout" "$case/stdout" && cmp -s "$work/stderr" "$said"; then
         passed=$((passed + 1))
     else
         failed=$((failed + 1))
         echo "$case: status $status, wanted $wanted; what it printed against what is wanted:"
         diff "$work/stdout" "$case/stdout" | head -n 20
+        diff "$work/stderr" "$said" | head -n 5
         head -n 5 "$work/stderr"
     fi
 done 3<"$work/cases"

@@ -1,8 +1,10 @@
 pub mod Text
+pub mod Numbered
 pub mod Words
 pub mod Lex
 pub mod Grammar
 pub mod Program
+pub mod Flaws
 pub mod Tables
 pub mod Sound
 pub mod RoundTrip

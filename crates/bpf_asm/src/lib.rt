@@ -1,32 +1,41 @@
 // Programs as assembler text, and back.
 #![tactic(auto)]
 
-ghost use Rattle.std.specs.Prelude.{◌≡◌, ◌++◌, IfOk, IfErr, map, None, ◌&&◌, nat_le, string_bytes};
+ghost use Rattle.std.specs.Prelude.{◌≡◌, ◌++◌, IfOk, IfErr, OnOk, map, None, ◌&&◌, nat_le, string_bytes, option_map, codes};
+ghost use Rattle.std.specs.Fmt.{decimal};
+ghost use Rattle.bpf_model.specs.Reading.{form_of};
+ghost use Rattle.bpf_asm.specs.Numbered.{line_of_unit, numbered_from};
 ghost use Rattle.bpf_asm.specs.Program as spec;
 ghost use Rattle.bpf_asm.specs.RoundTrip.{RoundTrip};
 ghost use Rattle.bpf_asm.specs.Sound.{AreSound};
-ghost use Rattle.bpf_asm.specs.Text.{canon, high_of};
+ghost use Rattle.bpf_asm.specs.Text.{canon, high_of, instruction_text};
 
-use bpf_decode::{Code, Unit};
+use bpf_decode::{Code, Inst, Unit};
 use grammar::Line;
 use std::alloc::{AllocError, Global};
+use std::fmt::Write;
 use thiserror::Error;
 
 /// Why a text is no program, with the number of the line, from 1.
 #[derive(Clone, Copy, Debug, PartialEq, Eq, Error)]
 pub enum AsmFault {
-    #[error("line {0}: no form of the format")]
+    /// A1.
+    #[error("no such form")]
     BadLine(u64),
-    #[error("line {0}: a label defined again, or never")]
+    /// A2.
+    #[error("a label that stands on two lines, or on none")]
     BadLabel(u64),
-    #[error("line {0}: a number out of range")]
+    /// A3.
+    #[error("a number out of range")]
     OutOfRange(u64),
+    /// A4.
     #[error("a program has 1 to 512 units")]
     Length,
     #[error("out of memory")]
     OutOfMemory,
 }
 
+mod flaw;
 mod grammar;
 mod label;
 mod lex;
@@ -34,6 +43,8 @@ mod line;
 mod text;
 mod token;
 mod units;
+
+pub use flaw::{AsmFlaw, explain};
 
 fn high(units: &[Unit]) -> i32
     ensures { result ≡ high_of units.now }
@@ -58,6 +69,45 @@ pub fn disassemble(alloc: Global, code: &Code) -> Result<String, AllocError>
         rest = after;
     }
     Ok(out)
+}
+
+/// The line of the instruction that begins at a unit, as `disassemble` has it, with its LF; none where none begins.
+pub fn instruction_line(alloc: Global, code: &Code, unit: u32) -> Result<Option<String>, AllocError>
+    ensures { IfOk result (λ found. option_map string_bytes found ≡ line_of_unit code.now unit) }
+{
+    match code.units().get(unit as usize..) {
+        Some([Unit::First(inst), after @ ..]) => {
+            let mut line = String::new(alloc);
+            text::write_instruction(&mut line, *inst, high(after))?;
+            Ok(Some(line))
+        }
+        _ => Ok(None),
+    }
+}
+
+/// The text of a program, with the number of its first unit and `: ` before each instruction.
+pub fn disassemble_numbered(alloc: Global, code: &Code) -> Result<String, AllocError>
+    ensures { IfOk result (λ text. string_bytes text ≡ numbered_from 0 code.now) }
+{
+    let mut out = String::new(alloc);
+    let mut rest = code.units();
+    let mut number = 0u64;
+    while let Some((unit, after)) = rest.split_first() {
+        if let Unit::First(inst) = unit {
+            write_numbered(&mut out, number, *inst, high(after))?;
+        }
+        number += 1;
+        rest = after;
+    }
+    Ok(out)
+}
+
+/// Adds the line of an instruction, with the number of its unit.
+fn write_numbered(out: &mut String, number: u64, inst: Inst, high: i32) -> Result<(), AllocError>
+    ensures { OnOk result (string_bytes out.new ≡ string_bytes out.old ++ decimal number ++ codes ": " ++ instruction_text (form_of inst.opcode) inst high) }
+{
+    write!(out, "{number}: ")?;
+    text::write_instruction(out, inst, high)
 }
 
 fn is_length(count: u64) -> bool

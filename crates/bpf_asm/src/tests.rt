@@ -238,3 +238,55 @@ fn takes_512_units(rt: HostRuntime) -> Result<(), AllocError> {
     );
     Ok(())
 }
+
+#[test]
+fn tells_what_a_fault_names(rt: HostRuntime) -> Result<(), AllocError> {
+    let rows: [(&[u8], &str); 9] = [
+        (b"exit\nfoo\n", "no such form: foo"),
+        (
+            b"r0 = 2 // \xc3\xa4\x1b[1m",
+            "no such form: r0 = 2 // \\xc3\\xa4\\x1b[1m",
+        ),
+        (
+            b"r0 = 0\r\nexit\r\n",
+            "the line ends with CR LF, and LF alone ends a line",
+        ),
+        (
+            b"\xef\xbb\xbfexit\n",
+            "the text begins with a byte order mark",
+        ),
+        (
+            b"exit\n\xef\xbb\xbfexit\n",
+            "no such form: \\xef\\xbb\\xbfexit",
+        ),
+        (b"goto end\nexit", "no line has the label 'end'"),
+        (b"a:\nexit\na:\n", "the label 'a' stands on a line before"),
+        (b"r0 = 2147483648", "a number out of range: r0 = 2147483648"),
+        (b"", "a program has 1 to 512 units"),
+    ];
+    for (text, want) in rows {
+        if let Err(fault) = assemble(rt.alloc(), text) {
+            let flaw = explain(rt.alloc(), text, fault)?;
+            let told = format!(in rt.alloc(); "{flaw}")?;
+            assert_eq!(rt; told.as_str(), want);
+        } else {
+            assert!(rt; false, "{want}");
+        }
+    }
+    Ok(())
+}
+
+#[test]
+fn numbers_the_units(rt: HostRuntime) -> Result<(), AllocError> {
+    let Ok(code) = assemble(rt.alloc(), b"r1 = 5 ll\nr0 = 0\nexit\n") else {
+        assert!(rt; false);
+        return Ok(());
+    };
+    let text = disassemble_numbered(rt.alloc(), &code)?;
+    assert_eq!(rt; text.as_str(), "0: r1 = 5 ll\n2: r0 = 0\n3: exit\n");
+    let line = instruction_line(rt.alloc(), &code, 2)?;
+    assert!(rt; line.is_some_and(|line| line.as_str() == "r0 = 0\n"));
+    assert!(rt; instruction_line(rt.alloc(), &code, 1)?.is_none());
+    assert!(rt; instruction_line(rt.alloc(), &code, 4)?.is_none());
+    Ok(())
+}

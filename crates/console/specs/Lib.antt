@@ -1,2 +1,3 @@
 pub mod Play
 pub mod Script
+pub mod Loading

@@ -2,20 +2,27 @@
 #![tactic(auto)]
 
 mod entering;
+mod loading;
 mod player;
 mod playing;
 mod script;
 #[cfg(test)]
 mod tests;
 
+pub use bpf_asm::{AsmFault, AsmFlaw};
 pub use command_line::{CommandFault, Job, command};
 pub use job_texts::{
-    Told, asm_file, audit_entries, audit_journal, dis_file, journal_fault_line, verify_file,
+    JournalFlaw, ProgramFlaw, RefusedProgram, Told, asm_file, asm_flaw, audit_entries,
+    audit_journal, dis_file, dis_flaw, dis_units_file, entries_flaw, journal_fault_line,
+    journal_flaw, verify_file, verify_flaw,
 };
 pub use line_session::{Ended, READS, SessionFault};
+pub use loading::{RefusedLoad, refused_load};
 pub use player::Player;
 pub use playing::{law_of_the_cut, play, play_within};
+pub use program_file::ProgramFileFault;
 pub use script::{ScriptLine, parse_script_line};
 pub use site_config::{
-    ConfigFault, MOST_BYTES, Serve, Settings, config_part, read_config, read_head,
+    ConfigFault, ConfigFlaw, MOST_BYTES, Serve, Settings, config_part, read_config, read_head,
+    read_settings,
 };

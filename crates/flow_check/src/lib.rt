@@ -13,14 +13,14 @@ use std::alloc::Global;
 use std::marker::Model;
 use thiserror::Error;
 
-/// Why a program's jumps are refused: the first unit whose jump is at fault.
+/// Why a program's jumps are refused: the first unit whose jump is at fault, which the words leave to be told.
 #[derive(Clone, Copy, Debug, PartialEq, Eq, Error)]
 pub enum FlowFault {
-    #[error("unit {0}: a jump backwards")]
+    #[error("a jump backwards")]
     BackwardJump(u32),
-    #[error("unit {0}: a jump past the last unit")]
+    #[error("a jump past the last unit")]
     JumpOut(u32),
-    #[error("unit {0}: a jump into a wide load")]
+    #[error("a jump into a wide load")]
     JumpIntoWide(u32),
     #[error("out of memory")]
     OutOfMemory,

@@ -10,6 +10,7 @@ use Rattle.bpf_asm.specs.declared.AsmFault.{AsmFault}
 use Rattle.bpf_asm.specs.declared.AsmFault.TheVariants.{BadLine, BadLabel, OutOfRange, Length, OutOfMemory}
 use Rattle.bpf_asm.specs.Program.{Spells, IsRefused}
 use Rattle.bpf_asm.specs.Text.{canon}
+use Rattle.bpf_asm.specs.Numbered.{numbered_from}
 use Rattle.reg_types.specs.declared.refusal.Refusal.TheVariants.{Decode}
 use Rattle.reg_types.specs.Refusals.{shown_by}
 use Rattle.program_file.specs.declared.ProgramFileFault.{ProgramFileFault}
@@ -59,3 +60,14 @@ DisOf (Err fault) told = IsSaid told (file_fault fault) 1
 
 abbrev pub DisTells : List ℕ → Told → Type 0
 DisTells file told = DisOf (program_in file) told
+
+-- the program's text is printed with the number of each instruction's first unit
+abbrev pub ToldNumbered : List ℕ → Told → Type 0
+ToldNumbered bytes told = (code : List ProgramUnit) × (units bytes ≡ Some code) × IsSaid told (numbered_from 0 code) 0
+
+abbrev pub DisUnitsOf : Result (List ℕ) ProgramFileFault → Told → Type 0
+DisUnitsOf (Ok bytes) told = ToldNumbered bytes told ⊎ ToldDecodeFault bytes told
+DisUnitsOf (Err fault) told = IsSaid told (file_fault fault) 1
+
+abbrev pub DisUnitsTells : List ℕ → Told → Type 0
+DisUnitsTells file told = DisUnitsOf (program_in file) told

@@ -1,3 +1,6 @@
 pub mod Told
 pub mod AuditTold
 pub mod Assembler
+pub mod Reasons
+pub mod Differing
+pub mod JournalFlaws

@@ -3,12 +3,13 @@ ghost use Rattle.std.specs.Prelude.{◌≡◌, ◌⊎◌, ℕ, List, IfOk};
 ghost use Rattle.bpf_decode.specs.Faults.{IsRefusedFor};
 ghost use Rattle.bpf_decode.specs.Encoded.{encoded};
 ghost use Rattle.bpf_asm.specs.Text.{canon};
+ghost use Rattle.bpf_asm.specs.Numbered.{numbered_from};
 ghost use Rattle.program_file.specs.Digits.{unit_lines};
 ghost use Rattle.job_texts.specs.Told.{IsSaid};
-ghost use Rattle.job_texts.specs.Assembler.{asm_fault_text, AsmTells, ToldUnits, ToldAsmFault, ToldText, ToldDecodeFault, DisTells};
+ghost use Rattle.job_texts.specs.Assembler.{asm_fault_text, AsmTells, ToldUnits, ToldAsmFault, ToldText, ToldNumbered, ToldDecodeFault, DisTells, DisUnitsTells};
 
 use crate::told::{REFUSED, Told, refused};
-use bpf_asm::{AsmFault, assemble, disassemble};
+use bpf_asm::{AsmFault, assemble, disassemble, disassemble_numbered};
 use bpf_decode::{Code, DecodeFault, decode, encode};
 use program_file::{MOST_BYTES, ProgramFileFault, read_program, unit_lines};
 use reg_types::Refusal;
@@ -98,6 +99,34 @@ pub fn dis_file(alloc: Global, file: &[u8]) -> Result<Told, AllocError>
 {
     match read_program(alloc, file) {
         Ok(bytes) => dis_bytes(alloc, &bytes),
+        Err(ProgramFileFault::TooLong) => refused(alloc, "L1"),
+        Err(ProgramFileFault::BadDigits) => refused(alloc, "H1"),
+        Err(ProgramFileFault::OutOfMemory) => Err(AllocError),
+    }
+}
+
+fn told_numbered(alloc: Global, code: &Code) -> Result<Told, AllocError>
+    ensures { IfOk result (λ told. IsSaid told (numbered_from 0 code.now) 0) }
+{
+    let text = disassemble_numbered(alloc, code)?;
+    Ok(Told { text, status: 0 })
+}
+
+fn dis_units(alloc: Global, bytes: &[u8]) -> Result<Told, AllocError>
+    ensures { IfOk result (λ told. ToldNumbered bytes.now told ⊎ ToldDecodeFault bytes.now told) }
+{
+    match decode(alloc, bytes) {
+        Ok(code) => told_numbered(alloc, &code),
+        Err(fault) => told_decode_fault(alloc, fault),
+    }
+}
+
+/// The same with the number of its first unit, a colon and a blank before each instruction.
+pub fn dis_units_file(alloc: Global, file: &[u8]) -> Result<Told, AllocError>
+    ensures { IfOk result (DisUnitsTells file.now) }
+{
+    match read_program(alloc, file) {
+        Ok(bytes) => dis_units(alloc, &bytes),
         Err(ProgramFileFault::TooLong) => refused(alloc, "L1"),
         Err(ProgramFileFault::BadDigits) => refused(alloc, "H1"),
         Err(ProgramFileFault::OutOfMemory) => Err(AllocError),

@@ -3,12 +3,20 @@
 
 mod assembler;
 mod audit;
+mod differing;
+mod journal_reasons;
 mod program;
+mod reasons;
 #[cfg(test)]
 mod tests;
 mod told;
 
-pub use assembler::{asm_file, dis_file};
+pub use assembler::{asm_file, dis_file, dis_units_file};
 pub use audit::{audit_entries, audit_journal, journal_fault_line};
+pub use differing::{Difference, first_difference};
+pub use journal_reasons::{JournalFlaw, entries_flaw, journal_flaw};
 pub use program::verify_file;
+pub use reasons::{
+    ProgramFlaw, RefusedProgram, asm_flaw, dis_flaw, explain_refusal, refused_program, verify_flaw,
+};
 pub use told::{REFUSED, Told};

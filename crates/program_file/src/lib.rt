@@ -6,17 +6,21 @@ ghost use Rattle.program_file.specs.Digits.{Gives, program_in, is_blank, line_at
 
 use hex::FromHexError;
 use std::alloc::{AllocError, Global};
+use thiserror::Error;
 
 /// The most bytes of a configuration, program or assembler file.
 pub const MOST_BYTES: usize = 65_536;
 
 /// Why a file is no program file.
-#[derive(Clone, Copy, Debug, PartialEq, Eq, Drop)]
+#[derive(Clone, Copy, Debug, PartialEq, Eq, Drop, Error)]
 pub enum ProgramFileFault {
-    /// L1: over 65,536 bytes.
+    /// L1.
+    #[error("over 65,536 bytes")]
     TooLong,
-    /// H1: another byte than digits and blanks, or an odd count of digits.
+    /// H1.
+    #[error("another byte than hexadecimal digits and blanks, or an odd count of digits")]
     BadDigits,
+    #[error("out of memory")]
     OutOfMemory,
 }
 

@@ -9,32 +9,32 @@ use flow_check::FlowFault;
 use thiserror::Error;
 
 /// What is wrong with an instruction under what is known before it: the unit that it begins at, and the register or
-/// the argument (1 or 2) where there is one.
+/// the argument (1 or 2) where there is one. The words leave the unit to be told.
 #[derive(Clone, Copy, Debug, PartialEq, Eq, Error)]
 pub enum TypeFault {
-    #[error("unit {0}: no unit follows")]
+    #[error("the program runs past its last unit")]
     FallsOff(u32),
-    #[error("unit {0}: register 10 is written")]
+    #[error("r10 is written")]
     WriteR10(u32),
-    #[error("unit {0}: register {1} holds no number")]
+    #[error("r{1} isn't a number, or isn't set")]
     NotANumber(u32, u32),
-    #[error("unit {0}: no pointer")]
+    #[error("the base register isn't a pointer")]
     NotAPointer(u32),
-    #[error("unit {0}: out of range")]
+    #[error("outside the context and the stack")]
     OutOfRange(u32),
-    #[error("unit {0}: bytes that aren't set")]
+    #[error("stack bytes that aren't set, or no whole kept pointer")]
     UnsetBytes(u32),
-    #[error("unit {0}: a store to the context")]
+    #[error("a store to the context")]
     StoreToContext(u32),
-    #[error("unit {0}: a pointer is stored")]
+    #[error("a pointer stored by fewer than 8 bytes, or not at a multiple of 8")]
     StorePointer(u32),
-    #[error("unit {0}: arithmetic on a pointer")]
+    #[error("arithmetic on a pointer")]
     PointerArithmetic(u32),
-    #[error("unit {0}: no such helper")]
+    #[error("no such helper")]
     NoSuchHelper(u32),
-    #[error("unit {0}: argument {1} is not what the helper takes")]
+    #[error("argument {1} isn't what the helper takes")]
     BadArgument(u32, u32),
-    #[error("unit {0}: a counter that isn't declared")]
+    #[error("a counter that isn't declared")]
     UndeclaredCounter(u32),
 }
 

@@ -1,12 +1,17 @@
 //! Why a text is no settings.
 use std::alloc::{AllocError, AllocFailed};
+use thiserror::Error;
 
 /// Why a text is no settings.
-#[derive(Clone, Copy, Debug, PartialEq, Eq)]
+#[derive(Clone, Copy, Debug, PartialEq, Eq, Error)]
 pub enum ConfigFault {
+    #[error("the configuration isn't TOML")]
     K1,
+    #[error("a wrong or missing key, or a wrong type")]
     K2,
+    #[error("a range, length, count or condition that isn't met")]
     K3,
+    #[error("out of memory")]
     OutOfMemory,
 }
 

@@ -3,6 +3,7 @@
 
 mod document;
 mod fault;
+mod flaw;
 mod head;
 mod ranges;
 mod raw;
@@ -12,6 +13,7 @@ mod tests;
 mod typed;
 
 pub use fault::ConfigFault;
+pub use flaw::{ConfigFlaw, Key, Place, Section, Type};
 pub use head::{MOST_BYTES, config_part, read_head};
-pub use ranges::read_config;
+pub use ranges::{read_config, read_settings};
 pub use settings::{Serve, Settings};

@@ -3,65 +3,94 @@ ghost use Rattle.std.specs.Prelude.{◌≡◌, ◌≤◌, ◌-◌, ◌++◌, len
 ghost use Rattle.toml.specs.View.{table_view};
 ghost use Rattle.site_core.specs.Limits.{IsCounter};
 ghost use Rattle.site_config.specs.Document.{Gives};
+ghost use Rattle.site_config.specs.Flaws.{Finds};
 ghost use Rattle.site_config.specs.Typed.{seen};
 ghost use Rattle.site_config.specs.Ranges.{ranged, all_ranged, point_of, counter_of, each_of, prices_of, points_of, counters_of, serve_of, serve_from, told_of, told, config_of};
 
 use crate::document::read_document;
 use crate::fault::ConfigFault;
+use crate::flaw::{ConfigFlaw, Key, Place, Section};
 use crate::raw::{Raw, Served};
 use crate::settings::{Serve, Settings};
 use crate::typed::read_typed;
 use site_core::Config;
 use std::alloc::Global;
 
+/// The most that a document can write: the greatest value and bound of a counter.
+const MOST_COUNTER: u64 = 9_223_372_036_854_775_807;
+
 /// The number, if it is from low to high.
-fn in_range(value: i64, low: u32, high: u32) -> Result<u32, ConfigFault>
-    ensures read { Gives (λ x. x) result (ranged low high value) }
+fn in_range(place: Place, value: i64, low: u32, high: u32) -> Result<u32, ConfigFlaw>
+    ensures read { Finds (λ x. x) result (ranged low high value) }
     ensures range { IfOk result (λ n. (low ≤ n) × (n ≤ high)) }
 {
     match u32::try_from(value) {
         Ok(number) if low <= number && number <= high => Ok(number),
-        _ => Err(ConfigFault::K3),
+        _ => Err(ConfigFlaw::OutOfRange(place, value, u64::from(low), u64::from(high))),
     }
 }
 
 /// The number, if it is not below 0.
-fn not_negative(value: i64) -> Result<u64, ConfigFault>
-    ensures { Gives (λ x. x) result (ranged 0 9223372036854775807 value) }
+fn not_negative(place: Place, value: i64) -> Result<u64, ConfigFlaw>
+    ensures { Finds (λ x. x) result (ranged 0 9223372036854775807 value) }
 {
-    u64::try_from(value).map_err(|_| ConfigFault::K3)
+    match u64::try_from(value) {
+        Ok(number) => Ok(number),
+        Err(_) => Err(ConfigFlaw::OutOfRange(place, value, 0, MOST_COUNTER)),
+    }
+}
+
+/// What is told of a list of a wrong count.
+fn wrong_count(key: Key, count: usize, low: usize, high: usize) -> ConfigFlaw
+    ensures { result ≡ ConfigFlaw.WrongCount (Place.At Section.Top key) count low high }
+{
+    ConfigFlaw::WrongCount(Place::At(Section::Top, key), count, low, high)
 }
 
 #[tactic(auto, unfolding(crate::specs::Ranges::point_of))]
-fn make_point(pair: (i64, i64)) -> Result<(u32, u32), ConfigFault>
-    ensures read { Gives (λ x. x) result (point_of pair) }
+fn make_point(place: usize, pair: (i64, i64)) -> Result<(u32, u32), ConfigFlaw>
+    ensures read { Finds (λ x. x) result (point_of pair) }
     ensures range { IfOk result (λ p. (p.0 ≤ 15) × (p.1 ≤ 15)) }
 {
-    let release = in_range(pair.0, 0, 15)?;
-    let preset = in_range(pair.1, 0, 15)?;
+    let section = Section::Point(place);
+    let release = in_range(Place::At(section, Key::Release), pair.0, 0, 15)?;
+    let preset = in_range(Place::At(section, Key::Preset), pair.1, 0, 15)?;
     Ok((release, preset))
 }
 
 #[tactic(auto, unfolding(crate::specs::Ranges::counter_of))]
-fn make_counter(pair: (i64, i64)) -> Result<(u64, u64), ConfigFault>
-    ensures read { Gives (λ x. x) result (counter_of pair) }
+fn make_counter(place: usize, pair: (i64, i64)) -> Result<(u64, u64), ConfigFlaw>
+    ensures read { Finds (λ x. x) result (counter_of pair) }
     ensures range { IfOk result IsCounter }
 {
-    let value = not_negative(pair.0)?;
-    let bound = not_negative(pair.1)?;
+    let section = Section::Counter(place);
+    let value = not_negative(Place::At(section, Key::Value), pair.0)?;
+    let bound = not_negative(Place::At(section, Key::Bound), pair.1)?;
     if value > bound {
-        return Err(ConfigFault::K3);
+        return Err(ConfigFlaw::OverBound(place, value, bound));
     }
     Ok((value, bound))
 }
 
-fn each_price(alloc: Global, values: &[i64]) -> Result<Vec<u32>, ConfigFault>
-    ensures read { Gives (λ v. v.items) result (all_ranged 0 9999999 values.now) }
+/// A product's price.
+fn make_price(place: usize, value: i64) -> Result<u32, ConfigFlaw>
+    ensures read { Finds (λ x. x) result (ranged 0 9999999 value) }
+    ensures range { IfOk result (λ price. price ≤ 9999999) }
+{
+    in_range(Place::Price(place), value, 0, 9_999_999)
+}
+
+fn each_price(alloc: Global, values: &[i64]) -> Result<Vec<u32>, ConfigFlaw>
+    ensures read { Finds (λ v. v.items) result (all_ranged 0 9999999 values.now) }
     ensures range { IfOk result (λ v. All (λ price. price ≤ 9999999) v.items) }
 {
     let mut prices = Vec::new(alloc);
     for value in values {
-        prices.push(in_range(*value, 0, 9_999_999)?)?;
+        let price = match make_price(prices.len(), *value) {
+            Ok(price) => price,
+            Err(flaw) => return Err(flaw),
+        };
+        prices.push(price)?;
     }
     Ok(prices)
 }
@@ -77,54 +106,67 @@ fn eight_of(list: &[u32]) -> [u32; 8]
 }
 
 #[tactic(auto, unfolding(crate::specs::Ranges::prices_of), using(crate::proofs::Lengths::lengths))]
-fn make_prices(alloc: Global, values: &[i64]) -> Result<[u32; 8], ConfigFault>
-    ensures read { Gives (λ x. x) result (prices_of values.now) }
+fn make_prices(alloc: Global, values: &[i64]) -> Result<[u32; 8], ConfigFlaw>
+    ensures read { Finds (λ x. x) result (prices_of values.now) }
     ensures range { IfOk result (All (λ price. price ≤ 9999999)) }
 {
     if values.len() != 8 {
-        return Err(ConfigFault::K3);
+        return Err(wrong_count(Key::Prices, values.len(), 8, 8));
     }
     let prices = each_price(alloc, values)?;
     Ok(eight_of(prices.as_slice()))
 }
 
-fn each_point(alloc: Global, pairs: &[(i64, i64)]) -> Result<Vec<(u32, u32)>, ConfigFault>
-    ensures read { Gives (λ v. v.items) result (each_of point_of pairs.now) }
+fn each_point(alloc: Global, pairs: &[(i64, i64)]) -> Result<Vec<(u32, u32)>, ConfigFlaw>
+    ensures read { Finds (λ v. v.items) result (each_of point_of pairs.now) }
     ensures each { IfOk result (λ v. length v.items ≡ length pairs.now) }
     ensures range { IfOk result (λ v. All (λ p. (p.0 ≤ 15) × (p.1 ≤ 15)) v.items) }
 {
     let mut points = Vec::new(alloc);
     for pair in pairs {
-        points.push(make_point(*pair)?)?;
+        points.push(make_point(points.len(), *pair)?)?;
     }
     Ok(points)
 }
 
 #[tactic(auto, unfolding(crate::specs::Ranges::points_of))]
-fn make_points(alloc: Global, pairs: &[(i64, i64)]) -> Result<Vec<(u32, u32)>, ConfigFault>
-    ensures read { Gives (λ v. v.items) result (points_of pairs.now) }
+fn make_points(alloc: Global, pairs: &[(i64, i64)]) -> Result<Vec<(u32, u32)>, ConfigFlaw>
+    ensures read { Finds (λ v. v.items) result (points_of pairs.now) }
     ensures count { IfOk result (λ v. (1 ≤ length v.items) × (length v.items ≤ 32)) }
     ensures range { IfOk result (λ v. All (λ p. (p.0 ≤ 15) × (p.1 ≤ 15)) v.items) }
 {
     if pairs.is_empty() || pairs.len() > 32 {
-        return Err(ConfigFault::K3);
+        return Err(wrong_count(Key::Point, pairs.len(), 1, 32));
     }
     each_point(alloc, pairs)
 }
 
-#[tactic(auto, unfolding(crate::specs::Ranges::serve_of))]
-fn make_serve(served: &Served) -> Result<Serve, ConfigFault>
-    ensures { Gives (λ x. x) result (serve_of served.now) }
+/// A number of `[serve]`, from 1 on.
+fn serve_number(key: Key, value: i64, high: u32) -> Result<u32, ConfigFlaw>
+    ensures { Finds (λ x. x) result (ranged 1 high value) }
 {
-    let till_port = in_range(served.till_port, 1, 65_535)?;
-    let dispenser_port = in_range(served.dispenser_port, 1, 65_535)?;
-    let owner_port = in_range(served.owner_port, 1, 65_535)?;
-    if till_port == dispenser_port || till_port == owner_port || dispenser_port == owner_port {
-        return Err(ConfigFault::K3);
+    in_range(Place::At(Section::Serve, key), value, 1, high)
+}
+
+#[tactic(auto, unfolding(crate::specs::Ranges::serve_of))]
+fn make_serve(served: &Served) -> Result<Serve, ConfigFlaw>
+    ensures { Finds (λ x. x) result (serve_of served.now) }
+{
+    let till_port = serve_number(Key::TillPort, served.till_port, 65_535)?;
+    let dispenser_port = serve_number(Key::DispenserPort, served.dispenser_port, 65_535)?;
+    let owner_port = serve_number(Key::OwnerPort, served.owner_port, 65_535)?;
+    if till_port == dispenser_port {
+        return Err(ConfigFlaw::SamePort(Key::TillPort, Key::DispenserPort, till_port));
     }
-    let till_workers = in_range(served.till_workers, 1, 64)?;
-    let dispenser_workers = in_range(served.dispenser_workers, 1, 31)?;
-    let connections = in_range(served.connections, 1, 1_000_000)?;
+    if till_port == owner_port {
+        return Err(ConfigFlaw::SamePort(Key::TillPort, Key::OwnerPort, till_port));
+    }
+    if dispenser_port == owner_port {
+        return Err(ConfigFlaw::SamePort(Key::DispenserPort, Key::OwnerPort, owner_port));
+    }
+    let till_workers = serve_number(Key::TillWorkers, served.till_workers, 64)?;
+    let dispenser_workers = serve_number(Key::DispenserWorkers, served.dispenser_workers, 31)?;
+    let connections = serve_number(Key::Connections, served.connections, 1_000_000)?;
     Ok(Serve {
         till_port,
         dispenser_port,
@@ -135,14 +177,14 @@ fn make_serve(served: &Served) -> Result<Serve, ConfigFault>
     })
 }
 
-fn each_counter(alloc: Global, pairs: &[(i64, i64)]) -> Result<Vec<(u64, u64)>, ConfigFault>
-    ensures read { Gives (λ v. v.items) result (each_of counter_of pairs.now) }
+fn each_counter(alloc: Global, pairs: &[(i64, i64)]) -> Result<Vec<(u64, u64)>, ConfigFlaw>
+    ensures read { Finds (λ v. v.items) result (each_of counter_of pairs.now) }
     ensures each { IfOk result (λ v. length v.items ≡ length pairs.now) }
     ensures range { IfOk result (λ v. All IsCounter v.items) }
 {
     let mut counters = Vec::new(alloc);
     for pair in pairs {
-        counters.push(make_counter(*pair)?)?;
+        counters.push(make_counter(counters.len(), *pair)?)?;
     }
     Ok(counters)
 }
@@ -160,19 +202,19 @@ fn table_of(list: &[(u64, u64)]) -> [(u64, u64); 32]
 }
 
 #[tactic(auto, unfolding(crate::specs::Ranges::counters_of))]
-fn make_counters(alloc: Global, pairs: &[(i64, i64)]) -> Result<[(u64, u64); 32], ConfigFault>
-    ensures read { Gives (λ x. x) result (counters_of pairs.now) }
+fn make_counters(alloc: Global, pairs: &[(i64, i64)]) -> Result<[(u64, u64); 32], ConfigFlaw>
+    ensures read { Finds (λ x. x) result (counters_of pairs.now) }
     ensures range { IfOk result (All IsCounter) }
 {
     if pairs.len() > 32 {
-        return Err(ConfigFault::K3);
+        return Err(wrong_count(Key::Counter, pairs.len(), 0, 32));
     }
     let counters = each_counter(alloc, pairs)?;
     Ok(table_of(counters.as_slice()))
 }
 
-fn maybe_serve(served: &Option<Served>) -> Result<Option<Serve>, ConfigFault>
-    ensures { Gives (λ x. x) result (serve_from served.now) }
+fn maybe_serve(served: &Option<Served>) -> Result<Option<Serve>, ConfigFlaw>
+    ensures { Finds (λ x. x) result (serve_from served.now) }
 {
     match served {
         Some(served) => Ok(Some(make_serve(served)?)),
@@ -182,11 +224,17 @@ fn maybe_serve(served: &Option<Served>) -> Result<Option<Serve>, ConfigFault>
 
 /// The settings that these keys say.
 #[tactic(auto, unfolding(crate::specs::Ranges::told_of))]
-fn make_settings(alloc: Global, raw: &Raw) -> Result<Settings, ConfigFault>
-    ensures { Gives told result (told_of (seen raw.now)) }
+fn make_settings(alloc: Global, raw: &Raw) -> Result<Settings, ConfigFlaw>
+    ensures { Finds told result (told_of (seen raw.now)) }
 {
-    let tills = in_range(raw.tills, 1, 64)?;
-    let price_slot = in_range(raw.price_slot, 0, 15)?;
+    let section = Section::Top;
+    let tills = in_range(Place::At(section, Key::Tills), raw.tills, 1, 64)?;
+    let price_slot = in_range(
+        Place::At(Section::Top, Key::PriceSlot),
+        raw.price_slot,
+        0,
+        15,
+    )?;
     let prices = make_prices(alloc, &raw.prices)?;
     let points = make_points(alloc, &raw.points)?;
     let counters = make_counters(alloc, &raw.counters)?;
@@ -197,12 +245,23 @@ fn make_settings(alloc: Global, raw: &Raw) -> Result<Settings, ConfigFault>
     }
 }
 
-/// The settings that a text names.
+/// The settings that a text names, or the first that is at fault in it: a flaw of the document before one of a key or a
+/// type, and these before one of a range, a count or a condition.
 #[tactic(auto, unfolding(crate::specs::Ranges::config_of))]
-pub fn read_config(alloc: Global, bytes: &[u8]) -> Result<Settings, ConfigFault>
-    ensures { Gives told result (config_of bytes.now) }
+pub fn read_settings(alloc: Global, bytes: &[u8]) -> Result<Settings, ConfigFlaw>
+    ensures { Finds told result (config_of bytes.now) }
 {
     let document = read_document(alloc, bytes)?;
     let raw = read_typed(alloc, &document)?;
     make_settings(alloc, &raw)
+}
+
+/// The settings that a text names, or the number of its first fault.
+pub fn read_config(alloc: Global, bytes: &[u8]) -> Result<Settings, ConfigFault>
+    ensures { Gives told result (config_of bytes.now) }
+{
+    match read_settings(alloc, bytes) {
+        Ok(settings) => Ok(settings),
+        Err(flaw) => Err(flaw.fault()),
+    }
 }

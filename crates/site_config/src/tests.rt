@@ -1,5 +1,5 @@
 //! Configurations as their owner writes them.
-use crate::{ConfigFault, Serve, config_part, read_config, read_head};
+use crate::{ConfigFault, Key, Serve, config_part, read_config, read_head, read_settings};
 use site_core::Site;
 use std::alloc::Global;
 use std::test::Fail;
@@ -55,6 +55,88 @@ serve = { till_port = 65535, dispenser_port = 1, owner_port = 7003, till_workers
 fn faults_in_their_order(rt: HostRuntime) -> Result<(), Fail> {
     assert!(rt; read_config(rt.alloc(), b"tills = ").err() == Some(ConfigFault::K1));
     assert!(rt; read_config(rt.alloc(), b"tills = 0").err() == Some(ConfigFault::K2));
+    Ok(())
+}
+
+/// A whole configuration but for its last lines.
+const HEAD: &str = "tills = 1\nprice_slot = 2\nprices = [1799, 0, 0, 0, 0, 0, 0, 0]\n";
+
+/// What is told of a configuration that ends so.
+fn told_of(alloc: Global, end: &str) -> Result<String, Fail> {
+    let text = format!(in alloc; "{HEAD}{end}")?;
+    match read_settings(alloc, text.as_bytes()) {
+        Ok(_) => Ok(String::new(alloc)),
+        Err(flaw) => Ok(format!(in alloc; "{flaw}")?),
+    }
+}
+
+#[test]
+fn a_wrong_key_is_named(rt: HostRuntime) -> Result<(), Fail> {
+    for (end, want) in [
+        ("tils = 1", "unknown key 'tils'"),
+        ("[[point]]\nrelease = 0", "'point[1].preset' is missing"),
+        (
+            "point = [{ release = 0, preset = 1 }, 5]",
+            "'point[2]' is not a table",
+        ),
+        ("point = 1", "'point' is not an array"),
+        (
+            "[[point]]\nrelease = 0\npreset = 1\n[[counter]]\nvalue = 0\nbound = true",
+            "'counter[0].bound' is not a whole number",
+        ),
+        (
+            "[[point]]\nrelease = 0\npreset = 1\n[serve]\nport = 1",
+            "unknown key 'serve.port'",
+        ),
+    ] {
+        let told = told_of(rt.alloc(), end)?;
+        assert_eq!(rt; told.as_str(), want, "{end}");
+    }
+    Ok(())
+}
+
+#[test]
+fn a_value_out_of_range_is_named(rt: HostRuntime) -> Result<(), Fail> {
+    for (end, want) in [
+        ("point = []", "'point' has 0 items, and not 1 to 32"),
+        (
+            "[[point]]\nrelease = 16\npreset = 1",
+            "point[1].release = 16 is not 0 to 15",
+        ),
+        (
+            "[[point]]\nrelease = 0\npreset = 1\n[[counter]]\nvalue = 2\nbound = 1",
+            "counter[0].value = 2 is over its bound, 1",
+        ),
+        (
+            "[[point]]\nrelease = 0\npreset = 1\n[[counter]]\nvalue = -1\nbound = 1",
+            "counter[0].value = -1 is not 0 to 9223372036854775807",
+        ),
+        (
+            "[[point]]\nrelease = 0\npreset = 1\n[serve]\ntill_port = 1\ndispenser_port = 2\nowner_port = 1\n\
+                till_workers = 1\ndispenser_workers = 1\nconnections = 1",
+            "serve.till_port and serve.owner_port are both 1",
+        ),
+    ] {
+        let told = told_of(rt.alloc(), end)?;
+        assert_eq!(rt; told.as_str(), want, "{end}");
+    }
+    Ok(())
+}
+
+/// Where a text is no document.
+fn position_in(alloc: Global, text: &[u8]) -> Option<(usize, usize)> {
+    read_settings(alloc, text).err()?.position()
+}
+
+#[test]
+fn a_text_that_is_no_document_is_shown(rt: HostRuntime) -> Result<(), Fail> {
+    assert_eq!(rt; position_in(rt.alloc(), b"tills = 1\n\xff"), Some((2, 1)));
+    assert_eq!(rt;
+        position_in(rt.alloc(), b"a = 1\nb = \"\xc3\xa4\" c"),
+        Some((2, 9))
+    );
+    assert_eq!(rt; position_in(rt.alloc(), b"tills = 1"), None);
+    assert_eq!(rt; Key::PriceSlot.name(), "price_slot");
     Ok(())
 }
 

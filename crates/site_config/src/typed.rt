@@ -1,13 +1,16 @@
 //! A document by its keys and types.
-ghost use Rattle.std.specs.Prelude.{◌≡◌, ◌∷◌, List, map, Ok, option_map, option_and_then, string_bytes};
+ghost use Rattle.std.specs.Prelude.{◌≡◌, ◌∷◌, List, map, Ok, option_map, option_and_then, string_bytes, codes};
 ghost use Rattle.std.specs.List.{list_all};
 ghost use Rattle.std.specs.BTreeMap.{keys};
 ghost use Rattle.toml.specs.View.{view, table_view, array_view, items_view};
 ghost use Rattle.toml.specs.Data.{get_member, as_integer, as_table, as_array};
-ghost use Rattle.site_config.specs.Document.{Gives, or_fault};
+ghost use Rattle.site_config.specs.Document.{or_fault};
+ghost use Rattle.site_config.specs.Flaws.{Finds, is_key_of};
+ghost use Rattle.site_config.specs.Keys.{name_of};
+ghost use Rattle.site_config.specs.declared.fault.ConfigFault.TheVariants.{K2};
 ghost use Rattle.site_config.specs.Typed.{is_top_key, is_point_key, is_counter_key, is_serve_key, has_only, integer_at, integers, pair_in, point_in, counter_in, each_in, integers_at, points_at, counters_from, counters_at, served_in, served_from, served_at, typed_of, seen};
 
-use crate::fault::ConfigFault;
+use crate::flaw::{ConfigFlaw, Key, Place, Section, Type};
 use crate::raw::{Raw, Served};
 use std::alloc::Global;
 use toml::{Table, Value};
@@ -19,13 +22,61 @@ fn find_value<'a>(table: &'a Table, key: &str) -> Option<&'a Value>
     table.get(key)
 }
 
-/// The number at a key.
-fn read_integer(table: &Table, key: &str) -> Result<i64, ConfigFault>
-    ensures { Gives (λ x. x) result (integer_at key.now (table_view table.now)) }
+/// Whether a section has such a key.
+fn is_known(section: Section, key: &str) -> bool
+    ensures { result ≡ is_key_of section key.now }
 {
-    match find_value(table, key) {
-        Some(value) => value.as_integer().ok_or(ConfigFault::K2),
-        None => Err(ConfigFault::K2),
+    match section {
+        Section::Top => is_top(key),
+        Section::Point(_) => is_point(key),
+        Section::Counter(_) => is_counter(key),
+        Section::Serve => is_serve(key),
+    }
+}
+
+/// The first of a table's keys, in their order, that its section hasn't.
+fn unknown_key(table: &Table, section: Section) -> &str {
+    match table.keys().find(|key| !is_known(section, key.as_str())) {
+        Some(key) => key.as_str(),
+        None => "",
+    }
+}
+
+/// The number that a value is.
+fn integer_of(value: &Value, place: Place) -> Result<i64, ConfigFlaw>
+    ensures { Finds (λ x. x) result (or_fault K2 (as_integer (view value.now))) }
+{
+    value
+        .as_integer()
+        .ok_or(ConfigFlaw::WrongType(place, Type::Integer))
+}
+
+/// The table that a value is.
+fn table_of(value: &Value, place: Place) -> Result<&Table, ConfigFlaw>
+    ensures { Finds (λ t. table_view t.now) result (or_fault K2 (as_table (view value.now))) }
+{
+    value
+        .as_table()
+        .ok_or(ConfigFlaw::WrongType(place, Type::Table))
+}
+
+/// The array that a value is.
+fn array_of(value: &Value, place: Place) -> Result<&Vec<Value>, ConfigFlaw>
+    ensures { Finds (λ v. items_view v.now.items) result (or_fault K2 (as_array (view value.now))) }
+{
+    value
+        .as_array()
+        .ok_or(ConfigFlaw::WrongType(place, Type::Array))
+}
+
+/// The number at a key.
+fn read_integer(table: &Table, section: Section, key: Key) -> Result<i64, ConfigFlaw>
+    ensures { Finds (λ x. x) result (integer_at (name_of key) (table_view table.now)) }
+{
+    let place = Place::At(section, key);
+    match find_value(table, key.name()) {
+        Some(value) => integer_of(value, place),
+        None => Err(ConfigFlaw::Missing(place)),
     }
 }
 
@@ -115,75 +166,63 @@ fn has_serve_keys(table: &Table) -> bool
     all_serve(table)
 }
 
-fn as_integer_or_fault(value: &Value) -> Result<i64, ConfigFault>
-    ensures { Gives (λ x. x) result (or_fault ConfigFault.K2 (as_integer (view value.now))) }
-{
-    value.as_integer().ok_or(ConfigFault::K2)
-}
-
-fn as_table_or_fault(value: &Value) -> Result<&Table, ConfigFault>
-    ensures { Gives (λ t. table_view t.now) result (or_fault ConfigFault.K2 (as_table (view value.now))) }
-{
-    value.as_table().ok_or(ConfigFault::K2)
-}
-
-fn as_array_or_fault(value: &Value) -> Result<&Vec<Value>, ConfigFault>
-    ensures { Gives (λ v. items_view v.now.items) result (or_fault ConfigFault.K2 (as_array (view value.now))) }
-{
-    value.as_array().ok_or(ConfigFault::K2)
-}
-
-/// Numbers.
-fn read_integers(alloc: Global, values: &[Value]) -> Result<Vec<i64>, ConfigFault>
-    ensures { Gives (λ v. v.items) result (integers (items_view values.now)) }
+/// The numbers of a list of prices.
+fn read_integers(alloc: Global, values: &[Value]) -> Result<Vec<i64>, ConfigFlaw>
+    ensures { Finds (λ v. v.items) result (integers (items_view values.now)) }
 {
     let mut numbers = Vec::new(alloc);
     for value in values {
-        numbers.push(as_integer_or_fault(value)?)?;
+        numbers.push(integer_of(value, Place::Price(numbers.len()))?)?;
     }
     Ok(numbers)
 }
 
 #[tactic(auto, unfolding(crate::specs::Typed::pair_in, crate::specs::Typed::point_in))]
-fn read_point(value: &Value) -> Result<(i64, i64), ConfigFault>
-    ensures { Gives (λ x. x) result (point_in (view value.now)) }
+fn read_point(alloc: Global, value: &Value, place: usize) -> Result<(i64, i64), ConfigFlaw>
+    ensures { Finds (λ x. x) result (point_in (view value.now)) }
 {
-    let table = as_table_or_fault(value)?;
+    let section = Section::Point(place);
+    let table = table_of(value, Place::Point(place))?;
     if !has_point_keys(table) {
-        return Err(ConfigFault::K2);
+        let name = String::from_str(alloc, unknown_key(table, section))?;
+        return Err(ConfigFlaw::UnknownKey(section, name));
     }
-    let release = read_integer(table, "release")?;
-    let preset = read_integer(table, "preset")?;
+    let release = read_integer(table, section, Key::Release)?;
+    let preset = read_integer(table, section, Key::Preset)?;
     Ok((release, preset))
 }
 
 #[tactic(auto, unfolding(crate::specs::Typed::pair_in, crate::specs::Typed::counter_in))]
-fn read_counter(value: &Value) -> Result<(i64, i64), ConfigFault>
-    ensures { Gives (λ x. x) result (counter_in (view value.now)) }
+fn read_counter(alloc: Global, value: &Value, place: usize) -> Result<(i64, i64), ConfigFlaw>
+    ensures { Finds (λ x. x) result (counter_in (view value.now)) }
 {
-    let table = as_table_or_fault(value)?;
+    let section = Section::Counter(place);
+    let table = table_of(value, Place::Counter(place))?;
     if !has_counter_keys(table) {
-        return Err(ConfigFault::K2);
+        let name = String::from_str(alloc, unknown_key(table, section))?;
+        return Err(ConfigFlaw::UnknownKey(section, name));
     }
-    let value = read_integer(table, "value")?;
-    let bound = read_integer(table, "bound")?;
+    let value = read_integer(table, section, Key::Value)?;
+    let bound = read_integer(table, section, Key::Bound)?;
     Ok((value, bound))
 }
 
 #[tactic(auto, unfolding(crate::specs::Typed::served_in))]
-fn read_served(value: &Value) -> Result<Served, ConfigFault>
-    ensures { Gives (λ x. x) result (served_in (view value.now)) }
+fn read_served(alloc: Global, value: &Value) -> Result<Served, ConfigFlaw>
+    ensures { Finds (λ x. x) result (served_in (view value.now)) }
 {
-    let table = as_table_or_fault(value)?;
+    let section = Section::Serve;
+    let table = table_of(value, Place::At(Section::Top, Key::Serve))?;
     if !has_serve_keys(table) {
-        return Err(ConfigFault::K2);
+        let name = String::from_str(alloc, unknown_key(table, section))?;
+        return Err(ConfigFlaw::UnknownKey(section, name));
     }
-    let till_port = read_integer(table, "till_port")?;
-    let dispenser_port = read_integer(table, "dispenser_port")?;
-    let owner_port = read_integer(table, "owner_port")?;
-    let till_workers = read_integer(table, "till_workers")?;
-    let dispenser_workers = read_integer(table, "dispenser_workers")?;
-    let connections = read_integer(table, "connections")?;
+    let till_port = read_integer(table, section, Key::TillPort)?;
+    let dispenser_port = read_integer(table, section, Key::DispenserPort)?;
+    let owner_port = read_integer(table, section, Key::OwnerPort)?;
+    let till_workers = read_integer(table, section, Key::TillWorkers)?;
+    let dispenser_workers = read_integer(table, section, Key::DispenserWorkers)?;
+    let connections = read_integer(table, section, Key::Connections)?;
     Ok(Served {
         till_port,
         dispenser_port,
@@ -195,60 +234,61 @@ fn read_served(value: &Value) -> Result<Served, ConfigFault>
 }
 
 /// Points.
-fn read_points(alloc: Global, values: &[Value]) -> Result<Vec<(i64, i64)>, ConfigFault>
-    ensures { Gives (λ v. v.items) result (each_in point_in (items_view values.now)) }
+fn read_points(alloc: Global, values: &[Value]) -> Result<Vec<(i64, i64)>, ConfigFlaw>
+    ensures { Finds (λ v. v.items) result (each_in point_in (items_view values.now)) }
 {
     let mut pairs = Vec::new(alloc);
     for value in values {
-        pairs.push(read_point(value)?)?;
+        pairs.push(read_point(alloc, value, pairs.len())?)?;
     }
     Ok(pairs)
 }
 
 /// Counters.
-fn read_counters(alloc: Global, values: &[Value]) -> Result<Vec<(i64, i64)>, ConfigFault>
-    ensures { Gives (λ v. v.items) result (each_in counter_in (items_view values.now)) }
+fn read_counters(alloc: Global, values: &[Value]) -> Result<Vec<(i64, i64)>, ConfigFlaw>
+    ensures { Finds (λ v. v.items) result (each_in counter_in (items_view values.now)) }
 {
     let mut pairs = Vec::new(alloc);
     for value in values {
-        pairs.push(read_counter(value)?)?;
+        pairs.push(read_counter(alloc, value, pairs.len())?)?;
     }
     Ok(pairs)
 }
 
 /// The array at a key.
-fn find_array<'a>(table: &'a Table, key: &str) -> Result<&'a Vec<Value>, ConfigFault>
-    ensures { Gives (λ v. items_view v.now.items) result (or_fault ConfigFault.K2 (option_and_then as_array (get_member key.now (table_view table.now)))) }
+fn find_array(table: &Table, key: Key) -> Result<&Vec<Value>, ConfigFlaw>
+    ensures { Finds (λ v. items_view v.now.items) result (or_fault K2 (option_and_then as_array (get_member (name_of key) (table_view table.now)))) }
 {
-    match find_value(table, key) {
-        Some(value) => as_array_or_fault(value),
-        None => Err(ConfigFault::K2),
+    let place = Place::At(Section::Top, key);
+    match find_value(table, key.name()) {
+        Some(value) => array_of(value, place),
+        None => Err(ConfigFlaw::Missing(place)),
     }
 }
 
 #[tactic(auto, unfolding(crate::specs::Typed::integers_at))]
-fn find_integers(alloc: Global, table: &Table, key: &str) -> Result<Vec<i64>, ConfigFault>
-    ensures { Gives (λ v. v.items) result (integers_at key.now (table_view table.now)) }
+fn find_prices(alloc: Global, table: &Table) -> Result<Vec<i64>, ConfigFlaw>
+    ensures { Finds (λ v. v.items) result (integers_at (codes "prices") (table_view table.now)) }
 {
-    let values = find_array(table, key)?;
+    let values = find_array(table, Key::Prices)?;
     read_integers(alloc, values)
 }
 
 #[tactic(auto, unfolding(crate::specs::Typed::points_at))]
-fn find_points(alloc: Global, table: &Table) -> Result<Vec<(i64, i64)>, ConfigFault>
-    ensures { Gives (λ v. v.items) result (points_at (table_view table.now)) }
+fn find_points(alloc: Global, table: &Table) -> Result<Vec<(i64, i64)>, ConfigFlaw>
+    ensures { Finds (λ v. v.items) result (points_at (table_view table.now)) }
 {
-    let values = find_array(table, "point")?;
+    let values = find_array(table, Key::Point)?;
     read_points(alloc, values)
 }
 
 #[tactic(auto, unfolding(crate::specs::Typed::counters_at))]
-fn find_counters(alloc: Global, table: &Table) -> Result<Vec<(i64, i64)>, ConfigFault>
-    ensures { Gives (λ v. v.items) result (counters_at (table_view table.now)) }
+fn find_counters(alloc: Global, table: &Table) -> Result<Vec<(i64, i64)>, ConfigFlaw>
+    ensures { Finds (λ v. v.items) result (counters_at (table_view table.now)) }
 {
-    match find_value(table, "counter") {
+    match find_value(table, Key::Counter.name()) {
         Some(value) => {
-            let values = as_array_or_fault(value)?;
+            let values = array_of(value, Place::At(Section::Top, Key::Counter))?;
             read_counters(alloc, values)
         }
         None => Ok(Vec::new(alloc)),
@@ -256,29 +296,31 @@ fn find_counters(alloc: Global, table: &Table) -> Result<Vec<(i64, i64)>, Config
 }
 
 #[tactic(auto, unfolding(crate::specs::Typed::served_at))]
-fn find_served(table: &Table) -> Result<Option<Served>, ConfigFault>
-    ensures { Gives (λ x. x) result (served_at (table_view table.now)) }
+fn find_served(alloc: Global, table: &Table) -> Result<Option<Served>, ConfigFlaw>
+    ensures { Finds (λ x. x) result (served_at (table_view table.now)) }
 {
-    match find_value(table, "serve") {
-        Some(value) => Ok(Some(read_served(value)?)),
+    match find_value(table, Key::Serve.name()) {
+        Some(value) => Ok(Some(read_served(alloc, value)?)),
         None => Ok(None),
     }
 }
 
 /// The document by its keys and types.
 #[tactic(auto, unfolding(crate::specs::Typed::typed_of))]
-pub fn read_typed(alloc: Global, table: &Table) -> Result<Raw, ConfigFault>
-    ensures { Gives seen result (typed_of (table_view table.now)) }
+pub fn read_typed(alloc: Global, table: &Table) -> Result<Raw, ConfigFlaw>
+    ensures { Finds seen result (typed_of (table_view table.now)) }
 {
+    let section = Section::Top;
     if !has_top_keys(table) {
-        return Err(ConfigFault::K2);
+        let name = String::from_str(alloc, unknown_key(table, section))?;
+        return Err(ConfigFlaw::UnknownKey(section, name));
     }
-    let tills = read_integer(table, "tills")?;
-    let price_slot = read_integer(table, "price_slot")?;
-    let prices = find_integers(alloc, table, "prices")?;
+    let tills = read_integer(table, section, Key::Tills)?;
+    let price_slot = read_integer(table, section, Key::PriceSlot)?;
+    let prices = find_prices(alloc, table)?;
     let points = find_points(alloc, table)?;
     let counters = find_counters(alloc, table)?;
-    let serve = find_served(table)?;
+    let serve = find_served(alloc, table)?;
     Ok(Raw {
         tills,
         price_slot,

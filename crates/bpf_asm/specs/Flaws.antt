@@ -1,0 +1,35 @@
+-- Definitions: what a fault of the assembler names of its text (this profile).
+use Rattle.std.specs.Prelude.{◌≡◌, ℕ, ◌-◌, nat_eq, Bool, true, List, [], ◌∷◌, Option, Some, None, slice_get, unwrap_or, ⊤}
+use Rattle.std.specs.List.{starts_with, ends_with}
+use Rattle.bpf_asm.specs.declared.AsmFault.{AsmFault}
+use Rattle.bpf_asm.specs.declared.AsmFault.TheVariants as fault
+use Rattle.bpf_asm.specs.declared.flaw.AsmFlaw.{AsmFlaw}
+use Rattle.bpf_asm.specs.declared.flaw.AsmFlaw.TheVariants.{ByteOrderMark, CarriageReturn, NoForm, LabelAgain, LabelMissing, OutOfRange, Length}
+use Rattle.bpf_asm.specs.declared.grammar.Statement.{Statement}
+use Rattle.bpf_asm.specs.declared.grammar.Line.TheVariants as line
+use Rattle.bpf_asm.specs.Lex.{Text}
+use Rattle.bpf_asm.specs.Program.{cut, row, row_of}
+
+-- a line by its number, from 1
+abbrev pub line_at : Text → ℕ → Text
+line_at text number = unwrap_or (slice_get (cut text) (number - 1)) []
+
+-- the bytes EF BB BF, which some editors write before a text
+abbrev pub begins_with_mark : Text → Bool
+begins_with_mark text = starts_with nat_eq text (239 ∷ 187 ∷ 191 ∷ [])
+
+-- the last byte is a CR
+abbrev pub ends_with_return : Text → Bool
+ends_with_return text = ends_with nat_eq text (13 ∷ [])
+
+-- The flaw is told of that fault: of the line that the fault names, its text or its label, which the line defines, or names in a jump.
+abbrev pub Explains : Text → AsmFault → AsmFlaw → Type 0
+Explains text (fault.BadLine number) ByteOrderMark = (number ≡ 1) × (begins_with_mark text ≡ true)
+Explains text (fault.BadLine number) CarriageReturn = ends_with_return (line_at text number) ≡ true
+Explains text (fault.BadLine number) (NoForm words) = words.now ≡ line_at text number
+Explains text (fault.BadLabel number) (LabelAgain name) = row_of (line_at text number) ≡ Some (row line.Label name.now)
+Explains text (fault.BadLabel number) (LabelMissing name) = (s : Statement) × (row_of (line_at text number) ≡ Some (row (line.Statement s) name.now))
+Explains text (fault.BadLabel number) (NoForm words) = words.now ≡ line_at text number
+Explains text (fault.OutOfRange number) (OutOfRange words) = words.now ≡ line_at text number
+Explains text fault.Length Length = ⊤
+Explains text fault flaw = ⊥

@@ -1,0 +1,24 @@
+-- Definitions: the text of an instruction by its unit, and a program's text with its units (this profile).
+use Rattle.std.specs.Prelude.{ℕ, ◌+◌, List, [], ◌∷◌, ◌++◌, Option, Some, None, codes, drop}
+use Rattle.std.specs.Fmt.{decimal}
+use Rattle.bpf_model.specs.declared.instruction.Unit.{Unit as ProgramUnit}
+use Rattle.bpf_model.specs.declared.instruction.Unit.TheVariants.{First, Second}
+use Rattle.bpf_model.specs.Reading.{form_of}
+use Rattle.bpf_asm.specs.Text.{instruction_text, high_of}
+
+-- the line of the instruction that begins in front
+abbrev pub front_line : List ProgramUnit → Option (List ℕ)
+front_line [] = None
+front_line (First i ∷ units) = Some (instruction_text (form_of i.opcode) i (high_of units))
+front_line (Second v ∷ units) = None
+
+-- the line of the instruction that begins at a unit
+abbrev pub line_of_unit : List ProgramUnit → ℕ → Option (List ℕ)
+line_of_unit units number = front_line (drop number units)
+
+-- the lines of a program, the first unit of each with this number or those that follow before it
+abbrev pub numbered_from : ℕ → List ProgramUnit → List ℕ
+numbered_from number [] = []
+numbered_from number (First i ∷ units) =
+    (decimal number ++ codes ": " ++ instruction_text (form_of i.opcode) i (high_of units)) ++ numbered_from (number + 1) units
+numbered_from number (Second v ∷ units) = numbered_from (number + 1) units

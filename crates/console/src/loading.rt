@@ -1,0 +1,50 @@
+//! A load of a script whose program is refused, in words.
+ghost use Rattle.std.specs.Prelude.{◌≡◌, IfOk, IfSome, Ok, option_map, string_bytes};
+ghost use Rattle.console.specs.Loading.{IsRefusedLoad, IsRefusedAct};
+
+use crate::script::{ScriptLine, parse_script_line};
+use job_texts::{RefusedProgram, refused_program};
+use std::alloc::{AllocError, Global};
+use thiserror::Error;
+use till_request::{Act, LineFault};
+
+/// A load whose program is refused.
+#[derive(Debug, Drop, Error)]
+#[error("slot {slot}: {program}")]
+pub struct RefusedLoad {
+    pub slot: u32,
+    pub program: RefusedProgram,
+}
+
+/// Why the program of a script's line is refused, where the line is a load; the line is without its LF. None where it is another line, or
+/// where its program is accepted. The error is want of memory.
+pub fn refused_load(alloc: Global, line: &[u8]) -> Result<Option<RefusedLoad>, AllocError>
+    ensures { IfOk result (λ found. IfSome found (λ load. IsRefusedLoad line.now load.slot load.program.refusal (option_map string_bytes load.program.line))) }
+{
+    match parse_script_line(alloc, line) {
+        Ok(ScriptLine::Act(act)) => refused_act(alloc, &act),
+        Err(LineFault::OutOfMemory) => Err(AllocError),
+        _ => Ok(None),
+    }
+}
+
+/// The same of an act.
+fn refused_act(alloc: Global, act: &Act) -> Result<Option<RefusedLoad>, AllocError>
+    ensures { IfOk result (λ found. IfSome found (λ load. IsRefusedAct act.now load.slot load.program.refusal (option_map string_bytes load.program.line))) }
+{
+    match act {
+        Act::Load {
+            slot,
+            mask,
+            layout,
+            bytes,
+        } => match refused_program(alloc, bytes.as_slice(), *mask, *layout)? {
+            Some(program) => Ok(Some(RefusedLoad {
+                slot: *slot,
+                program,
+            })),
+            None => Ok(None),
+        },
+        _ => Ok(None),
+    }
+}

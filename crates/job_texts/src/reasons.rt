@@ -1,0 +1,225 @@
+//! Why a program or a text of the assembler is refused, in words.
+ghost use Rattle.std.specs.Prelude.{◌≡◌, IfOk, IfSome, IsNone, MatchOption, option_map, string_bytes, length};
+ghost use Rattle.bpf_model.specs.Program.{IsGood, as_loaded};
+ghost use Rattle.bpf_model.specs.Reading.{units};
+ghost use Rattle.bpf_asm.specs.Flaws.{Explains};
+ghost use Rattle.bpf_asm.specs.Program as asm;
+ghost use Rattle.reg_types.specs.Refusals.{shown_by};
+ghost use Rattle.reg_types.specs.Shown.{IsRefused};
+ghost use Rattle.program_file.specs.Digits.{program_in};
+ghost use Rattle.job_texts.specs.Reasons.{NamesLine, IsExplained, unit_in, kind_wanted, wanted_at};
+
+use bpf_asm::{AsmFault, AsmFlaw, assemble, explain, instruction_line};
+use bpf_decode::{Code, DecodeFault, Unit, decode};
+use helpers::{Kind, arguments};
+use program_file::{ProgramFileFault, read_program, unit_lines};
+use reg_types::{Layout, Refusal, TypeFault, verify};
+use std::alloc::{AllocError, Global};
+use std::fmt;
+use thiserror::Error;
+
+/// Why a program is refused: the refusal, the line of the instruction that it is about, and of an argument of a helper what it has to be.
+#[derive(Debug, Drop)]
+pub struct RefusedProgram {
+    pub refusal: Refusal,
+    /// The line as `dis` has it, or of a unit that is no instruction its 16 digits; with its LF.
+    pub line: Option<String>,
+    pub wanted: Option<Kind>,
+}
+
+/// What an argument of a helper has to be.
+fn words_of(kind: Kind) -> &'static str {
+    match kind {
+        Kind::Nothing => "anything",
+        Kind::Number => "a number",
+        Kind::Counter => "a constant counter",
+        Kind::Place => "a place of the stack for 16 bytes",
+    }
+}
+
+impl fmt::Display for RefusedProgram {
+    /// The unit, its instruction, and the rule.
+    fn fmt<W: fmt::Write>(&self, f: &mut fmt::Formatter<W>) -> fmt::Result {
+        if let Some((_, Some(unit), _)) = self.refusal.shown() {
+            write!(f, "unit {unit}: ")?;
+        }
+        if let Some(line) = &self.line {
+            write!(f, "{}: ", line.trim_end())?;
+        }
+        match (self.refusal, self.wanted) {
+            (Refusal::Type(TypeFault::BadArgument(_, argument)), Some(kind)) => {
+                write!(f, "argument {argument} isn't {}", words_of(kind))
+            }
+            (refusal, _) => write!(f, "{refusal}"),
+        }
+    }
+}
+
+impl RefusedProgram {
+    /// The number of the V fault; 0 for want of memory, which has none.
+    pub fn number(&self) -> u32 {
+        match self.refusal.shown() {
+            Some((number, _, _)) => number,
+            None => 0,
+        }
+    }
+}
+
+/// The unit that a refusal names.
+fn unit_of(refusal: Refusal) -> Option<u32>
+    ensures { result ≡ unit_in (shown_by refusal) }
+{
+    let (_, unit, _) = refusal.shown()?;
+    unit
+}
+
+/// The digits of a unit.
+fn digits_of(alloc: Global, bytes: &[u8], unit: u32) -> Result<Option<String>, AllocError> {
+    let from = unit as usize * 8;
+    match bytes.get(from..from + 8) {
+        Some(bytes) => Ok(Some(unit_lines(alloc, bytes)?)),
+        None => Ok(None),
+    }
+}
+
+/// What the helper that is called at a unit takes as an argument.
+fn wanted_by(code: &Code, refusal: Refusal) -> Option<Kind>
+    ensures { result ≡ kind_wanted code.now refusal }
+{
+    let Refusal::Type(TypeFault::BadArgument(unit, argument)) = refusal else {
+        return None;
+    };
+    match code.units().get(unit as usize) {
+        Some(Unit::First(inst)) => kind_of(inst.imm, argument),
+        _ => None,
+    }
+}
+
+/// What a helper takes as an argument, 1 or 2.
+fn kind_of(helper: i32, argument: u32) -> Option<Kind>
+    ensures { result ≡ wanted_at helper argument }
+{
+    let kinds = arguments(helper)?;
+    if argument == 1 {
+        Some(kinds[0])
+    } else if argument == 2 {
+        Some(kinds[1])
+    } else {
+        None
+    }
+}
+
+/// Why bytes are no program, where they are refused so: the line is that of the instruction at the unit that the refusal names, where the
+/// bytes are units at all. The error is want of memory.
+pub fn explain_refusal(
+    alloc: Global,
+    bytes: &[u8],
+    refusal: Refusal,
+) -> Result<RefusedProgram, AllocError>
+    ensures refusal { IfOk result (λ told. told.refusal ≡ refusal) }
+    ensures line { IfOk result (λ told. NamesLine bytes.now (unit_in (shown_by refusal)) (option_map string_bytes told.line)) }
+{
+    let Some(unit) = unit_of(refusal) else {
+        return Ok(RefusedProgram {
+            refusal,
+            line: None,
+            wanted: None,
+        });
+    };
+    match decode(alloc, bytes) {
+        Ok(code) => {
+            let line = instruction_line(alloc, &code, unit)?;
+            let wanted = wanted_by(&code, refusal);
+            Ok(RefusedProgram {
+                refusal,
+                line,
+                wanted,
+            })
+        }
+        Err(DecodeFault::OutOfMemory) => Err(AllocError),
+        Err(_) => {
+            let line = digits_of(alloc, bytes, unit)?;
+            Ok(RefusedProgram {
+                refusal,
+                line,
+                wanted: None,
+            })
+        }
+    }
+}
+
+/// Why a program's bytes are refused; none where they are accepted. The error is want of memory.
+pub fn refused_program(
+    alloc: Global,
+    bytes: &[u8],
+    counters: u32,
+    context: Layout,
+) -> Result<Option<RefusedProgram>, AllocError>
+    ensures { IfOk result (λ found. MatchOption found (IsGood (as_loaded bytes.now counters context)) (λ told. IsExplained (as_loaded bytes.now counters context) told.refusal (option_map string_bytes told.line))) }
+{
+    match verify(alloc, bytes, counters, context) {
+        Ok(program) => {
+            let _ = program.bytes();
+            Ok(None)
+        }
+        Err(Refusal::OutOfMemory) => Err(AllocError),
+        Err(refusal) => Ok(Some(explain_refusal(alloc, bytes, refusal)?)),
+    }
+}
+
+/// Why a program file is refused.
+#[derive(Debug, Drop, Error)]
+pub enum ProgramFlaw {
+    #[error("{0}")]
+    File(ProgramFileFault),
+    #[error("{0}")]
+    Program(RefusedProgram),
+}
+
+/// Why a program file is refused, as `verify_file` does; none where its program is accepted. The error is want of memory.
+pub fn verify_flaw(
+    alloc: Global,
+    file: &[u8],
+    counters: u32,
+    context: Layout,
+) -> Result<Option<ProgramFlaw>, AllocError> {
+    match read_program(alloc, file) {
+        Ok(bytes) => match refused_program(alloc, &bytes, counters, context)? {
+            Some(refused) => Ok(Some(ProgramFlaw::Program(refused))),
+            None => Ok(None),
+        },
+        Err(ProgramFileFault::OutOfMemory) => Err(AllocError),
+        Err(fault) => Ok(Some(ProgramFlaw::File(fault))),
+    }
+}
+
+/// Why a program file can't be shown as text, as `dis_file` refuses it; none where it can. The error is want of memory.
+pub fn dis_flaw(alloc: Global, file: &[u8]) -> Result<Option<ProgramFlaw>, AllocError> {
+    let bytes = match read_program(alloc, file) {
+        Ok(bytes) => bytes,
+        Err(ProgramFileFault::OutOfMemory) => return Err(AllocError),
+        Err(fault) => return Ok(Some(ProgramFlaw::File(fault))),
+    };
+    match decode(alloc, &bytes) {
+        Ok(_) => Ok(None),
+        Err(DecodeFault::OutOfMemory) => Err(AllocError),
+        Err(fault) => {
+            let refused = explain_refusal(alloc, &bytes, Refusal::Decode(fault))?;
+            Ok(Some(ProgramFlaw::Program(refused)))
+        }
+    }
+}
+
+/// Why a text of the assembler is refused: its fault, and what that names of the text; none where it spells a program. The error is want
+/// of memory.
+pub fn asm_flaw(alloc: Global, text: &[u8]) -> Result<Option<(AsmFault, AsmFlaw<'_>)>, AllocError>
+    ensures { IfOk result (λ found. IfSome found (λ p. asm.IsRefused text.now p.0 × Explains text.now p.0 p.1)) }
+{
+    match assemble(alloc, text) {
+        Ok(_) => Ok(None),
+        Err(fault) => {
+            let flaw = explain(alloc, text, fault)?;
+            Ok(Some((fault, flaw)))
+        }
+    }
+}

@@ -1,0 +1,40 @@
+-- Definitions: the number of what is told of a configuration, and what it tells (this profile).
+use Rattle.std.specs.Prelude.{◌≡◌, ℕ, List, Bool, Option, Some, None, Result, Ok, Err}
+use Rattle.site_config.specs.declared.fault.ConfigFault.{ConfigFault}
+use Rattle.site_config.specs.declared.fault.ConfigFault.TheVariants as fault
+use Rattle.site_config.specs.declared.flaw.ConfigFlaw.{ConfigFlaw}
+use Rattle.site_config.specs.declared.flaw.ConfigFlaw.TheVariants.{NotUtf8, NotToml, UnknownKey, Missing, WrongType, OutOfRange, WrongCount, OverBound, SamePort, OutOfMemory}
+use Rattle.site_config.specs.declared.flaw.Section.{Section}
+use Rattle.site_config.specs.declared.flaw.Section.TheVariants.{Top, Point, Counter, Serve}
+use Rattle.site_config.specs.Document.{Fails}
+use Rattle.site_config.specs.Typed.{is_top_key, is_point_key, is_counter_key, is_serve_key}
+
+abbrev pub fault_of : ConfigFlaw → ConfigFault
+fault_of (NotUtf8 line column) = fault.K1
+fault_of (NotToml line column message) = fault.K1
+fault_of (UnknownKey section name) = fault.K2
+fault_of (Missing place) = fault.K2
+fault_of (WrongType place kind) = fault.K2
+fault_of (OutOfRange place value low high) = fault.K3
+fault_of (WrongCount place count low high) = fault.K3
+fault_of (OverBound counter value bound) = fault.K3
+fault_of (SamePort first second port) = fault.K3
+fault_of OutOfMemory = fault.OutOfMemory
+
+-- the line and the column of a text that is no document
+abbrev pub position_of : ConfigFlaw → Option (ℕ × ℕ)
+position_of (NotUtf8 line column) = Some (line, column)
+position_of (NotToml line column message) = Some (line, column)
+position_of flaw = None
+
+-- What a function returned, seen by view, is what reading gives, unless memory ran out: a flaw is of the fault that reading has.
+abbrev pub Finds : {X Y : Type 0} → (X → Y) → Result X ConfigFlaw → Result Y ConfigFault → Type 0
+Finds view (Ok x) read = read ≡ Ok (view x)
+Finds view (Err flaw) read = Fails (fault_of flaw) read
+
+-- a section has such a key
+abbrev pub is_key_of : Section → List ℕ → Bool
+is_key_of Top name = is_top_key name
+is_key_of (Point place) name = is_point_key name
+is_key_of (Counter place) name = is_counter_key name
+is_key_of Serve name = is_serve_key name
