@@ -4,6 +4,12 @@
 # beside presets on 8, by a short rule and by a long one. Takes under two minutes.
 #
 #     bench/serve.sh [LINES [--journal]]      LINES of each connection, 20000 where it isn't said; --journal: kept in a file
+#
+# With --sync in its place: presets on 1 and on 8 connections, where the journal is synced, once by a program that syncs
+# the file after each line while it writes, and once by `--journal --sync`, whose syncs are for all that wait. The disk
+# may be made to take so many microseconds longer for each sync; give few LINES then.
+#
+#     bench/serve.sh LINES --sync [MICROSECONDS]
 set -eu
 here=$(CDPATH='' cd -- "$(dirname -- "$0")" && pwd -P)
 fc=$here/../crates/fc/out/fc
@@ -12,6 +18,9 @@ work=$(mktemp -d)
 trap 'kill "$served" 2>/dev/null || true; rm -rf "$work"' EXIT
 served=
 kept=${2:-}
+synced=''
+preload=''
+each=''
 cc -O2 -pthread -o "$work/driver" "$here/serve.c"
 
 # Starts a site on ports that are free, with so many workers for tills; each serves one connection.
@@ -34,8 +43,9 @@ connections = 1
 END
         : >"$work/said"
         rm -f "$work/day.journal"
-        # shellcheck disable=SC2086 # no word where no journal is kept
-        "$fc" serve ${kept:+--journal "$work/day.journal"} "$work/site.toml" </dev/null >"$work/journal" 2>"$work/said" &
+        # shellcheck disable=SC2086 # no word where no journal is kept, or none is synced
+        env ${preload:+LD_PRELOAD=$preload} ${each:+SYNC_EACH_WRITE=1} \
+            "$fc" serve ${kept:+--journal "$work/day.journal"} $synced "$work/site.toml" </dev/null >"$work/journal" 2>"$work/said" &
         served=$!
         for _ in 1 2 3 4 5 6 7 8 9 10 11 12 13 14 15 16 17 18 19 20; do
             grep -q serving "$work/said" && return
@@ -62,6 +72,22 @@ measure() {
     served=
 }
 
+if [ "$kept" = --sync ]; then
+    cc -O2 -shared -fPIC -o "$work/slow_disk.so" "$here/slow_disk.c" -ldl
+    preload=$work/slow_disk.so
+    export SYNC_MICROSECONDS="${3:-0}"
+    for connections in 1 8; do
+        echo 'a sync for each line'
+        each=1
+        measure "$connections" "$two" "$connections" 'till 1 preset 1 5000'
+        each=''
+        echo 'one sync for all that wait'
+        synced=--sync
+        measure "$connections" "$two" "$connections" 'till 1 preset 1 5000'
+        synced=''
+    done
+    exit
+fi
 for line in 'till 1 preset 1 5000' 'till 1 show 1'; do
     for connections in 1 8; do
         measure "$connections" "$two" "$connections" "$line"

@@ -23,10 +23,10 @@ def free_ports(count):
 
 class Site:
     """`fc serve` over a configuration without its `[serve]`, on ports that are free. Another program may take a port
-    between the choice and the start: then others are chosen. `kept` is the file that keeps the journal, if one does;
-    `prepare` is called in the new process before the program."""
+    between the choice and the start: then others are chosen. `kept` is the file that keeps the journal, if one does,
+    and is synced where `synced` says so; `prepare` is called in the new process before the program."""
 
-    def __init__(self, fc, site, till_workers, dispenser_workers, connections, kept=None, prepare=None):
+    def __init__(self, fc, site, till_workers, dispenser_workers, connections, kept=None, synced=False, prepare=None):
         self.fc = fc
         self.told = []  # what standard error said before the ports were open
         self.folder = tempfile.TemporaryDirectory()
@@ -41,7 +41,7 @@ class Site:
                 )
             self.journal = open(os.path.join(self.folder.name, "journal"), "w+b")
             self.program = subprocess.Popen(
-                [fc, "serve", *(["--journal", kept] if kept else []), self.config],
+                [fc, "serve", *(["--journal", kept] if kept else []), *(["--sync"] if synced else []), self.config],
                 stdin=subprocess.DEVNULL,
                 stdout=self.journal,
                 stderr=subprocess.PIPE,

@@ -1,7 +1,7 @@
 //! What the program does for its words.
 use crate::files::{Text, read_file};
 use crate::progress::{Progress, Watched};
-use crate::serve::serve_settings;
+use crate::serve::{JournalTo, serve_settings};
 use bpf_model::context::Layout;
 use console::{
     ConfigFault, Ended, Job, MOST_BYTES, READS, SessionFault, Settings, asm_file, audit_journal,
@@ -46,13 +46,13 @@ pub fn do_job<H: Net<Listener = TcpListener, Stream = TcpStream> + Threads + Wai
         Job::Audit { config, journal } | Job::Report { config, journal } => audit_files(
             rt, &config, &journal,
         ),
-        Job::Serve(config) => serve_file(rt, host, &config, None),
-        Job::ServeKept { config, journal } | Job::ServeSynced { config, journal } => serve_file(
-            rt,
-            host,
-            &config,
-            Some(journal),
-        ),
+        Job::Serve(config) => serve_file(rt, host, &config, JournalTo::Output),
+        Job::ServeKept { config, journal } => {
+            serve_file(rt, host, &config, JournalTo::File(journal))
+        }
+        Job::ServeSynced { config, journal } => {
+            serve_file(rt, host, &config, JournalTo::SyncedFile(journal))
+        }
     };
     match done {
         Ok(status) => status,
@@ -73,7 +73,7 @@ fn serve_file<H: Net<Listener = TcpListener, Stream = TcpStream> + Threads + Wai
     rt: &HostRuntime,
     host: &H,
     config: &str,
-    journal: Option<String>,
+    journal: JournalTo,
 ) -> io::Result<u8> {
     match settings_of(rt, config)? {
         Ok(settings) => serve_settings(rt, host, settings, journal),

@@ -7,6 +7,7 @@ mod kept;
 mod operator;
 mod progress;
 mod serve;
+mod synced;
 
 use console::{CommandFault, Job, command};
 use jobs::{USAGE, do_job, out_of_memory};

@@ -10,11 +10,14 @@ mod notices;
 mod posts;
 mod serving;
 #[cfg(test)]
+mod sync_tests;
+#[cfg(test)]
 mod tests;
 
 pub use clock::MachineClock;
 pub use crew::Crew;
 pub use doors::TcpDoors;
+pub use group_sync::{AtOnce, CountedOut, Durable, GroupSync, MemoryDisk, Release, Shared};
 pub use limiter::Limiter;
 pub use line_session::SessionFault;
 pub use listeners::{ListenFault, Listeners};

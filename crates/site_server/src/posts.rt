@@ -9,6 +9,7 @@ use crate::doors::TcpDoors;
 use crate::listeners::Listeners;
 use crate::notices::Notices;
 use crate::serving::serve_pass;
+use group_sync::{HeldDoors, Release};
 use site_lock::{Forecourt, Journal, Pass, Yard};
 use std::alloc::{AllocError, Global};
 use std::net::TcpListener;
@@ -43,8 +44,8 @@ pub fn posts_of<L: Yard>(
     Ok(posts)
 }
 
-/// Serves so many connections of a port that is the pass's.
-fn serve_post<L: Yard, J: Journal, N: Notices, R: Wait + Clock>(
+/// Serves so many connections of a port that is the pass's. Answers leave once they may.
+fn serve_post<L: Yard, J: Journal, N: Notices, A: Release, R: Wait + Clock>(
     rt: &R,
     alloc: Global,
     yard: &Forecourt<L, J>,
@@ -52,24 +53,27 @@ fn serve_post<L: Yard, J: Journal, N: Notices, R: Wait + Clock>(
     crew: Crew,
     port: &TcpListener,
     notices: &N,
+    release: &A,
     connections: u32,
 ) -> (Pass<L>, u64)
     ensures worked { Worked L.config J.may_fail (role_of crew.tills crew.dispensers pass.id) connections result.1 pass result.0 }
     ensures id { result.0.id ≡ pass.id }
 {
     let role = crew.role(pass.id());
-    let mut doors = TcpDoors::new(rt, alloc, port, notices, role, pass.id());
+    let doors = TcpDoors::new(rt, alloc, port, notices, role, pass.id());
+    let mut doors = HeldDoors { doors, release };
     serve_pass(rt, alloc, yard, pass, role, &mut doors, connections)
 }
 
 /// Serves at a post. Its share of the port is given up at the end, so the last worker of a role closes it.
-pub fn man<L: Yard, J: Journal, N: Notices, R: Wait + Clock>(
+pub fn man<L: Yard, J: Journal, N: Notices, A: Release, R: Wait + Clock>(
     rt: &R,
     alloc: Global,
     yard: &Forecourt<L, J>,
     post: &mut Post<L>,
     crew: Crew,
     notices: &N,
+    release: &A,
     connections: u32,
 )
     ensures { Manned L.config J.may_fail crew.tills crew.dispensers connections post.old.waiting post.new.done }
@@ -77,7 +81,18 @@ pub fn man<L: Yard, J: Journal, N: Notices, R: Wait + Clock>(
     let Some((pass, port)) = post.waiting.take() else {
         return;
     };
-    post.done = Some(serve_post(rt, alloc, yard, pass, crew, &port, notices, connections));
+    let served = serve_post(
+        rt,
+        alloc,
+        yard,
+        pass,
+        crew,
+        &port,
+        notices,
+        release,
+        connections,
+    );
+    post.done = Some(served);
 }
 
 /// Moves the pass that was handed back at a post to the others, for which there is room.

@@ -12,6 +12,7 @@ use crate::crew::Crew;
 use crate::listeners::Listeners;
 use crate::notices::Notices;
 use crate::posts::{Post, gather, man, posts_of};
+use group_sync::{AtOnce, Release};
 use line_session::{Doors, worker};
 use site_core::{Config, Site};
 use site_lock::{CloseRefusal, Forecourt, Journal, NoJournal, Pass, PassDesk, Straight, Yard};
@@ -82,6 +83,7 @@ fn serve_posts<
     L: Yard + Send + Sync,
     J: Journal + Send,
     N: Notices + Sync,
+    A: Release + Sync,
     R: Threads + Wait + Clock + Sync,
 >(
     rt: &R,
@@ -91,6 +93,7 @@ fn serve_posts<
     room: Vec<Pass<L>>,
     crew: Crew,
     notices: &N,
+    release: &A,
     connections: u32,
 ) -> Result<Served<J>, ServeFault>
     requires config { yard.config ≡ L.config }
@@ -112,7 +115,7 @@ fn serve_posts<
         workers,
         &|_: usize, post: &mut Post<L>|
             ensures { Manned L.config J.may_fail crew.tills crew.dispensers connections post.entry.now.waiting post.exit.now.done }
-        { man(rt, alloc, shared, post, crew, notices, connections) },
+        { man(rt, alloc, shared, post, crew, notices, release, connections) },
     );
     let well = gather(all, &mut passes);
     if yard.has_stopped(rt) {
@@ -129,13 +132,15 @@ fn serve_posts<
 }
 
 /// Serves a site from where it stands: each worker of the crew serves so many connections, one after another, and then the site is
-/// closed. Each entry's line is handed to the journal before the entry is answered. A role's port is closed when its last worker ends.
+/// closed. Each entry's line is handed to the journal before the entry is answered, and the answer leaves once it may. A role's port is
+/// closed when its last worker ends.
 ///
 /// Want of memory is told only before anything is served.
 pub fn serve_on<
     L: Yard + Send + Sync,
     J: Journal + Send,
     N: Notices + Sync,
+    A: Release + Sync,
     R: Threads + Wait + Clock + Sync,
 >(
     rt: &R,
@@ -146,6 +151,7 @@ pub fn serve_on<
     crew: Crew,
     listeners: Listeners,
     notices: &N,
+    release: &A,
     connections: u32,
 ) -> Result<Served<J>, ServeFault>
     requires name { blank.name ≡ L.name }
@@ -160,7 +166,17 @@ pub fn serve_on<
     let (yard, passes) = Forecourt::<L, J>::go_on(alloc, site, journal, crew.passes(), blank)?;
     let room = Vec::with_capacity(alloc, passes.len())?;
     let posts = posts_of(alloc, passes, listeners, crew)?;
-    serve_posts(rt, alloc, yard, posts, room, crew, notices, connections)
+    serve_posts(
+        rt,
+        alloc,
+        yard,
+        posts,
+        room,
+        crew,
+        notices,
+        release,
+        connections,
+    )
 }
 
 /// Serves a new site of this configuration, as `serve_on`, with a ledger of its own; no journal is kept.
@@ -185,12 +201,18 @@ pub fn serve_site<N: Notices + Sync, R: Threads + Wait + Clock + Sync>(
         crew,
         listeners,
         notices,
+        &AtOnce,
         connections,
     )
 }
 
 /// Serves a site from where it stands, as `serve_on`, with a ledger of its own.
-pub fn resume_site<J: Journal + Send, N: Notices + Sync, R: Threads + Wait + Clock + Sync>(
+pub fn resume_site<
+    J: Journal + Send,
+    N: Notices + Sync,
+    A: Release + Sync,
+    R: Threads + Wait + Clock + Sync,
+>(
     rt: &R,
     alloc: Global,
     site: Site,
@@ -198,13 +220,14 @@ pub fn resume_site<J: Journal + Send, N: Notices + Sync, R: Threads + Wait + Clo
     crew: Crew,
     listeners: Listeners,
     notices: &N,
+    release: &A,
     connections: u32,
 ) -> Result<Served<J>, ServeFault>
     ensures ok { IfOk result (λ served. LeavesSince (from_site site (J.written journal) crew.tills crew.dispensers) J.may_fail crew.tills crew.dispensers connections served.site (J.written served.journal)) }
     ensures err { IfErr result (λ fault. SpoilsSince (from_site site (J.written journal) crew.tills crew.dispensers) J.may_fail crew.tills crew.dispensers connections fault) }
 {
     let blank = Blank::new(u64::from(crew.passes()));
-    serve_on::<Brand, J, N, R>(
+    serve_on::<Brand, J, N, A, R>(
         rt,
         alloc,
         site,
@@ -213,6 +236,7 @@ pub fn resume_site<J: Journal + Send, N: Notices + Sync, R: Threads + Wait + Clo
         crew,
         listeners,
         notices,
+        release,
         connections,
     )
 }

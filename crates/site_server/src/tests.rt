@@ -18,14 +18,14 @@ use till_request::Role;
 use till_request::devices::MemoryOut;
 
 /// One till, and one point whose releases go to slot 0 and presets to slot 1.
-fn config(alloc: Global) -> Option<Config> {
+pub fn config(alloc: Global) -> Option<Config> {
     let points = vec![in alloc; (0, 1)].ok()?;
     Config::new(1, 2, [1799, 1849, 0, 0, 0, 0, 0, 0], points, [(0, 0); 32])
 }
 
 /// Tells nobody.
 #[derive(Drop)]
-struct Silent;
+pub struct Silent;
 
 impl Notices for Silent {
     fn no_door(&self, _role: Role, _pass: u32, _error: &io::Error) {}
@@ -35,14 +35,14 @@ impl Notices for Silent {
 
 /// A connection of a peer.
 #[derive(Drop)]
-struct Peer {
+pub struct Peer {
     stream: TcpStream,
     reader: BufReader<TcpStream>,
-    heard: String,
+    pub heard: String,
 }
 
 impl Peer {
-    fn connect<R: Net<Listener = TcpListener, Stream = TcpStream>>(
+    pub fn connect<R: Net<Listener = TcpListener, Stream = TcpStream>>(
         rt: &R,
         alloc: Global,
         address: SocketAddr,
@@ -57,7 +57,7 @@ impl Peer {
     }
 
     /// Sends bytes, and reads one line of answer.
-    fn ask(&mut self, text: &str) -> io::Result<()> {
+    pub fn ask(&mut self, text: &str) -> io::Result<()> {
         self.stream.write_all(text.as_bytes())?;
         self.reader.read_line(&mut self.heard)?;
         Ok(())
@@ -66,13 +66,13 @@ impl Peer {
 
 /// Where tills, dispensers and the owner connect.
 #[derive(Clone, Copy)]
-struct Addresses {
-    till: SocketAddr,
-    dispenser: SocketAddr,
-    owner: SocketAddr,
+pub struct Addresses {
+    pub till: SocketAddr,
+    pub dispenser: SocketAddr,
+    pub owner: SocketAddr,
 }
 
-fn addresses_of(listeners: &Listeners) -> io::Result<Addresses> {
+pub fn addresses_of(listeners: &Listeners) -> io::Result<Addresses> {
     Ok(Addresses {
         till: listeners.till.local_addr()?,
         dispenser: listeners.dispenser.local_addr()?,
