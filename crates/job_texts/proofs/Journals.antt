@@ -1,6 +1,6 @@
 -- What is told of a journal.
 use Rattle.std.proofs.Common.{◌≡◌, ◌≢◌, ℕ, List, [], ◌++◌, Option, Some, None, Result, Ok, Err, sym, ap, ◌∙◌, subst, inl, inr}
-use Rattle.std.specs.Prelude.{IfOk}
+use Rattle.std.specs.Prelude.{IfErr, IfOk}
 use Rattle.std.specs.List.{AllByRecursion}
 use Rattle.std.specs.Io.KnownBytes.{Consumes, IsAtEnd}
 use Rattle.std.proofs.lemmas.List.{append-nil}
@@ -9,12 +9,14 @@ use Rattle.decision_journal.specs.declared.fault.JournalFault.{JournalFault}
 use Rattle.decision_journal.specs.declared.fault.JournalFault.TheVariants as journal
 use Rattle.decision_journal.specs.Text.{journal_text}
 use Rattle.decision_journal.specs.Journal.{IsWritten, IsWant, ReadsAll, ReadsFault}
+use Rattle.decision_journal.specs.Taking.{TakesAll}
 use Rattle.decision_journal.proofs.WholeLines.{one_journal}
 use Rattle.decision_journal.proofs.ReadAgain.{fault_again, fit}
 use Rattle.site_core.specs.Limits.{ConfigValue}
 use Rattle.site_core.specs.Histories.{IsHistory, IsJournal}
-use Rattle.site_core.specs.Site.{SiteValue, Upholds}
-use Rattle.site_core.specs.Audit.{ShowsFault}
+use Rattle.site_core.specs.Site.{SiteValue, Upholds, new_site}
+use Rattle.site_core.specs.Auditing.{AuditorValue, Found, TookEntries}
+use Rattle.site_core.specs.Audit.{Audits, ShowsFault}
 use Rattle.site_core.proofs.Complete.{upheld}
 use Rattle.site_core.specs.declared.auditing.AuditFault.{AuditFault}
 use Rattle.site_core.specs.declared.auditing.AuditFault.TheVariants.{OutOfMemory}
@@ -48,6 +50,24 @@ module _ (text : List ℕ) (entries : List Entry) where
 
   pub all-told : (config : ConfigValue) (new : Option (List ℕ)) (told : Told) → ReadsAll (Some text) new entries → AuditTells config entries told → JournalTells config text told
   all-told config new told r tells = judged config told (all-is new r.reads.taken r.at_end) r.reads.each tells
+
+-- all was read, and audited entry by entry
+pub all-taken : (text : List ℕ) (config : ConfigValue) (new : Option (List ℕ)) (before after : AuditorValue) (audited : Result SiteValue AuditFault) (told : Told)
+    → before.site ≡ new_site config → before.fault ≡ None → TakesAll (Some text) new (TookEntries before after)
+    → ((entries : List Entry) → Found after entries → Audits after.site.config entries audited)
+    → ((entries : List Entry) → Found after entries → IsHistory after.site.config entries → IfErr audited (λ _. ⊥))
+    → ((config : ConfigValue) (entries : List Entry) → Audits config entries audited → (IsHistory config entries → IfErr audited (λ fault. fault ≡ OutOfMemory)) → AuditTells config entries told)
+    → JournalTells config text told
+all-taken text config new before after audited told site fault taken audits complete tells =
+    let took = taken.taken (ap (λ (s : SiteValue). s.history) site, fault) in
+    let same : after.site.config ≡ config = took.0 ∙ ap (λ (s : SiteValue). s.config) site in
+    all-told text taken.entries config new told taken.reads
+    (subst (λ (c : ConfigValue). AuditTells c taken.entries told) same
+    (tells after.site.config taken.entries (audits taken.entries took.1) (λ h. no-fault audited (complete taken.entries took.1 h))))
+  where
+    no-fault : (r : Result SiteValue AuditFault) → IfErr r (λ _. ⊥) → IfErr r (λ fault. fault ≡ OutOfMemory)
+    no-fault (Ok s) h = tt
+    no-fault (Err f) h = absurd h
 
 -- a fault was read
 no-journal : (config : ConfigValue) (text : List ℕ) (new : Option (List ℕ)) (fault : JournalFault) → ReadsFault (Some text) new fault → (IsWant fault → ⊥) → IsJournal config text → ⊥

@@ -9,6 +9,7 @@ pub mod Shown
 pub mod Complete
 pub mod Grants
 pub mod Filling
+pub mod Finding
 pub mod Pairs
 pub mod Counted
 pub mod Laying

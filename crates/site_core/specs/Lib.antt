@@ -10,6 +10,7 @@ pub mod Bounds
 pub mod Keeping
 pub mod Site
 pub mod Audit
+pub mod Auditing
 pub mod Draft
 pub mod Differences
 pub mod Asked

@@ -2,6 +2,7 @@
 #![tactic(auto)]
 
 mod auditing;
+mod auditor;
 mod comparing;
 mod config;
 mod context;
@@ -17,6 +18,7 @@ mod station;
 mod why;
 
 pub use auditing::{AuditFault, audit, event_of};
+pub use auditor::Auditor;
 pub use config::Config;
 pub use draft::{Begin, Commit, Draft, Ready};
 pub use events::{Answered, CallFault, Event, What};

@@ -1,9 +1,9 @@
 //! Scripts of events with the replies that the site's rules name for them.
 
-use decision_journal::Entry;
+use decision_journal::{Entry, Taker};
 use fuelling_point::{DispenserEvent, Order};
 use reg_types::{Layout, Refusal, TypeFault, verify};
-use site_core::{AuditFault, Config, Event, Site, What, audit, audit_of_its_own_history};
+use site_core::{AuditFault, Auditor, Config, Event, Site, What, audit, audit_of_its_own_history};
 use std::alloc::{AllocError, Global};
 use std::process::Abort;
 use std::sync::Arc;
@@ -467,6 +467,46 @@ fn an_audit_names_the_first_fault(rt: HostRuntime) -> Result<(), Fail> {
         fault(alloc, &[load])?,
         Some(AuditFault::BadProgram(1, refusal))
     );
+    Ok(())
+}
+
+// Entries behind the first fault change nothing. The site has two points.
+#[test]
+fn an_auditor_names_the_first_fault(rt: HostRuntime) -> Result<(), Fail> {
+    let alloc = rt.alloc();
+    for (numbers, want) in [
+        ([1, 2, 2], Some(AuditFault::BadNumber(3))),
+        ([1, 3, 3], Some(AuditFault::BadNumber(2))),
+        ([4, 2, 3], Some(AuditFault::BadNumber(1))),
+        ([1, 2, 3], Some(AuditFault::NotLegal(3))),
+    ] {
+        let mut auditor = Auditor::new(alloc, config(alloc)?.ok_or("no configuration")?)?;
+        for (point, number) in [1, 2, 3].iter().zip(numbers.iter()) {
+            let act = Act::Till {
+                till: 1,
+                request: Request::OpenPoint(*point),
+            };
+            auditor.take(entry(*number, 0, act, Reply::Done))?;
+        }
+        assert_eq!(rt; auditor.finish().err(), want);
+    }
+    Ok(())
+}
+
+#[test]
+fn an_auditor_makes_the_site(rt: HostRuntime) -> Result<(), Fail> {
+    let alloc = rt.alloc();
+    let mut auditor = Auditor::new(alloc, config(alloc)?.ok_or("no configuration")?)?;
+    let act = Act::Till {
+        till: 1,
+        request: Request::OpenPoint(1),
+    };
+    auditor.take(entry(1, 5, act, Reply::Done))?;
+    let Ok(site) = auditor.finish() else {
+        return Err(Fail::from("a fault"));
+    };
+    assert_eq!(rt; site.history().len(), 1);
+    assert_eq!(rt; site.history()[0].moment, 5);
     Ok(())
 }
 
