@@ -1,20 +1,28 @@
 //! What the program does for its words.
-use crate::files::{Text, read_file};
+ghost use Rattle.std.specs.Prelude.{◌≤◌};
+
+use crate::faults::{
+    Place, cannot_read, complain, out_of_memory, refuse_config, refuse_length, say, tell_cut,
+    tell_journal, tell_program, tell_text, tell_write,
+};
+use crate::files::{Outlet, Source, Text, is_input, name_of, read_file};
+use crate::loads::Loads;
 use crate::progress::{Progress, Watched};
 use crate::serve::{JournalTo, serve_settings};
 use bpf_model::context::Layout;
 use console::{
-    ConfigFault, Ended, Job, MOST_BYTES, READS, SessionFault, Settings, asm_file, audit_journal,
-    config_part, dis_file, journal_fault_line, play, play_within, read_config, read_head,
-    verify_file,
+    Ended, Job, MOST_BYTES, READS, SessionFault, Settings, asm_file, audit_journal, config_part,
+    dis_file, dis_flaw, dis_units_file, journal_fault_line, journal_flaw, play, play_within,
+    read_head, read_settings, verify_file, verify_flaw,
 };
 use decision_journal::JournalFault;
-use std::fs::File;
-use std::io::{self, BufReader, IsTerminal};
+use site_core::Config;
+use std::io::{self, BufReader, IsTerminal, Printer};
 use std::net::{Net, TcpListener, TcpStream};
 use std::sync::Wait;
 use std::thread::Threads;
 use std::time::Clock;
+use till_request::InputFault;
 use till_request::devices::{StreamIn, StreamOut};
 
 /// All was done. A refusal inside a play is an answer.
@@ -34,9 +42,10 @@ pub fn do_job<H: Net<Listener = TcpListener, Stream = TcpStream> + Threads + Wai
 ) -> u8 {
     let done = match job {
         Job::NoWords => play_input(rt),
-        Job::Show(text) => say(rt, text, DONE),
+        Job::Show(text) => Ok(say(rt, &text, DONE)),
         Job::Asm(file) => tell_of(rt, &file, Tell::Asm),
-        Job::Dis(file) | Job::DisUnits(file) => tell_of(rt, &file, Tell::Dis),
+        Job::Dis(file) => tell_of(rt, &file, Tell::Dis),
+        Job::DisUnits(file) => tell_of(rt, &file, Tell::DisUnits),
         Job::Verify {
             counters,
             context,
@@ -63,22 +72,29 @@ pub fn do_job<H: Net<Listener = TcpListener, Stream = TcpStream> + Threads + Wai
     }
 }
 
-/// Prints a text, and answers the status.
-pub fn say(rt: &HostRuntime, text: String, status: u8) -> io::Result<u8> {
-    print!(rt; "{text}")?;
-    Ok(status)
-}
-
 fn serve_file<H: Net<Listener = TcpListener, Stream = TcpStream> + Threads + Wait + Clock + Sync>(
     rt: &HostRuntime,
     host: &H,
     config: &str,
     journal: JournalTo,
 ) -> io::Result<u8> {
-    match settings_of(rt, config)? {
-        Ok(settings) => serve_settings(rt, host, settings, journal),
-        Err(status) => Ok(status),
+    if journal.word().is_some_and(is_input) {
+        let _ = eprintln!(rt; "fc: a kept journal needs a file, and - is standard input");
+        return Ok(USAGE);
     }
+    let settings = match settings_of(rt, config)? {
+        Ok(settings) => settings,
+        Err(status) => return Ok(status),
+    };
+    if settings.serve.is_none() {
+        complain(
+            rt,
+            Place::of(config),
+            &"serve needs the table [serve]",
+            "K2",
+        );
+    }
+    serve_settings(rt, host, settings, journal)
 }
 
 /// What is told of one file.
@@ -86,77 +102,92 @@ fn serve_file<H: Net<Listener = TcpListener, Stream = TcpStream> + Threads + Wai
 enum Tell {
     Asm,
     Dis,
+    DisUnits,
     Verify(u32, Layout),
 }
 
-fn tell_of(rt: &HostRuntime, path: &str, tell: Tell) -> io::Result<u8> {
-    let text = match read_file(rt, path, MOST_BYTES) {
+fn tell_of(rt: &HostRuntime, word: &str, tell: Tell) -> io::Result<u8> {
+    let text = match read_file(rt, word, MOST_BYTES) {
         Ok(Text::Bytes(bytes)) => bytes,
-        Ok(Text::TooLong) => return refuse(rt, "L1"),
-        Err(error) => return cannot_read(rt, path, error),
+        Ok(Text::TooLong) => return Ok(refuse_length(rt, word)),
+        Err(error) => return Ok(cannot_read(rt, word, &error)),
     };
     let told = match tell {
         Tell::Asm => asm_file(rt.alloc(), &text)?,
         Tell::Dis => dis_file(rt.alloc(), &text)?,
+        Tell::DisUnits => dis_units_file(rt.alloc(), &text)?,
         Tell::Verify(counters, context) => verify_file(rt.alloc(), &text, counters, context)?,
     };
-    say(rt, told.text, told.status)
-}
-
-/// Prints a fault's number, and answers the status.
-pub fn refuse(rt: &HostRuntime, fault: &str) -> io::Result<u8> {
-    println!(rt; "{fault}")?;
-    Ok(REFUSED)
-}
-
-pub fn cannot_read(rt: &HostRuntime, path: &str, error: io::Error) -> io::Result<u8> {
-    eprintln!(rt; "fc: {path}: {error}")?;
-    Ok(FAILED)
-}
-
-/// Says that memory was refused, and answers the status.
-pub fn out_of_memory(rt: &HostRuntime) -> u8 {
-    let _ = eprintln!(rt; "fc: out of memory");
-    FAILED
-}
-
-fn refuse_config(rt: &HostRuntime, fault: ConfigFault) -> io::Result<u8> {
-    match fault {
-        ConfigFault::K1 => refuse(rt, "K1"),
-        ConfigFault::K2 => refuse(rt, "K2"),
-        ConfigFault::K3 => refuse(rt, "K3"),
-        ConfigFault::OutOfMemory => Ok(out_of_memory(rt)),
+    if told.status == REFUSED {
+        explain(rt, word, tell, &text)?;
     }
+    Ok(say(rt, &told.text, told.status))
 }
 
-/// The status of a play that ended so; what a device did is said on standard error.
-fn status_of(rt: &HostRuntime, ended: Result<Ended, SessionFault>) -> io::Result<u8> {
-    let fault = match ended {
+/// Says why a file is refused.
+fn explain(rt: &HostRuntime, word: &str, tell: Tell, text: &[u8]) -> io::Result<()> {
+    let flaw = match tell {
+        Tell::Asm => {
+            tell_text(rt, word, text)?;
+            None
+        }
+        Tell::Dis | Tell::DisUnits => dis_flaw(rt.alloc(), text)?,
+        Tell::Verify(counters, context) => verify_flaw(rt.alloc(), text, counters, context)?,
+    };
+    if let Some(flaw) = flaw {
+        tell_program(rt, word, &flaw);
+    }
+    Ok(())
+}
+
+/// The status of a play of the script that a word names, whose first line has this number, by how it ended; what cut it off is said on
+/// standard error, with the failures of its devices.
+fn status_of(
+    rt: &HostRuntime,
+    ended: Result<Ended, SessionFault>,
+    word: &str,
+    first: u64,
+    read: Option<&io::Error>,
+    written: Option<&io::Error>,
+) -> u8 {
+    let place = Place::of(word);
+    match ended {
         Ok(
             Ended {
                 lines: _,
                 cut: None,
             },
-        ) => return Ok(DONE),
+        ) => return DONE,
         Ok(
             Ended {
-                lines: _,
-                cut: Some(_),
+                lines,
+                cut: Some(fault),
             },
-        ) => return Ok(REFUSED),
-        Err(SessionFault::Read) => "a read failed (N1)",
-        Err(SessionFault::Write) => "a write failed (N2)",
-        Err(SessionFault::ReadsSpent) => "the reads ran out (N3)",
-        Err(SessionFault::OutOfMemory) => "out of memory",
-    };
-    eprintln!(rt; "fc: {fault}")?;
-    Ok(FAILED)
+        ) => {
+            let line = first.saturating_add(lines).saturating_sub(1);
+            tell_cut(rt, word, line, fault);
+            return REFUSED;
+        }
+        Err(SessionFault::Read) => match read {
+            Some(error) => complain(rt, place, error, "N1"),
+            None => complain(rt, place, &InputFault::Read, "N1"),
+        },
+        Err(SessionFault::Write) => tell_write(rt, written),
+        Err(SessionFault::ReadsSpent) => complain(rt, place, &InputFault::ReadsSpent, "N3"),
+        Err(SessionFault::OutOfMemory) => return out_of_memory(rt),
+    }
+    FAILED
 }
 
 /// The configuration and the script of standard input.
 fn play_input(rt: &HostRuntime) -> io::Result<u8> {
+    if rt.stdin().is_terminal() {
+        let _ = eprintln!(rt;
+            "fc: reading a configuration, a line --- and a script from standard input; fc --help tells more"
+        );
+    }
     let mut input = StreamIn {
-        reader: BufReader::new(rt.alloc(), rt.reader())?,
+        reader: BufReader::new(rt.alloc(), Source::input(rt))?,
         reads: 0,
         failures: 0,
         asked: 0,
@@ -164,19 +195,48 @@ fn play_input(rt: &HostRuntime) -> io::Result<u8> {
     let mut left = READS;
     let head = match read_head(rt.alloc(), &mut input, &mut left) {
         Ok(head) => head,
-        Err(fault) => return status_of(rt, Err(SessionFault::from(fault))),
+        Err(fault) => {
+            let (ended, read) = (
+                Err(SessionFault::from(fault)),
+                input.reader.get_ref().failure(),
+            );
+            return Ok(status_of(rt, ended, "-", 1, read, None));
+        }
     };
     let Some(text) = config_part(&head) else {
-        return refuse(rt, "L1");
+        return Ok(refuse_length(rt, "-"));
     };
-    let settings = match read_config(rt.alloc(), text) {
+    let settings = match read_settings(rt.alloc(), text) {
         Ok(settings) => settings,
-        Err(fault) => return refuse_config(rt, fault),
+        Err(flaw) => return Ok(refuse_config(rt, "-", &flaw)),
     };
-    let mut output = StreamOut {
-        writer: io::writer(rt),
-        failures: 0,
+    play_rest(rt, settings, input, lines_in(&head), left)
+}
+
+/// How many lines end in these bytes.
+fn lines_in(bytes: &[u8]) -> u64 {
+    bytes.iter().filter(|byte| **byte == b'\n').count() as u64
+}
+
+/// The script that stands behind a configuration of so many lines.
+fn play_rest(
+    rt: &HostRuntime,
+    settings: Settings,
+    input: StreamIn<BufReader<Source>>,
+    lines: u64,
+    mut left: u32,
+) -> io::Result<u8>
+    requires { left ≤ 67108864 }
+{
+    let first = lines.saturating_add(1);
+    let progress = Progress::new(rt, false, None);
+    let loads = Some(Loads::new(rt, name_of("-"), first));
+    let mut input = Watched {
+        input,
+        progress,
+        loads,
     };
+    let mut output = outlet(rt);
     let ended = play_within(
         rt.alloc(),
         settings.config,
@@ -184,85 +244,147 @@ fn play_input(rt: &HostRuntime) -> io::Result<u8> {
         &mut output,
         &mut left,
     );
-    status_of(rt, ended)
+    let read = input.input.reader.get_ref().failure();
+    let written = output.writer.failure.as_ref();
+    Ok(status_of(rt, ended, "-", first, read, written))
 }
 
-/// A configuration file's settings, or the status where there are none.
-fn settings_of(rt: &HostRuntime, path: &str) -> io::Result<Result<Settings, u8>> {
-    let text = match read_file(rt, path, MOST_BYTES) {
-        Ok(Text::Bytes(bytes)) => bytes,
-        Ok(Text::TooLong) => return Ok(Err(refuse(rt, "L1")?)),
-        Err(error) => return Ok(Err(cannot_read(rt, path, error)?)),
-    };
-    match read_config(rt.alloc(), &text) {
-        Ok(settings) => Ok(Ok(settings)),
-        Err(fault) => Ok(Err(refuse_config(rt, fault)?)),
+/// Standard output.
+fn outlet(rt: &HostRuntime) -> StreamOut<Outlet<Printer<'_, HostRuntime>>> {
+    StreamOut {
+        writer: Outlet {
+            writer: io::writer(rt),
+            failure: None,
+        },
+        failures: 0,
     }
 }
 
-fn play_files(rt: &HostRuntime, config: &str, script: &str) -> io::Result<u8> {
+/// A configuration file's settings, or the status where there are none.
+fn settings_of(rt: &HostRuntime, word: &str) -> io::Result<Result<Settings, u8>> {
+    let text = match read_file(rt, word, MOST_BYTES) {
+        Ok(Text::Bytes(bytes)) => bytes,
+        Ok(Text::TooLong) => return Ok(Err(refuse_length(rt, word))),
+        Err(error) => return Ok(Err(cannot_read(rt, word, &error))),
+    };
+    match read_settings(rt.alloc(), &text) {
+        Ok(settings) => Ok(Ok(settings)),
+        Err(flaw) => Ok(Err(refuse_config(rt, word, &flaw))),
+    }
+}
+
+/// The settings and the other file that a job wants, or the status where there are none. Standard input is read once.
+fn settings_and(
+    rt: &HostRuntime,
+    config: &str,
+    other: &str,
+) -> io::Result<Result<(Settings, Source), u8>> {
+    if is_input(config) && is_input(other) {
+        let _ = eprintln!(rt;
+            "fc: - is standard input, which is read once: name one of the two files"
+        );
+        return Ok(Err(USAGE));
+    }
     let settings = match settings_of(rt, config)? {
         Ok(settings) => settings,
-        Err(status) => return Ok(status),
+        Err(status) => return Ok(Err(status)),
     };
-    let file = match File::open(rt, script) {
-        Ok(file) => file,
-        Err(error) => return cannot_read(rt, script, error),
+    match Source::open(rt, other) {
+        Ok(source) => Ok(Ok((settings, source))),
+        Err(error) => Ok(Err(cannot_read(rt, other, &error))),
+    }
+}
+
+fn play_files<'a>(rt: &'a HostRuntime, config: &str, script: &'a str) -> io::Result<u8> {
+    let (settings, source) = match settings_and(rt, config, script)? {
+        Ok(both) => both,
+        Err(status) => return Ok(status),
     };
     // On a terminal the answers themselves show how far it is.
     let is_silent = !rt.stdout().is_terminal();
+    let progress = Progress::new(rt, is_silent, source.size());
+    let loads = Some(Loads::new(rt, name_of(script), 1));
     let mut input = Watched {
         input: StreamIn {
-            reader: BufReader::new(rt.alloc(), file)?,
+            reader: BufReader::new(rt.alloc(), source)?,
             reads: 0,
             failures: 0,
             asked: 0,
         },
-        progress: Progress::new(rt.stderr(), is_silent),
+        progress,
+        loads,
     };
-    let mut output = StreamOut {
-        writer: io::writer(rt),
-        failures: 0,
-    };
+    let mut output = outlet(rt);
     let ended = play(rt.alloc(), settings.config, &mut input, &mut output);
     input.progress.clear();
-    status_of(rt, ended)
+    let read = input.input.reader.get_ref().failure();
+    let written = output.writer.failure.as_ref();
+    Ok(status_of(rt, ended, script, 1, read, written))
 }
 
 fn audit_files(rt: &HostRuntime, config: &str, journal: &str) -> io::Result<u8> {
-    let settings = match settings_of(rt, config)? {
-        Ok(settings) => settings,
+    let (settings, source) = match settings_and(rt, config, journal)? {
+        Ok(both) => both,
         Err(status) => return Ok(status),
     };
-    let file = match File::open(rt, journal) {
-        Ok(file) => file,
-        Err(error) => return cannot_read(rt, journal, error),
-    };
+    let again = settings.config.copied(rt.alloc())?;
+    let size = source.size();
+    let progress = Progress::new(rt, true, size);
     let mut input = Watched {
         input: StreamIn {
-            reader: file,
+            reader: source,
             reads: 0,
             failures: 0,
             asked: 0,
         },
-        progress: Progress::new(rt.stderr(), true),
+        progress,
+        loads: None,
     };
     let told = audit_journal(rt.alloc(), settings.config, &mut input);
     input.progress.clear();
     match told {
-        Ok(told) => say(rt, told.text, told.status),
-        Err(fault) => tell_journal_fault(rt, journal, fault),
+        Ok(told) => {
+            // Only a file can be read once more.
+            if told.status == REFUSED && size.is_some() {
+                explain_journal(rt, journal, again)?;
+            }
+            Ok(say(rt, &told.text, told.status))
+        }
+        Err(fault) => tell_journal_fault(rt, journal, fault, input.input.reader.failure()),
     }
 }
 
-pub fn tell_journal_fault(rt: &HostRuntime, journal: &str, fault: JournalFault) -> io::Result<u8> {
+/// Says why a journal is refused, which is read once more for that.
+fn explain_journal(rt: &HostRuntime, word: &str, config: Config) -> io::Result<()> {
+    let mut input = StreamIn {
+        reader: Source::open(rt, word)?,
+        reads: 0,
+        failures: 0,
+        asked: 0,
+    };
+    if let Ok(Some((line, flaw))) = journal_flaw(rt.alloc(), config, &mut input) {
+        tell_journal(rt, word, line, &flaw);
+    }
+    Ok(())
+}
+
+/// Says why a journal isn't read, and answers the status; a text that is none has its line on standard output.
+pub fn tell_journal_fault(
+    rt: &HostRuntime,
+    word: &str,
+    fault: JournalFault,
+    failure: Option<&io::Error>,
+) -> io::Result<u8> {
     if fault == JournalFault::OutOfMemory {
         return Ok(out_of_memory(rt));
     }
     match journal_fault_line(rt.alloc(), fault)? {
-        Some(told) => say(rt, told.text, told.status),
+        Some(told) => Ok(say(rt, &told.text, told.status)),
         None => {
-            eprintln!(rt; "fc: {journal}: {fault}")?;
+            match failure {
+                Some(error) => complain(rt, Place::of(word), error, "J3"),
+                None => complain(rt, Place::of(word), &fault, "J3"),
+            }
             Ok(FAILED)
         }
     }

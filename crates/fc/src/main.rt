@@ -1,16 +1,19 @@
 //! The program `fc`: words and files in, answers and an exit status out. All that it says is made by `console`.
 #![tactic(auto)]
 
+mod faults;
 mod files;
 mod jobs;
 mod kept;
+mod loads;
 mod operator;
 mod progress;
 mod serve;
 mod synced;
 
 use console::{CommandFault, Job, command};
-use jobs::{USAGE, do_job, out_of_memory};
+use faults::out_of_memory;
+use jobs::{USAGE, do_job};
 use std::io::{self, ErrorKind};
 use std::process::ExitCode;
 

@@ -1,6 +1,8 @@
 -- Definitions: what is told of a journal that is refused (this profile).
-use Rattle.std.specs.Prelude.{◌≡◌, ◌++◌, ◌∷◌, [], ℕ, List, ⊤}
+use Rattle.std.specs.Prelude.{◌≡◌, ◌⊎◌, ◌++◌, ◌∷◌, [], ℕ, List, Option, IfSome, ⊤}
 use Rattle.decision_journal.specs.declared.entries.Entry.{Entry}
+use Rattle.decision_journal.specs.declared.fault.JournalFault.{JournalFault}
+use Rattle.decision_journal.specs.Journal.{ReadsAll, ReadsFault}
 use Rattle.site_core.specs.declared.auditing.AuditFault.{AuditFault}
 use Rattle.site_core.specs.declared.auditing.AuditFault.TheVariants.{BadNumber, BadProgram, NotLegal, OutOfMemory}
 use Rattle.site_core.specs.Audit.{ShowsFault}
@@ -34,3 +36,9 @@ IsPlaceOf OutOfMemory at = ⊥
 -- the entries show a fault at this place, so they are no history
 abbrev pub ShowsFlawAt : ConfigValue → List Entry → ℕ → Type 0
 ShowsFlawAt config entries at = (fault : AuditFault) × ShowsFault config entries fault × IsPlaceOf fault at
+
+-- the text that was read has a fault, which is told, or it is the journal of entries that show one at this line
+abbrev pub IsJournalFlaw : ConfigValue → Option (List ℕ) → Option (List ℕ) → Option ℕ → JournalFlaw → Type 0
+IsJournalFlaw config old new line told =
+    ((fault : JournalFault) × ReadsFault old new fault × (told ≡ flaw.Text fault))
+    ⊎ ((entries : List Entry) × ReadsAll old new entries × IfSome line (ShowsFlawAt config entries))

@@ -4,3 +4,4 @@ pub mod Assembler
 pub mod Reasons
 pub mod Differing
 pub mod JournalFlaws
+pub mod FileFlaws

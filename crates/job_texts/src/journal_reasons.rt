@@ -1,6 +1,7 @@
 //! Why a journal is refused, in words.
-ghost use Rattle.std.specs.Prelude.{IfOk, IfSome};
-ghost use Rattle.job_texts.specs.JournalFlaws.{AnsweredAfter, IsEntryFlaw, ShowsFlawAt};
+ghost use Rattle.std.specs.Prelude.{IfErr, IfOk, IfSome};
+ghost use Rattle.decision_journal.specs.Journal.{IsWant};
+ghost use Rattle.job_texts.specs.JournalFlaws.{AnsweredAfter, IsEntryFlaw, ShowsFlawAt, IsJournalFlaw};
 
 use crate::differing::{Difference, first_difference};
 use crate::reasons::{RefusedProgram, explain_refusal};
@@ -133,7 +134,10 @@ pub fn journal_flaw<I: LineIn>(
     alloc: Global,
     config: Config,
     input: &mut I,
-) -> Result<Option<(Option<u32>, JournalFlaw)>, JournalFault> {
+) -> Result<Option<(Option<u32>, JournalFlaw)>, JournalFault>
+    ensures told { IfOk result (λ found. IfSome found (λ p. IsJournalFlaw config (I.remaining input.old) (I.remaining input.new) p.0 p.1)) }
+    ensures want { IfErr result IsWant }
+{
     match read_entries(alloc, input) {
         Ok(entries) => match entries_flaw(alloc, config, &entries) {
             Ok(Some((place, flaw))) => Ok(Some((Some(place), flaw))),

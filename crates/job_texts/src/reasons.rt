@@ -6,17 +6,15 @@ ghost use Rattle.bpf_asm.specs.Flaws.{Explains};
 ghost use Rattle.bpf_asm.specs.Program as asm;
 ghost use Rattle.reg_types.specs.Refusals.{shown_by};
 ghost use Rattle.reg_types.specs.Shown.{IsRefused};
-ghost use Rattle.program_file.specs.Digits.{program_in};
 ghost use Rattle.job_texts.specs.Reasons.{NamesLine, IsExplained, unit_in, kind_wanted, wanted_at};
 
 use bpf_asm::{AsmFault, AsmFlaw, assemble, explain, instruction_line};
 use bpf_decode::{Code, DecodeFault, Unit, decode};
 use helpers::{Kind, arguments};
-use program_file::{ProgramFileFault, read_program, unit_lines};
+use program_file::unit_lines;
 use reg_types::{Layout, Refusal, TypeFault, verify};
 use std::alloc::{AllocError, Global};
 use std::fmt;
-use thiserror::Error;
 
 /// Why a program is refused: the refusal, the line of the instruction that it is about, and of an argument of a helper what it has to be.
 #[derive(Debug, Drop)]
@@ -164,49 +162,6 @@ pub fn refused_program(
         }
         Err(Refusal::OutOfMemory) => Err(AllocError),
         Err(refusal) => Ok(Some(explain_refusal(alloc, bytes, refusal)?)),
-    }
-}
-
-/// Why a program file is refused.
-#[derive(Debug, Drop, Error)]
-pub enum ProgramFlaw {
-    #[error("{0}")]
-    File(ProgramFileFault),
-    #[error("{0}")]
-    Program(RefusedProgram),
-}
-
-/// Why a program file is refused, as `verify_file` does; none where its program is accepted. The error is want of memory.
-pub fn verify_flaw(
-    alloc: Global,
-    file: &[u8],
-    counters: u32,
-    context: Layout,
-) -> Result<Option<ProgramFlaw>, AllocError> {
-    match read_program(alloc, file) {
-        Ok(bytes) => match refused_program(alloc, &bytes, counters, context)? {
-            Some(refused) => Ok(Some(ProgramFlaw::Program(refused))),
-            None => Ok(None),
-        },
-        Err(ProgramFileFault::OutOfMemory) => Err(AllocError),
-        Err(fault) => Ok(Some(ProgramFlaw::File(fault))),
-    }
-}
-
-/// Why a program file can't be shown as text, as `dis_file` refuses it; none where it can. The error is want of memory.
-pub fn dis_flaw(alloc: Global, file: &[u8]) -> Result<Option<ProgramFlaw>, AllocError> {
-    let bytes = match read_program(alloc, file) {
-        Ok(bytes) => bytes,
-        Err(ProgramFileFault::OutOfMemory) => return Err(AllocError),
-        Err(fault) => return Ok(Some(ProgramFlaw::File(fault))),
-    };
-    match decode(alloc, &bytes) {
-        Ok(_) => Ok(None),
-        Err(DecodeFault::OutOfMemory) => Err(AllocError),
-        Err(fault) => {
-            let refused = explain_refusal(alloc, &bytes, Refusal::Decode(fault))?;
-            Ok(Some(ProgramFlaw::Program(refused)))
-        }
     }
 }
 

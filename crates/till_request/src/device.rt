@@ -3,8 +3,11 @@ ghost use Rattle.std.specs.Prelude.{◌<◌, ◌≤◌, ℕ, List, Option, lengt
 ghost use Rattle.std.specs.Io.KnownBytes.{ReadConsumes, WriteAppends};
 ghost use Rattle.till_request.specs.Count.{RoseBy, one_if};
 
+use thiserror::Error;
+
 /// The device failed.
-#[derive(Clone, Copy, Debug, PartialEq, Eq, Drop)]
+#[derive(Clone, Copy, Debug, PartialEq, Eq, Drop, Error)]
+#[error("the device failed")]
 pub struct DeviceFault;
 
 /// A source of bytes.

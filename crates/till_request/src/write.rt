@@ -8,12 +8,15 @@ ghost use Rattle.till_request.specs.Answer.{answer_line};
 use crate::act::Answer;
 use crate::device::{DeviceFault, LineOut};
 use std::alloc::{AllocError, Global};
+use thiserror::Error;
 
 /// Why an answer was not written.
-#[derive(Clone, Copy, Debug, PartialEq, Eq, Drop)]
+#[derive(Clone, Copy, Debug, PartialEq, Eq, Drop, Error)]
 pub enum WriteFault {
     /// N2: the device failed.
+    #[error("a write failed")]
     Write,
+    #[error("out of memory")]
     OutOfMemory,
 }
 

@@ -1,0 +1,192 @@
+//! What is said where something is refused or fails: one line of words on standard error, with the file and the place. Whether anybody
+//! reads it changes no exit status.
+use crate::files::name_of;
+use crate::jobs::{FAILED, REFUSED};
+use console::{
+    AsmFault, ConfigFault, ConfigFlaw, JournalFlaw, ProgramFileFault, ProgramFlaw, asm_flaw,
+};
+use decision_journal::JournalFault;
+use std::alloc::AllocError;
+use std::fmt::{self, Display};
+use std::io::{self, ErrorKind};
+use till_request::{LineFault, WriteFault};
+
+/// A file, a line of it, and a column.
+#[derive(Clone, Copy)]
+pub struct Place<'a> {
+    name: &'a str,
+    line: Option<u64>,
+    column: Option<u64>,
+}
+
+impl<'a> Place<'a> {
+    /// What a word names.
+    pub fn of(word: &'a str) -> Place<'a> {
+        Place {
+            name: name_of(word),
+            line: None,
+            column: None,
+        }
+    }
+
+    /// Standard output.
+    fn output() -> Place<'static> {
+        Place {
+            name: "standard output",
+            line: None,
+            column: None,
+        }
+    }
+
+    pub fn line(self, line: u64) -> Place<'a> {
+        Place {
+            line: Some(line),
+            ..self
+        }
+    }
+
+    fn column(self, column: u64) -> Place<'a> {
+        Place {
+            column: Some(column),
+            ..self
+        }
+    }
+}
+
+impl Display for Place<'_> {
+    fn fmt<W: fmt::Write>(&self, f: &mut fmt::Formatter<W>) -> fmt::Result {
+        f.write_str(self.name)?;
+        if let Some(line) = self.line {
+            write!(f, ":{line}")?;
+        }
+        if let Some(column) = self.column {
+            write!(f, ":{column}")?;
+        }
+        Ok(())
+    }
+}
+
+/// Says what is wrong at a place, with the fault's number.
+pub fn complain<D: Display>(rt: &HostRuntime, place: Place<'_>, words: &D, code: &str) {
+    let _ = eprintln!(rt; "fc: {place}: {words} ({code})");
+}
+
+/// Prints a text, and answers the status.
+pub fn say(rt: &HostRuntime, text: &str, status: u8) -> u8 {
+    match print!(rt; "{text}") {
+        Ok(()) => status,
+        Err(error) => {
+            tell_write(rt, Some(&error));
+            FAILED
+        }
+    }
+}
+
+/// Prints a fault's number, and answers the status.
+pub fn refuse(rt: &HostRuntime, fault: &str) -> u8 {
+    match println!(rt; "{fault}") {
+        Ok(()) => REFUSED,
+        Err(error) => {
+            tell_write(rt, Some(&error));
+            FAILED
+        }
+    }
+}
+
+/// Says why nothing can be written on standard output. Who closed the pipe wants no more.
+pub fn tell_write(rt: &HostRuntime, failure: Option<&io::Error>) {
+    match failure {
+        Some(error) if error.kind() == ErrorKind::BrokenPipe => (),
+        Some(error) => complain(rt, Place::output(), error, "N2"),
+        None => complain(rt, Place::output(), &WriteFault::Write, "N2"),
+    }
+}
+
+/// Refuses a file of too many bytes.
+pub fn refuse_length(rt: &HostRuntime, word: &str) -> u8 {
+    complain(rt, Place::of(word), &ProgramFileFault::TooLong, "L1");
+    refuse(rt, "L1")
+}
+
+/// Says why a file can't be read, and answers the status.
+pub fn cannot_read(rt: &HostRuntime, word: &str, error: &io::Error) -> u8 {
+    let place = Place::of(word);
+    let _ = eprintln!(rt; "fc: {place}: {error}");
+    FAILED
+}
+
+/// Says that memory was refused, and answers the status.
+pub fn out_of_memory(rt: &HostRuntime) -> u8 {
+    let _ = eprintln!(rt; "fc: out of memory");
+    FAILED
+}
+
+/// Refuses a configuration.
+pub fn refuse_config(rt: &HostRuntime, word: &str, flaw: &ConfigFlaw) -> u8 {
+    let code = match flaw.fault() {
+        ConfigFault::K1 => "K1",
+        ConfigFault::K2 => "K2",
+        ConfigFault::K3 => "K3",
+        ConfigFault::OutOfMemory => return out_of_memory(rt),
+    };
+    let place = match flaw.position() {
+        Some((line, column)) => Place::of(word).line(line as u64).column(column as u64),
+        None => Place::of(word),
+    };
+    complain(rt, place, flaw, code);
+    refuse(rt, code)
+}
+
+/// Says why a program file is refused.
+pub fn tell_program(rt: &HostRuntime, word: &str, flaw: &ProgramFlaw) {
+    let place = Place::of(word);
+    match flaw {
+        ProgramFlaw::File(ProgramFileFault::TooLong) => complain(rt, place, flaw, "L1"),
+        ProgramFlaw::File(_) => complain(rt, place, flaw, "H1"),
+        ProgramFlaw::Program(refused) => {
+            let number = refused.number();
+            let _ = eprintln!(rt; "fc: {place}: {refused} (V{number})");
+        }
+    }
+}
+
+/// Says why a text of the assembler is refused, if it is.
+pub fn tell_text(rt: &HostRuntime, word: &str, text: &[u8]) -> Result<(), AllocError> {
+    let Some((fault, flaw)) = asm_flaw(rt.alloc(), text)? else {
+        return Ok(());
+    };
+    let (place, code) = match fault {
+        AsmFault::BadLine(line) => (Place::of(word).line(line), "A1"),
+        AsmFault::BadLabel(line) => (Place::of(word).line(line), "A2"),
+        AsmFault::OutOfRange(line) => (Place::of(word).line(line), "A3"),
+        AsmFault::Length | AsmFault::OutOfMemory => (Place::of(word), "A4"),
+    };
+    complain(rt, place, &flaw, code);
+    Ok(())
+}
+
+/// Says why a journal is refused, with the line at fault if there is one.
+pub fn tell_journal(rt: &HostRuntime, word: &str, line: Option<u32>, flaw: &JournalFlaw) {
+    let code = match flaw {
+        JournalFlaw::Text(JournalFault::BadEntry(_)) => "J1",
+        JournalFlaw::Text(JournalFault::Cut) => "J2",
+        JournalFlaw::Text(_) => "J3",
+        JournalFlaw::Number(..) => "F1",
+        JournalFlaw::Program(..) => "F2",
+        JournalFlaw::Entry(_) | JournalFlaw::NoEntry => "F3",
+    };
+    let place = match line {
+        Some(line) => Place::of(word).line(u64::from(line)),
+        None => Place::of(word),
+    };
+    complain(rt, place, flaw, code);
+}
+
+/// Says why a script ended within this line.
+pub fn tell_cut(rt: &HostRuntime, word: &str, line: u64, fault: LineFault) {
+    let place = Place::of(word).line(line);
+    match fault {
+        LineFault::TooLong => complain(rt, place, &"over 8,400 bytes", "L1"),
+        _ => complain(rt, place, &"the last line has no LF", "L4"),
+    }
+}

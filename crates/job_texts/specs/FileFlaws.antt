@@ -1,0 +1,32 @@
+-- Definitions: what is told of a program file that is refused (this profile).
+use Rattle.std.specs.Prelude.{◌≡◌, ℕ, List, Result, Ok, Err, string_bytes, option_map}
+use Rattle.bpf_model.specs.declared.context.Layout.{Layout}
+use Rattle.bpf_model.specs.Program.{as_loaded}
+use Rattle.bpf_decode.specs.Faults.{IsRefusedFor}
+use Rattle.bpf_decode.specs.declared.DecodeFault.{DecodeFault}
+use Rattle.reg_types.specs.declared.refusal.Refusal.TheVariants.{Decode}
+use Rattle.program_file.specs.declared.ProgramFileFault.{ProgramFileFault}
+use Rattle.program_file.specs.Digits.{program_in}
+use Rattle.job_texts.specs.declared.reasons.RefusedProgram.{RefusedProgram}
+use Rattle.job_texts.specs.declared.file_flaws.ProgramFlaw.{ProgramFlaw}
+use Rattle.job_texts.specs.declared.file_flaws.ProgramFlaw.TheVariants.{File, Program}
+use Rattle.job_texts.specs.Reasons.{IsExplained}
+
+-- the file's own fault, or the refusal of its program for contexts of this layout
+abbrev pub VerifyFlawOf : Result (List ℕ) ProgramFileFault → ℕ → Layout → ProgramFlaw → Type 0
+VerifyFlawOf (Err fault) counters layout (File told) = fault ≡ told
+VerifyFlawOf (Ok bytes) counters layout (Program told) =
+    IsExplained (as_loaded bytes counters layout) told.refusal (option_map string_bytes told.line)
+VerifyFlawOf read counters layout flaw = ⊥
+
+abbrev pub IsVerifyFlaw : List ℕ → ℕ → Layout → ProgramFlaw → Type 0
+IsVerifyFlaw file counters layout flaw = VerifyFlawOf (program_in file) counters layout flaw
+
+-- the file's own fault, or why its bytes are no units
+abbrev pub DisFlawOf : Result (List ℕ) ProgramFileFault → ProgramFlaw → Type 0
+DisFlawOf (Err fault) (File told) = fault ≡ told
+DisFlawOf (Ok bytes) (Program told) = (fault : DecodeFault) × IsRefusedFor bytes fault × (told.refusal ≡ Decode fault)
+DisFlawOf read flaw = ⊥
+
+abbrev pub IsDisFlaw : List ℕ → ProgramFlaw → Type 0
+IsDisFlaw file flaw = DisFlawOf (program_in file) flaw

@@ -1,0 +1,57 @@
+//! Why a program file is refused, in words.
+ghost use Rattle.std.specs.Prelude.{IfOk, IfSome};
+ghost use Rattle.job_texts.specs.FileFlaws.{IsVerifyFlaw, IsDisFlaw};
+
+use crate::reasons::{RefusedProgram, explain_refusal, refused_program};
+use bpf_decode::{DecodeFault, decode};
+use program_file::{ProgramFileFault, read_program};
+use reg_types::{Layout, Refusal};
+use std::alloc::{AllocError, Global};
+use thiserror::Error;
+
+/// Why a program file is refused.
+#[derive(Debug, Drop, Error)]
+pub enum ProgramFlaw {
+    #[error("{0}")]
+    File(ProgramFileFault),
+    #[error("{0}")]
+    Program(RefusedProgram),
+}
+
+/// Why a program file is refused, as `verify_file` does; none where its program is accepted. The error is want of memory.
+pub fn verify_flaw(
+    alloc: Global,
+    file: &[u8],
+    counters: u32,
+    context: Layout,
+) -> Result<Option<ProgramFlaw>, AllocError>
+    ensures { IfOk result (λ found. IfSome found (IsVerifyFlaw file.now counters context)) }
+{
+    match read_program(alloc, file) {
+        Ok(bytes) => match refused_program(alloc, &bytes, counters, context)? {
+            Some(refused) => Ok(Some(ProgramFlaw::Program(refused))),
+            None => Ok(None),
+        },
+        Err(ProgramFileFault::OutOfMemory) => Err(AllocError),
+        Err(fault) => Ok(Some(ProgramFlaw::File(fault))),
+    }
+}
+
+/// Why a program file can't be shown as text, as `dis_file` refuses it; none where it can. The error is want of memory.
+pub fn dis_flaw(alloc: Global, file: &[u8]) -> Result<Option<ProgramFlaw>, AllocError>
+    ensures { IfOk result (λ found. IfSome found (IsDisFlaw file.now)) }
+{
+    let bytes = match read_program(alloc, file) {
+        Ok(bytes) => bytes,
+        Err(ProgramFileFault::OutOfMemory) => return Err(AllocError),
+        Err(fault) => return Ok(Some(ProgramFlaw::File(fault))),
+    };
+    match decode(alloc, &bytes) {
+        Ok(_) => Ok(None),
+        Err(DecodeFault::OutOfMemory) => Err(AllocError),
+        Err(fault) => {
+            let refused = explain_refusal(alloc, &bytes, Refusal::Decode(fault))?;
+            Ok(Some(ProgramFlaw::Program(refused)))
+        }
+    }
+}
