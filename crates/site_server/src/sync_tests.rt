@@ -14,8 +14,8 @@ use std::thread::{Threads, join};
 use std::time::Clock;
 use till_request::devices::MemoryOut;
 
-/// The owner loads a program, a till opens a point and asks for a release, and the dispenser takes its order. A connection that ends
-/// unanswered is no fault of theirs.
+/// The owner loads a program, a till opens a point and asks for a release, and the dispenser takes its order. A
+/// connection that ends unanswered is no fault of theirs.
 fn as_far_as_answered<R: Net<Listener = TcpListener, Stream = TcpStream>>(
     rt: &R,
     alloc: Global,
@@ -34,8 +34,8 @@ fn as_far_as_answered<R: Net<Listener = TcpListener, Stream = TcpStream>>(
     Ok(heard)
 }
 
-/// What a day leaves whose syncs go well so many times: what the peers heard, the journal or why there is none, how often it was synced
-/// and up to where.
+/// What a day leaves whose syncs go well so many times: what the peers heard, the journal or why there is none, how
+/// often it was synced and up to where.
 #[derive(Drop)]
 struct Day {
     heard: String,
