@@ -14,8 +14,8 @@ use std::thread::{Threads, join};
 use std::time::Clock;
 use till_request::devices::MemoryOut;
 
-/// The owner loads a program, a till opens a point and asks for a release, and the dispenser takes its order. A connection that ends
-/// unanswered is no fault of theirs.
+/// The owner loads a program, a till opens a point and asks for a release, and the dispenser takes its order. A
+/// connection that ends unanswered is no fault of theirs.
 fn as_far_as_answered<R: Net<Listener = TcpListener, Stream = TcpStream>>(
     rt: &R,
     alloc: Global,
@@ -34,8 +34,8 @@ fn as_far_as_answered<R: Net<Listener = TcpListener, Stream = TcpStream>>(
     Ok(heard)
 }
 
-/// What a day leaves whose syncs go well so many times: what the peers heard, the journal or why there is none, how often it was synced
-/// and up to where.
+/// What a day leaves whose syncs go well so many times: what the peers heard, the journal or why there is none, how
+/// often it was synced and up to where.
 #[derive(Drop)]
 struct Day {
     heard: String,
@@ -44,34 +44,54 @@ struct Day {
     synced: u64,
 }
 
+/// A new site, its ports, and where they are.
+fn opened<R: Net<Listener = TcpListener, Stream = TcpStream>>(
+    rt: &R,
+    alloc: Global,
+) -> Result<(Site, Listeners, Addresses), Fail> {
+    let site = Site::start(alloc, config(alloc).ok_or("a configuration")?)?;
+    match Listeners::open(rt, alloc, 0, 0, 0) {
+        Ok(listeners) => {
+            let at = addresses_of(&listeners)?;
+            Ok((site, listeners, at))
+        }
+        Err(_) => Err(Fail::from("a port")),
+    }
+}
+
+/// Serves one connection of each kind with a journal in memory: the journal, or why there is none.
+fn serve<R: Net<Listener = TcpListener, Stream = TcpStream> + Threads + Wait + Clock + Sync>(
+    rt: &R,
+    alloc: Global,
+    group: &GroupSync<MemoryDisk>,
+    site: Site,
+    listeners: Listeners,
+    crew: Crew,
+) -> Result<Vec<u8>, ServeFault> {
+    let output = MemoryOut::new(alloc, Vec::new(alloc), None);
+    let counted = CountedOut::new(output, Shared { rt, group });
+    let journal = LineJournal::new(alloc, counted)?;
+    let release = Shared { rt, group };
+    let served = resume_site(
+        rt, alloc, site, journal, crew, listeners, &Silent, &release, 1,
+    )?;
+    Ok(served.journal.into_output().into_output().bytes)
+}
+
 fn serve_day<R: Net<Listener = TcpListener, Stream = TcpStream> + Threads + Wait + Clock + Sync>(
     rt: &R,
     alloc: Global,
     good: u64,
 ) -> Result<Day, Fail> {
-    let site = Site::start(alloc, config(alloc).ok_or("a configuration")?)?;
-    let Ok(listeners) = Listeners::open(rt, alloc, 0, 0, 0) else {
-        return Err(Fail::from("a port"));
-    };
-    let at = addresses_of(&listeners)?;
+    let (site, listeners, at) = opened(rt, alloc)?;
     let crew = Crew::new(1, 1).ok_or("a crew")?;
     let group = GroupSync::new(MemoryDisk::new(good));
-    let shared = Shared { rt, group: &group };
-    let output = MemoryOut::new(alloc, Vec::new(alloc), None);
-    let counted = CountedOut::new(output, Shared { rt, group: &group });
-    let journal = LineJournal::new(alloc, counted)?;
-    let release = &shared;
-    let (served, heard) = join(
+    let yard = &group;
+    let (journal, heard) = join(
         rt,
-        || resume_site(
-            rt, alloc, site, journal, crew, listeners, &Silent, release, 1,
-        ),
+        || serve(rt, alloc, yard, site, listeners, crew),
         || as_far_as_answered(rt, alloc, at),
     );
-    let journal = match served {
-        Ok(served) => Ok(served.journal.into_output().into_output().bytes),
-        Err(fault) => Err(fault),
-    };
     Ok(Day {
         heard: heard?,
         journal,

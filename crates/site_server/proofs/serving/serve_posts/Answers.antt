@@ -1,7 +1,7 @@
 use Rattle.std.proofs.Common.{rules, arith, ◌≡◌, ◌∙◌, ℕ, Some, map, length, slice_index_or, subst, ap, sym, refl}
 use Rattle.std.proofs.lemmas.List.{length-map}
 use Rattle.site_lock.specs.Passes.{new_pass}
-use Rattle.site_server.specs.Handing.{AreWaiting, handed_in, waits}
+use Rattle.site_server.specs.Handing.{AreWaiting, waits}
 use Rattle.site_server.proofs.Gathering.{handed_so, results, handed_first, all_back, hands_back, handed_length, manned_so}
 use Rattle.site_server.proofs.Numbering.{have_worked, all_worked}
 use Rattle.site_server.proofs.serving.serve_posts.Goals as goal
