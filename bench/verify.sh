@@ -12,7 +12,7 @@ work=$(mktemp -d)
 trap 'rm -rf "$work"' EXIT
 programs=${1:-20000}
 
-needed='bpf_model bpf_decode flow_check stack_map counters helpers reg_types interp program_slots fuelling_point'
+needed='bpf_model bpf_decode flow_check operations stack_map counters helpers reg_types interp program_slots fuelling_point'
 needed="$needed till_request decision_journal line_session site_core site_lock"
 mkdir -p "$work/crates/drive/src"
 : >"$work/crates.txt"

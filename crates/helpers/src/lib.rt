@@ -8,6 +8,7 @@ ghost use Rattle.bpf_model.specs.Machine.{helper_of, point, price, is_there, rec
 ghost use Rattle.helpers.specs.Calls.{signature, called, called_by, kinds, stored, CounterInside, PlaceInside};
 ghost use Rattle.helpers.specs.Meaning.{IsMachineCall};
 
+use bpf_model::instruction::Size;
 use bpf_model::machine::Helper;
 pub use bpf_model::machine::{PointView, View};
 use counters::Counters;
@@ -99,9 +100,9 @@ fn put_point(point: Option<PointView>, at: u64, stack: &mut [u8; 512]) -> u64
     ensures stack { stack.new ≡ stored stack.old at (record_bytes (point_or_zero point)) }
 {
     let shown = point_or_none(point);
-    put(stack, at as usize, 4, u64::from(shown.state));
-    put(stack, at as usize + 4, 4, u64::from(shown.nozzle));
-    put(stack, at as usize + 8, 8, shown.amount);
+    put(stack, at as usize, Size::Word, u64::from(shown.state));
+    put(stack, at as usize + 4, Size::Word, u64::from(shown.nozzle));
+    put(stack, at as usize + 8, Size::Double, shown.amount);
     u64::from(point.is_some())
 }
 
@@ -198,7 +199,7 @@ mod tests {
         assert_eq!(rt; arguments(5), Some([Kind::Number, Kind::Place]));
         assert!(rt; arguments(0).is_none() && arguments(7).is_none() && arguments(-1).is_none());
         let mut memory = [0; 512];
-        put(&mut memory, 510, 2, 0x10203);
+        put(&mut memory, 510, Size::Half, 0x10203);
         assert!(rt; memory[509..] == [0, 3, 2]);
     }
 }

@@ -1,17 +1,47 @@
 // Numbers in memory.
 
-ghost use Rattle.std.specs.Prelude.{◌≡◌, ◌+◌, ◌≤◌, ◌<◌, length};
+ghost use Rattle.std.specs.Prelude.{◌≡◌, ◌+◌, ◌≤◌, length};
 ghost use Rattle.byteorder.specs.Endian.{little_bytes};
+ghost use Rattle.bpf_model.specs.Reading.{bytes_in};
 ghost use Rattle.helpers.specs.Calls.{stored};
 
-/// Puts the low bytes of a number, the lowest first, from a place on.
-pub fn put(memory: &mut [u8; 512], at: usize, size: usize, n: u64)
-    requires { at + size ≤ 512 }
-    ensures { memory.new ≡ stored memory.old at (little_bytes size n) }
+use bpf_model::instruction::Size;
+use byteorder::{ByteOrder, LittleEndian};
+
+#[inline(always)]
+fn put_half(memory: &mut [u8; 512], at: usize, n: u64)
+    requires { at + 2 ≤ 512 }
+    ensures { memory.new ≡ stored memory.old at (little_bytes 2 n) }
 {
-    let mut left = n;
-    for i in 0..size {
-        memory[at + i] = (left % 256) as u8;
-        left /= 256;
+    LittleEndian::write_u16(&mut memory[at..], (n % 0x1_0000) as u16);
+}
+
+#[inline(always)]
+fn put_word(memory: &mut [u8; 512], at: usize, n: u64)
+    requires { at + 4 ≤ 512 }
+    ensures { memory.new ≡ stored memory.old at (little_bytes 4 n) }
+{
+    LittleEndian::write_u32(&mut memory[at..], (n % 0x1_0000_0000) as u32);
+}
+
+#[inline(always)]
+fn put_double(memory: &mut [u8; 512], at: usize, n: u64)
+    requires { at + 8 ≤ 512 }
+    ensures { memory.new ≡ stored memory.old at (little_bytes 8 n) }
+{
+    LittleEndian::write_u64(&mut memory[at..], n);
+}
+
+/// Puts the low bytes of a number, the lowest first, from a place on.
+#[inline(always)]
+pub fn put(memory: &mut [u8; 512], at: usize, size: Size, n: u64)
+    requires { at + bytes_in size ≤ 512 }
+    ensures { memory.new ≡ stored memory.old at (little_bytes (bytes_in size) n) }
+{
+    match size {
+        Size::Byte => memory[at] = (n % 0x100) as u8,
+        Size::Half => put_half(memory, at, n),
+        Size::Word => put_word(memory, at, n),
+        Size::Double => put_double(memory, at, n),
     }
 }

@@ -31,7 +31,7 @@ pub fn rebase(
     ensures ran { outcome program.now (bytes_of context.now) view.now now.old ≡ Ended answer now.new }
     ensures counters { (c : ℕ) → counter now.new c ≡ adopted program.now.declared after.now now.old c }
 {
-    let _flow = program.flow();
+    let _ops = program.ops();
     let _bytes = context.bytes();
     let _before = before.get(0);
     let _old = now.get(0);

@@ -17,7 +17,8 @@ use Rattle.reg_types.specs.Effects.{Effect}
 use Rattle.reg_types.specs.declared.types.Flaw.{Flaw}
 use Rattle.reg_types.specs.declared.refusal.TypeFault.{TypeFault}
 use Rattle.reg_types.specs.Facts.{IsBelow, IsSound, IsTyped, Enters, Covers, IsCovered}
-use Rattle.reg_types.specs.Inference.{leads, upper_of, join_fact, entry_fact, fact_after, form_with, instruction_of, instruction_at, ruled, flaw_in, flaw_of, flaw_under, taken_in, arrived, arrived_all, passed_by, passed_from, passed, known, inferred, or_else, first_flaw_below, first_flaw}
+use Rattle.reg_types.specs.Inference.{leads, join_fact, entry_fact, fact_after, form_with, instruction_of, instruction_at, ruled, flaw_in, flaw_of, flaw_under, taken_in, arrived, arrived_all, passed_by, passed_from, passed, known, inferred, or_else, first_flaw_below, first_flaw}
+use Rattle.operations.specs.Operations.{upper_of}
 use Rattle.reg_types.proofs.Good.{judged_is, good}
 use Rattle.reg_types.proofs.Ahead.{leads_ahead, there, first_there}
 use Rattle.reg_types.proofs.Tables.{below_left, below_right, IsBelow-refl, IsBelow-trans}

@@ -31,7 +31,8 @@ use Rattle.reg_types.specs.declared.types.Flaw.TheVariants.{FallsOff, NotANumber
 use Rattle.reg_types.specs.declared.types.Fact.{Fact}
 use Rattle.reg_types.specs.Effects.{Effect}
 use Rattle.reg_types.specs.Rules.{type_at, is_numeric, is_plain, one_number, two_numbers, alu_type, unmarked, set_type, load_type, loaded_type, number_at, compared, exited, effect, falls_off, judged, join_type}
-use Rattle.reg_types.specs.Inference.{leads, upper_of, join_types, entry_fact, fact_after, instruction_at, ruled, flaw_in, flaw_of, flaw_under, taken_in, arrived, arrived_all, passed_by, passed_from, passed, known, inferred, or_else, first_flaw_below}
+use Rattle.reg_types.specs.Inference.{leads, join_types, entry_fact, fact_after, instruction_at, ruled, flaw_in, flaw_of, flaw_under, taken_in, arrived, arrived_all, passed_by, passed_from, passed, known, inferred, or_else, first_flaw_below}
+use Rattle.operations.specs.Operations.{upper_of}
 use Rattle.reg_types.specs.Plain.{IsPlainForm, SetsFirst, LoadsArgument, ArePlainUnits}
 use Rattle.reg_types.specs.Accepting.{ArePlain, PlainOption, PlainTypesAt, AcceptsAll}
 use Rattle.reg_types.proofs.Inference.{type_at-joined}

@@ -23,7 +23,8 @@ use Rattle.reg_types.specs.declared.refusal.TypeFault.{TypeFault}
 use Rattle.reg_types.specs.declared.refusal.Refusal.{Refusal}
 use Rattle.reg_types.specs.declared.refusal.Refusal.TheVariants.{Decode, Flow, «Type» as TypeRefusal, OutOfMemory}
 use Rattle.reg_types.specs.Refusals.{located}
-use Rattle.reg_types.specs.Inference.{upper_of, instruction_at, ruled, flaw_in, flaw_of, flaw_under, inferred, or_else, first_flaw_below, first_flaw}
+use Rattle.reg_types.specs.Inference.{instruction_at, ruled, flaw_in, flaw_of, flaw_under, inferred, or_else, first_flaw_below, first_flaw}
+use Rattle.operations.specs.Operations.{upper_of}
 use Rattle.reg_types.specs.Passing.{IsPassRefused, IsToldAlone, decode_told}
 use Rattle.reg_types.specs.Shown.{IsTypeShown, IsRefused, IsRefusal, unit_refusal, decode_refusal, flow_refusal, type_refusal, code_refusal, or_refused, refusal_of, OneAnswer}
 use Rattle.reg_types.specs.Plain.{IsPlain}

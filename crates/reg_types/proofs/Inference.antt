@@ -20,7 +20,8 @@ use Rattle.reg_types.specs.declared.types.Flaw.{Flaw}
 use Rattle.reg_types.specs.declared.types.Flaw.TheVariants.{FallsOff, UnsetBytes}
 use Rattle.reg_types.specs.Rules.{type_at, join_type, all_in, load_type, number_set, lowest, set_type, kept_type, kept_or, note_of, is_unset, effect, falls_off, judged}
 use Rattle.reg_types.specs.Facts.{HasAfter, IsAfter, IsEntry}
-use Rattle.reg_types.specs.Inference.{leads, upper_of, common, marked, cleared, join_types, join_notes, renoted, set_after, join_fact, entry_fact, fact_after, instruction_at, ruled, flaw_in, flaw_of, flaw_under, taken_in, arrived, arrived_all, passed_by, passed_from, passed}
+use Rattle.reg_types.specs.Inference.{leads, common, marked, cleared, join_types, join_notes, renoted, set_after, join_fact, entry_fact, fact_after, instruction_at, ruled, flaw_in, flaw_of, flaw_under, taken_in, arrived, arrived_all, passed_by, passed_from, passed}
+use Rattle.operations.specs.Operations.{upper_of}
 use Rattle.reg_types.specs.Passing.{IsSame, AreSame}
 
 -- ---- sets

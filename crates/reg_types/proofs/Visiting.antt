@@ -24,8 +24,10 @@ use Rattle.reg_types.specs.declared.refusal.Refusal.TheVariants.{Decode, Flow as
 use Rattle.reg_types.specs.Refusals.{located}
 use Rattle.reg_types.specs.Rules.{judged}
 use Rattle.reg_types.specs.Facts.{Facts, IsSound, IsAfter, IsEntry, IsNext, stored, list_of, jumps_of, jump_of, carried_of}
-use Rattle.reg_types.specs.Inference.{leads, upper_of, entry_fact, fact_after, instruction_of, instruction_at, flaw_in, flaw_of, flaw_under, taken_in, arrived, arrived_all, passed_by, passed_from, passed, known, inferred, or_else, first_flaw_below, first_flaw, goes, is_entered}
-use Rattle.reg_types.specs.Passing.{IsSame, AreSame, AreStored, IsCarriedTo, IsCarriedAt, IsJoined, IsSettled, IsVisited, IsPassed, IsUnitRefused, IsPassRefused, AreInferred, brought, seen, target_by}
+use Rattle.reg_types.specs.Inference.{leads, entry_fact, fact_after, instruction_of, instruction_at, flaw_in, flaw_of, flaw_under, taken_in, arrived, arrived_all, passed_by, passed_from, passed, known, inferred, or_else, first_flaw_below, first_flaw, goes, is_entered}
+use Rattle.operations.specs.Operations.{upper_of}
+use Rattle.reg_types.specs.Passing.{IsSame, AreSame, AreStored, IsCarriedTo, IsCarriedAt, IsJoined, IsSettled, IsVisited, IsPassed, IsUnitRefused, IsPassRefused, AreInferred, brought, seen}
+use Rattle.operations.specs.Operations.{target_by}
 use Rattle.reg_types.proofs.Good.{judged_is}
 use Rattle.reg_types.proofs.Ahead.{leads_ahead}
 use Rattle.reg_types.proofs.Inference.{IsSame-refl, AreSame-refl, AreSame-trans, arrived_same, arrived_all_same, passed_same, flaw_same, same_after, same_entry}

@@ -15,7 +15,8 @@ use Rattle.reg_types.specs.declared.types.Fact.{Fact}
 use Rattle.reg_types.specs.Effects.{Effect}
 use Rattle.reg_types.specs.declared.types.Flaw.{Flaw}
 use Rattle.reg_types.specs.Inference.{known, inferred, entry_fact, leads, option_cons, instruction_of, instruction_at, ruled, arrived_all, fact_after, passed_by, passed_from, passed, goes, is_entered}
-use Rattle.reg_types.specs.Passing.{target_by, following, IsBrought, AreWalked}
+use Rattle.reg_types.specs.Passing.{following, IsBrought, AreWalked}
+use Rattle.operations.specs.Operations.{target_by}
 use Rattle.reg_types.proofs.Storing.{not_arrived}
 use Rattle.reg_types.proofs.Accepted.{instruction_is}
 

@@ -26,7 +26,8 @@ use Rattle.reg_types.specs.Effects.{Effect}
 use Rattle.reg_types.specs.declared.types.Successors.{Successors}
 use Rattle.reg_types.specs.declared.types.Successors.TheVariants.{End, Next, Jump, Either}
 use Rattle.reg_types.specs.Rules.{type_at, is_unset, note_of, noted_type, judged}
-use Rattle.reg_types.specs.Inference.{leads, upper_of, entry_types, no_notes, renoted}
+use Rattle.reg_types.specs.Inference.{leads, entry_types, no_notes, renoted}
+use Rattle.operations.specs.Operations.{upper_of}
 
 -- ---- states that fit
 

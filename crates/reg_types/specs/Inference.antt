@@ -1,6 +1,6 @@
 -- Definitions: what is known before each unit of a program, and the first unit that the rules refuse (this profile,
 -- type rules).
-use Rattle.std.specs.Prelude.{ℕ, zero, suc, ◌+◌, ℤ, pos, ◌==◌, ◌&&◌, ◌||◌, is_some, if◌then◌else◌, Bool, true, false, List, [], ◌∷◌, length, drop, replicate, slice_get, slice_index_or, nat_lt, ◌*◌, Option, Some, None, Result, Ok, Err}
+use Rattle.std.specs.Prelude.{ℕ, zero, suc, ◌+◌, pos, ◌==◌, ◌&&◌, ◌||◌, is_some, if◌then◌else◌, Bool, true, false, List, [], ◌∷◌, length, drop, replicate, slice_get, slice_index_or, nat_lt, ◌*◌, Option, Some, None, Result, Ok, Err}
 use Rattle.bpf_model.specs.declared.instruction.Inst.{Inst}
 use Rattle.bpf_model.specs.declared.instruction.Form.{Form}
 use Rattle.bpf_model.specs.declared.instruction.Form.TheVariants.{Wide, Goto, GotoLong, Branch, Exit}
@@ -9,6 +9,7 @@ use Rattle.bpf_model.specs.declared.instruction.Unit.TheVariants.{First, Second}
 use Rattle.bpf_model.specs.Reading.{form_of}
 use Rattle.bpf_model.specs.Machine.{shifted}
 use Rattle.bpf_model.specs.Flow.{target}
+use Rattle.operations.specs.Operations.{upper_of}
 use Rattle.reg_types.specs.declared.types.Terms.{Terms}
 use Rattle.reg_types.specs.declared.types.RegType.{RegType}
 use Rattle.reg_types.specs.declared.types.RegType.TheVariants.{Unset as Anything, Ctx, Stk}
@@ -107,15 +108,6 @@ leads pc i GotoLong = option_cons (shifted (pc + 1) i.imm 512) []
 leads pc i (Branch c w s) = option_cons (shifted (pc + 1) i.offset 512) ((pc + 1) ∷ [])
 leads pc i Exit = Some []
 leads pc i form = Some ((pc + 1) ∷ [])
-
-abbrev pub second_of : Option ProgramUnit → ℤ
-second_of (Some (Second v)) = v
-second_of (Some (First i)) = pos 0
-second_of None = pos 0
-
--- the upper half of a wide load's number
-abbrev pub upper_of : List ProgramUnit → ℕ → ℤ
-upper_of us pc = second_of (slice_get us (pc + 1))
 
 -- the instruction that begins at a unit, with its form
 abbrev pub form_with : Inst → Option Form → Option (Inst × Form)

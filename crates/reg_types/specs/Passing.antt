@@ -9,8 +9,7 @@ use Rattle.reg_types.specs.declared.types.Terms.{Terms}
 use Rattle.reg_types.specs.declared.types.Stored.{Stored}
 use Rattle.bpf_model.specs.Reading.{units}
 use Rattle.bpf_model.specs.Program.{ProgramText}
-use Rattle.bpf_model.specs.Machine.{and_then, shifted}
-use Rattle.bpf_model.specs.Flow.{GoesForward, flow_fault, target, distance_by}
+use Rattle.bpf_model.specs.Flow.{GoesForward, flow_fault, target}
 use Rattle.stack_map.specs.Places.{Has}
 use Rattle.bpf_decode.specs.declared.DecodeFault.{DecodeFault}
 use Rattle.bpf_decode.specs.declared.DecodeFault.TheVariants.{OutOfMemory as NoMemoryToDecode}
@@ -19,7 +18,9 @@ use Rattle.reg_types.specs.declared.types.Fact.{Fact}
 use Rattle.reg_types.specs.declared.refusal.Refusal.{Refusal}
 use Rattle.reg_types.specs.declared.refusal.Refusal.TheVariants.{Decode, Flow, «Type» as TypeRefusal, OutOfMemory}
 use Rattle.reg_types.specs.Terms.{terms_of}
-use Rattle.reg_types.specs.Facts.{Facts, AreDistinct, stored}
+use Rattle.reg_types.specs.Facts.{Facts, AreDistinct, IsCovered, stored}
+use Rattle.operations.specs.declared.operation.Operation.{Operation}
+use Rattle.operations.specs.Operations.{AreOperations}
 use Rattle.reg_types.specs.Inference.{flaw_under, arrived, passed, inferred, first_flaw, instruction_at, goes, is_entered, facts_in, targets_in}
 
 -- ---- facts that say the same
@@ -77,10 +78,6 @@ pub record IsSettled (pc : ℕ) (carried : Option Stored) (fact : Option Fact) (
   pub here : AreStored (new pc) fact
   pub kept : (q : ℕ) → is_some (new q) ≡ is_some (old q)
 
--- where the jump of an instruction goes
-abbrev pub target_by : ℕ → Form → Inst → Option ℕ
-target_by pc form i = and_then (distance_by (Some form) i) (λ z. shifted (pc + 1) z 512)
-
 -- the instruction has no flaw under the fact; its jumps have brought what they bring, and the rest is carried on
 pub record IsVisited (us : List ProgramUnit) (terms : Terms) (pc : ℕ) (fact : Fact) (next : Option Stored) (old new : Facts) : Type 0 where
   pub flawless : flaw_under us terms pc (Some fact) ≡ None
@@ -131,6 +128,18 @@ pub record IsAccepted (bytes : List ℕ) (terms : Terms) (us : List ProgramUnit)
   pub inferred_are : AreInferred us terms (stored facts)
   pub distinct : AreDistinct facts
   pub walked : AreWalked us terms
+
+-- the bytes are accepted with these facts stored, and these are the operations of their units
+pub record IsKept (bytes : List ℕ) (terms : Terms) (facts : List Stored) (ops : List Operation) : Type 0 where
+  pub us : List ProgramUnit
+  pub accepted : IsAccepted bytes terms us facts
+  pub decoded : AreOperations us ops
+
+-- the operations of the program, whose units facts cover
+pub record IsDecoded (p : ProgramText) (ops : List Operation) : Type 0 where
+  pub us : List ProgramUnit
+  pub covered : IsCovered p.bytes (terms_of p) us
+  pub operations : AreOperations us ops
 
 -- the number of stored facts: one for the first unit, and one for each unit that a reached jump goes to
 abbrev pub IsFactCount : ProgramText → ℕ → Type 0

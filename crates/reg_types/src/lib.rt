@@ -11,6 +11,7 @@ mod types;
 mod verifier;
 
 pub use bpf_model::context::Layout;
+pub use operations::Operation;
 pub use refusal::{Refusal, TypeFault};
 pub use types::{Fact, RegType};
-pub use verifier::{Program, law_of_one_answer, upper_at, verify};
+pub use verifier::{Program, law_of_one_answer, verify};

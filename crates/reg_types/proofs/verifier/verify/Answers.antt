@@ -2,6 +2,7 @@ use Rattle.std.proofs.Common.{◌≡◌, sym, subst, ◌∙◌, Some, None, ap}
 use Rattle.bpf_model.specs.Reading.{units}
 use Rattle.reg_types.specs.Terms.{terms_of}
 use Rattle.bpf_model.specs.Program.{as_loaded}
+use Rattle.operations.specs.Operations.{AreOperations}
 use Rattle.reg_types.specs.Facts.{stored}
 use Rattle.bpf_model.specs.Flow.{GoesForward, flow_fault}
 use Rattle.reg_types.specs.Inference.{first_flaw}
@@ -15,17 +16,22 @@ use Rattle.reg_types.proofs.verifier.verify.Goals as goal
 pub invariant_of-result : goal.invariant_of-result
 invariant_of-result c =
     let flow = c.in-Ok-check_flow.ensures.ok.0 in
-    let same = c.units.ensures.same ∙ c.code.ensures.same ∙ flow in
-    let own = c.units.ensures.same ∙ c.code.ensures.same in
+    let same = c.units-units.ensures.same ∙ c.code.ensures.same ∙ flow in
+    let own = c.units-units.ensures.same ∙ c.code.ensures.same in
     let reads = ap units c.in-Ok-from_slice.ensures.items ∙ c.in-Ok.ensures.ok ∙ ap Some (sym flow) in
     record {
-      reads = reads;
-      forward = c.code.ensures.forward;
-      flows = subst (λ us. flow_fault us ≡ None) (sym flow) c.in-Ok-check_flow.ensures.ok.1;
-      flawless = subst (λ us. first_flaw us (terms_of (as_loaded c.args.bytes.now c.args.declared c.args.layout)) ≡ None) own c.in-Ok-infer.ensures.flawless;
-      inferred_are = subst (λ us. AreInferred us (terms_of (as_loaded c.args.bytes.now c.args.declared c.args.layout)) (stored c.in-Ok-infer.facts.items)) own c.in-Ok-infer.ensures.inferred;
-      distinct = c.in-Ok-infer.ensures.distinct;
-      walked = walked c.in-Ok-from_slice.kept.items c.in-Ok-check_flow.flow (terms_of (as_loaded c.args.bytes.now c.args.declared c.args.layout)) reads;
+      us = c.in-Ok-check_flow.flow;
+      accepted =
+          record {
+            reads = reads;
+            forward = c.code.ensures.forward;
+            flows = subst (λ us. flow_fault us ≡ None) (sym flow) c.in-Ok-check_flow.ensures.ok.1;
+            flawless = subst (λ us. first_flaw us (terms_of (as_loaded c.args.bytes.now c.args.declared c.args.layout)) ≡ None) own c.in-Ok-infer.ensures.flawless;
+            inferred_are = subst (λ us. AreInferred us (terms_of (as_loaded c.args.bytes.now c.args.declared c.args.layout)) (stored c.in-Ok-infer.facts.items)) own c.in-Ok-infer.ensures.inferred;
+            distinct = c.in-Ok-infer.ensures.distinct;
+            walked = walked c.in-Ok-from_slice.kept.items c.in-Ok-check_flow.flow (terms_of (as_loaded c.args.bytes.now c.args.declared c.args.layout)) reads;
+          };
+      decoded = subst (λ us. AreOperations us c.in-Ok-operations_of.ops.items) own c.in-Ok-operations_of.ensures;
     }
 
 pub returns-in-Err : goal.returns-in-Err
@@ -47,19 +53,19 @@ returns-in-Err-check_flow-clause-answers c =
 
 pub returns-in-Err-infer-clause-answers : goal.returns-in-Err-infer-clause-answers
 returns-in-Err-infer-clause-answers c =
-    let same = c.units.ensures.same ∙ c.code.ensures.same ∙ c.in-Ok-check_flow.ensures.ok.0 in
+    let same = c.units-units.ensures.same ∙ c.code.ensures.same ∙ c.in-Ok-check_flow.ensures.ok.0 in
     pass_exact c.args.bytes.now c.in-Ok.code (terms_of (as_loaded c.args.bytes.now c.args.declared c.args.layout)) c.in-Ok.ensures.ok c.in-Ok-check_flow.ensures.ok.1 c.in-Err-infer.refusal
     (subst (λ us. IsPassRefused us (terms_of (as_loaded c.args.bytes.now c.args.declared c.args.layout)) c.in-Err-infer.refusal) same c.in-Err-infer.ensures.refused)
 
 pub returns-in-Err-infer-clause-refused : goal.returns-in-Err-infer-clause-refused
 returns-in-Err-infer-clause-refused c =
-    let same = c.units.ensures.same ∙ c.code.ensures.same ∙ c.in-Ok-check_flow.ensures.ok.0 in
+    let same = c.units-units.ensures.same ∙ c.code.ensures.same ∙ c.in-Ok-check_flow.ensures.ok.0 in
     pass_shown c.args.bytes.now c.in-Ok.code (terms_of (as_loaded c.args.bytes.now c.args.declared c.args.layout)) c.in-Ok.ensures.ok c.in-Ok-check_flow.ensures.ok.1 c.in-Err-infer.refusal
     (subst (λ us. IsPassRefused us (terms_of (as_loaded c.args.bytes.now c.args.declared c.args.layout)) c.in-Err-infer.refusal) same c.in-Err-infer.ensures.refused)
 
 pub returns-in-Err-infer-clause-plain : goal.returns-in-Err-infer-clause-plain
 returns-in-Err-infer-clause-plain c =
-    let same = c.units.ensures.same ∙ c.code.ensures.same ∙ c.in-Ok-check_flow.ensures.ok.0 in
+    let same = c.units-units.ensures.same ∙ c.code.ensures.same ∙ c.in-Ok-check_flow.ensures.ok.0 in
     exact_plain c.args.bytes.now (terms_of (as_loaded c.args.bytes.now c.args.declared c.args.layout)) c.in-Err-infer.refusal
     (pass_exact c.args.bytes.now c.in-Ok.code (terms_of (as_loaded c.args.bytes.now c.args.declared c.args.layout)) c.in-Ok.ensures.ok c.in-Ok-check_flow.ensures.ok.1 c.in-Err-infer.refusal
     (subst (λ us. IsPassRefused us (terms_of (as_loaded c.args.bytes.now c.args.declared c.args.layout)) c.in-Err-infer.refusal) same c.in-Err-infer.ensures.refused))
@@ -67,13 +73,13 @@ returns-in-Err-infer-clause-plain c =
 pub returns-clause-good : goal.returns-clause-good
 returns-clause-good c =
     let flow = c.in-Ok-check_flow.ensures.ok.0 in
-    let same = c.units.ensures.same ∙ c.code.ensures.same ∙ flow in
+    let same = c.units-units.ensures.same ∙ c.code.ensures.same ∙ flow in
     good_by c.args.bytes.now (terms_of (as_loaded c.args.bytes.now c.args.declared c.args.layout)) c.in-Ok.code c.in-Ok.ensures.ok (subst GoesForward flow c.code.ensures.forward)
     (subst (λ us. first_flaw us (terms_of (as_loaded c.args.bytes.now c.args.declared c.args.layout)) ≡ None) same c.in-Ok-infer.ensures.flawless)
 
 pub returns-clause-answers : goal.returns-clause-answers
 returns-clause-answers c =
-    let same = c.units.ensures.same ∙ c.code.ensures.same ∙ c.in-Ok-check_flow.ensures.ok.0 in (
+    let same = c.units-units.ensures.same ∙ c.code.ensures.same ∙ c.in-Ok-check_flow.ensures.ok.0 in (
       ap (λ bytes. as_loaded bytes c.args.declared c.args.layout) c.in-Ok-from_slice.ensures.items,
       accepted c.args.bytes.now c.in-Ok.code (terms_of (as_loaded c.args.bytes.now c.args.declared c.args.layout)) c.in-Ok.ensures.ok c.in-Ok-check_flow.ensures.ok.1
           (subst (λ us. first_flaw us (terms_of (as_loaded c.args.bytes.now c.args.declared c.args.layout)) ≡ None) same c.in-Ok-infer.ensures.flawless),
