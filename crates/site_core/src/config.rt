@@ -153,8 +153,8 @@ impl Config {
         }
     }
 
-    /// The slots of each point's releases and presets.
-    pub(crate) fn points(&self) -> &[(u32, u32)]
+    /// The slots of each point's releases and presets: 1 to 32 pairs.
+    pub fn points(&self) -> &[(u32, u32)]
         ensures points { result.now ≡ self.now.points }
         ensures range { IsConfig self.now }
     {
