@@ -110,7 +110,7 @@ fn outcomes(
 }
 
 /// What the history of a site with so many points adds up to. The error is want of memory.
-pub fn totals(alloc: Global, points: usize, entries: &[Entry]) -> Result<Totals, AllocError>
+pub fn add_up(alloc: Global, points: usize, entries: &[Entry]) -> Result<Totals, AllocError>
     requires few { length entries.now ≤ 1048576 }
     requires points { points ≤ 1000 }
     ensures entries { IfOk result (λ t. t.entries ≡ length entries.now) }

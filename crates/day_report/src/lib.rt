@@ -11,7 +11,7 @@ mod sales;
 mod tests;
 mod walk;
 
-pub use adding::{FIRST_REFUSAL, TILLS, Totals, totals};
+pub use adding::{FIRST_REFUSAL, TILLS, Totals, add_up};
 pub use counting::{Deciding, Outcomes, count_of, tally};
 pub use loading::{Load, loads};
 pub use rulings::{Asked, Decision, PriceChange, decisions, price_changes, refusals};
