@@ -1,8 +1,10 @@
 -- Definitions: what words ask for, as `clap` reads them. The first word is the program's name.
-use Rattle.std.specs.Prelude.{◌≡◌, ◌≢◌, ◌⊎◌, ◌<◌, ◌^◌, ℕ, List, [], ◌∷◌, codes, true, Option, Some, None, option_and_then, option_map, if◌then◌else◌, string_bytes, pos}
+use Rattle.std.specs.Prelude.{◌≡◌, ◌≢◌, ◌⊎◌, ◌<◌, ◌^◌, ℕ, List, [], ◌∷◌, codes, Bool, true, false, Option, Some, None, option_and_then, option_map, if◌then◌else◌, string_bytes, pos}
+use Rattle.std.specs.Option.{option_map_or}
 use Rattle.std.specs.Str.{bytes_eq}
 use Rattle.std.specs.Str.Parse.{IsNumeral, digits_value, without_leading_plus}
 use Rattle.clap.specs.Words.{App, Row, Rule, Text, new_app, new_rule, with_rule, with_subcommand, first_of, one_of}
+use Rattle.clap.specs.declared.builder.action.ArgAction.TheVariants.{SetTrue}
 use Rattle.clap.specs.Kinds.{Kinds, IsAmong}
 use Rattle.clap.specs.declared.error.kind.ErrorKind.{ErrorKind}
 use Rattle.clap.specs.declared.error.kind.ErrorKind.TheVariants as kind
@@ -20,14 +22,14 @@ use Rattle.command_line.specs.declared.job.CommandFault.TheVariants as refusal
 abbrev pub file_rule : Text → Rule
 file_rule name = record (new_rule name) { required = true }
 
--- --counters MASK, wanted, a number from 0 to 2^32 - 1
+-- --counters MASK, a number from 0 to 2^32 - 1, 0 where nothing is said
 abbrev pub mask_rule : Rule
 mask_rule =
     record (new_rule (codes "counters")) {
       long = Some (codes "counters");
       value_names = 1;
       parser = Some (parser.Signed (pos 0) (pos 4294967295));
-      required = true;
+      defaults = codes "0" ∷ [];
     }
 
 -- --context LAYOUT, 1 where nothing is said
@@ -39,6 +41,10 @@ context_rule =
 abbrev pub journal_rule : Rule
 journal_rule = record (new_rule (codes "journal")) { long = Some (codes "journal"); value_names = 1 }
 
+-- a word that stands alone, as --units
+abbrev pub flag_rule : Text → Rule
+flag_rule name = record (new_rule name) { long = Some name; action = Some SetTrue }
+
 abbrev pub of_file : Text → Text → App
 of_file name file = with_rule (new_app name) (file_rule file)
 
@@ -49,7 +55,7 @@ abbrev pub asm_app : App
 asm_app = of_file (codes "asm") (codes "file")
 
 abbrev pub dis_app : App
-dis_app = of_file (codes "dis") (codes "file")
+dis_app = with_rule (of_file (codes "dis") (codes "file")) (flag_rule (codes "units"))
 
 abbrev pub verify_app : App
 verify_app = with_rule (with_rule (of_file (codes "verify") (codes "file")) mask_rule) context_rule
@@ -60,18 +66,21 @@ play_app = of_files (codes "play") (codes "config") (codes "script")
 abbrev pub audit_app : App
 audit_app = of_files (codes "audit") (codes "config") (codes "journal")
 
+abbrev pub report_app : App
+report_app = of_files (codes "report") (codes "config") (codes "journal")
+
 abbrev pub serve_app : App
-serve_app = with_rule (of_file (codes "serve") (codes "config")) journal_rule
+serve_app = with_rule (with_rule (of_file (codes "serve") (codes "config")) journal_rule) (flag_rule (codes "sync"))
 
 abbrev pub top_app : App
 top_app = record (new_app (codes "fc")) { top = record (new_app (codes "fc")).top { has_version = true } }
 
--- asm FILE, dis FILE, verify --counters MASK [--context LAYOUT] FILE, play CONFIG SCRIPT, audit CONFIG JOURNAL,
--- serve [--journal FILE] CONFIG
+-- asm FILE, dis [--units] FILE, verify [--counters MASK] [--context LAYOUT] FILE, play CONFIG SCRIPT,
+-- audit CONFIG JOURNAL, report CONFIG JOURNAL, serve [--journal FILE [--sync]] CONFIG
 abbrev pub fc_app : App
 fc_app =
-    with_subcommand (with_subcommand (with_subcommand (with_subcommand (with_subcommand (with_subcommand top_app
-    asm_app.top) dis_app.top) verify_app.top) play_app.top) audit_app.top) serve_app.top
+    with_subcommand (with_subcommand (with_subcommand (with_subcommand (with_subcommand (with_subcommand (with_subcommand top_app
+    asm_app.top) dis_app.top) verify_app.top) play_app.top) audit_app.top) report_app.top) serve_app.top
 
 -- ---- what they ask for
 
@@ -79,11 +88,14 @@ pub data Asked : Type 0 where
   nothing : Asked
   asm : Text → Asked
   dis : Text → Asked
+  dis_units : Text → Asked
   verify : ℕ → Layout → Text → Asked
   play : Text → Text → Asked
   audit : Text → Text → Asked
+  report : Text → Text → Asked
   serve : Text → Asked
   serve_kept : Text → Text → Asked
+  serve_synced : Text → Text → Asked
 
 abbrev pub file_in : Text → (Text → Asked) → List Row → Option Asked
 file_in id ask rows = option_map ask (first_of id rows)
@@ -91,6 +103,13 @@ file_in id ask rows = option_map ask (first_of id rows)
 abbrev pub files_in : Text → Text → (Text → Text → Asked) → List Row → Option Asked
 files_in first second ask rows =
     option_and_then (λ (a : Text). option_map (ask a) (first_of second rows)) (first_of first rows)
+
+-- a word that stands alone was used
+abbrev pub is_set : Text → List Row → Bool
+is_set id rows = option_map_or (λ (t : Text). bytes_eq t (codes "true")) (first_of id rows) false
+
+abbrev pub dis_in : List Row → Option Asked
+dis_in rows = file_in (codes "file") (if is_set (codes "units") rows then dis_units else dis) rows
 
 -- the number of a mask
 abbrev pub mask_in : List Row → Option ℕ
@@ -109,22 +128,26 @@ verify_in rows =
     option_and_then (λ (n : ℕ). option_and_then (λ (layout : Layout). option_map (verify n layout) (first_of (codes "file") rows))
     (layout_in rows)) (mask_in rows)
 
--- a site to serve, and the file that keeps its journal where one is named
-abbrev pub serve_by : Option Text → Text → Asked
-serve_by None config = serve config
-serve_by (Some journal) config = serve_kept config journal
+-- a site to serve, and the file that keeps its journal where one is named; what isn't kept can't be synced
+abbrev pub serve_by : Bool → Option Text → Text → Option Asked
+serve_by false None config = Some (serve config)
+serve_by false (Some journal) config = Some (serve_kept config journal)
+serve_by true None config = None
+serve_by true (Some journal) config = Some (serve_synced config journal)
 
 abbrev pub serve_in : List Row → Option Asked
-serve_in rows = option_map (serve_by (first_of (codes "journal") rows)) (first_of (codes "config") rows)
+serve_in rows =
+    option_and_then (serve_by (is_set (codes "sync") rows) (first_of (codes "journal") rows)) (first_of (codes "config") rows)
 
 -- what a subcommand's name and values ask for
 abbrev pub asked_by : Text → List Row → Option Asked
 asked_by name rows =
     if bytes_eq name (codes "asm") then file_in (codes "file") asm rows
-    else if bytes_eq name (codes "dis") then file_in (codes "file") dis rows
+    else if bytes_eq name (codes "dis") then dis_in rows
     else if bytes_eq name (codes "verify") then verify_in rows
     else if bytes_eq name (codes "play") then files_in (codes "config") (codes "script") play rows
     else if bytes_eq name (codes "audit") then files_in (codes "config") (codes "journal") audit rows
+    else if bytes_eq name (codes "report") then files_in (codes "config") (codes "journal") report rows
     else if bytes_eq name (codes "serve") then serve_in rows
     else None
 
@@ -137,11 +160,14 @@ abbrev pub asked : Job → Option Asked
 asked job.NoWords = Some nothing
 asked (job.Asm file) = Some (asm (string_bytes file))
 asked (job.Dis file) = Some (dis (string_bytes file))
+asked (job.DisUnits file) = Some (dis_units (string_bytes file))
 asked (job.Verify counters context file) = Some (verify counters context (string_bytes file))
 asked (job.Play config script) = Some (play (string_bytes config) (string_bytes script))
 asked (job.Audit config journal) = Some (audit (string_bytes config) (string_bytes journal))
+asked (job.Report config journal) = Some (report (string_bytes config) (string_bytes journal))
 asked (job.Serve config) = Some (serve (string_bytes config))
 asked (job.ServeKept config journal) = Some (serve_kept (string_bytes config) (string_bytes journal))
+asked (job.ServeSynced config journal) = Some (serve_synced (string_bytes config) (string_bytes journal))
 asked (job.Show text) = None
 
 -- ---- what is refused

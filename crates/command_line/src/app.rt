@@ -2,9 +2,9 @@
 ghost use Rattle.std.specs.Prelude.{◌≡◌, false, IfOk, codes};
 ghost use Rattle.clap.specs.Words.{app_of, with_rule, new_app, rule_of};
 ghost use Rattle.clap.specs.declared.builder.command.Command.TheViews.{out-Command};
-ghost use Rattle.command_line.specs.Asked.{context_rule, file_rule, journal_rule, mask_rule, of_file, asm_app, dis_app, verify_app, play_app, audit_app, serve_app, fc_app};
+ghost use Rattle.command_line.specs.Asked.{context_rule, file_rule, flag_rule, journal_rule, mask_rule, of_file, asm_app, dis_app, verify_app, play_app, audit_app, report_app, serve_app, fc_app};
 
-use clap::{Arg, Command, value_parser};
+use clap::{Arg, ArgAction, Command, value_parser};
 use std::alloc::{AllocError, Global};
 
 /// A file that is wanted.
@@ -24,7 +24,7 @@ fn mask_arg<'a>(alloc: Global) -> Arg<'a>
         .long("counters")
         .value_name("MASK")
         .help("the declared counters: bit c of this number for counter c")
-        .required(true)
+        .default_value("0")
         .value_parser(value_parser!(u32))
 }
 
@@ -49,6 +49,17 @@ fn journal_arg<'a>(alloc: Global) -> Arg<'a>
         .long("journal")
         .value_name("FILE")
         .help("keep the journal in this file as it happens, and go on from what it holds")
+}
+
+/// A word that stands alone.
+fn flag_arg<'a>(alloc: Global, name: &'a str, help: &'a str) -> Arg<'a>
+    ensures rule { rule_of result ≡ flag_rule name.entry.now }
+    ensures local { result.global ≡ false }
+{
+    Arg::new(alloc, name)
+        .long(name)
+        .help(help)
+        .action(ArgAction::SetTrue)
 }
 
 /// A subcommand that wants a file.
@@ -96,14 +107,17 @@ fn dis<'a>(alloc: Global) -> Result<Command<'a>, AllocError>
     ensures app { IfOk result (λ c. app_of c ≡ dis_app) }
     ensures local { IfOk result (λ c. (out-Command c).has_globals ≡ false) }
 {
-    with_file(
+    let some = with_file(
         alloc,
         "dis",
         "Prints a program as text",
-        "Example: fc dis rule.hex",
+        "Examples: fc dis rule.hex, fc dis --units rule.hex",
         "file",
         PROGRAM,
-    )
+    )?;
+    let units = flag_arg(alloc, "units", "print each unit's number before its line");
+    let command = some.arg(units)?;
+    Ok(command)
 }
 
 /// The subcommand that verifies.
@@ -163,6 +177,24 @@ fn audit<'a>(alloc: Global) -> Result<Command<'a>, AllocError>
     Ok(command)
 }
 
+/// The subcommand that reports.
+fn report<'a>(alloc: Global) -> Result<Command<'a>, AllocError>
+    ensures app { IfOk result (λ c. app_of c ≡ report_app) }
+    ensures local { IfOk result (λ c. (out-Command c).has_globals ≡ false) }
+{
+    let some = with_file(
+        alloc,
+        "report",
+        "Makes a page of pictures and figures of a journal",
+        "Example: fc report site.toml day.journal > day.html",
+        "config",
+        CONFIG,
+    )?;
+    let journal = file_arg(alloc, "journal", JOURNAL);
+    let command = some.arg(journal)?;
+    Ok(command)
+}
+
 /// The subcommand that serves.
 fn serve<'a>(alloc: Global) -> Result<Command<'a>, AllocError>
     ensures app { IfOk result (λ c. app_of c ≡ serve_app) }
@@ -176,7 +208,13 @@ fn serve<'a>(alloc: Global) -> Result<Command<'a>, AllocError>
         "config",
         CONFIG,
     )?;
-    let command = some.arg(journal_arg(alloc))?;
+    let kept = some.arg(journal_arg(alloc))?;
+    let sync = flag_arg(
+        alloc,
+        "sync",
+        "with --journal: answer only what the system says is on the disk",
+    );
+    let command = kept.arg(sync)?;
     Ok(command)
 }
 
@@ -199,6 +237,7 @@ pub fn fc<'a>(alloc: Global) -> Result<Command<'a>, AllocError>
     let verify = verify(alloc)?;
     let play = play(alloc)?;
     let audit = audit(alloc)?;
+    let report = report(alloc)?;
     let serve = serve(alloc)?;
     let top = Command::new(alloc, "fc")
         .version("0.1.0")
@@ -209,6 +248,7 @@ pub fn fc<'a>(alloc: Global) -> Result<Command<'a>, AllocError>
     let three = two.subcommand(verify)?;
     let four = three.subcommand(play)?;
     let five = four.subcommand(audit)?;
-    let all = five.subcommand(serve)?;
+    let six = five.subcommand(report)?;
+    let all = six.subcommand(serve)?;
     Ok(all)
 }

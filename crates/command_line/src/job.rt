@@ -13,6 +13,8 @@ pub enum Job {
     Asm(String),
     /// A program file to text of the assembler.
     Dis(String),
+    /// The same, with each unit's number before its line.
+    DisUnits(String),
     /// Whether a program file is accepted, for contexts of this layout; bit c of `counters` declares counter c.
     Verify {
         counters: u32,
@@ -29,10 +31,20 @@ pub enum Job {
         config: String,
         journal: String,
     },
+    /// A page of pictures and figures, made of a journal that is a legal history.
+    Report {
+        config: String,
+        journal: String,
+    },
     /// A site served on loopback, whose journal is printed at the end.
     Serve(String),
     /// A site served on loopback, whose journal is kept in a file as it happens.
     ServeKept {
+        config: String,
+        journal: String,
+    },
+    /// The same, and no answer leaves before its journal's line is synced.
+    ServeSynced {
         config: String,
         journal: String,
     },

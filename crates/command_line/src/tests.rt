@@ -25,6 +25,11 @@ fn job_text(alloc: Global, line: &str) -> Result<String, Fail> {
         }
         Ok(Job::Play { config, script }) => Ok(format!(in alloc; "play {config} {script}")?),
         Ok(Job::Audit { config, journal }) => Ok(format!(in alloc; "audit {config} {journal}")?),
+        Ok(Job::DisUnits(file)) => Ok(format!(in alloc; "dis {file} with units")?),
+        Ok(Job::Report { config, journal }) => Ok(format!(in alloc; "report {config} {journal}")?),
+        Ok(Job::ServeSynced { config, journal }) => {
+            Ok(format!(in alloc; "serve {config} synced in {journal}")?)
+        }
         Ok(Job::Serve(config)) => Ok(format!(in alloc; "serve {config}")?),
         Ok(Job::ServeKept { config, journal }) => {
             Ok(format!(in alloc; "serve {config} kept in {journal}")?)
@@ -48,6 +53,13 @@ fn words_ask_for_jobs(rt: HostRuntime) -> Result<(), Fail> {
         ("fc", "nothing"),
         ("fc asm rule.bpf", "asm rule.bpf"),
         ("fc dis rule.hex", "dis rule.hex"),
+        ("fc dis --units rule.hex", "dis rule.hex with units"),
+        ("fc dis rule.hex --units", "dis rule.hex with units"),
+        ("fc dis --units", "usage"),
+        ("fc dis --units=true rule.hex", "usage"),
+        ("fc dis --units --units rule.hex", "usage"),
+        ("fc asm --units rule.bpf", "usage"),
+        ("fc verify rule.hex", "verify 0 64 rule.hex"),
         ("fc verify --counters 3 rule.hex", "verify 3 64 rule.hex"),
         (
             "fc verify rule.hex --counters=4294967295",
@@ -65,6 +77,17 @@ fn words_ask_for_jobs(rt: HostRuntime) -> Result<(), Fail> {
             "fc serve --journal day.journal site.toml",
             "serve site.toml kept in day.journal",
         ),
+        (
+            "fc serve --journal day.journal --sync site.toml",
+            "serve site.toml synced in day.journal",
+        ),
+        ("fc serve --sync site.toml", "usage"),
+        ("fc report --sync site.toml day.journal", "usage"),
+        (
+            "fc report site.toml day.journal",
+            "report site.toml day.journal",
+        ),
+        ("fc report site.toml", "usage"),
         ("fc serve --journal site.toml", "usage"),
         ("fc serve --journal a --journal b site.toml", "usage"),
         ("fc --help", "text"),
@@ -76,7 +99,7 @@ fn words_ask_for_jobs(rt: HostRuntime) -> Result<(), Fail> {
         ("fc sell", "usage"),
         ("fc asm", "usage"),
         ("fc asm a b", "usage"),
-        ("fc verify rule.hex", "usage"),
+        ("fc verify --counters", "usage"),
         ("fc verify --counters x rule.hex", "usage"),
         ("fc verify --counters 4294967296 rule.hex", "usage"),
         ("fc verify --counters 0x1 rule.hex", "usage"),

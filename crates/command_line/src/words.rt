@@ -2,7 +2,7 @@
 ghost use Rattle.std.specs.Prelude.{◌≡◌, IsTrue, IsSome, None, false, [], IfOk, IfErr, OnOk, map, codes, option_map, string_bytes, ◌↔◌};
 ghost use Rattle.clap.specs.Words.{first_of, rows_of, found_of, subcommand_of, subcommand_rows_of, takes, fault_of};
 ghost use Rattle.clap.specs.Values.{kind_of};
-ghost use Rattle.command_line.specs.Asked.{fc_app, asked, asked_of, layout_in, layout_named, IsShown, MayShow, RefusesBy};
+ghost use Rattle.command_line.specs.Asked.{fc_app, asked, asked_of, is_set, layout_in, layout_named, IsShown, MayShow, RefusesBy};
 ghost use Rattle.command_line.specs.Refusing.{Finds, FindsIn, ReadsMask, IsUnasked, IsRefusalOf};
 
 use crate::app::fc;
@@ -64,12 +64,26 @@ fn asm_of(alloc: Global, matches: &ArgMatches) -> Result<Option<Job>, AllocError
     }
 }
 
+/// Whether a word that stands alone was used.
+fn is_set(matches: &ArgMatches, id: &str) -> bool
+    ensures { result ≡ is_set id.now (rows_of (found_of matches.now)) }
+{
+    match matches.get_str(id) {
+        Some(text) => text == "true",
+        None => false,
+    }
+}
+
 fn dis_of(alloc: Global, matches: &ArgMatches) -> Result<Option<Job>, AllocError>
     ensures { IfOk result (Finds (codes "dis") (rows_of (found_of matches.now))) }
 {
-    match file_of(alloc, matches, "file")? {
-        Some(file) => Ok(Some(Job::Dis(file))),
-        None => Ok(None),
+    let Some(file) = file_of(alloc, matches, "file")? else {
+        return Ok(None);
+    };
+    if is_set(matches, "units") {
+        Ok(Some(Job::DisUnits(file)))
+    } else {
+        Ok(Some(Job::Dis(file)))
     }
 }
 
@@ -116,15 +130,31 @@ fn audit_of(alloc: Global, matches: &ArgMatches) -> Result<Option<Job>, AllocErr
     }
 }
 
+fn report_of(alloc: Global, matches: &ArgMatches) -> Result<Option<Job>, AllocError>
+    ensures { IfOk result (Finds (codes "report") (rows_of (found_of matches.now))) }
+{
+    let Some(config) = file_of(alloc, matches, "config")? else {
+        return Ok(None);
+    };
+    match file_of(alloc, matches, "journal")? {
+        Some(journal) => Ok(Some(Job::Report { config, journal })),
+        None => Ok(None),
+    }
+}
+
+/// How a site is served. A journal that isn't kept can't be synced.
 fn serve_of(alloc: Global, matches: &ArgMatches) -> Result<Option<Job>, AllocError>
     ensures { IfOk result (Finds (codes "serve") (rows_of (found_of matches.now))) }
 {
     let Some(config) = file_of(alloc, matches, "config")? else {
         return Ok(None);
     };
-    match file_of(alloc, matches, "journal")? {
-        Some(journal) => Ok(Some(Job::ServeKept { config, journal })),
-        None => Ok(Some(Job::Serve(config))),
+    let journal = file_of(alloc, matches, "journal")?;
+    match (is_set(matches, "sync"), journal) {
+        (false, None) => Ok(Some(Job::Serve(config))),
+        (false, Some(journal)) => Ok(Some(Job::ServeKept { config, journal })),
+        (true, None) => Ok(None),
+        (true, Some(journal)) => Ok(Some(Job::ServeSynced { config, journal })),
     }
 }
 
@@ -142,6 +172,8 @@ fn named_job(alloc: Global, name: &str, matches: &ArgMatches) -> Result<Option<J
         play_of(alloc, matches)
     } else if name == "audit" {
         audit_of(alloc, matches)
+    } else if name == "report" {
+        report_of(alloc, matches)
     } else if name == "serve" {
         serve_of(alloc, matches)
     } else {
@@ -159,11 +191,25 @@ fn job_of(alloc: Global, matches: &ArgMatches) -> Result<Option<Job>, AllocError
     }
 }
 
-/// What is told of words that `clap` takes and that ask for nothing.
-const USAGE: &str = "error: --context takes 1 or 2
+/// What is told of words that `clap` takes and that ask for nothing, where they ask to serve.
+const UNKEPT: &str = "error: --sync wants --journal FILE
 
 For more information, try '--help'.
 ";
+
+/// The same, where they ask for something else.
+const LAYOUTS: &str = "error: --context takes 1 or 2
+
+For more information, try '--help'.
+";
+
+/// Why words that `clap` takes ask for nothing.
+fn unasked(matches: &ArgMatches) -> &'static str {
+    match matches.subcommand() {
+        Some((name, _)) => { if name == "serve" { UNKEPT } else { LAYOUTS } }
+        None => LAYOUTS,
+    }
+}
 
 /// The job that was found; where there is none the words are refused.
 fn found_job(alloc: Global, matches: &ArgMatches) -> Result<Job, CommandFault>
@@ -173,7 +219,7 @@ fn found_job(alloc: Global, matches: &ArgMatches) -> Result<Job, CommandFault>
 {
     match job_of(alloc, matches)? {
         Some(job) => Ok(job),
-        None => Err(CommandFault::Usage(String::from_str(alloc, USAGE)?)),
+        None => Err(CommandFault::Usage(String::from_str(alloc, unasked(matches))?)),
     }
 }
 

@@ -36,16 +36,23 @@ pub fn do_job<H: Net<Listener = TcpListener, Stream = TcpStream> + Threads + Wai
         Job::NoWords => play_input(rt),
         Job::Show(text) => say(rt, text, DONE),
         Job::Asm(file) => tell_of(rt, &file, Tell::Asm),
-        Job::Dis(file) => tell_of(rt, &file, Tell::Dis),
+        Job::Dis(file) | Job::DisUnits(file) => tell_of(rt, &file, Tell::Dis),
         Job::Verify {
             counters,
             context,
             file,
         } => tell_of(rt, &file, Tell::Verify(counters, context)),
         Job::Play { config, script } => play_files(rt, &config, &script),
-        Job::Audit { config, journal } => audit_files(rt, &config, &journal),
+        Job::Audit { config, journal } | Job::Report { config, journal } => audit_files(
+            rt, &config, &journal,
+        ),
         Job::Serve(config) => serve_file(rt, host, &config, None),
-        Job::ServeKept { config, journal } => serve_file(rt, host, &config, Some(journal)),
+        Job::ServeKept { config, journal } | Job::ServeSynced { config, journal } => serve_file(
+            rt,
+            host,
+            &config,
+            Some(journal),
+        ),
     };
     match done {
         Ok(status) => status,

@@ -17,4 +17,5 @@ returns c =
     let three = c.in_ok-three.ensures.shape c.in_ok-verify.ensures.local ∙ ap₂ with_subcommand two (ap top_of c.in_ok-verify.ensures.app) in
     let four = c.in_ok-four.ensures.shape c.in_ok-play.ensures.local ∙ ap₂ with_subcommand three (ap top_of c.in_ok-play.ensures.app) in
     let five = c.in_ok-five.ensures.shape c.in_ok-audit.ensures.local ∙ ap₂ with_subcommand four (ap top_of c.in_ok-audit.ensures.app) in
-    c.in_ok-all.ensures.shape c.in_ok-serve.ensures.local ∙ ap₂ with_subcommand five (ap top_of c.in_ok-serve.ensures.app)
+    let six = c.in_ok-six.ensures.shape c.in_ok-report.ensures.local ∙ ap₂ with_subcommand five (ap top_of c.in_ok-report.ensures.app) in
+    c.in_ok-all.ensures.shape c.in_ok-serve.ensures.local ∙ ap₂ with_subcommand six (ap top_of c.in_ok-serve.ensures.app)
