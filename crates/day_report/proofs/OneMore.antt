@@ -1,11 +1,15 @@
 -- One more entry.
-use Rattle.std.proofs.Common.{◌≡◌, ℕ, ◌+◌, ◌<◌, List, [], ◌∷◌, ◌++◌, length, take, Option, Some, None, refl, ap, ◌∙◌, sym, get_or}
+use Rattle.std.proofs.Common.{◌≡◌, ℕ, ◌+◌, ◌<◌, List, [], ◌∷◌, ◌++◌, length, map, take, append_assoc, arith, Option, Some, None, refl, ap, ◌∙◌, sym, get_or}
 use Rattle.std.specs.Prelude.{fold, option_to_list}
 use Rattle.std.specs.List.{cons_option}
-use Rattle.std.proofs.lemmas.List.{take_more}
+use Rattle.std.specs.Prelude.{option_map}
+use Rattle.std.proofs.lemmas.Grind.{common_steps}
+use Rattle.std.proofs.lemmas.List.{take_more, map-append, append-nil}
+use Rattle.fuelling_point.specs.declared.kinds.Transaction.{Transaction}
+use Rattle.day_report.specs.declared.adding.Unpaid.{Unpaid}
 use Rattle.std.specs.Prelude.{Bool, ◌&&◌, ◌==◌, if◌then◌else◌}
 use Rattle.std.proofs.lemmas.List.Sums.{fold_push, sum_by_more}
-use Rattle.day_report.specs.Totals.{is_wanted, decided_by}
+use Rattle.day_report.specs.Totals.{is_wanted, decided_by, unpaid_transaction, unpaid_from, unpaid_of}
 use Rattle.day_report.specs.declared.counting.Deciding.{Deciding}
 use Rattle.day_report.specs.declared.rulings.Decision.{Decision}
 use Rattle.fuelling_point.specs.Table.{PointState}
@@ -56,3 +60,34 @@ pub decided-more : (part : Deciding) (granted : Bool) (v : ℕ) (decisions : Lis
 decided-more part granted v decisions i d h is =
     let one : Decision → ℕ = λ (x : Decision). if is_wanted part granted x && x.version == v then 1 else 0 in
     sum_by_more one decisions i d h ∙ ap (λ x. decided_by part granted v (take i decisions) + one x) (sym is)
+
+-- ---- unpaid transactions
+
+pub map-option : {A B : Type 0} (f : A → B) (o : Option A) → map f (option_to_list o) ≡ option_to_list (option_map f o)
+map-option f None = refl
+map-option f (Some x) = refl
+
+unpaid-push : (n : ℕ) (points : List PointState) (p : PointState) → unpaid_from n (points ++ p ∷ []) ≡ unpaid_from n points ++ map (unpaid_transaction (n + length points)) p.unpaid
+unpaid-push n [] p = append-nil (map (unpaid_transaction n) p.unpaid) ∙ ap (λ m. map (unpaid_transaction m) p.unpaid) (omega arith)
+unpaid-push n (q ∷ points) p =
+    let same : n + 1 + length points ≡ n + length (q ∷ points) = omega arith in
+    ap (λ xs. map (unpaid_transaction n) q.unpaid ++ xs) (unpaid-push (n + 1) points p ∙ ap (λ m. unpaid_from (n + 1) points ++ map (unpaid_transaction m) p.unpaid) same)
+    ∙ sym (append_assoc (map (unpaid_transaction n) q.unpaid) (unpaid_from (n + 1) points) (map (unpaid_transaction (n + length (q ∷ points))) p.unpaid))
+
+pub unpaid-none : unpaid_of [] ≡ []
+unfolding unpaid_of
+unpaid-none = refl
+
+-- a point with these two transactions, of which the second may be missing
+pub unpaid-more : (points : List PointState) (i : ℕ) (p : PointState) (first second : Option Transaction) → i < length points → p ≡ get_or points i p → option_to_list first ++ option_to_list second ≡ p.unpaid → unpaid_of (take (i + 1) points) ≡ (unpaid_of (take i points) ++ option_to_list (option_map (unpaid_transaction (i + 1)) first)) ++ option_to_list (option_map (unpaid_transaction (i + 1)) second)
+unfolding unpaid_of
+unpaid-more points i p first second h is both =
+    let f : Transaction → Unpaid = unpaid_transaction (i + 1) in
+    let long : length (take i points) ≡ i = grind (arith, common_steps) in
+    let place : 1 + length (take i points) ≡ i + 1 = omega (arith, long) in
+    ap (λ ps. unpaid_from 1 ps) (take_more points i p h ∙ ap (λ x. take i points ++ x ∷ []) (sym is))
+    ∙ unpaid-push 1 (take i points) p
+    ∙ ap (λ m. unpaid_from 1 (take i points) ++ map (unpaid_transaction m) p.unpaid) place
+    ∙ ap (λ ts. unpaid_from 1 (take i points) ++ map f ts) (sym both)
+    ∙ ap (λ xs. unpaid_from 1 (take i points) ++ xs) (map-append f (option_to_list first) (option_to_list second) ∙ (λ j. map-option f first j ++ map-option f second j))
+    ∙ sym (append_assoc (unpaid_from 1 (take i points)) (option_to_list (option_map f first)) (option_to_list (option_map f second)))

@@ -1,5 +1,5 @@
 -- Definitions: what is added up, and what is counted.
-use Rattle.std.specs.Prelude.{◌≡◌, ◌<◌, ℕ, ◌+◌, ◌/◌, ◌%◌, ◌==◌, ◌&&◌, not, List, length, slice_index, slice_index_or, sum_by, count_by, if◌then◌else◌, Bool, true, false}
+use Rattle.std.specs.Prelude.{◌≡◌, ◌<◌, ℕ, ◌+◌, ◌/◌, ◌%◌, ◌==◌, ◌&&◌, not, List, [], ◌∷◌, ◌++◌, map, length, slice_index, slice_index_or, sum_by, count_by, if◌then◌else◌, Bool, true, false}
 use Rattle.day_report.specs.declared.sales.Sale.{Sale}
 use Rattle.day_report.specs.declared.sales.Sum.{Sum}
 use Rattle.day_report.specs.declared.sales.Part.{Part}
@@ -10,6 +10,9 @@ use Rattle.day_report.specs.declared.rulings.Decision.{Decision}
 use Rattle.day_report.specs.declared.counting.Outcomes.{Outcomes}
 use Rattle.decision_journal.specs.declared.entries.Entry.{Entry}
 use Rattle.day_report.specs.Decisions.{loads}
+use Rattle.day_report.specs.declared.adding.Unpaid.{Unpaid}
+use Rattle.fuelling_point.specs.declared.kinds.Transaction.{Transaction}
+use Rattle.fuelling_point.specs.Table.{PointState}
 use Rattle.day_report.specs.declared.counting.Deciding.{Deciding}
 use Rattle.day_report.specs.declared.counting.Deciding.TheVariants as deciding
 
@@ -106,3 +109,20 @@ pub record HasOutcomes (part : Deciding) (versions : ℕ) (decisions : List Deci
 -- one more than the versions of a history, which are numbered from 1
 abbrev pub versions_of : List Entry → ℕ
 versions_of entries = length (loads 0 entries) + 1
+
+-- the outcomes of what so many tills asked, till 1 first
+pub record DecidedByTills (tills versions : ℕ) (decisions : List Decision) (found : List Outcomes) : Type 0 where
+  pub long : length found ≡ tills
+  pub each : (k : ℕ) (d : Outcomes) → k < length found → HasOutcomes (deciding.Till (k + 1)) versions decisions (slice_index_or found k d)
+
+-- an unpaid transaction of a point
+abbrev pub unpaid_transaction : ℕ → Transaction → Unpaid
+unpaid_transaction point t = record { point = point; number = t.number; amount = t.amount; volume = t.volume; holder = t.holder }
+
+-- the unpaid transactions of points, the first of which has this number
+abbrev pub unpaid_from : ℕ → List PointState → List Unpaid
+unpaid_from n [] = []
+unpaid_from n (p ∷ points) = map (unpaid_transaction n) p.unpaid ++ unpaid_from (n + 1) points
+
+unfoldable pub unpaid_of : List PointState → List Unpaid
+unpaid_of points = unpaid_from 1 points

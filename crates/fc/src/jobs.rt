@@ -1,6 +1,7 @@
 //! What the program does for its words.
 use crate::files::{Text, read_file};
 use crate::progress::{Progress, Watched};
+use crate::report::report_files;
 use crate::serve::serve_settings;
 use bpf_model::context::Layout;
 use console::{
@@ -43,9 +44,8 @@ pub fn do_job<H: Net<Listener = TcpListener, Stream = TcpStream> + Threads + Wai
             file,
         } => tell_of(rt, &file, Tell::Verify(counters, context)),
         Job::Play { config, script } => play_files(rt, &config, &script),
-        Job::Audit { config, journal } | Job::Report { config, journal } => audit_files(
-            rt, &config, &journal,
-        ),
+        Job::Audit { config, journal } => audit_files(rt, &config, &journal),
+        Job::Report { config, journal } => report_files(rt, &config, &journal),
         Job::Serve(config) => serve_file(rt, host, &config, None),
         Job::ServeKept { config, journal } | Job::ServeSynced { config, journal } => serve_file(
             rt,
@@ -188,7 +188,7 @@ fn play_input(rt: &HostRuntime) -> io::Result<u8> {
 }
 
 /// A configuration file's settings, or the status where there are none.
-fn settings_of(rt: &HostRuntime, path: &str) -> io::Result<Result<Settings, u8>> {
+pub fn settings_of(rt: &HostRuntime, path: &str) -> io::Result<Result<Settings, u8>> {
     let text = match read_file(rt, path, MOST_BYTES) {
         Ok(Text::Bytes(bytes)) => bytes,
         Ok(Text::TooLong) => return Ok(Err(refuse(rt, "L1")?)),

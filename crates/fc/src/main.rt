@@ -6,6 +6,7 @@ mod jobs;
 mod kept;
 mod operator;
 mod progress;
+mod report;
 mod serve;
 
 use console::{CommandFault, Job, command};

@@ -116,7 +116,8 @@ impl Config {
         self.price_slot
     }
 
-    pub(crate) fn prices(&self) -> [u32; 8]
+    /// The prices of products 1 to 8 in thousandths, 0 for none.
+    pub fn prices(&self) -> [u32; 8]
         ensures { result ≡ self.now.prices }
     {
         self.prices
