@@ -4,7 +4,7 @@ use std::fmt;
 
 /// Text of a page: no character of it is read as a mark of HTML.
 #[derive(Clone, Copy, Drop)]
-pub(crate) struct Escaped<'a>(pub &'a str);
+pub struct Escaped<'a>(pub &'a str);
 
 impl fmt::Display for Escaped<'_> {
     fn fmt<W: fmt::Write>(&self, f: &mut fmt::Formatter<W>) -> fmt::Result {

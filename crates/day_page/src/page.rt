@@ -187,8 +187,23 @@ struct Sales<'a>(&'a Page);
 
 impl fmt::Display for Sales<'_> {
     fn fmt<W: fmt::Write>(&self, f: &mut fmt::Formatter<W>) -> fmt::Result {
-        let totals = &self.0.totals;
+        let (points, hours) = (PointSales(self.0), HourSales(self.0));
         writeln!(f, "<section id=\"sales\"><h2>Sales</h2>")?;
+        write!(f, "{points}{hours}")?;
+        if !self.0.totals.unpaid.is_empty() {
+            let unpaid = UnpaidRows(&self.0.totals.unpaid);
+            writeln!(f, "<h3>Unpaid at the end</h3>{unpaid}")?;
+        }
+        writeln!(f, "</section>")
+    }
+}
+
+/// What was sold by point, and by the till that cleared.
+#[derive(Clone, Copy, Drop)]
+struct PointSales<'a>(&'a Page);
+
+impl fmt::Display for PointSales<'_> {
+    fn fmt<W: fmt::Write>(&self, f: &mut fmt::Formatter<W>) -> fmt::Result {
         let bars = Bars {
             title: "Sales by point",
             text: "A bar for each point, as long as the money of its sales. The table below has the figures.",
@@ -196,40 +211,45 @@ impl fmt::Display for Sales<'_> {
             left: 90,
             bars: &self.0.points,
         };
-        let (rows, tills) = (
-            ByPoint(totals),
-            Parts {
-                id: "by-till",
-                name: "Till",
-                sums: &totals.by_till,
-                first: 1,
-            },
-        );
-        writeln!(f, "{bars}{rows}<h3>By the till that cleared</h3>{tills}")?;
-        if totals.by_hour.iter().any(|sum| sum.count > 0) {
-            let (columns, hours) = (
-                Hours {
-                    sums: &totals.by_hour,
-                },
-                Parts {
-                    id: "by-hour",
-                    name: "Hour",
-                    sums: &totals.by_hour,
-                    first: 0,
-                },
-            );
-            writeln!(f, "<h3>By hour of the day, in UTC</h3>{columns}{hours}")?;
-        } else {
-            writeln!(
+        let rows = ByPoint(&self.0.totals);
+        let tills = Parts {
+            id: "by-till",
+            name: "Till",
+            sums: &self.0.totals.by_till,
+            first: 1,
+        };
+        write!(
+            f,
+            "{bars}<div class=\"side\"><div><h3>By point</h3>{rows}</div>"
+        )?;
+        writeln!(
+            f,
+            "<div><h3>By the till that cleared</h3>{tills}</div></div>"
+        )
+    }
+}
+
+/// What was sold by hour, where the moments of sales tell one.
+#[derive(Clone, Copy, Drop)]
+struct HourSales<'a>(&'a Page);
+
+impl fmt::Display for HourSales<'_> {
+    fn fmt<W: fmt::Write>(&self, f: &mut fmt::Formatter<W>) -> fmt::Result {
+        let sums = self.0.totals.by_hour.as_slice();
+        if !sums.iter().any(|sum| sum.count > 0) {
+            return writeln!(
                 f,
                 "<p class=\"note\">No sale tells its moment, so there are no hours.</p>"
-            )?;
+            );
         }
-        if !totals.unpaid.is_empty() {
-            let unpaid = UnpaidRows(&totals.unpaid);
-            writeln!(f, "<h3>Unpaid at the end</h3>{unpaid}")?;
-        }
-        writeln!(f, "</section>")
+        let columns = Hours { sums };
+        let hours = Parts {
+            id: "by-hour",
+            name: "Hour",
+            sums,
+            first: 0,
+        };
+        writeln!(f, "<h3>By hour of the day, in UTC</h3>{columns}{hours}")
     }
 }
 
@@ -242,22 +262,32 @@ impl fmt::Display for RulesPart<'_> {
         if self.0.totals.loads.is_empty() {
             writeln!(f, "<p class=\"note\">No rule was loaded.</p>")?;
         } else {
-            let columns = Verdicts {
-                counts: &self.0.verdicts,
-            };
-            let (rows, tills) = (Rules(&self.0.totals), RulesByTill(&self.0.totals));
-            writeln!(
-                f,
-                "<ul class=\"legend\"><li><i class=\"granted\">&#160;</i>granted</li>"
-            )?;
-            writeln!(f, "<li><i class=\"denied\">&#160;</i>denied</li></ul>")?;
-            writeln!(f, "{columns}{rows}<h3>By till</h3>{tills}")?;
+            let versions = Versions(self.0);
+            write!(f, "{versions}")?;
         }
         if self.0.counters.iter().any(|(_value, bound)| *bound > 0) {
             let counters = Counters(&self.0.counters);
-            writeln!(f, "<h3>Counters</h3>{counters}")?;
+            write!(f, "<h3>Counters</h3>{counters}")?;
         }
         writeln!(f, "</section>")
+    }
+}
+
+#[derive(Clone, Copy, Drop)]
+struct Versions<'a>(&'a Page);
+
+impl fmt::Display for Versions<'_> {
+    fn fmt<W: fmt::Write>(&self, f: &mut fmt::Formatter<W>) -> fmt::Result {
+        let columns = Verdicts {
+            counts: &self.0.verdicts,
+        };
+        let (rows, tills) = (Rules(&self.0.totals), RulesByTill(&self.0.totals));
+        write!(
+            f,
+            "<ul class=\"legend\"><li><i class=\"granted\">&#160;</i>granted</li>"
+        )?;
+        writeln!(f, "<li><i class=\"denied\">&#160;</i>denied</li></ul>")?;
+        write!(f, "{columns}{rows}<h3>By till</h3>{tills}")
     }
 }
 
