@@ -3,3 +3,4 @@ pub mod Following
 pub mod Sales
 pub mod Decisions
 pub mod Totals
+pub mod Laws

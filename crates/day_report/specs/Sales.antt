@@ -15,9 +15,13 @@ use Rattle.day_report.specs.declared.sales.Clearing.{Clearing}
 use Rattle.day_report.specs.declared.sales.Sale.{Sale}
 
 -- a clear that was done: the till, the point and the transaction's number
+abbrev pub cleared_by : Act → Option Clearing
+cleared_by (act.Till till (request.Clear n number)) = Some (record { till = till; point = n; number = number })
+cleared_by _ = None
+
 abbrev pub clearing_of : Act → Reply → Option Clearing
-clearing_of (act.Till till (request.Clear n number)) reply.Done = Some (record { till = till; point = n; number = number })
-clearing_of _ _ = None
+clearing_of act reply.Done = cleared_by act
+clearing_of act _ = None
 
 -- the unpaid transaction of this number at the point of this number
 abbrev pub unpaid_at : List PointState → ℕ → ℕ → Option Transaction
