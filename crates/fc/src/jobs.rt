@@ -8,6 +8,7 @@ use crate::faults::{
 use crate::files::{Outlet, Source, Text, is_input, name_of, read_file};
 use crate::loads::Loads;
 use crate::progress::{Progress, Watched};
+use crate::report::report_files;
 use crate::serve::{JournalTo, serve_settings};
 use bpf_model::context::Layout;
 use console::{
@@ -52,9 +53,8 @@ pub fn do_job<H: Net<Listener = TcpListener, Stream = TcpStream> + Threads + Wai
             file,
         } => tell_of(rt, &file, Tell::Verify(counters, context)),
         Job::Play { config, script } => play_files(rt, &config, &script),
-        Job::Audit { config, journal } | Job::Report { config, journal } => audit_files(
-            rt, &config, &journal,
-        ),
+        Job::Audit { config, journal } => audit_files(rt, &config, &journal),
+        Job::Report { config, journal } => report_files(rt, &config, &journal),
         Job::Serve(config) => serve_file(rt, host, &config, JournalTo::Output),
         Job::ServeKept { config, journal } => {
             serve_file(rt, host, &config, JournalTo::File(journal))
@@ -274,7 +274,7 @@ fn settings_of(rt: &HostRuntime, word: &str) -> io::Result<Result<Settings, u8>>
 }
 
 /// The settings and the other file that a job wants, or the status where there are none. Standard input is read once.
-fn settings_and(
+pub fn settings_and(
     rt: &HostRuntime,
     config: &str,
     other: &str,

@@ -8,6 +8,7 @@ mod kept;
 mod loads;
 mod operator;
 mod progress;
+mod report;
 mod serve;
 mod synced;
 

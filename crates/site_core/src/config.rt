@@ -116,7 +116,8 @@ impl Config {
         self.price_slot
     }
 
-    pub(crate) fn prices(&self) -> [u32; 8]
+    /// The prices of products 1 to 8 in thousandths, 0 for none.
+    pub fn prices(&self) -> [u32; 8]
         ensures { result ≡ self.now.prices }
     {
         self.prices
@@ -153,8 +154,8 @@ impl Config {
         }
     }
 
-    /// The slots of each point's releases and presets.
-    pub(crate) fn points(&self) -> &[(u32, u32)]
+    /// The slots of each point's releases and presets: 1 to 32 pairs.
+    pub fn points(&self) -> &[(u32, u32)]
         ensures points { result.now ≡ self.now.points }
         ensures range { IsConfig self.now }
     {

@@ -1,0 +1,14 @@
+//! A day in a picture: a page of HTML that shows what a site's history adds up to.
+#![tactic(auto)]
+
+mod bars;
+mod drawn;
+mod figures;
+mod names;
+mod page;
+mod prices;
+mod style;
+mod tables;
+
+pub use names::Escaped;
+pub use page::Page;

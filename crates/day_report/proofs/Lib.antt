@@ -1,0 +1,4 @@
+pub mod Walking
+pub mod OneMore
+pub mod SiteSteps
+pub mod SiteSales

@@ -1,0 +1,93 @@
+-- One more entry.
+use Rattle.std.proofs.Common.{◌≡◌, ℕ, ◌+◌, ◌<◌, List, [], ◌∷◌, ◌++◌, length, map, take, append_assoc, arith, Option, Some, None, refl, ap, ◌∙◌, sym, get_or}
+use Rattle.std.specs.Prelude.{fold, option_to_list}
+use Rattle.std.specs.List.{cons_option}
+use Rattle.std.specs.Prelude.{option_map}
+use Rattle.std.proofs.lemmas.Grind.{common_steps}
+use Rattle.std.proofs.lemmas.List.{take_more, map-append, append-nil}
+use Rattle.fuelling_point.specs.declared.kinds.Transaction.{Transaction}
+use Rattle.day_report.specs.declared.adding.Unpaid.{Unpaid}
+use Rattle.std.specs.Prelude.{Bool, ◌&&◌, ◌==◌, if◌then◌else◌}
+use Rattle.std.proofs.lemmas.List.Sums.{fold_push, sum_by_more}
+use Rattle.day_report.specs.Totals.{is_wanted, decided_by, unpaid_transaction, unpaid_from, unpaid_of}
+use Rattle.day_report.specs.declared.counting.Deciding.{Deciding}
+use Rattle.day_report.specs.declared.rulings.Decision.{Decision}
+use Rattle.fuelling_point.specs.Table.{PointState}
+use Rattle.decision_journal.specs.declared.entries.Entry.{Entry}
+use Rattle.day_report.specs.Walk.{with_entry, stand}
+use Rattle.day_report.specs.Sales.{sale_of, sales}
+use Rattle.day_report.specs.Decisions.{load_of, loads, moment_after}
+
+cons-append : {A : Type 0} (o : Option A) (xs ys : List A) → cons_option o (xs ++ ys) ≡ cons_option o xs ++ ys
+cons-append None xs ys = refl
+cons-append (Some x) xs ys = refl
+
+cons-nil : {A : Type 0} (o : Option A) → cons_option o [] ≡ option_to_list o
+cons-nil None = refl
+cons-nil (Some x) = refl
+
+pub sales-push : (points : List PointState) (entries : List Entry) (entry : Entry) → sales points (entries ++ entry ∷ []) ≡ sales points entries ++ option_to_list (sale_of (stand points entries) entry)
+sales-push points [] entry = cons-nil (sale_of points entry)
+sales-push points (e ∷ entries) entry =
+    ap (λ xs. cons_option (sale_of points e) xs) (sales-push (with_entry points e) entries entry) ∙ cons-append (sale_of points e) (sales (with_entry points e) entries) (option_to_list (sale_of (stand (with_entry points e) entries) entry))
+
+pub stand-push : (points : List PointState) (entries : List Entry) (entry : Entry) → stand points (entries ++ entry ∷ []) ≡ with_entry (stand points entries) entry
+stand-push points entries entry = fold_push with_entry points entries entry
+
+pub loads-push : (moment : ℕ) (entries : List Entry) (entry : Entry) → loads moment (entries ++ entry ∷ []) ≡ loads moment entries ++ option_to_list (load_of (fold moment_after moment entries) entry)
+loads-push moment [] entry = cons-nil (load_of moment entry)
+loads-push moment (e ∷ entries) entry =
+    ap (λ xs. cons_option (load_of moment e) xs) (loads-push (moment_after moment e) entries entry) ∙ cons-append (load_of moment e) (loads (moment_after moment e) entries) (option_to_list (load_of (fold moment_after (moment_after moment e) entries) entry))
+
+-- at a step of a loop
+pub stand-more : (points : List PointState) (entries : List Entry) (i : ℕ) (entry : Entry) → i < length entries → entry ≡ get_or entries i entry → stand points (take (i + 1) entries) ≡ with_entry (stand points (take i entries)) entry
+stand-more points entries i entry h is =
+    ap (λ es. stand points es) (take_more entries i entry h ∙ ap (λ e. take i entries ++ e ∷ []) (sym is)) ∙ stand-push points (take i entries) entry
+
+pub sales-more : (points : List PointState) (entries : List Entry) (i : ℕ) (entry : Entry) → i < length entries → entry ≡ get_or entries i entry → sales points (take (i + 1) entries) ≡ sales points (take i entries) ++ option_to_list (sale_of (stand points (take i entries)) entry)
+sales-more points entries i entry h is =
+    ap (λ es. sales points es) (take_more entries i entry h ∙ ap (λ e. take i entries ++ e ∷ []) (sym is)) ∙ sales-push points (take i entries) entry
+
+pub loads-more : (moment : ℕ) (entries : List Entry) (i : ℕ) (entry : Entry) → i < length entries → entry ≡ get_or entries i entry → loads moment (take (i + 1) entries) ≡ loads moment (take i entries) ++ option_to_list (load_of (fold moment_after moment (take i entries)) entry)
+loads-more moment entries i entry h is =
+    ap (λ es. loads moment es) (take_more entries i entry h ∙ ap (λ e. take i entries ++ e ∷ []) (sym is)) ∙ loads-push moment (take i entries) entry
+
+pub moment-more : (moment : ℕ) (entries : List Entry) (i : ℕ) (entry : Entry) → i < length entries → entry ≡ get_or entries i entry → fold moment_after moment (take (i + 1) entries) ≡ moment_after (fold moment_after moment (take i entries)) entry
+moment-more moment entries i entry h is =
+    ap (λ es. fold moment_after moment es) (take_more entries i entry h ∙ ap (λ e. take i entries ++ e ∷ []) (sym is)) ∙ fold_push moment_after moment (take i entries) entry
+
+pub decided-more : (part : Deciding) (granted : Bool) (v : ℕ) (decisions : List Decision) (i : ℕ) (d : Decision) → i < length decisions → d ≡ get_or decisions i d → decided_by part granted v (take (i + 1) decisions) ≡ decided_by part granted v (take i decisions) + (if is_wanted part granted d && d.version == v then 1 else 0)
+decided-more part granted v decisions i d h is =
+    let one : Decision → ℕ = λ (x : Decision). if is_wanted part granted x && x.version == v then 1 else 0 in
+    sum_by_more one decisions i d h ∙ ap (λ x. decided_by part granted v (take i decisions) + one x) (sym is)
+
+-- ---- unpaid transactions
+
+pub map-option : {A B : Type 0} (f : A → B) (o : Option A) → map f (option_to_list o) ≡ option_to_list (option_map f o)
+map-option f None = refl
+map-option f (Some x) = refl
+
+unpaid-push : (n : ℕ) (points : List PointState) (p : PointState) → unpaid_from n (points ++ p ∷ []) ≡ unpaid_from n points ++ map (unpaid_transaction (n + length points)) p.unpaid
+unpaid-push n [] p = append-nil (map (unpaid_transaction n) p.unpaid) ∙ ap (λ m. map (unpaid_transaction m) p.unpaid) (omega arith)
+unpaid-push n (q ∷ points) p =
+    let same : n + 1 + length points ≡ n + length (q ∷ points) = omega arith in
+    ap (λ xs. map (unpaid_transaction n) q.unpaid ++ xs) (unpaid-push (n + 1) points p ∙ ap (λ m. unpaid_from (n + 1) points ++ map (unpaid_transaction m) p.unpaid) same)
+    ∙ sym (append_assoc (map (unpaid_transaction n) q.unpaid) (unpaid_from (n + 1) points) (map (unpaid_transaction (n + length (q ∷ points))) p.unpaid))
+
+pub unpaid-none : unpaid_of [] ≡ []
+unfolding unpaid_of
+unpaid-none = refl
+
+-- a point with these two transactions, of which the second may be missing
+pub unpaid-more : (points : List PointState) (i : ℕ) (p : PointState) (first second : Option Transaction) → i < length points → p ≡ get_or points i p → option_to_list first ++ option_to_list second ≡ p.unpaid → unpaid_of (take (i + 1) points) ≡ (unpaid_of (take i points) ++ option_to_list (option_map (unpaid_transaction (i + 1)) first)) ++ option_to_list (option_map (unpaid_transaction (i + 1)) second)
+unfolding unpaid_of
+unpaid-more points i p first second h is both =
+    let f : Transaction → Unpaid = unpaid_transaction (i + 1) in
+    let long : length (take i points) ≡ i = grind (arith, common_steps) in
+    let place : 1 + length (take i points) ≡ i + 1 = omega (arith, long) in
+    ap (λ ps. unpaid_from 1 ps) (take_more points i p h ∙ ap (λ x. take i points ++ x ∷ []) (sym is))
+    ∙ unpaid-push 1 (take i points) p
+    ∙ ap (λ m. unpaid_from 1 (take i points) ++ map (unpaid_transaction m) p.unpaid) place
+    ∙ ap (λ ts. unpaid_from 1 (take i points) ++ map f ts) (sym both)
+    ∙ ap (λ xs. unpaid_from 1 (take i points) ++ xs) (map-append f (option_to_list first) (option_to_list second) ∙ (λ j. map-option f first j ++ map-option f second j))
+    ∙ sym (append_assoc (unpaid_from 1 (take i points)) (option_to_list (option_map f first)) (option_to_list (option_map f second)))

@@ -1,0 +1,19 @@
+use Rattle.std.proofs.Common.{◌≡◌, ◌<◌, ◌++◌, length, arith, ap, ◌∙◌, sym}
+use Rattle.std.specs.Prelude.{option_to_list}
+use Rattle.std.proofs.lemmas.Grind.{common_steps}
+use Rattle.day_report.specs.Walk.{with_entry}
+use Rattle.day_report.specs.Sales.{sale_of}
+use Rattle.day_report.proofs.OneMore.{stand-more, sales-more}
+use Rattle.day_report.proofs.sales.follow_sales.Goals as goal
+
+pub loop-entry-preserved : goal.loop-entry-preserved
+loop-entry-preserved c =
+    let i = c.loop-entry.entry-index in
+    let entries = c.args.entries.now in
+    let e = c.entry-item.result in
+    let lt : i < length entries = grind (arith, common_steps) in
+    let stands = stand-more c.args.points.now entries i e lt c.entry-item.is in
+    let sold = sales-more c.args.points.now entries i e lt c.entry-item.is in
+    let pushed : c.push_some.new.items.items ≡ c.loop-entry.sales.items ++ option_to_list c.sale_of.result = grind (arith, common_steps) in
+    let found = c.sale_of.ensures ∙ ap (λ p. sale_of p e) c.loop-entry.invariant.0 in
+    (c.follow.ensures.is ∙ ap (λ p. with_entry p e) c.loop-entry.invariant.0 ∙ sym stands, pushed ∙ (λ j. c.loop-entry.invariant.1 j ++ option_to_list (found j)) ∙ sym sold, c.follow.ensures.bounded i c.loop-entry.invariant.2)

@@ -1,0 +1,11 @@
+use Rattle.std.proofs.Common.{◌≡◌, ◌≤◌, take, All}
+use Rattle.fuelling_point.specs.Table.{PointState}
+use Rattle.day_report.specs.Walk.{stand}
+use Rattle.day_report.specs.Sales.{sales}
+use Rattle.day_report.proofs.sales.follow_sales.Given as goal
+
+abbrev pub invariant-loop-entry : goal.invariant-loop-entry
+invariant-loop-entry l =
+    (l.points ≡ stand l.initial.points (take l.entry-index l.entries))
+    × (l.sales.items ≡ sales l.initial.points (take l.entry-index l.entries))
+    × All (λ (p : PointState). p.last ≤ l.entry-index) l.points

@@ -1,0 +1,74 @@
+-- Definitions: what the rules decided, what was refused, which prices were changed and which programs were loaded.
+use Rattle.std.specs.Prelude.{ℕ, ◌==◌, if◌then◌else◌, List, [], ◌∷◌, Option, Some, None, Bool, true, false}
+use Rattle.std.specs.List.{cons_option}
+use Rattle.decision_journal.specs.declared.entries.Entry.{Entry}
+use Rattle.till_request.specs.declared.act.Request.{Request}
+use Rattle.till_request.specs.declared.act.Request.TheVariants as request
+use Rattle.till_request.specs.declared.act.Act.{Act}
+use Rattle.till_request.specs.declared.act.Act.TheVariants as act
+use Rattle.till_request.specs.declared.act.Reply.{Reply}
+use Rattle.till_request.specs.declared.act.Reply.TheVariants as reply
+use Rattle.day_report.specs.declared.rulings.Asked.{Asked}
+use Rattle.day_report.specs.declared.rulings.Asked.TheVariants as asked
+use Rattle.day_report.specs.declared.rulings.Decision.{Decision}
+use Rattle.day_report.specs.declared.rulings.PriceChange.{PriceChange}
+use Rattle.day_report.specs.declared.loading.Load.{Load}
+
+-- what a rule is asked: a release, a preset or a price
+abbrev pub asked_by : Request → Option Asked
+asked_by (request.Release n amount) = Some asked.Release
+asked_by (request.Preset n amount) = Some asked.Preset
+asked_by (request.Price product price) = Some asked.Price
+asked_by _ = None
+
+-- which version decided, and whether it granted: a grant, or S24 with the version that denied
+abbrev pub verdict_of : Reply → Option (ℕ × Bool)
+verdict_of (reply.Granted amount version) = Some (version, true)
+verdict_of (reply.Refused number (Some version)) = if number == 24 then Some (version, false) else None
+verdict_of _ = None
+
+-- the decision of an act that was answered so
+abbrev pub decided : Act → Reply → Option Decision
+decided (act.Till till request) reply =
+    elim (asked_by request) [
+      | None ↦ None
+      | Some a ↦ elim (verdict_of reply) [ None ↦ None | Some v ↦ Some (record { till = till; asked = a; version = v.0; is_granted = v.1 }) ]
+    ]
+decided _ reply = None
+
+unfoldable pub decision_of : Entry → Option Decision
+decision_of entry = decided entry.act entry.reply
+
+-- the number of a refusal, S20 to S34
+abbrev pub refused_as : Reply → Option ℕ
+refused_as (reply.Refused number value) = Some number
+refused_as _ = None
+
+unfoldable pub refusal_of : Entry → Option ℕ
+refusal_of entry = refused_as entry.reply
+
+-- a price that was granted: by which till, of which product, in thousandths, and by which version
+abbrev pub changed_price : ℕ → ℕ → Act → Reply → Option PriceChange
+changed_price number moment (act.Till till (request.Price product price)) (reply.Granted granted version) =
+    Some (record { number = number; moment = moment; till = till; product = product; price = granted; version = version })
+changed_price number moment _ _ = None
+
+unfoldable pub price_change_of : Entry → Option PriceChange
+price_change_of entry = changed_price entry.number entry.moment entry.act entry.reply
+
+-- the moment that was told last: an entry without one tells none
+abbrev pub moment_after : ℕ → Entry → ℕ
+moment_after moment entry = if entry.moment == 0 then moment else entry.moment
+
+-- a load that was answered with a version: its entry, slot and version, and the moment that was told last before it
+abbrev pub loaded_at : ℕ → ℕ → Act → Reply → Option Load
+loaded_at number moment (act.Load slot mask layout bytes) (reply.Version version) = Some (record { number = number; moment = moment; slot = slot; version = version })
+loaded_at number moment _ _ = None
+
+unfoldable pub load_of : ℕ → Entry → Option Load
+load_of moment entry = loaded_at entry.number moment entry.act entry.reply
+
+-- the loads of entries, where this moment was told last before them
+abbrev pub loads : ℕ → List Entry → List Load
+loads moment [] = []
+loads moment (entry ∷ entries) = cons_option (load_of moment entry) (loads (moment_after moment entry) entries)

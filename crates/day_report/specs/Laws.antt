@@ -1,0 +1,29 @@
+-- Promises: laws of what a history adds up to.
+use Rattle.std.specs.Prelude.{◌≡◌, ◌≤◌, ℕ, List, length, sum_by}
+use Rattle.std.specs.List.{range_with_len}
+use Rattle.decision_journal.specs.declared.entries.Entry.{Entry}
+use Rattle.site_core.specs.Limits.{ConfigValue}
+use Rattle.site_core.specs.State.{SiteState}
+use Rattle.site_core.specs.Legal.{LegalHistory}
+use Rattle.day_report.specs.Walk.{stand, closed_points}
+use Rattle.day_report.specs.Sales.{sales}
+use Rattle.day_report.specs.Totals.{count_in, cents_in}
+use Rattle.day_report.specs.declared.sales.Sale.{Sale}
+use Rattle.day_report.specs.declared.sales.Part.TheVariants as part
+
+-- the sales of a history of this configuration
+abbrev pub sales_of : ConfigValue → List Entry → List Sale
+sales_of config history = sales (closed_points (length config.points)) history
+
+-- What a journal tells is what its site came to: the points stand as the site's own, the sales are as many as it cleared and come to its
+-- cleared total, and so do those of all points together, and those of all tills together, where there are as many tills or more.
+pub record TellsItsSite (config : ConfigValue) (history : List Entry) (state : SiteState) : Type 0 where
+  pub points : stand (closed_points (length config.points)) history ≡ state.points
+  pub count : count_in part.All (sales_of config history) ≡ state.clears
+  pub cents : cents_in part.All (sales_of config history) ≡ state.cleared
+  pub by_point : sum_by (λ n. cents_in (part.Point n) (sales_of config history)) (range_with_len 1 (length config.points)) ≡ state.cleared
+  pub by_till : (tills : ℕ) → config.tills ≤ tills → sum_by (λ t. cents_in (part.Till t) (sales_of config history)) (range_with_len 1 tills) ≡ state.cleared
+
+-- whatever the history is, if a site can have it
+abbrev pub SalesTellTheSite : Type 0
+SalesTellTheSite = (config : ConfigValue) (history : List Entry) (state : SiteState) → LegalHistory config history state → TellsItsSite config history state

@@ -1,0 +1,75 @@
+-- Definitions: how the points of a site stood, as its journal tells it (this profile). The oldest entry stands first. What a command or an
+-- event does at a point is the table of fuelling points.
+use Rattle.std.specs.Prelude.{ℕ, ◌-◌, nat_lt, if◌then◌else◌, List, replicate, fold, slice_set, Option, Some, None, Ok, Err}
+use Rattle.fuelling_point.specs.Table.{PointState, fresh_point, event_step}
+use Rattle.fuelling_point.specs.declared.kinds.Command.{Command}
+use Rattle.fuelling_point.specs.declared.kinds.Command.TheVariants as command
+use Rattle.fuelling_point.specs.declared.kinds.DispenserEvent.{DispenserEvent}
+use Rattle.decision_journal.specs.declared.entries.Entry.{Entry}
+use Rattle.till_request.specs.declared.act.Request.{Request}
+use Rattle.till_request.specs.declared.act.Request.TheVariants as request
+use Rattle.till_request.specs.declared.act.Act.{Act}
+use Rattle.till_request.specs.declared.act.Act.TheVariants as act
+use Rattle.till_request.specs.declared.act.Reply.{Reply}
+use Rattle.till_request.specs.declared.act.Reply.TheVariants as reply
+use Rattle.site_core.specs.State.{at_number}
+use Rattle.site_core.specs.Decide.{after_command}
+
+-- a release or a preset that was granted: its point, and the command with the amount of the grant
+abbrev pub granted_command : Request → ℕ → Option (ℕ × Command)
+granted_command (request.Release n asked) granted = Some (n, command.Release granted)
+granted_command (request.Preset n asked) granted = Some (n, command.Preset granted)
+granted_command _ granted = None
+
+-- a request that was answered done: its point, and the command
+abbrev pub done_command : Request → Option (ℕ × Command)
+done_command (request.OpenPoint n) = Some (n, command.OpenPoint)
+done_command (request.ClosePoint n) = Some (n, command.ClosePoint)
+done_command (request.Suspend n) = Some (n, command.Suspend)
+done_command (request.Resume n) = Some (n, command.Resume)
+done_command (request.Stop n) = Some (n, command.Stop)
+done_command (request.Lock n number) = Some (n, command.Lock number)
+done_command (request.Unlock n number) = Some (n, command.Unlock number)
+done_command (request.Clear n number) = Some (n, command.Clear number)
+done_command _ = None
+
+-- what a till's request did at a point, by its answer: a refusal did nothing
+abbrev pub command_told : Request → Reply → Option (ℕ × Command)
+command_told request (reply.Granted granted version) = granted_command request granted
+command_told request reply.Done = done_command request
+command_told request _ = None
+
+-- the points, where the one of this number becomes another; where there is none of the number, as they were
+unfoldable pub with_changed : List PointState → ℕ → (PointState → PointState) → List PointState
+with_changed points n becomes = elim (at_number points n) [ None ↦ points | Some p ↦ slice_set points (n - 1) (becomes p) ]
+
+-- the points after a command of a till at the point of this number; tills are numbered from 1
+abbrev pub with_command : List PointState → ℕ → ℕ × Command → List PointState
+with_command points till c = if nat_lt 0 till then with_changed points c.0 (λ p. after_command p till c.1) else points
+
+-- what a point becomes by an event of its dispenser, which it may refuse
+abbrev pub after_event : PointState → DispenserEvent → PointState
+after_event p event = elim (event_step p event) [ Ok o ↦ o.0 | Err _ ↦ p ]
+
+-- the points after an event at the point of this number
+abbrev pub with_event : List PointState → ℕ → DispenserEvent → List PointState
+with_event points n event = with_changed points n (λ p. after_event p event)
+
+-- the points after an act that was answered so
+abbrev pub with_act : List PointState → Act → Reply → List PointState
+with_act points (act.Till till request) reply =
+    elim (command_told request reply) [ None ↦ points | Some c ↦ with_command points till c ]
+with_act points (act.Dispenser n event) reply = with_event points n event
+with_act points (act.Load slot mask layout bytes) reply = points
+
+-- the points after an entry
+unfoldable pub with_entry : List PointState → Entry → List PointState
+with_entry points entry = with_act points entry.act entry.reply
+
+-- the points after entries
+abbrev pub stand : List PointState → List Entry → List PointState
+stand points entries = fold with_entry points entries
+
+-- so many closed points
+abbrev pub closed_points : ℕ → List PointState
+closed_points count = replicate count fresh_point

@@ -1,0 +1,246 @@
+//! All totals of a history.
+
+ghost use Rattle.std.specs.Prelude.{◌≡◌, ◌+◌, ◌≤◌, IfOk, length, not, sum_by, count_by, option_map};
+ghost use Rattle.std.specs.List.{filter_map};
+ghost use Rattle.day_report.specs.Walk.{stand, closed_points};
+ghost use Rattle.day_report.specs.Sales.{sales};
+ghost use Rattle.day_report.specs.Decisions.{decision_of, refusal_of, price_change_of, loads};
+ghost use Rattle.day_report.specs.Totals.{IsSum, SumsUp, CountsRefusals, HasOutcomes, DecidedByTills, versions_of, unpaid_transaction, unpaid_of, part_of_point, part_of_till, part_of_hour};
+ghost use Rattle.day_report.specs.declared.sales.Part.TheVariants as part;
+ghost use Rattle.day_report.specs.declared.counting.Deciding.TheVariants as deciding;
+
+use crate::counting::{Deciding, Outcomes, count_of, tally};
+use crate::loading::{Load, loads};
+use crate::pushing::push_some;
+use crate::rulings::{Decision, PriceChange, decisions, price_changes, refusals};
+use crate::sales::{Part, Sale, Sum, find_sales, sum_of};
+use decision_journal::Entry;
+use fuelling_point::{Point, Transaction};
+use std::alloc::{AllocError, Global};
+
+/// The greatest number of tills.
+pub const TILLS: u32 = 64;
+
+/// The hours of a day.
+const HOURS: u32 = 24;
+
+/// The least number of a refusal that is an entry.
+pub const FIRST_REFUSAL: u32 = 20;
+
+/// How many numbers of refusals there are from the first.
+pub const REFUSALS: u32 = 15;
+
+/// What a history adds up to.
+#[derive(Drop)]
+pub struct Totals {
+    pub entries: usize,
+    /// Everything that was sold.
+    pub sold: Sum,
+    /// What was sold at point 1, 2 and so on.
+    pub by_point: Vec<Sum>,
+    /// What tills 1 to 64 cleared.
+    pub by_till: Vec<Sum>,
+    /// What was sold in the hours 0 to 23 of the day, in UTC.
+    pub by_hour: Vec<Sum>,
+    /// The points at the end.
+    pub points: Vec<Point>,
+    /// How often S20 to S34 were answered.
+    pub refused: Vec<usize>,
+    pub loads: Vec<Load>,
+    pub prices: Vec<PriceChange>,
+    /// The transactions that are unpaid at the end, by point, and what they come to in cents.
+    pub unpaid: Vec<Unpaid>,
+    pub unpaid_cents: u128,
+    /// How many decisions were grants, and how many denials.
+    pub granted: usize,
+    pub denied: usize,
+    pub releases: Outcomes,
+    pub presets: Outcomes,
+    pub price_requests: Outcomes,
+    /// What each version decided for tills 1 to 64.
+    pub tills: Vec<Outcomes>,
+}
+
+/// An unpaid transaction: its point, its number there, cents, centilitres, and the till that holds it, or 0.
+#[derive(Clone, Copy, Debug, PartialEq, Eq, Drop)]
+pub struct Unpaid {
+    pub point: usize,
+    pub number: u32,
+    pub amount: u64,
+    pub volume: u64,
+    pub holder: u32,
+}
+
+fn by_point(alloc: Global, sales: &[Sale], points: usize) -> Result<Vec<Sum>, AllocError>
+    requires { points ≤ 1000 }
+    ensures { IfOk result (λ sums. SumsUp part_of_point points sums.items sales.now) }
+{
+    let mut sums = Vec::new(alloc);
+    for n in 0..points {
+        sums.push(sum_of(sales, Part::Point(n as u32 + 1)))?;
+    }
+    Ok(sums)
+}
+
+fn by_till(alloc: Global, sales: &[Sale]) -> Result<Vec<Sum>, AllocError>
+    ensures { IfOk result (λ sums. SumsUp part_of_till 64 sums.items sales.now) }
+{
+    let mut sums = Vec::new(alloc);
+    for till in 0..TILLS {
+        sums.push(sum_of(sales, Part::Till(till + 1)))?;
+    }
+    Ok(sums)
+}
+
+fn by_hour(alloc: Global, sales: &[Sale]) -> Result<Vec<Sum>, AllocError>
+    ensures { IfOk result (λ sums. SumsUp part_of_hour 24 sums.items sales.now) }
+{
+    let mut sums = Vec::new(alloc);
+    for hour in 0..HOURS {
+        sums.push(sum_of(sales, Part::Hour(hour)))?;
+    }
+    Ok(sums)
+}
+
+/// How often each of S20 to S34 was answered, where these are the numbers of the refusals.
+fn by_number(alloc: Global, numbers: &[u32]) -> Result<Vec<usize>, AllocError>
+    ensures { IfOk result (λ counts. CountsRefusals counts.items numbers.now) }
+{
+    let mut counts = Vec::new(alloc);
+    for place in 0..REFUSALS {
+        counts.push(count_of(numbers, FIRST_REFUSAL + place))?;
+    }
+    Ok(counts)
+}
+
+/// The outcomes of one part of the decisions, for each version below `versions`.
+fn outcomes(
+    alloc: Global,
+    decisions: &[Decision],
+    versions: usize,
+    part: Deciding,
+) -> Result<Outcomes, AllocError>
+    ensures { IfOk result (λ found. HasOutcomes part versions decisions.now found) }
+{
+    Ok(Outcomes {
+        granted: tally(alloc, decisions, versions, part, true)?,
+        denied: tally(alloc, decisions, versions, part, false)?,
+    })
+}
+
+/// The outcomes of what each of the 64 tills asked.
+fn by_till_asked(
+    alloc: Global,
+    decisions: &[Decision],
+    versions: usize,
+) -> Result<Vec<Outcomes>, AllocError>
+    ensures { IfOk result (λ found. DecidedByTills 64 versions decisions.now found.items) }
+{
+    let mut found = Vec::new(alloc);
+    for till in 0..TILLS {
+        found.push(outcomes(alloc, decisions, versions, Deciding::Till(till + 1))?)?;
+    }
+    Ok(found)
+}
+
+/// The unpaid transaction of the point of this number, if it is one.
+fn unpaid_as(point: usize, transaction: Option<Transaction>) -> Option<Unpaid>
+    ensures { result ≡ option_map (unpaid_transaction point) transaction }
+{
+    let transaction = transaction?;
+    Some(Unpaid {
+        point,
+        number: transaction.number,
+        amount: transaction.amount,
+        volume: transaction.volume,
+        holder: transaction.holder,
+    })
+}
+
+/// The unpaid transactions of the points, point by point, the older of a point first.
+fn unpaid_of(alloc: Global, points: &[Point]) -> Result<Vec<Unpaid>, AllocError>
+    ensures { IfOk result (λ found. found.items ≡ unpaid_of points.now) }
+{
+    let mut found = Vec::new(alloc);
+    for (place, point) in points.iter().enumerate() {
+        let number = place + 1;
+        let [first, second] = point.transactions();
+        push_some(&mut found, unpaid_as(number, first))?;
+        push_some(&mut found, unpaid_as(number, second))?;
+    }
+    Ok(found)
+}
+
+/// What unpaid transactions come to, in cents.
+fn cents_of(unpaid: &[Unpaid]) -> u128
+    ensures { result ≡ sum_by (λ (u : Unpaid). u.amount) unpaid.now }
+{
+    let mut cents = 0;
+    for transaction in unpaid {
+        cents += transaction.amount as u128;
+    }
+    cents
+}
+
+/// How many decisions were grants.
+fn granted_in(decisions: &[Decision]) -> usize
+    ensures { result ≡ count_by (λ (d : Decision). d.is_granted) decisions.now }
+{
+    decisions.iter().filter(|d| d.is_granted).count()
+}
+
+/// How many decisions were denials.
+fn denied_in(decisions: &[Decision]) -> usize
+    ensures { result ≡ count_by (λ (d : Decision). not d.is_granted) decisions.now }
+{
+    decisions.iter().filter(|d| !d.is_granted).count()
+}
+
+/// What the history of a site with so many points adds up to. The error is want of memory.
+pub fn add_up(alloc: Global, points: usize, entries: &[Entry]) -> Result<Totals, AllocError>
+    requires few { length entries.now ≤ 1048576 }
+    requires points { points ≤ 1000 }
+    ensures entries { IfOk result (λ t. t.entries ≡ length entries.now) }
+    ensures sold { IfOk result (λ t. IsSum t.sold part.All (sales (closed_points points) entries.now)) }
+    ensures by_point { IfOk result (λ t. SumsUp part_of_point points t.by_point.items (sales (closed_points points) entries.now)) }
+    ensures by_till { IfOk result (λ t. SumsUp part_of_till 64 t.by_till.items (sales (closed_points points) entries.now)) }
+    ensures by_hour { IfOk result (λ t. SumsUp part_of_hour 24 t.by_hour.items (sales (closed_points points) entries.now)) }
+    ensures points { IfOk result (λ t. t.points.items ≡ stand (closed_points points) entries.now) }
+    ensures refused { IfOk result (λ t. CountsRefusals t.refused.items (filter_map refusal_of entries.now)) }
+    ensures loads { IfOk result (λ t. t.loads.items ≡ loads 0 entries.now) }
+    ensures prices { IfOk result (λ t. t.prices.items ≡ filter_map price_change_of entries.now) }
+    ensures unpaid { IfOk result (λ t. t.unpaid.items ≡ unpaid_of (stand (closed_points points) entries.now)) }
+    ensures unpaid_cents { IfOk result (λ t. t.unpaid_cents ≡ sum_by (λ (u : Unpaid). u.amount) (unpaid_of (stand (closed_points points) entries.now))) }
+    ensures granted { IfOk result (λ t. t.granted ≡ count_by (λ (d : Decision). d.is_granted) (filter_map decision_of entries.now)) }
+    ensures denied { IfOk result (λ t. t.denied ≡ count_by (λ (d : Decision). not d.is_granted) (filter_map decision_of entries.now)) }
+    ensures tills { IfOk result (λ t. DecidedByTills 64 (versions_of entries.now) (filter_map decision_of entries.now) t.tills.items) }
+    ensures releases { IfOk result (λ t. HasOutcomes deciding.Releases (versions_of entries.now) (filter_map decision_of entries.now) t.releases) }
+    ensures presets { IfOk result (λ t. HasOutcomes deciding.Presets (versions_of entries.now) (filter_map decision_of entries.now) t.presets) }
+    ensures price_requests { IfOk result (λ t. HasOutcomes deciding.Prices (versions_of entries.now) (filter_map decision_of entries.now) t.price_requests) }
+{
+    let found = find_sales(alloc, points, entries)?;
+    let loads = loads(alloc, entries)?;
+    let versions = loads.len() + 1;
+    let decisions = decisions(alloc, entries)?;
+    let numbers = refusals(alloc, entries)?;
+    let unpaid = unpaid_of(alloc, &found.points)?;
+    Ok(Totals {
+        entries: entries.len(),
+        sold: sum_of(&found.sales, Part::All),
+        by_point: by_point(alloc, &found.sales, points)?,
+        by_till: by_till(alloc, &found.sales)?,
+        by_hour: by_hour(alloc, &found.sales)?,
+        points: found.points,
+        refused: by_number(alloc, &numbers)?,
+        releases: outcomes(alloc, &decisions, versions, Deciding::Releases)?,
+        presets: outcomes(alloc, &decisions, versions, Deciding::Presets)?,
+        price_requests: outcomes(alloc, &decisions, versions, Deciding::Prices)?,
+        prices: price_changes(alloc, entries)?,
+        granted: granted_in(&decisions),
+        denied: denied_in(&decisions),
+        tills: by_till_asked(alloc, &decisions, versions)?,
+        unpaid_cents: cents_of(&unpaid),
+        unpaid,
+        loads,
+    })
+}

@@ -1,0 +1,22 @@
+//! What a site's history adds up to: sales, decisions, refusals, prices, and how the points stood.
+#![tactic(auto)]
+
+mod adding;
+mod counting;
+mod laws;
+mod loading;
+mod pushing;
+mod rulings;
+mod sales;
+mod steps;
+#[cfg(test)]
+mod tests;
+mod walk;
+
+pub use adding::{FIRST_REFUSAL, REFUSALS, TILLS, Totals, Unpaid, add_up};
+pub use counting::{Deciding, Outcomes, count_of, tally};
+pub use laws::law_of_sales;
+pub use loading::{Load, loads};
+pub use rulings::{Asked, Decision, PriceChange, decisions, price_changes, refusals};
+pub use sales::{Part, Sale, Sold, Sum, find_sales, sum_of};
+pub use steps::{Axis, Bands, axis_of, follow_states, step_of};

@@ -1,0 +1,17 @@
+//! Lists that grow by what is there.
+ghost use Rattle.std.specs.Prelude.{◌≡◌, ◌++◌, OnOk, option_to_list};
+
+use std::alloc::AllocError;
+
+/// Adds the item, if there is one. The error is want of memory.
+pub(crate) fn push_some<T: Copy + Drop>(
+    items: &mut Vec<T>,
+    item: Option<T>,
+) -> Result<(), AllocError>
+    ensures { OnOk result (items.new.items ≡ items.old.items ++ option_to_list item) }
+{
+    if let Some(item) = item {
+        items.push(item)?;
+    }
+    Ok(())
+}

@@ -1,0 +1,171 @@
+//! What was sold: the transactions that tills cleared.
+
+ghost use Rattle.std.specs.Prelude.{◌≡◌, ◌≤◌, ℕ, All, IfOk, length};
+ghost use Rattle.fuelling_point.specs.Table.{PointState};
+ghost use Rattle.day_report.specs.Walk.{stand, closed_points};
+ghost use Rattle.day_report.specs.Sales.{clearing_of, unpaid_at, sale_of, sales};
+ghost use Rattle.day_report.specs.Totals.{is_in, count_in, cents_in, centilitres_in};
+
+use crate::pushing::push_some;
+use crate::walk::{closed_points, follow};
+use decision_journal::Entry;
+use fuelling_point::{Point, Transaction};
+use std::alloc::{AllocError, Global};
+use till_request::{Act, Reply, Request};
+
+/// A transaction that a till cleared: the entry and the moment of its clear, the amount in cents and the volume in
+/// centilitres.
+#[derive(Clone, Copy, Debug, PartialEq, Eq, Drop)]
+pub struct Sale {
+    pub number: u32,
+    pub moment: u64,
+    pub till: u32,
+    pub point: u32,
+    pub amount: u64,
+    pub volume: u64,
+}
+
+/// What a history sold, the oldest first, and the points as they stood at its end.
+#[derive(Drop)]
+pub struct Sold {
+    pub sales: Vec<Sale>,
+    pub points: Vec<Point>,
+}
+
+/// A clear that was done.
+#[derive(Clone, Copy)]
+struct Clearing {
+    till: u32,
+    point: u32,
+    number: u32,
+}
+
+fn clearing_of(act: &Act, reply: &Reply) -> Option<Clearing>
+    ensures { result ≡ clearing_of act.now reply.now }
+{
+    let Reply::Done = reply else {
+        return None;
+    };
+    match act {
+        Act::Till {
+            till,
+            request: Request::Clear(point, number),
+        } => Some(Clearing {
+            till: *till,
+            point: *point,
+            number: *number,
+        }),
+        _ => None,
+    }
+}
+
+/// The unpaid transaction of this number at the point of this number.
+fn unpaid_at(points: &[Point], n: u32, number: u32) -> Option<Transaction>
+    ensures { result ≡ unpaid_at points.now n number }
+{
+    if n == 0 || n as usize > points.len() {
+        return None;
+    }
+    points[n as usize - 1].find(number)
+}
+
+/// The sale of an entry, where the points stand so before it.
+#[tactic(auto, unfolding(crate::specs::Sales::sale_of))]
+fn sale_of(points: &[Point], entry: &Entry) -> Option<Sale>
+    ensures { result ≡ sale_of points.now entry.now }
+{
+    let clearing = clearing_of(&entry.act, &entry.reply)?;
+    let paid = unpaid_at(points, clearing.point, clearing.number)?;
+    Some(Sale {
+        number: entry.number,
+        moment: entry.moment,
+        till: clearing.till,
+        point: clearing.point,
+        amount: paid.amount,
+        volume: paid.volume,
+    })
+}
+
+/// What the entries sold; the points are followed from how they stood before to how they stand after. The error is want of
+/// memory.
+fn follow_sales(
+    alloc: Global,
+    points: &mut [Point],
+    entries: &[Entry],
+) -> Result<Vec<Sale>, AllocError>
+    requires numbered { All (λ (p : PointState). p.last ≤ 0) points.old }
+    requires few { length entries.now ≤ 1048576 }
+    ensures sales { IfOk result (λ found. found.items ≡ sales points.old entries.now) }
+    ensures points { IfOk result (λ found. points.new ≡ stand points.old entries.now) }
+{
+    let mut sales = Vec::new(alloc);
+    for entry in entries {
+        push_some(&mut sales, sale_of(points, entry))?;
+        follow(points, entry);
+    }
+    Ok(sales)
+}
+
+/// What the entries of a site with so many points sold, and how the points stand after them. The error is want of memory.
+pub fn find_sales(alloc: Global, points: usize, entries: &[Entry]) -> Result<Sold, AllocError>
+    requires { length entries.now ≤ 1048576 }
+    ensures sales { IfOk result (λ sold. sold.sales.items ≡ sales (closed_points points) entries.now) }
+    ensures points { IfOk result (λ sold. sold.points.items ≡ stand (closed_points points) entries.now) }
+{
+    let mut points = closed_points(alloc, points)?;
+    let sales = follow_sales(alloc, &mut points, entries)?;
+    Ok(Sold { sales, points })
+}
+
+/// Which part of the sales is added up.
+#[derive(Clone, Copy, Debug, PartialEq, Eq, Drop)]
+pub enum Part {
+    All,
+    /// Those of the point of this number.
+    Point(u32),
+    /// Those that this till cleared.
+    Till(u32),
+    /// Those whose moment is in this hour of the day, 0 to 23 in UTC.
+    Hour(u32),
+}
+
+/// How many sales, and how many cents and centilitres. The sums of 64-bit numbers are kept in 128 bits, so that none of
+/// any list is too large.
+#[derive(Clone, Copy, Debug, PartialEq, Eq, Drop)]
+pub struct Sum {
+    pub count: u64,
+    pub cents: u128,
+    pub centilitres: u128,
+}
+
+fn is_in(part: Part, sale: &Sale) -> bool
+    ensures { result ≡ is_in part sale.now }
+{
+    match part {
+        Part::All => true,
+        Part::Point(n) => sale.point == n,
+        Part::Till(till) => sale.till == till,
+        Part::Hour(hour) => sale.moment != 0 && sale.moment / 3600 % 24 == hour as u64,
+    }
+}
+
+/// What a part of the sales adds up to.
+pub fn sum_of(sales: &[Sale], part: Part) -> Sum
+    ensures count { result.count ≡ count_in part sales.now }
+    ensures cents { result.cents ≡ cents_in part sales.now }
+    ensures centilitres { result.centilitres ≡ centilitres_in part sales.now }
+{
+    let mut sum = Sum {
+        count: 0,
+        cents: 0,
+        centilitres: 0,
+    };
+    for sale in sales {
+        if is_in(part, sale) {
+            sum.count += 1;
+            sum.cents += sale.amount as u128;
+            sum.centilitres += sale.volume as u128;
+        }
+    }
+    sum
+}

@@ -1,0 +1,197 @@
+//! How the points stood, step by step.
+
+ghost use Rattle.std.specs.Prelude.{◌≡◌, ◌+◌, ◌≤◌, All, OnOk, length};
+ghost use Rattle.fuelling_point.specs.Table.{PointState};
+ghost use Rattle.day_report.specs.Walk.{stand};
+
+use crate::walk::{closed_points, follow};
+use decision_journal::Entry;
+use fuelling_point::{Point, State};
+use std::alloc::{AllocError, Global};
+use till_request::{Act, Request};
+
+/// The most steps of a picture.
+const STEPS: usize = 2000;
+
+/// The least span of time, in seconds, that is drawn along time.
+const SPAN: u64 = 600;
+
+/// Along what a picture is drawn.
+#[derive(Clone, Copy, Debug, PartialEq, Eq, Drop)]
+pub enum Axis {
+    /// Along the entries, from 1 to this many.
+    Entries(usize),
+    /// Along the time that moments tell, from the first to the last second.
+    Time(u64, u64),
+}
+
+/// Along what a history is drawn: time, where its moments never fall and span ten minutes; else its entries.
+pub fn axis_of(entries: &[Entry]) -> Axis {
+    let mut first = 0;
+    let mut last = 0;
+    for entry in entries {
+        if entry.moment != 0 {
+            if entry.moment < last {
+                return Axis::Entries(entries.len());
+            }
+            if first == 0 {
+                first = entry.moment;
+            }
+            last = entry.moment;
+        }
+    }
+    if last.saturating_sub(first) < SPAN {
+        return Axis::Entries(entries.len());
+    }
+    Axis::Time(first, last)
+}
+
+/// The step of so many in which `at` of `most` lies.
+pub fn step_of(at: u128, most: u128, steps: usize) -> usize
+    ensures { result ≤ steps }
+{
+    if most == 0 {
+        return 0;
+    }
+    (at.saturating_mul(steps as u128) / most).min(steps as u128) as usize
+}
+
+/// How many steps a history has along this axis.
+fn steps_of(axis: Axis) -> usize {
+    match axis {
+        Axis::Entries(count) => count.min(STEPS),
+        Axis::Time(first, last) => last.saturating_sub(first).min(STEPS as u64) as usize,
+    }
+}
+
+/// How many entries come before the end of each step.
+fn cuts(
+    alloc: Global,
+    entries: &[Entry],
+    axis: Axis,
+    steps: usize,
+) -> Result<Vec<usize>, AllocError> {
+    let mut cuts = Vec::new(alloc);
+    for (place, entry) in entries.iter().enumerate() {
+        let step = match axis {
+            Axis::Entries(count) => step_of(place as u128, count as u128, steps),
+            Axis::Time(first, last) => {
+                if entry.moment == 0 {
+                    continue;
+                }
+                let span = last.saturating_sub(first).saturating_add(1);
+                step_of(
+                    entry.moment.saturating_sub(first) as u128,
+                    span as u128,
+                    steps,
+                )
+            }
+        };
+        for _ in cuts.len()..step {
+            cuts.push(place)?;
+        }
+    }
+    for _ in cuts.len()..steps {
+        cuts.push(entries.len())?;
+    }
+    Ok(cuts)
+}
+
+/// The state of each of so many points in each step, step by step: those of the first step come first.
+#[derive(Drop)]
+pub struct Bands {
+    pub points: usize,
+    pub steps: usize,
+    pub states: Vec<State>,
+}
+
+/// The number of the point to which an entry did something.
+fn point_of(entry: &Entry) -> Option<u32> {
+    match &entry.act {
+        Act::Till { request, .. } => match request {
+            Request::Price(_, _) | Request::Show(_) => None,
+            Request::Release(n, _) | Request::Preset(n, _) => Some(*n),
+            Request::Lock(n, _) | Request::Unlock(n, _) | Request::Clear(n, _) => Some(*n),
+            Request::OpenPoint(n) | Request::ClosePoint(n) => Some(*n),
+            Request::Suspend(n) | Request::Resume(n) | Request::Stop(n) => Some(*n),
+        },
+        Act::Dispenser { point, .. } => Some(*point),
+        Act::Load { .. } => None,
+    }
+}
+
+/// Keeps the greatest state of the point of this number.
+fn raise(states: &mut [State], points: &[Point], n: u32) {
+    if n == 0 {
+        return;
+    }
+    let place = n as usize - 1;
+    if place < states.len() && place < points.len() {
+        let state = points[place].state();
+        if state.number() > states[place].number() {
+            states[place] = state;
+        }
+    }
+}
+
+/// What the entries of a step do to the points, with the greatest state of each in it.
+fn follow_step(points: &mut [Point], states: &mut [State], entries: &[Entry], before: usize)
+    requires numbered { All (λ (p : PointState). p.last ≤ before) points.old }
+    requires few { before + length entries.now ≤ 1048576 }
+    ensures stand { points.new ≡ stand points.old entries.now }
+    ensures bounded { All (λ (p : PointState). p.last ≤ before + length entries.now) points.new }
+{
+    for entry in entries {
+        follow(points, entry);
+        if let Some(n) = point_of(entry) {
+            raise(states, points, n);
+        }
+    }
+}
+
+/// The states of the points in a step of these entries. The error is want of memory.
+fn step_states(
+    alloc: Global,
+    points: &mut [Point],
+    entries: &[Entry],
+    before: usize,
+) -> Result<Vec<State>, AllocError>
+    requires numbered { All (λ (p : PointState). p.last ≤ before) points.old }
+    requires few { before + length entries.now ≤ 1048576 }
+    ensures bounded { OnOk result (All (λ (p : PointState). p.last ≤ before + length entries.now) points.new) }
+{
+    let mut states = Vec::new(alloc);
+    for point in points.iter() {
+        states.push(point.state())?;
+    }
+    follow_step(points, &mut states, entries, before);
+    Ok(states)
+}
+
+/// How the points of a history stood: in each step the greatest state, by its number, that the point had in it. The error
+/// is want of memory.
+pub fn follow_states(
+    alloc: Global,
+    points: usize,
+    entries: &[Entry],
+    axis: Axis,
+) -> Result<Bands, AllocError>
+    requires { length entries.now ≤ 1048576 }
+{
+    let steps = steps_of(axis);
+    let cuts = cuts(alloc, entries, axis, steps)?;
+    let mut stand = closed_points(alloc, points)?;
+    let mut states = Vec::new(alloc);
+    let mut done = 0;
+    for cut in &cuts {
+        let end = (*cut).min(entries.len()).max(done);
+        let step = step_states(alloc, &mut stand, &entries[done..end], done)?;
+        states.extend_from_slice(&step)?;
+        done = end;
+    }
+    Ok(Bands {
+        points,
+        steps,
+        states,
+    })
+}
