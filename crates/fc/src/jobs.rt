@@ -1,11 +1,12 @@
 //! What the program does for its words.
 ghost use Rattle.std.specs.Prelude.{◌≤◌};
 
+use crate::answers::{Answers, Incoming, Outgoing};
 use crate::faults::{
     Place, cannot_read, complain, out_of_memory, refuse_config, refuse_length, say, tell_cut,
-    tell_journal, tell_program, tell_text, tell_write,
+    tell_journal, tell_program, tell_text,
 };
-use crate::files::{Outlet, Source, Text, is_input, name_of, read_file};
+use crate::files::{Source, Text, is_input, name_of, read_file};
 use crate::loads::Loads;
 use crate::progress::{Progress, Watched};
 use crate::report::report_files;
@@ -18,7 +19,7 @@ use console::{
 };
 use decision_journal::JournalFault;
 use site_core::Config;
-use std::io::{self, BufReader, IsTerminal, Printer};
+use std::io::{self, BufReader, IsTerminal};
 use std::net::{Net, TcpListener, TcpStream};
 use std::sync::Wait;
 use std::thread::Threads;
@@ -148,7 +149,7 @@ fn status_of(
     word: &str,
     first: u64,
     read: Option<&io::Error>,
-    written: Option<&io::Error>,
+    answers: &Answers<'_>,
 ) -> u8 {
     let place = Place::of(word);
     match ended {
@@ -172,7 +173,7 @@ fn status_of(
             Some(error) => complain(rt, place, error, "N1"),
             None => complain(rt, place, &InputFault::Read, "N1"),
         },
-        Err(SessionFault::Write) => tell_write(rt, written),
+        Err(SessionFault::Write) => answers.tell_failure(rt),
         Err(SessionFault::ReadsSpent) => complain(rt, place, &InputFault::ReadsSpent, "N3"),
         Err(SessionFault::OutOfMemory) => return out_of_memory(rt),
     }
@@ -186,8 +187,13 @@ fn play_input(rt: &HostRuntime) -> io::Result<u8> {
             "fc: reading a configuration, a line --- and a script from standard input; fc --help tells more"
         );
     }
+    let answers = Answers::new(rt)?;
+    let incoming = Incoming {
+        source: Source::input(rt),
+        answers: &answers,
+    };
     let mut input = StreamIn {
-        reader: BufReader::new(rt.alloc(), Source::input(rt))?,
+        reader: BufReader::new(rt.alloc(), incoming)?,
         reads: 0,
         failures: 0,
         asked: 0,
@@ -198,9 +204,9 @@ fn play_input(rt: &HostRuntime) -> io::Result<u8> {
         Err(fault) => {
             let (ended, read) = (
                 Err(SessionFault::from(fault)),
-                input.reader.get_ref().failure(),
+                input.reader.get_ref().source.failure(),
             );
-            return Ok(status_of(rt, ended, "-", 1, read, None));
+            return Ok(status_of(rt, ended, "-", 1, read, &answers));
         }
     };
     let Some(text) = config_part(&head) else {
@@ -210,7 +216,7 @@ fn play_input(rt: &HostRuntime) -> io::Result<u8> {
         Ok(settings) => settings,
         Err(flaw) => return Ok(refuse_config(rt, "-", &flaw)),
     };
-    play_rest(rt, settings, input, lines_in(&head), left)
+    play_rest(rt, settings, input, &answers, lines_in(&head), left)
 }
 
 /// How many lines end in these bytes.
@@ -222,7 +228,8 @@ fn lines_in(bytes: &[u8]) -> u64 {
 fn play_rest(
     rt: &HostRuntime,
     settings: Settings,
-    input: StreamIn<BufReader<Source>>,
+    input: StreamIn<BufReader<Incoming<'_, '_>>>,
+    answers: &Answers<'_>,
     lines: u64,
     mut left: u32,
 ) -> io::Result<u8>
@@ -236,7 +243,7 @@ fn play_rest(
         progress,
         loads,
     };
-    let mut output = outlet(rt);
+    let mut output = outlet(answers);
     let ended = play_within(
         rt.alloc(),
         settings.config,
@@ -244,18 +251,15 @@ fn play_rest(
         &mut output,
         &mut left,
     );
-    let read = input.input.reader.get_ref().failure();
-    let written = output.writer.failure.as_ref();
-    Ok(status_of(rt, ended, "-", first, read, written))
+    let ended = answers.end(ended);
+    let read = input.input.reader.get_ref().source.failure();
+    Ok(status_of(rt, ended, "-", first, read, answers))
 }
 
-/// Standard output.
-fn outlet(rt: &HostRuntime) -> StreamOut<Outlet<Printer<'_, HostRuntime>>> {
+/// Standard output, where answers wait for the next read.
+fn outlet<'a, 'b>(answers: &'b Answers<'a>) -> StreamOut<Outgoing<'a, 'b>> {
     StreamOut {
-        writer: Outlet {
-            writer: io::writer(rt),
-            failure: None,
-        },
+        writer: Outgoing { answers },
         failures: 0,
     }
 }
@@ -304,9 +308,14 @@ fn play_files<'a>(rt: &'a HostRuntime, config: &str, script: &'a str) -> io::Res
     let is_silent = !rt.stdout().is_terminal();
     let progress = Progress::new(rt, is_silent, source.size());
     let loads = Some(Loads::new(rt, name_of(script), 1));
+    let answers = Answers::new(rt)?;
+    let incoming = Incoming {
+        source,
+        answers: &answers,
+    };
     let mut input = Watched {
         input: StreamIn {
-            reader: BufReader::new(rt.alloc(), source)?,
+            reader: BufReader::new(rt.alloc(), incoming)?,
             reads: 0,
             failures: 0,
             asked: 0,
@@ -314,12 +323,12 @@ fn play_files<'a>(rt: &'a HostRuntime, config: &str, script: &'a str) -> io::Res
         progress,
         loads,
     };
-    let mut output = outlet(rt);
+    let mut output = outlet(&answers);
     let ended = play(rt.alloc(), settings.config, &mut input, &mut output);
+    let ended = answers.end(ended);
     input.progress.clear();
-    let read = input.input.reader.get_ref().failure();
-    let written = output.writer.failure.as_ref();
-    Ok(status_of(rt, ended, script, 1, read, written))
+    let read = input.input.reader.get_ref().source.failure();
+    Ok(status_of(rt, ended, script, 1, read, &answers))
 }
 
 fn audit_files(rt: &HostRuntime, config: &str, journal: &str) -> io::Result<u8> {

@@ -1,6 +1,7 @@
 //! The program `fc`: words and files in, answers and an exit status out. All that it says is made by `console`.
 #![tactic(auto)]
 
+mod answers;
 mod faults;
 mod files;
 mod jobs;

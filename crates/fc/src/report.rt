@@ -33,11 +33,7 @@ pub fn report_files(rt: &HostRuntime, config: &str, journal: &str) -> io::Result
         Ok(entries) => entries,
         Err(fault) => return refuse_text(rt, journal, fault, input.input.reader.failure()),
     };
-    match audit(
-        rt.alloc(),
-        settings.config.copied(rt.alloc())?,
-        &entries,
-    ) {
+    match audit(rt.alloc(), settings.config.copied(rt.alloc())?, &entries) {
         Ok(site) => print_page(rt, &site),
         Err(_) => refuse_history(rt, journal, &settings.config, &entries),
     }

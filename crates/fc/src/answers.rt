@@ -1,0 +1,97 @@
+//! A play's answers, which leave together before more of its script is read.
+use crate::faults::tell_write;
+use crate::files::{Outlet, Source};
+use console::{Ended, SessionFault};
+use std::cell::RefCell;
+use std::io::{self, BufWriter, Error, ErrorKind, Printer, Read, Write};
+
+/// Where answers wait until standard output takes them.
+type Waiting<'a> = BufWriter<Outlet<Printer<'a, HostRuntime>>>;
+
+/// Answers that wait. An answer leaves before more of the script is read, so whoever waits for it never waits for long.
+#[derive(Drop)]
+pub struct Answers<'a> {
+    waiting: RefCell<Waiting<'a>>,
+}
+
+impl<'a> Answers<'a> {
+    /// None waits yet.
+    pub fn new(rt: &'a HostRuntime) -> io::Result<Answers<'a>> {
+        let outlet = Outlet {
+            writer: io::writer(rt),
+            failure: None,
+        };
+        Ok(Answers {
+            waiting: RefCell::new(BufWriter::new(rt.alloc(), outlet)?),
+        })
+    }
+
+    /// Lets all leave that wait.
+    fn let_go(&self) -> io::Result<()> {
+        match self.waiting.try_borrow_mut() {
+            Ok(mut waiting) => waiting.flush(),
+            // Nobody keeps them borrowed from one call to the next.
+            Err(_) => Err(Error::from(ErrorKind::WouldBlock)),
+        }
+    }
+
+    /// Takes a piece of an answer, where none failed to leave before.
+    fn add(&self, piece: &[u8]) -> io::Result<usize> {
+        match self.waiting.try_borrow_mut() {
+            Ok(mut waiting) => match &waiting.get_ref().failure {
+                Some(error) => Err(Error::from(error.kind())),
+                None => waiting.write(piece),
+            },
+            Err(_) => Err(Error::from(ErrorKind::WouldBlock)),
+        }
+    }
+
+    /// How a play ended, once its last answers have left.
+    pub fn end(&self, ended: Result<Ended, SessionFault>) -> Result<Ended, SessionFault> {
+        match (ended, self.let_go()) {
+            (Ok(_), Err(_)) => Err(SessionFault::Write),
+            (ended, _) => ended,
+        }
+    }
+
+    /// Says why they couldn't leave.
+    pub fn tell_failure(&self, rt: &HostRuntime) {
+        match self.waiting.try_borrow() {
+            Ok(waiting) => tell_write(rt, waiting.get_ref().failure.as_ref()),
+            Err(_) => tell_write(rt, None),
+        }
+    }
+}
+
+/// Takes a play's answers.
+#[derive(Drop)]
+pub struct Outgoing<'a, 'b> {
+    pub answers: &'b Answers<'a>,
+}
+
+impl Write for Outgoing<'_, '_> {
+    fn write(&mut self, buf: &[u8]) -> io::Result<usize> {
+        self.answers.add(buf)
+    }
+
+    fn flush(&mut self) -> io::Result<()> {
+        self.answers.let_go()
+    }
+}
+
+/// A script, of which no more is read before its answers have left.
+#[derive(Drop)]
+pub struct Incoming<'a, 'b> {
+    pub source: Source,
+    pub answers: &'b Answers<'a>,
+}
+
+impl Read for Incoming<'_, '_> {
+    fn read(&mut self, buf: &mut [u8]) -> io::Result<usize> {
+        // Where answers can't leave, no more is asked; the play's end tells why.
+        if self.answers.let_go().is_err() {
+            return Ok(0);
+        }
+        self.source.read(buf)
+    }
+}
