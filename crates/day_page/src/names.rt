@@ -6,19 +6,52 @@ use std::fmt;
 #[derive(Clone, Copy, Drop)]
 pub struct Escaped<'a>(pub &'a str);
 
+impl Escaped<'_> {
+    ghost use Rattle.std.specs.Prelude.{◌≡◌};
+
+    fn text(&self) -> &str
+        ensures { result.now ≡ self.now.0.now }
+    {
+        self.0
+    }
+}
+
 impl fmt::Display for Escaped<'_> {
+    ghost use Rattle.std.specs.Prelude.{Some};
+    ghost use Rattle.day_page.specs.Escaping.{escaped};
+
+    ghost output = { λ e. Some (escaped e.0.now) };
+
     fn fmt<W: fmt::Write>(&self, f: &mut fmt::Formatter<W>) -> fmt::Result {
-        for c in self.0.chars() {
-            match c {
-                '<' => f.write_str("&lt;")?,
-                '>' => f.write_str("&gt;")?,
-                '&' => f.write_str("&amp;")?,
-                '"' => f.write_str("&quot;")?,
-                '\'' => f.write_str("&#39;")?,
-                _ => f.write_char(c)?,
-            }
+        let text = self.text();
+        for c in text.chars() {
+            let mark = Mark(c);
+            write!(f, "{mark}")?;
         }
         Ok(())
+    }
+}
+
+/// A character of a page's text.
+#[derive(Clone, Copy, Drop)]
+struct Mark(char);
+
+impl fmt::Display for Mark {
+    ghost use Rattle.std.specs.Prelude.{Some};
+    ghost use Rattle.day_page.specs.Escaping.{escaped_char};
+
+    ghost output = { λ m. Some (escaped_char m.0) };
+
+    fn fmt<W: fmt::Write>(&self, f: &mut fmt::Formatter<W>) -> fmt::Result {
+        let c = self.0;
+        match c {
+            '<' => write!(f, "&lt;"),
+            '>' => write!(f, "&gt;"),
+            '&' => write!(f, "&amp;"),
+            '"' => write!(f, "&quot;"),
+            '\'' => write!(f, "&#39;"),
+            _ => write!(f, "{c}"),
+        }
     }
 }
 

@@ -287,7 +287,11 @@ impl fmt::Display for Versions<'_> {
             "<ul class=\"legend\"><li><i class=\"granted\">&#160;</i>granted</li>"
         )?;
         writeln!(f, "<li><i class=\"denied\">&#160;</i>denied</li></ul>")?;
-        write!(f, "{columns}{rows}<h3>By till</h3>{tills}")
+        write!(f, "{columns}{rows}")?;
+        if self.0.totals.granted > 0 || self.0.totals.denied > 0 {
+            write!(f, "<h3>By till</h3>{tills}")?;
+        }
+        Ok(())
     }
 }
 

@@ -17,11 +17,11 @@ h1{font-size:1.9rem;line-height:1.2;margin:.2rem 0 .4rem}\
 h2{font-size:1.3rem;margin:2.6rem 0 .6rem;border-top:1px solid var(--line);padding-top:1.2rem}\
 h3{font-size:1rem;margin:1.6rem 0 .4rem}\
 p{margin:.4rem 0}.audited{color:var(--soft);margin:0}.note{color:var(--soft);font-size:.9rem}\
-.figures{display:grid;list-style:none;padding:0;grid-template-columns:repeat(auto-fit,minmax(10rem,1fr));gap:.8rem;margin:1.4rem 0}\
+.figures{display:grid;list-style:none;padding:0;grid-template-columns:repeat(auto-fit,minmax(9.5rem,1fr));gap:.8rem;margin:1.4rem 0}\
 .figures li{background:var(--panel);border:1px solid var(--line);border-radius:.5rem;padding:.7rem .9rem}\
 .figures span{color:var(--soft);font-size:.85rem}\
-.figures b{display:block;font-size:1.5rem;font-weight:600;font-variant-numeric:tabular-nums;overflow-wrap:anywhere}\
-.wide{overflow-x:auto;margin:.8rem 0}.side{display:flex;flex-wrap:wrap;gap:0 3.5rem}\
+.figures b{display:block;font-size:1.25rem;font-weight:600;font-variant-numeric:tabular-nums;white-space:nowrap}\
+.wide{overflow-x:auto;margin:.8rem 0}.rows{max-height:30rem;overflow:auto}.side{display:flex;flex-wrap:wrap;gap:0 3.5rem}\
 svg{display:block;width:100%;min-width:36rem;height:auto}\
 svg text{fill:var(--text);font-size:14px}svg .soft{fill:var(--soft)}\
 svg .axis{stroke:var(--line);stroke-width:1;fill:none}\
@@ -42,4 +42,4 @@ tbody th{font-weight:500}.words{text-align:left;white-space:normal}\
 .p7{stroke:var(--p7);background:var(--p7)}.p8{stroke:var(--p8);background:var(--p8)}\
 @media(max-width:40rem){main{padding:1rem .7rem 3rem}h1{font-size:1.5rem}.figures b{font-size:1.2rem}th,td{padding-right:.55rem}}\
 @media print{main{max-width:none;padding:0}h2{break-after:avoid}.wide,tr,.figures li{break-inside:avoid}\
-.wide{overflow:visible}svg{min-width:0}*{print-color-adjust:exact;-webkit-print-color-adjust:exact}}";
+.wide,.rows{overflow:visible;max-height:none}svg{min-width:0}*{print-color-adjust:exact;-webkit-print-color-adjust:exact}}";

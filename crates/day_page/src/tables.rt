@@ -17,7 +17,7 @@ struct TableHead<'a> {
 impl fmt::Display for TableHead<'_> {
     fn fmt<W: fmt::Write>(&self, f: &mut fmt::Formatter<W>) -> fmt::Result {
         let id = self.id;
-        write!(f, "<div class=\"wide\"><table id=\"{id}\"><thead><tr>")?;
+        write!(f, "<div class=\"wide rows\"><table id=\"{id}\"><thead><tr>")?;
         for column in self.columns {
             let words = Escaped(*column);
             write!(f, "<th scope=\"col\">{words}</th>")?;

@@ -1,0 +1,241 @@
+#!/usr/bin/env python3
+"""Makes pages of journals by fc report, and holds their figures against a count over the journal's lines.
+
+usage: tools/report.py PROGRAM
+
+The journals are an empty one, that of a day with two tills, two rules, unpaid deliveries and refusals, and a long one of
+bench/script.awk. Where tidy is there, it has to find nothing; where Chromium is there, it has to open each page and to
+find the headline in it. What isn't there is left out, and said. The last line is 'N passed, M failed'.
+"""
+import html.parser
+import os
+import shutil
+import subprocess
+import sys
+import tempfile
+
+HERE = os.path.dirname(os.path.dirname(os.path.abspath(__file__)))
+MOST_BYTES = 2_000_000
+DAY = """load 0 0 79101800000000009500000000000000
+till 1 open 1
+till 1 open 2
+moment 1790000000
+disp 1 up 1
+till 1 release 1 8000
+disp 1 order
+disp 1 started
+disp 1 flow 2500 1390
+disp 1 down
+moment 1790003600
+till 2 lock 1 1
+till 1 clear 1 1
+till 2 clear 1 1
+disp 2 up 2
+till 2 release 2 6000
+disp 2 order
+disp 2 started
+disp 2 flow 1234 700
+disp 2 down
+load 0 0 b7000000000000009500000000000000
+till 1 release 1 3000
+till 1 show 9
+load 2 0 79101800000000009500000000000000
+till 2 price 1 1899
+till 1 stop 1
+"""
+
+
+class Page(html.parser.HTMLParser):
+    """The rows of each table of a page, by the table's name, and the headline's figures."""
+
+    def __init__(self, text):
+        super().__init__()
+        self.tables, self.figures, self.first, self.scripts = {}, {}, "", 0
+        self.rows, self.row, self.cell, self.tag, self.name = None, None, None, None, None
+        self.feed(text)
+
+    def handle_starttag(self, tag, attrs):
+        attrs = dict(attrs)
+        if tag in ("script", "link", "img", "iframe"):
+            self.scripts += 1
+        if tag == "table":
+            self.rows = self.tables.setdefault(attrs["id"], [])
+        elif tag == "tr":
+            self.row = []
+        elif tag in ("td", "th", "p", "span", "b"):
+            self.cell, self.tag = "", attrs.get("class", tag)
+
+    def handle_data(self, data):
+        if self.cell is not None:
+            self.cell += data
+
+    def handle_endtag(self, tag):
+        if tag in ("td", "th") and self.row is not None:
+            self.row.append(self.cell)
+        elif tag == "tr" and self.rows is not None:
+            self.rows.append(self.row)
+            self.row = None
+        elif tag == "table":
+            self.rows = None
+        elif tag == "p" and self.tag == "audited":
+            self.first = self.cell
+        elif tag == "span":
+            self.name = self.cell
+        elif tag == "b" and self.name is not None:
+            self.figures[self.name] = self.cell
+        if tag in ("td", "th", "p", "span", "b"):
+            self.cell = None
+
+
+def money(cents):
+    return f"{cents // 100:,}.{cents % 100:02}"
+
+
+def count(lines):
+    """What the lines of a journal come to, counted without fc."""
+    flow, last, unpaid, sold = {}, {}, {}, []
+    refused, decided, loads = {}, {}, []
+    for line in lines:
+        words = line.split(" = ")[0].split()
+        answer = line.split(" = ")[1].split(" ; ")[0].split()
+        _, _, moment, who, *asks = words
+        if answer[0].startswith("S"):
+            refused[answer[0]] = refused.get(answer[0], 0) + 1
+        if answer[0] in ("granted", "S24"):
+            key = (int(answer[-1]), asks[1], answer[0] == "granted")
+            decided[key] = decided.get(key, 0) + 1
+        if who == "disp" and answer[0] == "done":
+            point = asks[0]
+            if asks[1] == "flow":
+                flow[point] = (int(asks[2]), int(asks[3]))
+            elif asks[1] in ("down", "fault"):
+                end(point, flow, last, unpaid)
+        elif who == "till" and answer[0] == "done":
+            if asks[1] == "stop":
+                end(asks[2], flow, last, unpaid)
+            elif asks[1] == "clear":
+                amount, volume = unpaid.pop((asks[2], int(asks[3])))
+                sold.append((asks[0], asks[2], int(moment), amount, volume))
+        elif who.startswith("load") and answer[0] == "version":
+            loads.append((int(answer[1]), asks[0], words[0]))
+    return sold, unpaid, refused, decided, loads
+
+
+def end(point, flow, last, unpaid):
+    amount, volume = flow.pop(point, (0, 0))
+    if amount:
+        last[point] = last.get(point, 0) + 1
+        unpaid[(point, last[point])] = (amount, volume)
+
+
+def cells(sales):
+    amounts = sum(sale[3] for sale in sales), sum(sale[4] for sale in sales)
+    return [f"{len(sales):,}", money(amounts[0]), money(amounts[1])]
+
+
+class Checks:
+    def __init__(self):
+        self.passed = self.failed = 0
+
+    def same(self, what, got, want):
+        if got == want:
+            self.passed += 1
+        else:
+            self.failed += 1
+            print(f"{what}: {got}, wanted {want}")
+
+
+def compare(checks, name, page, lines):
+    sold, unpaid, refused, decided, loads = count(lines)
+    checks.same(f"{name}: first line", page.first, f"{len(lines):,} entries, audited")
+    checks.same(f"{name}: scripts and files", page.scripts, 0)
+    figures = page.figures
+    total = cells(sold)
+    checks.same(f"{name}: headline", [figures["Sales"], figures["Sold"], figures["Litres sold"]], total)
+    checks.same(f"{name}: unpaid", figures["Unpaid at the end"], money(sum(a for a, _ in unpaid.values())))
+    granted = sum(n for (_, _, is_granted), n in decided.items() if is_granted)
+    denied = sum(n for (_, _, is_granted), n in decided.items() if not is_granted)
+    checks.same(f"{name}: decisions", [figures["Granted by rules"], figures["Denied by rules"]],
+                [f"{granted:,}", f"{denied:,}"])
+    for row in page.tables["by-point"][1:]:
+        part = sold if row[0] == "All" else [s for s in sold if s[1] == row[0]]
+        checks.same(f"{name}: point {row[0]}", row[1:4], cells(part))
+    tills = {s[0] for s in sold}
+    checks.same(f"{name}: tills", {row[0] for row in page.tables.get("by-till", [[]])[1:]}, tills)
+    for row in page.tables.get("by-till", [[]])[1:]:
+        checks.same(f"{name}: till {row[0]}", row[1:], cells([s for s in sold if s[0] == row[0]]))
+    for row in page.tables.get("by-hour", [[]])[1:]:
+        part = [s for s in sold if s[2] and s[2] // 3600 % 24 == int(row[0])]
+        checks.same(f"{name}: hour {row[0]}", row[1:], cells(part))
+    checks.same(f"{name}: versions", len(page.tables.get("versions", [[]])) - 1, len(loads))
+    for row, (version, slot, entry) in zip(page.tables.get("versions", [[]])[1:], loads):
+        want = [str(version), slot, entry]
+        for kind in ("release", "preset", "price"):
+            want += [str(decided.get((version, kind, True), 0)), str(decided.get((version, kind, False), 0))]
+        checks.same(f"{name}: version {version}", row[:3] + row[4:], want)
+
+
+def journal_of(program, site, script):
+    """The journal of a script: what its last line answers."""
+    answers = subprocess.run([program, "play", site, script], capture_output=True, text=True, check=True).stdout
+    return [line for line in answers.splitlines() if " = " in line]
+
+
+def main():
+    program = os.path.abspath(sys.argv[1])
+    two = os.path.join(HERE, "examples/sites/two_points.toml")
+    station = os.path.join(HERE, "bench/station.toml")
+    checks = Checks()
+    with tempfile.TemporaryDirectory() as work:
+        script = os.path.join(work, "script")
+        with open(script, "w") as file:
+            file.write(DAY + "journal\n")
+        day = journal_of(program, two, script)
+        awk = ["awk", "-v", "lines=30000", "-f", os.path.join(HERE, "bench/script.awk")]
+        with open(script, "w") as file:
+            file.write(subprocess.run(awk, capture_output=True, text=True, check=True).stdout + "journal\n")
+        long = journal_of(program, station, script)
+        for name, site, lines in (("empty", two, []), ("day", two, day), ("long", station, long)):
+            show(checks, program, work, name, site, lines)
+        faulty(checks, program, two, work, day)
+    print(f"{checks.passed} passed, {checks.failed} failed")
+    return 1 if checks.failed or not checks.passed else 0
+
+
+def show(checks, program, work, name, site, lines):
+    journal, path = os.path.join(work, "journal"), os.path.join(work, f"{name}.html")
+    with open(journal, "w") as file:
+        file.writelines(line + "\n" for line in lines)
+    done = subprocess.run([program, "report", site, journal], capture_output=True, text=True)
+    checks.same(f"{name}: status", done.returncode, 0)
+    with open(path, "w") as file:
+        file.write(done.stdout)
+    checks.same(f"{name}: under 2 MB", len(done.stdout) < MOST_BYTES, True)
+    compare(checks, name, Page(done.stdout), lines)
+    if shutil.which("tidy"):
+        said = subprocess.run(["tidy", "-q", "-e", path], capture_output=True, text=True).stderr
+        checks.same(f"{name}: tidy", said, "")
+    else:
+        print(f"report.py: tidy is not there: {name} is not validated")
+    browser = shutil.which("chromium") or shutil.which("chromium-browser")
+    if browser:
+        words = [browser, "--headless", "--no-sandbox", "--disable-gpu", "--dump-dom", f"file://{path}"]
+        dom = subprocess.run(words, capture_output=True, text=True, timeout=120).stdout
+        checks.same(f"{name}: browser", f"<p class=\"audited\">{len(lines):,} entries, audited</p>" in dom, True)
+    else:
+        print(f"report.py: no Chromium is there: {name} is not opened in a browser")
+
+
+def faulty(checks, program, site, work, day):
+    """A journal with a fault has no page, and its line is its audit's."""
+    journal = os.path.join(work, "journal")
+    for change in (("granted 8000", "granted 9000"), ("= done", "= gone"), ("\n2 ", "\n3 ")):
+        text = "".join(line + "\n" for line in day).replace(*change, 1)
+        with open(journal, "w") as file:
+            file.write(text)
+        said = [subprocess.run([program, word, site, journal], capture_output=True, text=True) for word in ("audit", "report")]
+        checks.same("a fault", (said[1].returncode, said[1].stdout), (1, said[0].stdout))
+
+
+if __name__ == "__main__":
+    sys.exit(main())
