@@ -161,7 +161,8 @@ pub fn assemble(alloc: Global, text: &[u8]) -> Result<Code, AsmFault>
     }
 }
 
-/// The canonical text of a program spells the program, and nothing else. The function does nothing: its contract is the law.
+/// The canonical text of a program spells the program, and nothing else. The function does nothing: its contract is
+/// the law.
 pub fn law_of_canonical_text()
     ensures { RoundTrip }
 {}

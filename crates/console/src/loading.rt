@@ -16,8 +16,8 @@ pub struct RefusedLoad {
     pub program: RefusedProgram,
 }
 
-/// Why the program of a script's line is refused, where the line is a load; the line is without its LF. None where it is another line, or
-/// where its program is accepted. The error is want of memory.
+/// Why the program of a script's line is refused, where the line is a load; the line is without its LF. None where it
+/// is another line, or where its program is accepted. The error is want of memory.
 pub fn refused_load(alloc: Global, line: &[u8]) -> Result<Option<RefusedLoad>, AllocError>
     ensures { IfOk result (λ found. IfSome found (λ load. IsRefusedLoad line.now load.slot load.program.refusal (option_map string_bytes load.program.line))) }
 {

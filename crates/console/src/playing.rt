@@ -36,7 +36,8 @@ pub fn play_within<I: LineIn, O: LineOut>(
     talk_within(alloc, input, output, &Player, &mut moment, &mut site, left)
 }
 
-/// Answers a script line by line: a session over the configuration's site, from moment 0 on, of at most 67,108,864 reads.
+/// Answers a script line by line: a session over the configuration's site, from moment 0 on, of at most 67,108,864
+/// reads.
 ///
 /// After a fault a beginning of the answers is out.
 pub fn play<I: LineIn, O: LineOut>(
@@ -56,11 +57,11 @@ pub fn play<I: LineIn, O: LineOut>(
     play_within(alloc, config, input, output, &mut left)
 }
 
-/// Whatever sizes the reads of a script give, the same is answered: two plays of the same bytes on one configuration that
-/// both end wrote the same and left the same site, where neither was refused memory at a line.
+/// Whatever sizes the reads of a script give, the same is answered: two plays of the same bytes on one configuration
+/// that both end wrote the same and left the same site, where neither was refused memory at a line.
 ///
-/// `play` tells what it took and wrote by the bytes that its input has, whatever its device, so by this law how a script
-/// is cut changes nothing.
+/// `play` tells what it took and wrote by the bytes that its input has, whatever its device, so by this law how a
+/// script is cut changes nothing.
 pub fn law_of_the_cut()
     ensures { PlaysAlike }
 {}

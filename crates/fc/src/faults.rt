@@ -1,5 +1,5 @@
-//! What is said where something is refused or fails: one line of words on standard error, with the file and the place. Whether anybody
-//! reads it changes no exit status.
+//! What is said where something is refused or fails: one line of words on standard error, with the file and the
+//! place. Whether anybody reads it changes no exit status.
 use crate::files::name_of;
 use crate::jobs::{FAILED, REFUSED};
 use console::{

@@ -13,7 +13,7 @@ use crate::report::report_files;
 use crate::serve::{JournalTo, serve_settings};
 use bpf_model::context::Layout;
 use console::{
-    Ended, Job, MOST_BYTES, READS, SessionFault, Settings, asm_file, audit_journal, config_part,
+    Ended, Job, JournalFlaw, MOST_BYTES, READS, SessionFault, Settings, asm_file, audit_journal, config_part,
     dis_file, dis_flaw, dis_units_file, journal_fault_line, journal_flaw, play, play_within,
     read_head, read_settings, verify_file, verify_flaw,
 };
@@ -141,8 +141,8 @@ fn explain(rt: &HostRuntime, word: &str, tell: Tell, text: &[u8]) -> io::Result<
     Ok(())
 }
 
-/// The status of a play of the script that a word names, whose first line has this number, by how it ended; what cut it off is said on
-/// standard error, with the failures of its devices.
+/// The status of a play of the script that a word names, whose first line has this number, by how it ended; what cut
+/// it off is said on standard error, with the failures of its devices.
 fn status_of(
     rt: &HostRuntime,
     ended: Result<Ended, SessionFault>,
@@ -377,24 +377,24 @@ fn explain_journal(rt: &HostRuntime, word: &str, config: Config) -> io::Result<(
     Ok(())
 }
 
-/// Says why a journal isn't read, and answers the status; a text that is none has its line on standard output.
+/// Says why a journal can't be read, and answers the status; a text that is none has its line on standard output too.
 pub fn tell_journal_fault(
     rt: &HostRuntime,
     word: &str,
     fault: JournalFault,
     failure: Option<&io::Error>,
 ) -> io::Result<u8> {
-    if fault == JournalFault::OutOfMemory {
-        return Ok(out_of_memory(rt));
+    match (fault, failure) {
+        (JournalFault::BadEntry(line), _) => {
+            tell_journal(rt, word, Some(line), &JournalFlaw::Text(fault));
+        }
+        (JournalFault::Cut, _) => tell_journal(rt, word, None, &JournalFlaw::Text(fault)),
+        (JournalFault::Device, Some(error)) => complain(rt, Place::of(word), error, "J3"),
+        (JournalFault::Device, None) => complain(rt, Place::of(word), &fault, "J3"),
+        (JournalFault::OutOfMemory, _) => return Ok(out_of_memory(rt)),
     }
     match journal_fault_line(rt.alloc(), fault)? {
         Some(told) => Ok(say(rt, &told.text, told.status)),
-        None => {
-            match failure {
-                Some(error) => complain(rt, Place::of(word), error, "J3"),
-                None => complain(rt, Place::of(word), &fault, "J3"),
-            }
-            Ok(FAILED)
-        }
+        None => Ok(FAILED),
     }
 }

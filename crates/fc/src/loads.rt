@@ -6,8 +6,8 @@ use std::alloc::AllocError;
 /// The longest line that asks for something, with its LF.
 const LONGEST: usize = 8_401;
 
-/// Looks at each line of a script as it is read, and tells on standard error why the program of a load is refused. The script's answers
-/// have the V line in any case.
+/// Looks at each line of a script as it is read, and tells on standard error why the program of a load is refused.
+/// The script's answers have the V line in any case.
 #[derive(Drop)]
 pub struct Loads<'a> {
     rt: &'a HostRuntime,

@@ -54,7 +54,8 @@ impl<'a> Progress<'a> {
         }
     }
 
-    /// Renews the line: the lines so far, and where the size is known the part of it and the time that the rest will take.
+    /// Renews the line: the lines so far, and where the size is known the part of it and the time that the rest will
+    /// take.
     fn say_how_far(&mut self) {
         let (lines, percent, left) = (self.lines, self.percent(), self.seconds_left());
         if let Some(errors) = &mut self.to {

@@ -1,7 +1,7 @@
 //! The page of an audited journal.
 use crate::faults::out_of_memory;
-use crate::jobs::{DONE, settings_and};
-use crate::kept::{refuse_history, refuse_text};
+use crate::jobs::{DONE, settings_and, tell_journal_fault};
+use crate::kept::refuse_history;
 use crate::progress::{Progress, Watched};
 use day_page::Page;
 use decision_journal::read_entries;
@@ -31,7 +31,7 @@ pub fn report_files(rt: &HostRuntime, config: &str, journal: &str) -> io::Result
     input.progress.clear();
     let entries = match read {
         Ok(entries) => entries,
-        Err(fault) => return refuse_text(rt, journal, fault, input.input.reader.failure()),
+        Err(fault) => return tell_journal_fault(rt, journal, fault, input.input.reader.failure()),
     };
     match audit(rt.alloc(), settings.config.copied(rt.alloc())?, &entries) {
         Ok(site) => print_page(rt, &site),

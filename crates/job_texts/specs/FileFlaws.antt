@@ -1,7 +1,9 @@
 -- Definitions: what is told of a program file that is refused (this profile).
-use Rattle.std.specs.Prelude.{◌≡◌, ℕ, List, Result, Ok, Err, string_bytes, option_map}
+use Rattle.std.specs.Prelude.{◌≡◌, ℕ, List, Some, Result, Ok, Err, string_bytes, option_map}
 use Rattle.bpf_model.specs.declared.context.Layout.{Layout}
-use Rattle.bpf_model.specs.Program.{as_loaded}
+use Rattle.bpf_model.specs.Program.{IsGood, as_loaded}
+use Rattle.bpf_model.specs.declared.instruction.Unit.{Unit as ProgramUnit}
+use Rattle.bpf_model.specs.Reading.{units}
 use Rattle.bpf_decode.specs.Faults.{IsRefusedFor}
 use Rattle.bpf_decode.specs.declared.DecodeFault.{DecodeFault}
 use Rattle.reg_types.specs.declared.refusal.Refusal.TheVariants.{Decode}
@@ -30,3 +32,19 @@ DisFlawOf read flaw = ⊥
 
 abbrev pub IsDisFlaw : List ℕ → ProgramFlaw → Type 0
 IsDisFlaw file flaw = DisFlawOf (program_in file) flaw
+
+-- the file's program is good for contexts of this layout
+abbrev pub AcceptedOf : Result (List ℕ) ProgramFileFault → ℕ → Layout → Type 0
+AcceptedOf (Ok bytes) counters layout = IsGood (as_loaded bytes counters layout)
+AcceptedOf (Err fault) counters layout = ⊥
+
+abbrev pub IsAccepted : List ℕ → ℕ → Layout → Type 0
+IsAccepted file counters layout = AcceptedOf (program_in file) counters layout
+
+-- the file's bytes are units
+abbrev pub ShownOf : Result (List ℕ) ProgramFileFault → Type 0
+ShownOf (Ok bytes) = (code : List ProgramUnit) × (units bytes ≡ Some code)
+ShownOf (Err fault) = ⊥
+
+abbrev pub IsShown : List ℕ → Type 0
+IsShown file = ShownOf (program_in file)

@@ -1,11 +1,13 @@
 -- Definitions: what is told of a program that is refused (this profile).
-use Rattle.std.specs.Prelude.{◌≡◌, ◌==◌, ◌⊎◌, ℕ, ℤ, List, Option, Some, None, slice_get, if◌then◌else◌}
+use Rattle.std.specs.Prelude.{◌≡◌, ◌≢◌, ◌==◌, ◌⊎◌, ℕ, ℤ, List, Option, Some, None, slice_get, if◌then◌else◌}
 use Rattle.bpf_model.specs.declared.instruction.Unit.{Unit as ProgramUnit}
 use Rattle.bpf_model.specs.declared.instruction.Unit.TheVariants.{First, Second}
 use Rattle.bpf_model.specs.Program.{ProgramText}
 use Rattle.bpf_model.specs.Reading.{units}
 use Rattle.bpf_decode.specs.declared.DecodeFault.{DecodeFault}
+use Rattle.bpf_decode.specs.declared.DecodeFault.TheVariants.{OutOfMemory}
 use Rattle.bpf_decode.specs.Faults.{IsRefusedFor}
+use Rattle.bpf_asm.specs.Program.{Spells}
 use Rattle.bpf_asm.specs.Numbered.{line_of_unit}
 use Rattle.helpers.specs.declared.Kind.{Kind}
 use Rattle.helpers.specs.Calls.{signature}
@@ -38,13 +40,22 @@ abbrev pub kind_wanted : List ProgramUnit → Refusal → Option Kind
 kind_wanted code (OfType (BadArgument unit argument)) = wanted_by (slice_get code unit) argument
 kind_wanted code refusal = None
 
--- The line is that of the instruction at the unit, where the bytes are units; where they are refused as such nothing is said of it.
+-- the decoder refuses the bytes, and not for want of memory
+abbrev pub AreNoUnits : List ℕ → Type 0
+AreNoUnits bytes = (fault : DecodeFault) × (fault ≢ OutOfMemory) × IsRefusedFor bytes fault
+
+-- The line is that of the instruction at the unit, where the bytes are units; where they are none nothing is said of it.
 abbrev pub NamesLine : List ℕ → Option ℕ → Option (List ℕ) → Type 0
 NamesLine bytes None line = line ≡ None
 NamesLine bytes (Some unit) line =
-    ((code : List ProgramUnit) × (units bytes ≡ Some code) × (line ≡ line_of_unit code unit)) ⊎ ((fault : DecodeFault) × IsRefusedFor bytes fault)
+    ((code : List ProgramUnit) × (units bytes ≡ Some code) × (line ≡ line_of_unit code unit)) ⊎ AreNoUnits bytes
+
+-- the text spells a program
+abbrev pub IsSpelling : List ℕ → Type 0
+IsSpelling text = (code : List ProgramUnit) × Spells text code
 
 -- the program's own refusal is told, with the line of the instruction that it names
 pub record IsExplained (p : ProgramText) (refusal : Refusal) (line : Option (List ℕ)) : Type 0 where
   pub refused : IsRefused p refusal
+  pub numbered : shown_by refusal ≢ None
   pub line_is : NamesLine p.bytes (unit_in (shown_by refusal)) line

@@ -51,8 +51,8 @@ fn asm_text(alloc: Global, text: &[u8]) -> Result<Told, AllocError>
     }
 }
 
-/// The units that an assembler text spells, one a line of 16 hexadecimal digits, with status 0; or with status 1 `L1` for
-/// a text of over 65,536 bytes, or the text's first fault: `A1 LINE` to `A3 LINE`, or `A4`.
+/// The units that an assembler text spells, one a line of 16 hexadecimal digits, with status 0; or with status 1 `L1`
+/// for a text of over 65,536 bytes, or the text's first fault: `A1 LINE` to `A3 LINE`, or `A4`.
 pub fn asm_file(alloc: Global, text: &[u8]) -> Result<Told, AllocError>
     ensures { IfOk result (AsmTells text.now) }
 {
@@ -92,8 +92,9 @@ fn dis_bytes(alloc: Global, bytes: &[u8]) -> Result<Told, AllocError>
     }
 }
 
-/// A program file as assembler text, with status 0; or with status 1 `L1` for a file of over 65,536 bytes, `H1` for one of
-/// other bytes than digits and blanks, or the V line of bytes that are no units. Jumps and types aren't judged.
+/// A program file as assembler text, with status 0; or with status 1 `L1` for a file of over 65,536 bytes, `H1` for
+/// one of other bytes than digits and blanks, or the V line of bytes that are no units. Jumps and types aren't
+/// judged.
 pub fn dis_file(alloc: Global, file: &[u8]) -> Result<Told, AllocError>
     ensures { IfOk result (DisTells file.now) }
 {

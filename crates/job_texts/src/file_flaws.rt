@@ -1,6 +1,6 @@
 //! Why a program file is refused, in words.
-ghost use Rattle.std.specs.Prelude.{IfOk, IfSome};
-ghost use Rattle.job_texts.specs.FileFlaws.{IsVerifyFlaw, IsDisFlaw};
+ghost use Rattle.std.specs.Prelude.{IfOk, MatchOption};
+ghost use Rattle.job_texts.specs.FileFlaws.{IsAccepted, IsShown, IsVerifyFlaw, IsDisFlaw};
 
 use crate::reasons::{RefusedProgram, explain_refusal, refused_program};
 use bpf_decode::{DecodeFault, decode};
@@ -18,14 +18,15 @@ pub enum ProgramFlaw {
     Program(RefusedProgram),
 }
 
-/// Why a program file is refused, as `verify_file` does; none where its program is accepted. The error is want of memory.
+/// Why a program file is refused, as `verify_file` does; none where its program is accepted. The error is want of
+/// memory.
 pub fn verify_flaw(
     alloc: Global,
     file: &[u8],
     counters: u32,
     context: Layout,
 ) -> Result<Option<ProgramFlaw>, AllocError>
-    ensures { IfOk result (λ found. IfSome found (IsVerifyFlaw file.now counters context)) }
+    ensures { IfOk result (λ found. MatchOption found (IsAccepted file.now counters context) (IsVerifyFlaw file.now counters context)) }
 {
     match read_program(alloc, file) {
         Ok(bytes) => match refused_program(alloc, &bytes, counters, context)? {
@@ -39,7 +40,7 @@ pub fn verify_flaw(
 
 /// Why a program file can't be shown as text, as `dis_file` refuses it; none where it can. The error is want of memory.
 pub fn dis_flaw(alloc: Global, file: &[u8]) -> Result<Option<ProgramFlaw>, AllocError>
-    ensures { IfOk result (λ found. IfSome found (IsDisFlaw file.now)) }
+    ensures { IfOk result (λ found. MatchOption found (IsShown file.now) (IsDisFlaw file.now)) }
 {
     let bytes = match read_program(alloc, file) {
         Ok(bytes) => bytes,

@@ -32,8 +32,8 @@ pub enum JournalFlaw {
     NoEntry,
 }
 
-/// The site of a configuration after these entries and the event of a further one; none where the entries aren't its history, or where it
-/// takes no such event. The error is want of memory.
+/// The site of a configuration after these entries and the event of a further one; none where the entries aren't its
+/// history, or where it takes no such event. The error is want of memory.
 fn answered_after(
     alloc: Global,
     config: Config,
@@ -96,8 +96,8 @@ fn program_flaw(alloc: Global, act: &Act, refusal: Refusal) -> Result<JournalFla
     }
 }
 
-/// Why entries are no history of a site of this configuration, with the place of the first that is at fault; none where they are one. The
-/// error is want of memory.
+/// Why entries are no history of a site of this configuration, with the place of the first that is at fault; none
+/// where they are one. The error is want of memory.
 pub fn entries_flaw(
     alloc: Global,
     config: Config,
@@ -127,7 +127,8 @@ pub fn entries_flaw(
     Ok(Some((place, flaw)))
 }
 
-/// Why the journal that a device gives is none of a site of this configuration, with the line at fault, if one is; none where it is one.
+/// Why the journal that a device gives is none of a site of this configuration, with the line at fault, if one is;
+/// none where it is one.
 ///
 /// `Device` where a read failed or the reads ran out, `OutOfMemory` for want of memory; nothing else refuses.
 pub fn journal_flaw<I: LineIn>(

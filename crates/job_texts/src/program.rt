@@ -50,9 +50,9 @@ fn verify_bytes(
     }
 }
 
-/// Whether a program file's program is accepted for contexts of this layout, with bit c of `counters` for each counter c
-/// that it declares: `accepted UNITS` with status 0, or with status 1 `L1` for a file of over 65,536 bytes, `H1` for one
-/// of other bytes than digits and blanks, or the V line of a refusal that the bytes show.
+/// Whether a program file's program is accepted for contexts of this layout, with bit c of `counters` for each
+/// counter c that it declares: `accepted UNITS` with status 0, or with status 1 `L1` for a file of over 65,536 bytes,
+/// `H1` for one of other bytes than digits and blanks, or the V line of a refusal that the bytes show.
 pub fn verify_file(
     alloc: Global,
     file: &[u8],

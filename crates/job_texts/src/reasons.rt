@@ -1,12 +1,12 @@
 //! Why a program or a text of the assembler is refused, in words.
-ghost use Rattle.std.specs.Prelude.{◌≡◌, IfOk, IfSome, IsNone, MatchOption, option_map, string_bytes, length};
+ghost use Rattle.std.specs.Prelude.{◌≡◌, ◌↔◌, IfOk, IfSome, IsTrue, MatchOption, Some, option_map, string_bytes};
 ghost use Rattle.bpf_model.specs.Program.{IsGood, as_loaded};
 ghost use Rattle.bpf_model.specs.Reading.{units};
 ghost use Rattle.bpf_asm.specs.Flaws.{Explains};
 ghost use Rattle.bpf_asm.specs.Program as asm;
 ghost use Rattle.reg_types.specs.Refusals.{shown_by};
 ghost use Rattle.reg_types.specs.Shown.{IsRefused};
-ghost use Rattle.job_texts.specs.Reasons.{NamesLine, IsExplained, unit_in, kind_wanted, wanted_at};
+ghost use Rattle.job_texts.specs.Reasons.{AreNoUnits, IsSpelling, NamesLine, IsExplained, unit_in, kind_wanted, wanted_at};
 
 use bpf_asm::{AsmFault, AsmFlaw, assemble, explain, instruction_line};
 use bpf_decode::{Code, DecodeFault, Unit, decode};
@@ -16,7 +16,8 @@ use reg_types::{Layout, Refusal, TypeFault, verify};
 use std::alloc::{AllocError, Global};
 use std::fmt;
 
-/// Why a program is refused: the refusal, the line of the instruction that it is about, and of an argument of a helper what it has to be.
+/// Why a program is refused: the refusal, the line of the instruction that it is about, and of an argument of a
+/// helper what it has to be.
 #[derive(Debug, Drop)]
 pub struct RefusedProgram {
     pub refusal: Refusal,
@@ -107,8 +108,30 @@ fn kind_of(helper: i32, argument: u32) -> Option<Kind>
     }
 }
 
-/// Why bytes are no program, where they are refused so: the line is that of the instruction at the unit that the refusal names, where the
-/// bytes are units at all. The error is want of memory.
+fn is_memory(fault: DecodeFault) -> bool
+    ensures { IsTrue result ↔ (fault ≡ DecodeFault.OutOfMemory) }
+{
+    fault == DecodeFault::OutOfMemory
+}
+
+/// The units of bytes; none where they are none.
+fn units_of(alloc: Global, bytes: &[u8]) -> Result<Option<Code>, AllocError>
+    ensures { IfOk result (λ found. MatchOption found (AreNoUnits bytes.now) (λ code. units bytes.now ≡ Some code)) }
+{
+    match decode(alloc, bytes) {
+        Ok(code) => Ok(Some(code)),
+        Err(fault) => {
+            if is_memory(fault) {
+                Err(AllocError)
+            } else {
+                Ok(None)
+            }
+        }
+    }
+}
+
+/// Why bytes are no program, where they are refused so: the line is that of the instruction at the unit that the
+/// refusal names, where the bytes are units at all. The error is want of memory.
 pub fn explain_refusal(
     alloc: Global,
     bytes: &[u8],
@@ -124,8 +147,8 @@ pub fn explain_refusal(
             wanted: None,
         });
     };
-    match decode(alloc, bytes) {
-        Ok(code) => {
+    match units_of(alloc, bytes)? {
+        Some(code) => {
             let line = instruction_line(alloc, &code, unit)?;
             let wanted = wanted_by(&code, refusal);
             Ok(RefusedProgram {
@@ -134,8 +157,7 @@ pub fn explain_refusal(
                 wanted,
             })
         }
-        Err(DecodeFault::OutOfMemory) => Err(AllocError),
-        Err(_) => {
+        None => {
             let line = digits_of(alloc, bytes, unit)?;
             Ok(RefusedProgram {
                 refusal,
@@ -160,15 +182,19 @@ pub fn refused_program(
             let _ = program.bytes();
             Ok(None)
         }
-        Err(Refusal::OutOfMemory) => Err(AllocError),
-        Err(refusal) => Ok(Some(explain_refusal(alloc, bytes, refusal)?)),
+        Err(refusal) => {
+            if refusal.shown().is_none() {
+                return Err(AllocError);
+            }
+            Ok(Some(explain_refusal(alloc, bytes, refusal)?))
+        }
     }
 }
 
-/// Why a text of the assembler is refused: its fault, and what that names of the text; none where it spells a program. The error is want
-/// of memory.
+/// Why a text of the assembler is refused: its fault, and what that names of the text; none where it spells a
+/// program. The error is want of memory.
 pub fn asm_flaw(alloc: Global, text: &[u8]) -> Result<Option<(AsmFault, AsmFlaw<'_>)>, AllocError>
-    ensures { IfOk result (λ found. IfSome found (λ p. asm.IsRefused text.now p.0 × Explains text.now p.0 p.1)) }
+    ensures { IfOk result (λ found. MatchOption found (IsSpelling text.now) (λ p. asm.IsRefused text.now p.0 × Explains text.now p.0 p.1)) }
 {
     match assemble(alloc, text) {
         Ok(_) => Ok(None),

@@ -235,7 +235,8 @@ fn refused_journals_are_explained(rt: HostRuntime) -> Result<(), Fail> {
     Ok(())
 }
 
-/// An entry of a run in slot 0 of version 1 that left so much in r0, with one byte of its context set and one counter's counts.
+/// An entry of a run in slot 0 of version 1 that left so much in r0, with one byte of its context set and one
+/// counter's counts.
 fn entry_of(r0: u64, byte: usize, count: usize) -> Entry {
     let mut bytes = [0; 64];
     if byte < 64 {
