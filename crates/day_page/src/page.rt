@@ -222,10 +222,10 @@ impl fmt::Display for PointSales<'_> {
             f,
             "{bars}<div class=\"side\"><div><h3>By point</h3>{rows}</div>"
         )?;
-        writeln!(
-            f,
-            "<div><h3>By the till that cleared</h3>{tills}</div></div>"
-        )
+        if self.0.totals.sold.count > 0 {
+            write!(f, "<div><h3>By the till that cleared</h3>{tills}</div>")?;
+        }
+        writeln!(f, "</div>")
     }
 }
 

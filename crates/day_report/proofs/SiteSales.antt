@@ -162,10 +162,11 @@ reverse-more entry past = reverse-append (entry ∷ []) past
 entry-tells : (config : ConfigValue) (past : List Entry) (b : SiteState) (entry : Entry) (e : Effect) → entry ≡ entry_of past entry.pass entry.moment entry.act e → Tells b entry.act e → (with_entry b.points entry ≡ e.after.points) × (e.after.cleared ≡ b.cleared + cents_of (paid b.points (clearing_of entry.act entry.reply))) × (e.after.clears ≡ b.clears + one_of (paid b.points (clearing_of entry.act entry.reply)))
 unfolding with_entry
 entry-tells config past b entry e is tells =
-    let answered : entry.reply ≡ e.reply = ap (λ (x : Entry). x.reply) is in
-    (ap (λ r. with_act b.points entry.act r) answered ∙ tells.points,
-     tells.cleared ∙ ap (λ r. b.cleared + cents_of (paid b.points (clearing_of entry.act r))) (sym answered),
-     tells.clears ∙ ap (λ r. b.clears + one_of (paid b.points (clearing_of entry.act r))) (sym answered))
+    let answered : entry.reply ≡ e.reply = ap (λ (x : Entry). x.reply) is in (
+      ap (λ r. with_act b.points entry.act r) answered ∙ tells.points,
+      tells.cleared ∙ ap (λ r. b.cleared + cents_of (paid b.points (clearing_of entry.act r))) (sym answered),
+      tells.clears ∙ ap (λ r. b.clears + one_of (paid b.points (clearing_of entry.act r))) (sym answered),
+    )
 
 -- a walk keeps how many points there are
 opening-long : (points : List (ℕ × ℕ)) → length (map (λ (_ : ℕ × ℕ). fresh_point) points) ≡ length points
@@ -232,12 +233,12 @@ comes-more config past b s entry h is leaves =
 
 comes : (config : ConfigValue) (past : List Entry) (s : SiteState) → Legal config past s → Comes config past s
 comes config [] s l = record {
-      points = same-points config.points ∙ ap (λ (x : SiteState). x.points) (sym l);
-      count = ap (λ (x : SiteState). x.clears) (sym l);
-      cents = ap (λ (x : SiteState). x.cleared) (sym l);
-      long = ap (λ (x : SiteState). length x.points) l ∙ opening-long config.points;
-      fits = tt;
-    }
+  points = same-points config.points ∙ ap (λ (x : SiteState). x.points) (sym l);
+  count = ap (λ (x : SiteState). x.clears) (sym l);
+  cents = ap (λ (x : SiteState). x.cleared) (sym l);
+  long = ap (λ (x : SiteState). length x.points) l ∙ opening-long config.points;
+  fits = tt;
+}
 comes config (entry ∷ past) s l = comes-more config past l.0 s entry (comes config past l.0 l.1) l.3.enters l.3.leaves
 
 -- ---- sums by a key
@@ -259,11 +260,11 @@ by-first a n x v false is least less later =
     sum_by-cons (λ k. if x == k then v else 0) a (range_with_len (a + 1) n) ∙ (λ i. (if is i then v else 0) + rest i) ∙ omega arith
 
 -- each number of a range is one of its keys
-one-key : (a n x v : ℕ) → a ≤ x → x < a + n → sum_by (λ k. if x == k then v else 0) (range_with_len a n) ≡ v
+pub one-key : (a n x v : ℕ) → a ≤ x → x < a + n → sum_by (λ k. if x == k then v else 0) (range_with_len a n) ≡ v
 one-key a zero x v least less = absurd (omega arith)
 one-key a (suc n) x v least less = by-first a n x v (x == a) refl least less (λ more fewer. one-key (a + 1) n x v more fewer)
 
-add-keys : (f g : ℕ → ℕ) (xs : List ℕ) → sum_by (λ k. f k + g k) xs ≡ sum_by f xs + sum_by g xs
+pub add-keys : (f g : ℕ → ℕ) (xs : List ℕ) → sum_by (λ k. f k + g k) xs ≡ sum_by f xs + sum_by g xs
 add-keys f g [] = refl
 add-keys f g (x ∷ xs) =
     let both = add-keys f g xs in
@@ -272,7 +273,7 @@ add-keys f g (x ∷ xs) =
     let right = sum_by-cons g x xs in
     omega (arith, both, whole, left, right)
 
-no-keys : (xs : List ℕ) → sum_by (λ (k : ℕ). 0) xs ≡ 0
+pub no-keys : (xs : List ℕ) → sum_by (λ (k : ℕ). 0) xs ≡ 0
 no-keys [] = refl
 no-keys (x ∷ xs) = sum_by-cons (λ (k : ℕ). 0) x xs ∙ (λ i. 0 + no-keys xs i)
 

@@ -398,10 +398,10 @@ reported-says s n event (Some p) at = subst (Tells s (act.Dispenser n event)) (s
 
 load-says : (s : SiteState) (a : Act) (slot more : Bool) (v : ℕ) → ((r : Reply) → with_act s.points a r ≡ s.points) → ((r : Reply) → clearing_of a r ≡ None) → Tells s a (replied (if slot then if more then reply.Version v else refused 30 else refused 32) s)
 load-says s a slot more v points none = record {
-      points = points _;
-      cleared = (let e = ap (λ c. cents_of (paid s.points c)) (none (if slot then if more then reply.Version v else refused 30 else refused 32)) in omega (arith, e));
-      clears = (let e = ap (λ c. one_of (paid s.points c)) (none (if slot then if more then reply.Version v else refused 30 else refused 32)) in omega (arith, e));
-    }
+  points = points _;
+  cleared = (let e = ap (λ c. cents_of (paid s.points c)) (none (if slot then if more then reply.Version v else refused 30 else refused 32)) in omega (arith, e));
+  clears = (let e = ap (λ c. one_of (paid s.points c)) (none (if slot then if more then reply.Version v else refused 30 else refused 32)) in omega (arith, e));
+}
 
 load-clears-none : (slot mask : ℕ) (layout : Layout) (bytes : List ℕ) (r : Reply) → clearing_of (act.Load slot mask layout bytes) r ≡ None
 load-clears-none slot mask layout bytes reply.Done = refl

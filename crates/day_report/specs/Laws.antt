@@ -1,13 +1,17 @@
 -- Promises: laws of what a history adds up to.
-use Rattle.std.specs.Prelude.{◌≡◌, ◌≤◌, ℕ, List, length, sum_by}
-use Rattle.std.specs.List.{range_with_len}
+use Rattle.std.specs.Prelude.{◌≡◌, ◌≤◌, ℕ, ◌+◌, true, false, List, length, sum_by, count_by}
+use Rattle.std.specs.List.{range_with_len, filter_map}
 use Rattle.decision_journal.specs.declared.entries.Entry.{Entry}
 use Rattle.site_core.specs.Limits.{ConfigValue}
 use Rattle.site_core.specs.State.{SiteState}
+use Rattle.site_core.specs.Decide.{is_decided}
 use Rattle.site_core.specs.Legal.{LegalHistory}
 use Rattle.day_report.specs.Walk.{stand, closed_points}
 use Rattle.day_report.specs.Sales.{sales}
-use Rattle.day_report.specs.Totals.{count_in, cents_in}
+use Rattle.day_report.specs.Decisions.{decision_of, loads}
+use Rattle.day_report.specs.Totals.{count_in, cents_in, decided_by}
+use Rattle.day_report.specs.declared.rulings.Decision.{Decision}
+use Rattle.day_report.specs.declared.counting.Deciding.TheVariants as deciding
 use Rattle.day_report.specs.declared.sales.Sale.{Sale}
 use Rattle.day_report.specs.declared.sales.Part.TheVariants as part
 
@@ -27,3 +31,15 @@ pub record TellsItsSite (config : ConfigValue) (history : List Entry) (state : S
 -- whatever the history is, if a site can have it
 abbrev pub SalesTellTheSite : Type 0
 SalesTellTheSite = (config : ConfigValue) (history : List Entry) (state : SiteState) → LegalHistory config history state → TellsItsSite config history state
+
+-- all that a version decided: releases, presets and prices, granted and denied
+abbrev pub decided_in_all : ℕ → List Decision → ℕ
+decided_in_all v ds =
+    decided_by deciding.Releases true v ds + decided_by deciding.Releases false v ds + decided_by deciding.Presets true v ds
+    + decided_by deciding.Presets false v ds + decided_by deciding.Prices true v ds + decided_by deciding.Prices false v ds
+
+-- The grants and denials of all versions that were loaded are the decisions of the history: the answers that a rule alone gives.
+abbrev pub VersionsTellAllDecisions : Type 0
+VersionsTellAllDecisions =
+    (config : ConfigValue) (history : List Entry) (state : SiteState) → LegalHistory config history state →
+    sum_by (λ v. decided_in_all v (filter_map decision_of history)) (range_with_len 1 (length (loads 0 history))) ≡ count_by (λ (entry : Entry). is_decided entry.reply) history

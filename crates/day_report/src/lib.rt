@@ -15,7 +15,7 @@ mod walk;
 
 pub use adding::{FIRST_REFUSAL, REFUSALS, TILLS, Totals, Unpaid, add_up};
 pub use counting::{Deciding, Outcomes, count_of, tally};
-pub use laws::law_of_sales;
+pub use laws::{law_of_decisions, law_of_sales};
 pub use loading::{Load, loads};
 pub use rulings::{Asked, Decision, PriceChange, decisions, price_changes, refusals};
 pub use sales::{Part, Sale, Sold, Sum, find_sales, sum_of};

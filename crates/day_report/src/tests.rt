@@ -1,11 +1,12 @@
 //! What a short day adds up to, counted by hand.
 use crate::{
-    Asked, Deciding, Decision, Load, Part, PriceChange, Sale, Sum, count_of, decisions, find_sales,
-    loads, price_changes, refusals, sum_of, tally,
+    Asked, Axis, Deciding, Decision, Load, Part, PriceChange, Sale, Sum, Unpaid, add_up, axis_of,
+    count_of, decisions, find_sales, follow_states, loads, price_changes, refusals, step_of,
+    sum_of, tally,
 };
 use bpf_model::context::Layout;
 use decision_journal::Entry;
-use fuelling_point::{DispenserEvent, Order};
+use fuelling_point::{DispenserEvent, Order, State};
 use std::alloc::{AllocError, Global};
 use std::test::Fail;
 use till_request::{Act, Bytes, Reply, Request};
@@ -226,5 +227,50 @@ fn refusals_prices_and_loads_are_listed(rt: HostRuntime) -> Result<(), Fail> {
         version: 2,
     };
     assert!(rt; found.len() == 2 && found.get(1) == Some(&second));
+    Ok(())
+}
+
+#[test]
+fn a_day_adds_up(rt: HostRuntime) -> Result<(), Fail> {
+    let day = short_day(rt.alloc())?;
+    if day.entries.len() > 1000 {
+        return Err("a long day".into());
+    }
+    let totals = add_up(rt.alloc(), 2, &day.entries)?;
+    assert!(rt; totals.entries == 29 && totals.granted == 4 && totals.denied == 1);
+    assert!(rt; totals.sold.cents == 3734 && totals.unpaid_cents == 3000);
+    let unpaid = Unpaid {
+        point: 2,
+        number: 1,
+        amount: 3000,
+        volume: 1600,
+        holder: 0,
+    };
+    assert!(rt; totals.unpaid.len() == 1 && totals.unpaid.get(0) == Some(&unpaid));
+    // S24 and S27
+    assert!(rt; totals.refused.get(4) == Some(&1) && totals.refused.get(7) == Some(&1));
+    let by_till = totals
+        .tills
+        .get(1)
+        .map(|outcomes| outcomes.denied.get(1) == Some(&1));
+    assert!(rt; by_till == Some(true));
+    Ok(())
+}
+
+#[test]
+fn points_are_followed_along_time(rt: HostRuntime) -> Result<(), Fail> {
+    let day = short_day(rt.alloc())?;
+    if day.entries.len() > 1000 {
+        return Err("a long day".into());
+    }
+    let axis = axis_of(&day.entries);
+    assert!(rt; axis == Axis::Time(3600, 90_100));
+    let bands = follow_states(rt.alloc(), 2, &day.entries, axis)?;
+    assert!(rt; bands.points == 2 && bands.steps == 2000 && bands.states.len() == 4000);
+    // In the first 43 seconds point 1 is opened and a nozzle lifted, and point 2 is opened.
+    assert!(rt;
+        bands.states.get(0) == Some(&State::Calling) && bands.states.get(1) == Some(&State::Idle)
+    );
+    assert!(rt; step_of(1, 2, 2000) == 1000 && step_of(0, 0, 5) == 0);
     Ok(())
 }

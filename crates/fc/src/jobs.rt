@@ -13,9 +13,9 @@ use crate::report::report_files;
 use crate::serve::{JournalTo, serve_settings};
 use bpf_model::context::Layout;
 use console::{
-    Ended, Job, JournalFlaw, MOST_BYTES, READS, SessionFault, Settings, asm_file, audit_journal, config_part,
-    dis_file, dis_flaw, dis_units_file, journal_fault_line, journal_flaw, play, play_within,
-    read_head, read_settings, verify_file, verify_flaw,
+    Ended, Job, JournalFlaw, MOST_BYTES, READS, SessionFault, Settings, asm_file, audit_journal,
+    config_part, dis_file, dis_flaw, dis_units_file, journal_fault_line, journal_flaw, play,
+    play_within, read_head, read_settings, verify_file, verify_flaw,
 };
 use decision_journal::JournalFault;
 use site_core::Config;

@@ -54,7 +54,7 @@ release-no config s n amount (Some p) at =
     let asked : Question = record { kind = kind.Release; point = n; product = 0; asked = amount; slot = (slots_of config n).0 } in
     ap refuses (release-some config s n amount p at) ∙ three-no (is_within 1 amount 999999999) (is_ready p.state) (nat_lt (length p.unpaid) 2) bad_amount (wrong_state p.state) transactions_full asked refl refl refl
 
-preset-no : (config : ConfigValue) (s : SiteState) (n amount : ℕ) (o : Option PointState) → at_number s.points n ≡ o → refuses (preset_question config s n amount) ≡ false
+pub preset-no : (config : ConfigValue) (s : SiteState) (n amount : ℕ) (o : Option PointState) → at_number s.points n ≡ o → refuses (preset_question config s n amount) ≡ false
 preset-no config s n amount None at = ap refuses (preset-none config s n amount at)
 preset-no config s n amount (Some p) at =
     let asked : Question = record { kind = kind.Preset; point = n; product = 0; asked = amount; slot = (slots_of config n).1 } in
@@ -65,7 +65,7 @@ busy-no true None p = refl
 busy-no true (Some state) p = refl
 busy-no false busy p = refl
 
-price-no : (busy : Option State) (product price slot : ℕ) → refuses (price_at busy product price slot) ≡ false
+pub price-no : (busy : Option State) (product price slot : ℕ) → refuses (price_at busy product price slot) ≡ false
 price-no busy product price slot =
     busy-no (is_within 1 product 8 && is_within 1 price 9999999) busy (record { kind = kind.Price; point = 0; product = product; asked = price; slot = slot })
 
