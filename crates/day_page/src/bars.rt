@@ -147,7 +147,8 @@ impl fmt::Display for Hours<'_> {
         let head = Head {
             height: 236,
             title: "Sales by hour",
-            text: "A column for each hour of the day in UTC, as high as the money of the sales in it. The table below has the figures.",
+            text: "A column for each hour of the day in UTC, as high as the money of the sales in it. The \
+                table below has the figures.",
         };
         write!(f, "{head}")?;
         let most = self.sums.iter().map(|sum| sum.cents).max().unwrap_or(0);
@@ -169,8 +170,8 @@ impl fmt::Display for Hours<'_> {
     }
 }
 
-/// How many decisions the versions granted and denied, in the order of their loads: a stacked column for each, or for as
-/// many neighbours as make 1,000 columns.
+/// How many decisions the versions granted and denied, in the order of their loads: a stacked column for each, or for
+/// as many neighbours as make 1,000 columns.
 #[derive(Drop)]
 pub(crate) struct Verdicts<'a> {
     /// What each version granted and denied, version 1 first.
@@ -185,7 +186,8 @@ impl fmt::Display for Verdicts<'_> {
         let head = Head {
             height: 226,
             title: "Decisions by version",
-            text: "A column for each version in the order of their loads: below what it granted, above what it denied. The table below has the figures.",
+            text: "A column for each version in the order of their loads: below what it granted, above what \
+                it denied. The table below has the figures.",
         };
         write!(f, "{head}")?;
         let together = (self.counts.len() / COLUMNS).saturating_add(1);

@@ -63,7 +63,8 @@ impl fmt::Display for BandsDrawn<'_> {
         let head = Head {
             height: foot.saturating_add(28),
             title: "The points through the day",
-            text: "A band for each point, coloured by the greatest state that it had in each step. Deliveries, from authorised to suspended fuelling, stand out as thick blocks.",
+            text: "A band for each point, coloured by the greatest state that it had in each step. \
+                Deliveries, from authorised to suspended fuelling, stand out as thick blocks.",
         };
         write!(f, "{head}")?;
         for place in 0..self.bands.points {

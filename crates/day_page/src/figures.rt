@@ -61,8 +61,8 @@ pub(crate) struct Date {
     pub day: u64,
 }
 
-/// The date of a moment in seconds since the start of 1970, in UTC. It counts in years that begin in March, so that a leap
-/// day is the last of its year, and in cycles of 400 such years, which have 146,097 days.
+/// The date of a moment in seconds since the start of 1970, in UTC. It counts in years that begin in March, so that a
+/// leap day is the last of its year, and in cycles of 400 such years, which have 146,097 days.
 pub(crate) fn date_of(moment: u64) -> Date {
     let days = moment / 86_400 + 719_468;
     let cycle = days / 146_097;

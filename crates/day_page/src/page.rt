@@ -16,8 +16,8 @@ use site_core::Site;
 use std::alloc::{AllocError, Global};
 use std::fmt;
 
-/// A page of HTML that shows a site's history: its text is written by `Display`. It stands alone: it names no other file
-/// and has no script.
+/// A page of HTML that shows a site's history: its text is written by `Display`. It stands alone: it names no other
+/// file and has no script.
 #[derive(Drop)]
 pub struct Page {
     totals: Totals,
@@ -329,7 +329,8 @@ impl fmt::Display for Refusals<'_> {
         } else {
             let bars = Bars {
                 title: "Refusals by number",
-                text: "A bar for each number that was answered, as long as it was answered often. Its name in words stands before it.",
+                text: "A bar for each number that was answered, as long as it was answered often. Its name in \
+                    words stands before it.",
                 unit: Unit::Times,
                 left: 440,
                 bars: &self.0.refusals,

@@ -59,7 +59,8 @@ impl fmt::Display for PriceLines<'_> {
         let head = Head {
             height: 208,
             title: "Prices through the day",
-            text: "A line for each product that has a price, which steps where a new price was granted. The table below has the changes.",
+            text: "A line for each product that has a price, which steps where a new price was granted. The \
+                table below has the changes.",
         };
         write!(f, "{head}")?;
         let range = range_of(self.opening, self.changes);

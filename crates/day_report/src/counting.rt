@@ -52,7 +52,8 @@ fn count_if(counts: &mut [u64], at: usize, wanted: bool)
     }
 }
 
-/// For each version below `versions`, how many decisions of this part it granted, or denied. The error is want of memory.
+/// For each version below `versions`, how many decisions of this part it granted, or denied. The error is want of
+/// memory.
 pub fn tally(
     alloc: Global,
     decisions: &[Decision],

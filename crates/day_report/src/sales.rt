@@ -86,8 +86,8 @@ fn sale_of(points: &[Point], entry: &Entry) -> Option<Sale>
     })
 }
 
-/// What the entries sold; the points are followed from how they stood before to how they stand after. The error is want of
-/// memory.
+/// What the entries sold; the points are followed from how they stood before to how they stand after. The error is
+/// want of memory.
 fn follow_sales(
     alloc: Global,
     points: &mut [Point],
@@ -106,7 +106,8 @@ fn follow_sales(
     Ok(sales)
 }
 
-/// What the entries of a site with so many points sold, and how the points stand after them. The error is want of memory.
+/// What the entries of a site with so many points sold, and how the points stand after them. The error is want of
+/// memory.
 pub fn find_sales(alloc: Global, points: usize, entries: &[Entry]) -> Result<Sold, AllocError>
     requires { length entries.now ≤ 1048576 }
     ensures sales { IfOk result (λ sold. sold.sales.items ≡ sales (closed_points points) entries.now) }

@@ -168,8 +168,8 @@ fn step_states(
     Ok(states)
 }
 
-/// How the points of a history stood: in each step the greatest state, by its number, that the point had in it. The error
-/// is want of memory.
+/// How the points of a history stood: in each step the greatest state, by its number, that the point had in it. The
+/// error is want of memory.
 pub fn follow_states(
     alloc: Global,
     points: usize,

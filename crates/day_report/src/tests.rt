@@ -91,8 +91,8 @@ impl Day {
     }
 }
 
-/// A day: two versions, three deliveries at two points, two of them paid at two tills in two hours, a denial, a refusal of
-/// another kind, and a new price. 25.00, 30.00 and 12.34 are delivered; 25.00 and 12.34 are paid.
+/// A day: two versions, three deliveries at two points, two of them paid at two tills in two hours, a denial, a
+/// refusal of another kind, and a new price. 25.00, 30.00 and 12.34 are delivered; 25.00 and 12.34 are paid.
 fn short_day(alloc: Global) -> Result<Day, AllocError> {
     let mut day = Day {
         entries: Vec::new(alloc),
