@@ -1,5 +1,6 @@
-//! Devices that fail at each call in turn. A session tells the fault of the device that failed, what was entered stays, and
-//! what is out is a beginning of the answers; a worker goes on with its next door; a journal's fault is the device's.
+//! Devices that fail at each call in turn. A session tells the fault of the device that failed, what was entered stays,
+//! and what is out is a beginning of the answers; a worker goes on with its next door; a journal's fault is the
+//! device's.
 ghost use Rattle.std.specs.Prelude.{◌≡◌, [], None};
 
 use crate::journals::journal_of;
@@ -37,7 +38,8 @@ impl Clock for Still {
     }
 }
 
-/// What a session left: how it ended, what is out, how many reads and writes failed, and how many entries the closed site has.
+/// What a session left: how it ended, what is out, how many reads and writes failed, and how many entries the closed
+/// site has.
 #[derive(Drop)]
 struct Outcome {
     ended: Result<Ended, SessionFault>,

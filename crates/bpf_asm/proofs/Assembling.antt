@@ -1,5 +1,6 @@
 -- The units of rows without fault are a program.
-use Rattle.std.proofs.Common.{◌≡◌, ℕ, zero, suc, ◌+◌, ◌^◌, ◌<◌, ◌≤◌, List, [], ◌∷◌, ◌++◌, length, Option, Some, None, Bool, true, false, refl, sym, ap, ◌∙◌, subst, arith, rules, w16, w32, FitsSigned}
+use Rattle.std.proofs.Common.{◌≡◌, ℕ, zero, suc, ◌+◌, ◌^◌, ◌<◌, ◌≤◌, List, [], ◌∷◌, ◌++◌, length, Option, Some, None, Bool, true, false, refl, sym, ap, ◌∙◌}
+use Rattle.std.proofs.Common.{subst, arith, rules, w16, w32, FitsSigned}
 use Rattle.std.specs.Prelude.{◌%◌, ◌/◌, ◌&&◌, not, Ok, nat_le, cond, ℤ, pos}
 use Rattle.std.specs.Int.{cast_signed}
 use Rattle.std.specs.Str.{bytes_eq}
@@ -36,16 +37,22 @@ use Rattle.bpf_asm.specs.declared.grammar.Statement.TheVariants.{Plain, Wide, Ju
 use Rattle.bpf_asm.specs.declared.grammar.Line.{Line}
 use Rattle.bpf_asm.specs.declared.grammar.Line.TheVariants as line
 use Rattle.bpf_asm.specs.Lex.{Text}
-use Rattle.bpf_asm.specs.Program.{Row, row_of, with_row, rows_of, fits_size, fits, target_fits, statement_fits, line_fits, row_fault, or_fault, first_line_fault, source_bit, operator_code, condition_code, size_code, arithmetic_class, jump_class, opcode_of, signed, size_or_zero, int_of, inst_of, low_half, high_half, line_len_of, units_in, Definition, defining, labels_from, place_found, place_of, jump_inst, statement_units, line_units, units_from, spelled, AreRight, AreWithin, length_fault, label_fault, rows_fault, fault_of, assembled_with, assembled, cut, IsFault}
+use Rattle.bpf_asm.specs.Program.{Row, row_of, with_row, rows_of, fits_size, fits, target_fits, statement_fits, line_fits, row_fault, or_fault}
+use Rattle.bpf_asm.specs.Program.{first_line_fault, source_bit, operator_code, condition_code, size_code, arithmetic_class, jump_class, opcode_of, signed}
+use Rattle.bpf_asm.specs.Program.{size_or_zero, int_of, inst_of, low_half, high_half, line_len_of, units_in, Definition, defining, labels_from, place_found}
+use Rattle.bpf_asm.specs.Program.{place_of, jump_inst, statement_units, line_units, units_from, spelled, AreRight, AreWithin, length_fault, label_fault}
+use Rattle.bpf_asm.specs.Program.{rows_fault, fault_of, assembled_with, assembled, cut, IsFault}
 use Rattle.bpf_asm.specs.Sound.{IsOf, IsSoundForm, IsJump, IsSound, AreSound}
 
 -- ---- rows in range
 
-by_fits : (n : ℕ) (r : Row) (rows : List Row) (b : Bool) → line_fits r.says ≡ b → (rest : Option AsmFault) → or_fault (cond b None (Some (OutOfRange n))) rest ≡ None → (rest ≡ None → AreRight rows) → AreRight (r ∷ rows)
+by_fits : (n : ℕ) (r : Row) (rows : List Row) (b : Bool) → line_fits r.says ≡ b → (rest : Option AsmFault) → or_fault (cond b None (Some (OutOfRange n))) rest
+    ≡ None → (rest ≡ None → AreRight rows) → AreRight (r ∷ rows)
 by_fits n r rows true fits rest e more = (fits, more e)
 by_fits n r rows false fits rest e more = absurd (cc)
 
-by_row : (n : ℕ) (o : Option Row) (rows : List Row) (rest : Option AsmFault) → or_fault (row_fault n o) rest ≡ None → (rest ≡ None → AreRight rows) → AreRight (with_row o rows)
+by_row : (n : ℕ) (o : Option Row) (rows : List Row) (rest : Option AsmFault) → or_fault (row_fault n o) rest ≡ None → (rest ≡ None → AreRight rows)
+    → AreRight (with_row o rows)
 by_row n None rows rest e more = absurd (cc)
 by_row n (Some r) rows rest e more = by_fits n r rows (line_fits r.says) refl rest e more
 
@@ -67,7 +74,8 @@ defining_within (line.Statement s) label at n more g h = h
 labels_within : (at n : ℕ) (rows : List Row) → at + units_in rows ≤ n → AreWithin n (labels_from at rows)
 labels_within at n [] h = λ name. omega arith
 labels_within at n (r ∷ rows) h =
-    defining_within r.says r.label at n (labels_from (at + line_len_of r.says) rows) (omega arith) (labels_within (at + line_len_of r.says) n rows (omega arith))
+    defining_within r.says r.label at n (labels_from (at + line_len_of r.says) rows) (omega arith)
+    (labels_within (at + line_len_of r.says) n rows (omega arith))
 
 pub places_within : (rows : List Row) → units_in rows ≤ 512 → AreWithin 512 (labels_from 0 rows)
 places_within rows h = labels_within 0 512 rows (omega arith)
@@ -155,7 +163,8 @@ passes false b o e f g = absurd (cc)
 register_small : (n : ℕ) → nat_le n 10 ≡ true → n < 16
 register_small n h = let l : n ≤ 10 = grind (arith, nat_tests) in omega arith
 
-is_instruction : (f : Form) (i : Inst) → i.opcode ≡ opcode_of f → IsOf f i.dst i.src → has_right_fields f i ≡ true → has_right_registers f i ≡ true → FitsSigned w16 i.offset → FitsSigned w32 i.imm → IsInstruction i
+is_instruction : (f : Form) (i : Inst) → i.opcode ≡ opcode_of f → IsOf f i.dst i.src → has_right_fields f i ≡ true → has_right_registers f i ≡ true
+    → FitsSigned w16 i.offset → FitsSigned w32 i.imm → IsInstruction i
 is_instruction f i op h fields registers offset imm =
     record {
       opcode = subst (λ n. n < 256) (sym op) (opcode_small f);
@@ -163,7 +172,8 @@ is_instruction f i op h fields registers offset imm =
       src = register_small i.src h.src;
       offset = offset;
       imm = imm;
-      sound = ap (λ o. first_fault (form_of o) i false) op ∙ ap (λ o. first_fault o i false) h.form_is ∙ passes (has_right_fields f i) (has_right_registers f i) (half_wide f false) fields registers (not_half f);
+      sound = ap (λ o. first_fault (form_of o) i false) op ∙ ap (λ o. first_fault o i false) h.form_is
+          ∙ passes (has_right_fields f i) (has_right_registers f i) (half_wide f false) fields registers (not_half f);
     }
 
 -- ---- numbers in range
@@ -196,7 +206,8 @@ apart32 p a g h = search (rules, ints)
 
 -- ---- units
 
-plain_units : (f : Form) (p : Fields) (rest : List ProgramUnit) → IsSoundForm f p → FitsSigned w16 (int_of p.offset) → FitsSigned w32 (int_of p.imm) → AreUnits true rest → AreUnits true (First (inst_of f p.dst p.src (int_of p.offset) (int_of p.imm)) ∷ rest)
+plain_units : (f : Form) (p : Fields) (rest : List ProgramUnit) → IsSoundForm f p → FitsSigned w16 (int_of p.offset) → FitsSigned w32 (int_of p.imm)
+    → AreUnits true rest → AreUnits true (First (inst_of f p.dst p.src (int_of p.offset) (int_of p.imm)) ∷ rest)
 plain_units f p rest h offset imm more = (
   is_instruction f (inst_of f p.dst p.src (int_of p.offset) (int_of p.imm)) refl h.is_of h.fields h.registers offset imm,
   subst (λ b. AreUnits (not b) rest) (sym (ap is_wide h.is_of.form_is ∙ h.is_of.narrow)) more,
@@ -215,7 +226,8 @@ jump_is (form.Branch c w s) p z h = h
 jump_is form.Call p z h = h
 jump_is form.Exit p z h = h
 
-jump_units : (f : Form) (p : Fields) (z : ℤ) (rest : List ProgramUnit) → IsJump f p → FitsSigned w16 (jump_inst f p z).offset → FitsSigned w32 (jump_inst f p z).imm → AreUnits true rest → AreUnits true (First (jump_inst f p z) ∷ rest)
+jump_units : (f : Form) (p : Fields) (z : ℤ) (rest : List ProgramUnit) → IsJump f p → FitsSigned w16 (jump_inst f p z).offset
+    → FitsSigned w32 (jump_inst f p z).imm → AreUnits true rest → AreUnits true (First (jump_inst f p z) ∷ rest)
 jump_units f p z rest h offset imm more = (
   is_instruction f (jump_inst f p z) (h.opcode z) (jump_is f p z h.is_of) (h.fields z) (h.registers z) offset imm,
   subst (λ b. AreUnits (not b) rest) (sym (ap (λ o. is_wide (form_of o)) (h.opcode z) ∙ ap is_wide h.is_of.form_is ∙ h.is_of.narrow)) more,
@@ -225,7 +237,8 @@ zero16 : FitsSigned w16 (pos 0)
 zero16 = search rules
 
 -- the fields of a jump fit, whichever of them has the distance
-jump_fits : (f : Form) (p : Fields) (z : ℤ) → FitsSigned w16 z → FitsSigned w32 z → FitsSigned w32 (int_of p.imm) → FitsSigned w16 (jump_inst f p z).offset × FitsSigned w32 (jump_inst f p z).imm
+jump_fits : (f : Form) (p : Fields) (z : ℤ) → FitsSigned w16 z → FitsSigned w32 z → FitsSigned w32 (int_of p.imm)
+    → FitsSigned w16 (jump_inst f p z).offset × FitsSigned w32 (jump_inst f p z).imm
 jump_fits form.GotoLong p z a b d = (zero16, b)
 jump_fits (form.Arithmetic op w s) p z a b d = (a, d)
 jump_fits form.Wide p z a b d = (a, d)
@@ -247,7 +260,8 @@ long_fits v h = signed32 v.negative v.size h
 wider : (z : ℤ) → FitsSigned w16 z → FitsSigned w32 z
 wider z h = search rules
 
-distance_fits : (f : Form) (p : Fields) (v : Value) → target_fits f (Distance v) ≡ true → FitsSigned w32 (int_of p.imm) → FitsSigned w16 (jump_inst f p (int_of v)).offset × FitsSigned w32 (jump_inst f p (int_of v)).imm
+distance_fits : (f : Form) (p : Fields) (v : Value) → target_fits f (Distance v) ≡ true → FitsSigned w32 (int_of p.imm)
+    → FitsSigned w16 (jump_inst f p (int_of v)).offset × FitsSigned w32 (jump_inst f p (int_of v)).imm
 distance_fits form.GotoLong p v h d = (zero16, long_fits v h)
 distance_fits (form.Arithmetic op w s) p v h d = (short_fits v h, d)
 distance_fits form.Wide p v h d = (short_fits v h, d)
@@ -263,7 +277,8 @@ distance_fits form.Exit p v h d = (short_fits v h, d)
 half_fits : (n : ℕ) → FitsSigned w32 (cast_signed w32 (n % 2 ^ 32))
 half_fits n = sfits_to_z {w = w32} (Fits-of_lt {w = w32} (omega arith))
 
-wide_units : (dst n : ℕ) (rest : List ProgramUnit) → nat_le dst 10 ≡ true → AreUnits true rest → AreUnits true (First (inst_of form.Wide dst 0 (pos 0) (low_half n)) ∷ Second (high_half n) ∷ rest)
+wide_units : (dst n : ℕ) (rest : List ProgramUnit) → nat_le dst 10 ≡ true → AreUnits true rest
+    → AreUnits true (First (inst_of form.Wide dst 0 (pos 0) (low_half n)) ∷ Second (high_half n) ∷ rest)
 wide_units dst n rest d more = (
   record {
     opcode = omega arith;
@@ -277,44 +292,53 @@ wide_units dst n rest d more = (
 )
 
 module _ (labels : List Definition) (within : AreWithin 512 labels) where
-  statement_is : (at : ℕ) (name : Text) (s : Statement) (rest : List ProgramUnit) → at ≤ 512 → statement_fits s ≡ true → IsSound (line.Statement s) → AreUnits true rest → AreUnits true (statement_units labels at name s ++ rest)
+  statement_is : (at : ℕ) (name : Text) (s : Statement) (rest : List ProgramUnit) → at ≤ 512 → statement_fits s ≡ true → IsSound (line.Statement s)
+      → AreUnits true rest → AreUnits true (statement_units labels at name s ++ rest)
   statement_is at name (Plain f p) rest l fit h more =
-      plain_units f p rest h (short_fits p.offset (and_left (fits (2 ^ 15) p.offset) (fits (2 ^ 31) p.imm) fit)) (long_fits p.imm (and_right (fits (2 ^ 15) p.offset) (fits (2 ^ 31) p.imm) fit)) more
+      plain_units f p rest h (short_fits p.offset (and_left (fits (2 ^ 15) p.offset) (fits (2 ^ 31) p.imm) fit))
+      (long_fits p.imm (and_right (fits (2 ^ 15) p.offset) (fits (2 ^ 31) p.imm) fit)) more
   statement_is at name (Wide dst n) rest l fit h more = wide_units dst (size_or_zero n) rest h more
   statement_is at name (Jump f p Label) rest l fit h more =
       let z = pos (place_of labels name) -ℤ pos (at + 1) in
-      let r = jump_fits f p z (apart16 (place_of labels name) at (within name) l) (apart32 (place_of labels name) at (within name) l) (long_fits p.imm (and_left (fits (2 ^ 31) p.imm) true fit)) in
+      let r = jump_fits f p z (apart16 (place_of labels name) at (within name) l) (apart32 (place_of labels name) at (within name) l)
+      (long_fits p.imm (and_left (fits (2 ^ 31) p.imm) true fit)) in
       jump_units f p z rest h r.0 r.1 more
   statement_is at name (Jump f p (Distance v)) rest l fit h more =
-      let r = distance_fits f p v (and_right (fits (2 ^ 31) p.imm) (target_fits f (Distance v)) fit) (long_fits p.imm (and_left (fits (2 ^ 31) p.imm) (target_fits f (Distance v)) fit)) in
+      let r = distance_fits f p v (and_right (fits (2 ^ 31) p.imm) (target_fits f (Distance v)) fit)
+      (long_fits p.imm (and_left (fits (2 ^ 31) p.imm) (target_fits f (Distance v)) fit)) in
       jump_units f p (int_of v) rest h r.0 r.1 more
 
-  line_is : (at : ℕ) (name : Text) (says : Line) (rest : List ProgramUnit) → at ≤ 512 → line_fits says ≡ true → IsSound says → AreUnits true rest → AreUnits true (line_units labels at name says ++ rest)
+  line_is : (at : ℕ) (name : Text) (says : Line) (rest : List ProgramUnit) → at ≤ 512 → line_fits says ≡ true → IsSound says → AreUnits true rest
+      → AreUnits true (line_units labels at name says ++ rest)
   line_is at name line.Empty rest l fit h more = more
   line_is at name line.Label rest l fit h more = more
   line_is at name (line.Statement s) rest l fit h more = statement_is at name s rest l fit h more
 
   units_are : (at : ℕ) (rows : List Row) → at + units_in rows ≤ 512 → AreRight rows → AreSound rows → AreUnits true (units_from labels at rows)
   units_are at [] l fit h = tt
-  units_are at (r ∷ rows) l fit h = line_is at r.label r.says (units_from labels (at + line_len_of r.says) rows) (omega arith) fit.0 h.0 (units_are (at + line_len_of r.says) rows (omega arith) fit.1 h.1)
+  units_are at (r ∷ rows) l fit h = line_is at r.label r.says (units_from labels (at + line_len_of r.says) rows) (omega arith) fit.0 h.0
+      (units_are (at + line_len_of r.says) rows (omega arith) fit.1 h.1)
 
 -- the units of rows without fault are a program's
 pub spelled_units : (rows : List Row) → units_in rows ≤ 512 → AreRight rows → AreSound rows → AreUnits true (spelled rows)
 spelled_units rows l fit h = units_are (labels_from 0 rows) (places_within rows l) 0 rows (omega arith) fit h
 
-statement_length : (labels : List Definition) (at : ℕ) (name : Text) (s : Statement) (rest : List ProgramUnit) → length (line_units labels at name (line.Statement s) ++ rest) ≡ line_len_of (line.Statement s) + length rest
+statement_length : (labels : List Definition) (at : ℕ) (name : Text) (s : Statement) (rest : List ProgramUnit)
+    → length (line_units labels at name (line.Statement s) ++ rest) ≡ line_len_of (line.Statement s) + length rest
 statement_length labels at name (Plain f p) rest = omega arith
 statement_length labels at name (Wide dst n) rest = omega arith
 statement_length labels at name (Jump f p t) rest = omega arith
 
-line_length : (labels : List Definition) (at : ℕ) (name : Text) (says : Line) (rest : List ProgramUnit) → length (line_units labels at name says ++ rest) ≡ line_len_of says + length rest
+line_length : (labels : List Definition) (at : ℕ) (name : Text) (says : Line) (rest : List ProgramUnit) → length (line_units labels at name says ++ rest)
+    ≡ line_len_of says + length rest
 line_length labels at name line.Empty rest = omega arith
 line_length labels at name line.Label rest = omega arith
 line_length labels at name (line.Statement s) rest = statement_length labels at name s rest
 
 pub units_length : (labels : List Definition) (at : ℕ) (rows : List Row) → length (units_from labels at rows) ≡ units_in rows
 units_length labels at [] = refl
-units_length labels at (r ∷ rows) = line_length labels at r.label r.says (units_from labels (at + line_len_of r.says) rows) ∙ ap (λ n. line_len_of r.says + n) (units_length labels (at + line_len_of r.says) rows)
+units_length labels at (r ∷ rows) = line_length labels at r.label r.says (units_from labels (at + line_len_of r.says) rows) ∙ ap
+    (λ n. line_len_of r.says + n) (units_length labels (at + line_len_of r.says) rows)
 
 -- ---- faults
 
@@ -339,31 +363,37 @@ line_refused o r OutOfMemory h = tt
 pub text_refused : (text : Text) (lines : List Text) (f : AsmFault) → lines ≡ cut text → IsFault (first_line_fault 1 lines) f → IsFault (fault_of (cut text)) f
 text_refused text lines f e h = subst (λ l. IsFault (fault_of l) f) e (line_refused (first_line_fault 1 lines) (rows_fault (rows_of lines)) f h)
 
-pub rows_refused : (text : Text) (lines : List Text) (rows : List Row) (f : AsmFault) → lines ≡ cut text → rows ≡ rows_of lines → first_line_fault 1 lines ≡ None → IsFault (rows_fault rows) f → IsFault (fault_of (cut text)) f
+pub rows_refused : (text : Text) (lines : List Text) (rows : List Row) (f : AsmFault) → lines ≡ cut text → rows ≡ rows_of lines
+    → first_line_fault 1 lines ≡ None → IsFault (rows_fault rows) f → IsFault (fault_of (cut text)) f
 rows_refused text lines rows f e r none h =
     subst (λ l. IsFault (fault_of l) f) e
     (subst (λ o. IsFault o f) (sym (ap (λ o. or_fault o (rows_fault (rows_of lines))) none)) (subst (λ x. IsFault (rows_fault x) f) r h))
 
-spelled_lines : (lines : List Text) (rows : List Row) (code : List ProgramUnit) → rows ≡ rows_of lines → first_line_fault 1 lines ≡ None → rows_fault rows ≡ None → code ≡ spelled rows → assembled_with lines (fault_of lines) ≡ Ok code
+spelled_lines : (lines : List Text) (rows : List Row) (code : List ProgramUnit) → rows ≡ rows_of lines → first_line_fault 1 lines ≡ None
+    → rows_fault rows ≡ None → code ≡ spelled rows → assembled_with lines (fault_of lines) ≡ Ok code
 spelled_lines lines rows code r none sound is =
     ap (assembled_with lines) (ap (λ o. or_fault o (rows_fault (rows_of lines))) none ∙ ap rows_fault (sym r) ∙ sound)
     ∙ ap (λ x. Ok (spelled x)) (sym r) ∙ ap Ok (sym is)
 
-pub text_spells : (text : Text) (lines : List Text) (rows : List Row) (code : List ProgramUnit) → lines ≡ cut text → rows ≡ rows_of lines → first_line_fault 1 lines ≡ None → rows_fault rows ≡ None → code ≡ spelled rows → assembled text ≡ Ok code
+pub text_spells : (text : Text) (lines : List Text) (rows : List Row) (code : List ProgramUnit) → lines ≡ cut text → rows ≡ rows_of lines
+    → first_line_fault 1 lines ≡ None → rows_fault rows ≡ None → code ≡ spelled rows → assembled text ≡ Ok code
 text_spells text lines rows code e r none sound is = subst (λ l. assembled_with l (fault_of l) ≡ Ok code) e (spelled_lines lines rows code r none sound is)
 
-length_by : (rows : List Row) (n : ℕ) (b : Bool) → n ≡ units_in rows → b ≡ (nat_le 1 n && nat_le n 512) → length_fault (units_in rows) ≡ cond b None (Some Length)
+length_by : (rows : List Row) (n : ℕ) (b : Bool) → n ≡ units_in rows → b ≡ (nat_le 1 n && nat_le n 512)
+    → length_fault (units_in rows) ≡ cond b None (Some Length)
 length_by rows n b e f = ap (λ x. cond x None (Some Length)) (ap (λ m. nat_le 1 m && nat_le m 512) (sym e) ∙ sym f)
 
 pub wrong_length : (rows : List Row) (n : ℕ) (b : Bool) → n ≡ units_in rows → b ≡ (nat_le 1 n && nat_le n 512) → b ≡ false → rows_fault rows ≡ Some Length
 wrong_length rows n b e f g = ap (λ o. or_fault o (label_fault (labels_from 0 rows) 1 [] rows)) (length_by rows n b e f ∙ ap (λ x. cond x None (Some Length)) g)
 
-pub label_wrong : (rows : List Row) (n : ℕ) (b : Bool) (labels : List Definition) (found : Option AsmFault) → n ≡ units_in rows → b ≡ (nat_le 1 n && nat_le n 512) → b ≡ true → labels ≡ labels_from 0 rows → found ≡ label_fault labels 1 [] rows → rows_fault rows ≡ found
+pub label_wrong : (rows : List Row) (n : ℕ) (b : Bool) (labels : List Definition) (found : Option AsmFault) → n ≡ units_in rows
+    → b ≡ (nat_le 1 n && nat_le n 512) → b ≡ true → labels ≡ labels_from 0 rows → found ≡ label_fault labels 1 [] rows → rows_fault rows ≡ found
 label_wrong rows n b labels found e f g l h =
     ap (λ o. or_fault o (label_fault (labels_from 0 rows) 1 [] rows)) (length_by rows n b e f ∙ ap (λ x. cond x None (Some Length)) g)
     ∙ ap (λ x. label_fault x 1 [] rows) (sym l) ∙ sym h
 
-pub right_count : (rows : List Row) (n : ℕ) (b : Bool) → n ≡ units_in rows → b ≡ (nat_le 1 n && nat_le n 512) → b ≡ true → (0 < units_in rows) × (units_in rows ≤ 512)
+pub right_count : (rows : List Row) (n : ℕ) (b : Bool) → n ≡ units_in rows → b ≡ (nat_le 1 n && nat_le n 512) → b ≡ true
+    → (0 < units_in rows) × (units_in rows ≤ 512)
 right_count rows n b e f g =
     let t : (nat_le 1 n && nat_le n 512) ≡ true = sym f ∙ g in
     let low : nat_le 1 n ≡ true = and_left (nat_le 1 n) (nat_le n 512) t in
@@ -372,5 +402,6 @@ right_count rows n b e f g =
     let b : n ≤ 512 = grind (arith, nat_tests) in
     (omega (arith, e), omega (arith, e))
 
-pub spelled_by : (rows : List Row) (labels : List Definition) (us : List ProgramUnit) → labels ≡ labels_from 0 rows → us ≡ units_from labels 0 rows → us ≡ spelled rows
+pub spelled_by : (rows : List Row) (labels : List Definition) (us : List ProgramUnit) → labels ≡ labels_from 0 rows
+    → us ≡ units_from labels 0 rows → us ≡ spelled rows
 spelled_by rows labels us l e = e ∙ ap (λ x. units_from x 0 rows) l

@@ -1,5 +1,6 @@
 -- The canonical text of a program spells the program: each form in turn, then whole programs.
-use Rattle.std.proofs.Common.{◌≡◌, ◌<◌, ◌≤◌, ℕ, zero, suc, List, [], ◌∷◌, Option, Some, None, Bool, true, false, refl, ap, sym, ◌∙◌, subst, arith, rules, w16, w32, FitsSigned, inl, inr}
+use Rattle.std.proofs.Common.{◌≡◌, ◌<◌, ◌≤◌, ℕ, zero, suc, List, [], ◌∷◌, Option, Some, None, Bool, true, false, refl, ap, sym, ◌∙◌, subst, arith, rules, w16}
+use Rattle.std.proofs.Common.{w32, FitsSigned, inl, inr}
 use Rattle.std.specs.Prelude.{◌&&◌, ◌||◌, ◌==◌, ◌⊎◌, not, nat_le, cond, ℤ, pos, negsuc, ⊤}
 use Rattle.std.proofs.lemmas.Bool.{cases_lt, eqb-true}
 use Rattle.std.proofs.lemmas.Bool.Decides.{nat_tests}
@@ -22,7 +23,11 @@ use Rattle.bpf_asm.specs.Grammar.{exactly, fields, when}
 use Rattle.bpf_asm.specs.Text.{size_text, signed_size_text, swap_text}
 use Rattle.bpf_asm.specs.Program.{inst_of, opcode_of}
 use Rattle.bpf_asm.proofs.ReadBack.{Says}
-use Rattle.bpf_asm.proofs.Forms.{IsWritten, operator_written, signed_quotient, signed_remainder, same_width, number_line, register_line, number_means, signed_quotient_means, signed_remainder_means, register_means, negation_line, le16_written, le32_written, le64_written, be16_written, be32_written, be64_written, bswap16_written, bswap32_written, bswap64_written, swap_line, extension8_line, extension16_line, extension32_line, wide_line, unsigned_size, signed_size, load_line, register_store_line, number_store_line, goto_line, gotol_line, branch_register_line, branch_number_line, call_line, exit_line, IsTwo}
+use Rattle.bpf_asm.proofs.Forms.{IsWritten, operator_written, signed_quotient, signed_remainder, same_width, number_line, register_line, number_means}
+use Rattle.bpf_asm.proofs.Forms.{signed_quotient_means, signed_remainder_means, register_means, negation_line, le16_written, le32_written, le64_written}
+use Rattle.bpf_asm.proofs.Forms.{be16_written, be32_written, be64_written, bswap16_written, bswap32_written, bswap64_written, swap_line, extension8_line}
+use Rattle.bpf_asm.proofs.Forms.{extension16_line, extension32_line, wide_line, unsigned_size, signed_size, load_line, register_store_line, number_store_line}
+use Rattle.bpf_asm.proofs.Forms.{goto_line, gotol_line, branch_register_line, branch_number_line, call_line, exit_line, IsTwo}
 use Rattle.std.specs.Prelude.{Ok, Result}
 use Rattle.bpf_asm.specs.declared.AsmFault.TheVariants.{BadLine, BadLabel, OutOfRange, Length, OutOfMemory}
 use Rattle.bpf_model.specs.declared.instruction.Unit.{Unit as ProgramUnit}
@@ -117,104 +122,228 @@ module _ (i : Inst) (high : ℤ) (off : FitsSigned w16 i.offset) (imm : FitsSign
   zero_src : (i.src == 0) ≡ true → i.src ≡ 0
   zero_src h = eqb-true i.src 0 h
 
-  number_quotient : (w : Width) → Given (form.Arithmetic operator.Quotient w source.Immediate) → (is_int i.offset 0 ≡ true) ⊎ (is_int i.offset 1 ≡ true) → Says (form.Arithmetic operator.Quotient w source.Immediate) i high
-  number_quotient w g (inl e) = subst (λ k. Says (form.Arithmetic operator.Quotient w source.Immediate) k high) (same (form.Arithmetic operator.Quotient w source.Immediate) i i.dst 0 (pos 0) i.imm g.op refl (zero_src g.parts.src) (int_is i.offset 0 e) refl) (number_line operator.Quotient 0 w i.dst i.imm high (operator_written operator.Quotient tt) (omega arith) g.dst imm (number_means operator.Quotient tt w i.dst i.imm))
-  number_quotient w g (inr e) = subst (λ k. Says (form.Arithmetic operator.Quotient w source.Immediate) k high) (same (form.Arithmetic operator.Quotient w source.Immediate) i i.dst 0 (pos 1) i.imm g.op refl (zero_src g.parts.src) (int_is i.offset 1 e) refl) (number_line operator.Quotient 1 w i.dst i.imm high signed_quotient (omega arith) g.dst imm (signed_quotient_means w i.dst i.imm))
+  number_quotient : (w : Width) → Given (form.Arithmetic operator.Quotient w source.Immediate) → (is_int i.offset 0 ≡ true) ⊎ (is_int i.offset 1 ≡ true)
+      → Says (form.Arithmetic operator.Quotient w source.Immediate) i high
+  number_quotient w g (inl e) = subst (λ k. Says (form.Arithmetic operator.Quotient w source.Immediate) k high)
+      (same (form.Arithmetic operator.Quotient w source.Immediate) i i.dst 0 (pos 0) i.imm g.op refl (zero_src g.parts.src) (int_is i.offset 0 e) refl)
+      (number_line operator.Quotient 0 w i.dst i.imm high (operator_written operator.Quotient tt) (omega arith) g.dst imm
+      (number_means operator.Quotient tt w i.dst i.imm))
+  number_quotient w g (inr e) = subst (λ k. Says (form.Arithmetic operator.Quotient w source.Immediate) k high)
+      (same (form.Arithmetic operator.Quotient w source.Immediate) i i.dst 0 (pos 1) i.imm g.op refl (zero_src g.parts.src) (int_is i.offset 1 e) refl)
+      (number_line operator.Quotient 1 w i.dst i.imm high signed_quotient (omega arith) g.dst imm (signed_quotient_means w i.dst i.imm))
 
-  number_remainder : (w : Width) → Given (form.Arithmetic operator.Remainder w source.Immediate) → (is_int i.offset 0 ≡ true) ⊎ (is_int i.offset 1 ≡ true) → Says (form.Arithmetic operator.Remainder w source.Immediate) i high
-  number_remainder w g (inl e) = subst (λ k. Says (form.Arithmetic operator.Remainder w source.Immediate) k high) (same (form.Arithmetic operator.Remainder w source.Immediate) i i.dst 0 (pos 0) i.imm g.op refl (zero_src g.parts.src) (int_is i.offset 0 e) refl) (number_line operator.Remainder 0 w i.dst i.imm high (operator_written operator.Remainder tt) (omega arith) g.dst imm (number_means operator.Remainder tt w i.dst i.imm))
-  number_remainder w g (inr e) = subst (λ k. Says (form.Arithmetic operator.Remainder w source.Immediate) k high) (same (form.Arithmetic operator.Remainder w source.Immediate) i i.dst 0 (pos 1) i.imm g.op refl (zero_src g.parts.src) (int_is i.offset 1 e) refl) (number_line operator.Remainder 1 w i.dst i.imm high signed_remainder (omega arith) g.dst imm (signed_remainder_means w i.dst i.imm))
+  number_remainder : (w : Width) → Given (form.Arithmetic operator.Remainder w source.Immediate) → (is_int i.offset 0 ≡ true) ⊎ (is_int i.offset 1 ≡ true)
+      → Says (form.Arithmetic operator.Remainder w source.Immediate) i high
+  number_remainder w g (inl e) = subst (λ k. Says (form.Arithmetic operator.Remainder w source.Immediate) k high)
+      (same (form.Arithmetic operator.Remainder w source.Immediate) i i.dst 0 (pos 0) i.imm g.op refl (zero_src g.parts.src) (int_is i.offset 0 e) refl)
+      (number_line operator.Remainder 0 w i.dst i.imm high (operator_written operator.Remainder tt) (omega arith) g.dst imm
+      (number_means operator.Remainder tt w i.dst i.imm))
+  number_remainder w g (inr e) = subst (λ k. Says (form.Arithmetic operator.Remainder w source.Immediate) k high)
+      (same (form.Arithmetic operator.Remainder w source.Immediate) i i.dst 0 (pos 1) i.imm g.op refl (zero_src g.parts.src) (int_is i.offset 1 e) refl)
+      (number_line operator.Remainder 1 w i.dst i.imm high signed_remainder (omega arith) g.dst imm (signed_remainder_means w i.dst i.imm))
 
   number_says : (op : Operator) (w : Width) → IsTwo op → Given (form.Arithmetic op w source.Immediate) → Says (form.Arithmetic op w source.Immediate) i high
-  number_says operator.Sum w h g = subst (λ k. Says (form.Arithmetic operator.Sum w source.Immediate) k high) (same (form.Arithmetic operator.Sum w source.Immediate) i i.dst 0 (pos 0) i.imm g.op refl (zero_src g.parts.src) (int_is i.offset 0 g.parts.form) refl) (number_line operator.Sum 0 w i.dst i.imm high (operator_written operator.Sum tt) (omega arith) g.dst imm (number_means operator.Sum tt w i.dst i.imm))
-  number_says operator.Difference w h g = subst (λ k. Says (form.Arithmetic operator.Difference w source.Immediate) k high) (same (form.Arithmetic operator.Difference w source.Immediate) i i.dst 0 (pos 0) i.imm g.op refl (zero_src g.parts.src) (int_is i.offset 0 g.parts.form) refl) (number_line operator.Difference 0 w i.dst i.imm high (operator_written operator.Difference tt) (omega arith) g.dst imm (number_means operator.Difference tt w i.dst i.imm))
-  number_says operator.Product w h g = subst (λ k. Says (form.Arithmetic operator.Product w source.Immediate) k high) (same (form.Arithmetic operator.Product w source.Immediate) i i.dst 0 (pos 0) i.imm g.op refl (zero_src g.parts.src) (int_is i.offset 0 g.parts.form) refl) (number_line operator.Product 0 w i.dst i.imm high (operator_written operator.Product tt) (omega arith) g.dst imm (number_means operator.Product tt w i.dst i.imm))
+  number_says operator.Sum w h g = subst
+      (λ k. Says (form.Arithmetic operator.Sum w source.Immediate) k high) (same (form.Arithmetic operator.Sum w source.Immediate) i i.dst 0 (pos 0) i.imm g.op
+      refl (zero_src g.parts.src) (int_is i.offset 0 g.parts.form) refl)
+      (number_line operator.Sum 0 w i.dst i.imm high (operator_written operator.Sum tt) (omega arith) g.dst imm (number_means operator.Sum tt w i.dst i.imm))
+  number_says operator.Difference w h g = subst (λ k. Says (form.Arithmetic operator.Difference w source.Immediate) k high)
+      (same (form.Arithmetic operator.Difference w source.Immediate) i i.dst 0 (pos 0) i.imm g.op refl (zero_src g.parts.src) (int_is i.offset 0 g.parts.form)
+      refl) (number_line operator.Difference 0 w i.dst i.imm high (operator_written operator.Difference tt) (omega arith) g.dst imm
+      (number_means operator.Difference tt w i.dst i.imm))
+  number_says operator.Product w h g = subst (λ k. Says (form.Arithmetic operator.Product w source.Immediate) k high)
+      (same (form.Arithmetic operator.Product w source.Immediate) i i.dst 0 (pos 0) i.imm g.op refl (zero_src g.parts.src) (int_is i.offset 0 g.parts.form)
+      refl) (number_line operator.Product 0 w i.dst i.imm high (operator_written operator.Product tt) (omega arith) g.dst imm
+      (number_means operator.Product tt w i.dst i.imm))
   number_says operator.Quotient w h g = number_quotient w g (or_cases (is_int i.offset 0) (is_int i.offset 1) g.parts.form)
-  number_says operator.Or w h g = subst (λ k. Says (form.Arithmetic operator.Or w source.Immediate) k high) (same (form.Arithmetic operator.Or w source.Immediate) i i.dst 0 (pos 0) i.imm g.op refl (zero_src g.parts.src) (int_is i.offset 0 g.parts.form) refl) (number_line operator.Or 0 w i.dst i.imm high (operator_written operator.Or tt) (omega arith) g.dst imm (number_means operator.Or tt w i.dst i.imm))
-  number_says operator.And w h g = subst (λ k. Says (form.Arithmetic operator.And w source.Immediate) k high) (same (form.Arithmetic operator.And w source.Immediate) i i.dst 0 (pos 0) i.imm g.op refl (zero_src g.parts.src) (int_is i.offset 0 g.parts.form) refl) (number_line operator.And 0 w i.dst i.imm high (operator_written operator.And tt) (omega arith) g.dst imm (number_means operator.And tt w i.dst i.imm))
-  number_says operator.ShiftLeft w h g = subst (λ k. Says (form.Arithmetic operator.ShiftLeft w source.Immediate) k high) (same (form.Arithmetic operator.ShiftLeft w source.Immediate) i i.dst 0 (pos 0) i.imm g.op refl (zero_src g.parts.src) (int_is i.offset 0 g.parts.form) refl) (number_line operator.ShiftLeft 0 w i.dst i.imm high (operator_written operator.ShiftLeft tt) (omega arith) g.dst imm (number_means operator.ShiftLeft tt w i.dst i.imm))
-  number_says operator.ShiftRight w h g = subst (λ k. Says (form.Arithmetic operator.ShiftRight w source.Immediate) k high) (same (form.Arithmetic operator.ShiftRight w source.Immediate) i i.dst 0 (pos 0) i.imm g.op refl (zero_src g.parts.src) (int_is i.offset 0 g.parts.form) refl) (number_line operator.ShiftRight 0 w i.dst i.imm high (operator_written operator.ShiftRight tt) (omega arith) g.dst imm (number_means operator.ShiftRight tt w i.dst i.imm))
+  number_says operator.Or w h g = subst
+      (λ k. Says (form.Arithmetic operator.Or w source.Immediate) k high)
+      (same (form.Arithmetic operator.Or w source.Immediate) i i.dst 0 (pos 0) i.imm g.op refl (zero_src g.parts.src) (int_is i.offset 0 g.parts.form) refl)
+      (number_line operator.Or 0 w i.dst i.imm high (operator_written operator.Or tt) (omega arith) g.dst imm (number_means operator.Or tt w i.dst i.imm))
+  number_says operator.And w h g = subst
+      (λ k. Says (form.Arithmetic operator.And w source.Immediate) k high) (same (form.Arithmetic operator.And w source.Immediate) i i.dst 0 (pos 0) i.imm g.op
+      refl (zero_src g.parts.src) (int_is i.offset 0 g.parts.form) refl)
+      (number_line operator.And 0 w i.dst i.imm high (operator_written operator.And tt) (omega arith) g.dst imm (number_means operator.And tt w i.dst i.imm))
+  number_says operator.ShiftLeft w h g = subst (λ k. Says (form.Arithmetic operator.ShiftLeft w source.Immediate) k high)
+      (same (form.Arithmetic operator.ShiftLeft w source.Immediate) i i.dst 0 (pos 0) i.imm g.op refl (zero_src g.parts.src) (int_is i.offset 0 g.parts.form)
+      refl) (number_line operator.ShiftLeft 0 w i.dst i.imm high (operator_written operator.ShiftLeft tt) (omega arith) g.dst imm
+      (number_means operator.ShiftLeft tt w i.dst i.imm))
+  number_says operator.ShiftRight w h g = subst (λ k. Says (form.Arithmetic operator.ShiftRight w source.Immediate) k high)
+      (same (form.Arithmetic operator.ShiftRight w source.Immediate) i i.dst 0 (pos 0) i.imm g.op refl (zero_src g.parts.src) (int_is i.offset 0 g.parts.form)
+      refl) (number_line operator.ShiftRight 0 w i.dst i.imm high (operator_written operator.ShiftRight tt) (omega arith) g.dst imm
+      (number_means operator.ShiftRight tt w i.dst i.imm))
   number_says operator.Remainder w h g = number_remainder w g (or_cases (is_int i.offset 0) (is_int i.offset 1) g.parts.form)
-  number_says operator.Xor w h g = subst (λ k. Says (form.Arithmetic operator.Xor w source.Immediate) k high) (same (form.Arithmetic operator.Xor w source.Immediate) i i.dst 0 (pos 0) i.imm g.op refl (zero_src g.parts.src) (int_is i.offset 0 g.parts.form) refl) (number_line operator.Xor 0 w i.dst i.imm high (operator_written operator.Xor tt) (omega arith) g.dst imm (number_means operator.Xor tt w i.dst i.imm))
-  number_says operator.Move Narrow h g = subst (λ k. Says (form.Arithmetic operator.Move Narrow source.Immediate) k high) (same (form.Arithmetic operator.Move Narrow source.Immediate) i i.dst 0 (pos 0) i.imm g.op refl (zero_src g.parts.src) (int_is i.offset 0 (or_false (is_int i.offset 0) g.parts.form)) refl) (number_line operator.Move 0 Narrow i.dst i.imm high (operator_written operator.Move tt) (omega arith) g.dst imm (number_means operator.Move tt Narrow i.dst i.imm))
-  number_says operator.Move Full h g = subst (λ k. Says (form.Arithmetic operator.Move Full source.Immediate) k high) (same (form.Arithmetic operator.Move Full source.Immediate) i i.dst 0 (pos 0) i.imm g.op refl (zero_src g.parts.src) (int_is i.offset 0 (or_false (is_int i.offset 0) g.parts.form)) refl) (number_line operator.Move 0 Full i.dst i.imm high (operator_written operator.Move tt) (omega arith) g.dst imm (number_means operator.Move tt Full i.dst i.imm))
-  number_says operator.ShiftSigned w h g = subst (λ k. Says (form.Arithmetic operator.ShiftSigned w source.Immediate) k high) (same (form.Arithmetic operator.ShiftSigned w source.Immediate) i i.dst 0 (pos 0) i.imm g.op refl (zero_src g.parts.src) (int_is i.offset 0 g.parts.form) refl) (number_line operator.ShiftSigned 0 w i.dst i.imm high (operator_written operator.ShiftSigned tt) (omega arith) g.dst imm (number_means operator.ShiftSigned tt w i.dst i.imm))
+  number_says operator.Xor w h g = subst
+      (λ k. Says (form.Arithmetic operator.Xor w source.Immediate) k high) (same (form.Arithmetic operator.Xor w source.Immediate) i i.dst 0 (pos 0) i.imm g.op
+      refl (zero_src g.parts.src) (int_is i.offset 0 g.parts.form) refl)
+      (number_line operator.Xor 0 w i.dst i.imm high (operator_written operator.Xor tt) (omega arith) g.dst imm (number_means operator.Xor tt w i.dst i.imm))
+  number_says operator.Move Narrow h g = subst (λ k. Says (form.Arithmetic operator.Move Narrow source.Immediate) k high)
+      (same (form.Arithmetic operator.Move Narrow source.Immediate) i i.dst 0 (pos 0) i.imm g.op refl (zero_src g.parts.src)
+      (int_is i.offset 0 (or_false (is_int i.offset 0) g.parts.form)) refl)
+      (number_line operator.Move 0 Narrow i.dst i.imm high (operator_written operator.Move tt) (omega arith) g.dst imm
+      (number_means operator.Move tt Narrow i.dst i.imm))
+  number_says operator.Move Full h g = subst (λ k. Says (form.Arithmetic operator.Move Full source.Immediate) k high)
+      (same (form.Arithmetic operator.Move Full source.Immediate) i i.dst 0 (pos 0) i.imm g.op refl (zero_src g.parts.src)
+      (int_is i.offset 0 (or_false (is_int i.offset 0) g.parts.form)) refl)
+      (number_line operator.Move 0 Full i.dst i.imm high (operator_written operator.Move tt) (omega arith) g.dst imm
+      (number_means operator.Move tt Full i.dst i.imm))
+  number_says operator.ShiftSigned w h g = subst (λ k. Says (form.Arithmetic operator.ShiftSigned w source.Immediate) k high)
+      (same (form.Arithmetic operator.ShiftSigned w source.Immediate) i i.dst 0 (pos 0) i.imm g.op refl (zero_src g.parts.src) (int_is i.offset 0 g.parts.form)
+      refl) (number_line operator.ShiftSigned 0 w i.dst i.imm high (operator_written operator.ShiftSigned tt) (omega arith) g.dst imm
+      (number_means operator.ShiftSigned tt w i.dst i.imm))
   number_says operator.Negate w h g = absurd h
   number_says operator.SwapBytes w h g = absurd h
 
-  register_quotient : (w : Width) → Given (form.Arithmetic operator.Quotient w source.Register) → (is_int i.offset 0 ≡ true) ⊎ (is_int i.offset 1 ≡ true) → Says (form.Arithmetic operator.Quotient w source.Register) i high
-  register_quotient w g (inl e) = subst (λ k. Says (form.Arithmetic operator.Quotient w source.Register) k high) (same (form.Arithmetic operator.Quotient w source.Register) i i.dst i.src (pos 0) (pos 0) g.op refl refl (int_is i.offset 0 e) (int_is i.imm 0 g.parts.imm)) (register_line operator.Quotient 0 w i.dst i.src high (operator_written operator.Quotient tt) (omega arith) g.dst g.src (register_means operator.Quotient tt w i.dst i.src))
-  register_quotient w g (inr e) = subst (λ k. Says (form.Arithmetic operator.Quotient w source.Register) k high) (same (form.Arithmetic operator.Quotient w source.Register) i i.dst i.src (pos 1) (pos 0) g.op refl refl (int_is i.offset 1 e) (int_is i.imm 0 g.parts.imm)) (register_line operator.Quotient 1 w i.dst i.src high signed_quotient (omega arith) g.dst g.src (ap (λ b. when b (Plain (form.Arithmetic operator.Quotient w source.Register) (fields i.dst i.src (exactly 1) (exactly 0)))) (same_width w)))
+  register_quotient : (w : Width) → Given (form.Arithmetic operator.Quotient w source.Register) → (is_int i.offset 0 ≡ true) ⊎ (is_int i.offset 1 ≡ true)
+      → Says (form.Arithmetic operator.Quotient w source.Register) i high
+  register_quotient w g (inl e) = subst (λ k. Says (form.Arithmetic operator.Quotient w source.Register) k high)
+      (same (form.Arithmetic operator.Quotient w source.Register) i i.dst i.src (pos 0) (pos 0) g.op refl refl (int_is i.offset 0 e)
+      (int_is i.imm 0 g.parts.imm)) (register_line operator.Quotient 0 w i.dst i.src high (operator_written operator.Quotient tt) (omega arith) g.dst g.src
+      (register_means operator.Quotient tt w i.dst i.src))
+  register_quotient w g (inr e) = subst (λ k. Says (form.Arithmetic operator.Quotient w source.Register) k high)
+      (same (form.Arithmetic operator.Quotient w source.Register) i i.dst i.src (pos 1) (pos 0) g.op refl refl (int_is i.offset 1 e)
+      (int_is i.imm 0 g.parts.imm)) (register_line operator.Quotient 1 w i.dst i.src high signed_quotient (omega arith) g.dst g.src
+      (ap (λ b. when b (Plain (form.Arithmetic operator.Quotient w source.Register) (fields i.dst i.src (exactly 1) (exactly 0)))) (same_width w)))
 
-  register_remainder : (w : Width) → Given (form.Arithmetic operator.Remainder w source.Register) → (is_int i.offset 0 ≡ true) ⊎ (is_int i.offset 1 ≡ true) → Says (form.Arithmetic operator.Remainder w source.Register) i high
-  register_remainder w g (inl e) = subst (λ k. Says (form.Arithmetic operator.Remainder w source.Register) k high) (same (form.Arithmetic operator.Remainder w source.Register) i i.dst i.src (pos 0) (pos 0) g.op refl refl (int_is i.offset 0 e) (int_is i.imm 0 g.parts.imm)) (register_line operator.Remainder 0 w i.dst i.src high (operator_written operator.Remainder tt) (omega arith) g.dst g.src (register_means operator.Remainder tt w i.dst i.src))
-  register_remainder w g (inr e) = subst (λ k. Says (form.Arithmetic operator.Remainder w source.Register) k high) (same (form.Arithmetic operator.Remainder w source.Register) i i.dst i.src (pos 1) (pos 0) g.op refl refl (int_is i.offset 1 e) (int_is i.imm 0 g.parts.imm)) (register_line operator.Remainder 1 w i.dst i.src high signed_remainder (omega arith) g.dst g.src (ap (λ b. when b (Plain (form.Arithmetic operator.Remainder w source.Register) (fields i.dst i.src (exactly 1) (exactly 0)))) (same_width w)))
+  register_remainder : (w : Width) → Given (form.Arithmetic operator.Remainder w source.Register) → (is_int i.offset 0 ≡ true) ⊎ (is_int i.offset 1 ≡ true)
+      → Says (form.Arithmetic operator.Remainder w source.Register) i high
+  register_remainder w g (inl e) = subst (λ k. Says (form.Arithmetic operator.Remainder w source.Register) k high)
+      (same (form.Arithmetic operator.Remainder w source.Register) i i.dst i.src (pos 0) (pos 0) g.op refl refl (int_is i.offset 0 e)
+      (int_is i.imm 0 g.parts.imm)) (register_line operator.Remainder 0 w i.dst i.src high (operator_written operator.Remainder tt) (omega arith) g.dst g.src
+      (register_means operator.Remainder tt w i.dst i.src))
+  register_remainder w g (inr e) = subst (λ k. Says (form.Arithmetic operator.Remainder w source.Register) k high)
+      (same (form.Arithmetic operator.Remainder w source.Register) i i.dst i.src (pos 1) (pos 0) g.op refl refl (int_is i.offset 1 e)
+      (int_is i.imm 0 g.parts.imm)) (register_line operator.Remainder 1 w i.dst i.src high signed_remainder (omega arith) g.dst g.src
+      (ap (λ b. when b (Plain (form.Arithmetic operator.Remainder w source.Register) (fields i.dst i.src (exactly 1) (exactly 0)))) (same_width w)))
 
-  narrow_move : (n : ℕ) → Given (form.Arithmetic operator.Move Narrow source.Register) → is_int i.offset n ≡ true → Says (form.Arithmetic operator.Move Narrow source.Register) (inst_of (form.Arithmetic operator.Move Narrow source.Register) i.dst i.src (pos n) (pos 0)) high → Says (form.Arithmetic operator.Move Narrow source.Register) i high
-  narrow_move n g e h = subst (λ k. Says (form.Arithmetic operator.Move Narrow source.Register) k high) (same (form.Arithmetic operator.Move Narrow source.Register) i i.dst i.src (pos n) (pos 0) g.op refl refl (int_is i.offset n e) (int_is i.imm 0 g.parts.imm)) h
+  narrow_move : (n : ℕ) → Given (form.Arithmetic operator.Move Narrow source.Register) → is_int i.offset n ≡ true
+      → Says (form.Arithmetic operator.Move Narrow source.Register) (inst_of (form.Arithmetic operator.Move Narrow source.Register) i.dst i.src (pos n) (pos 0))
+      high → Says (form.Arithmetic operator.Move Narrow source.Register) i high
+  narrow_move n g e h = subst (λ k. Says (form.Arithmetic operator.Move Narrow source.Register) k high)
+      (same (form.Arithmetic operator.Move Narrow source.Register) i i.dst i.src (pos n) (pos 0) g.op refl refl (int_is i.offset n e)
+      (int_is i.imm 0 g.parts.imm)) h
 
-  full_move : (n : ℕ) → Given (form.Arithmetic operator.Move Full source.Register) → is_int i.offset n ≡ true → Says (form.Arithmetic operator.Move Full source.Register) (inst_of (form.Arithmetic operator.Move Full source.Register) i.dst i.src (pos n) (pos 0)) high → Says (form.Arithmetic operator.Move Full source.Register) i high
-  full_move n g e h = subst (λ k. Says (form.Arithmetic operator.Move Full source.Register) k high) (same (form.Arithmetic operator.Move Full source.Register) i i.dst i.src (pos n) (pos 0) g.op refl refl (int_is i.offset n e) (int_is i.imm 0 g.parts.imm)) h
+  full_move : (n : ℕ) → Given (form.Arithmetic operator.Move Full source.Register) → is_int i.offset n ≡ true
+      → Says (form.Arithmetic operator.Move Full source.Register) (inst_of (form.Arithmetic operator.Move Full source.Register) i.dst i.src (pos n) (pos 0))
+      high → Says (form.Arithmetic operator.Move Full source.Register) i high
+  full_move n g e h = subst (λ k. Says (form.Arithmetic operator.Move Full source.Register) k high)
+      (same (form.Arithmetic operator.Move Full source.Register) i i.dst i.src (pos n) (pos 0) g.op refl refl (int_is i.offset n e)
+      (int_is i.imm 0 g.parts.imm)) h
 
-  narrow_extends : Given (form.Arithmetic operator.Move Narrow source.Register) → (is_int i.offset 8 ≡ true) ⊎ (is_int i.offset 16 ≡ true) → Says (form.Arithmetic operator.Move Narrow source.Register) i high
+  narrow_extends : Given (form.Arithmetic operator.Move Narrow source.Register) → (is_int i.offset 8 ≡ true) ⊎ (is_int i.offset 16 ≡ true)
+      → Says (form.Arithmetic operator.Move Narrow source.Register) i high
   narrow_extends g (inl e) = narrow_move 8 g e (extension8_line Narrow i.dst i.src high refl g.dst g.src)
   narrow_extends g (inr e) = narrow_move 16 g e (extension16_line Narrow i.dst i.src high refl g.dst g.src)
 
-  narrow_moves : Given (form.Arithmetic operator.Move Narrow source.Register) → (is_int i.offset 0 ≡ true) ⊎ ((is_int i.offset 8 || is_int i.offset 16) ≡ true) → Says (form.Arithmetic operator.Move Narrow source.Register) i high
-  narrow_moves g (inl e) = narrow_move 0 g e (register_line operator.Move 0 Narrow i.dst i.src high (operator_written operator.Move tt) (omega arith) g.dst g.src (register_means operator.Move tt Narrow i.dst i.src))
+  narrow_moves : Given (form.Arithmetic operator.Move Narrow source.Register) → (is_int i.offset 0 ≡ true) ⊎ ((is_int i.offset 8 || is_int i.offset 16) ≡ true)
+      → Says (form.Arithmetic operator.Move Narrow source.Register) i high
+  narrow_moves g (inl e) = narrow_move 0 g e (register_line operator.Move 0 Narrow i.dst i.src high (operator_written operator.Move tt) (omega arith) g.dst
+      g.src (register_means operator.Move tt Narrow i.dst i.src))
   narrow_moves g (inr e) = narrow_extends g (or_cases (is_int i.offset 8) (is_int i.offset 16) e)
 
-  full_half : Given (form.Arithmetic operator.Move Full source.Register) → (is_int i.offset 8 ≡ true) ⊎ (is_int i.offset 16 ≡ true) → Says (form.Arithmetic operator.Move Full source.Register) i high
+  full_half : Given (form.Arithmetic operator.Move Full source.Register) → (is_int i.offset 8 ≡ true) ⊎ (is_int i.offset 16 ≡ true)
+      → Says (form.Arithmetic operator.Move Full source.Register) i high
   full_half g (inl e) = full_move 8 g e (extension8_line Full i.dst i.src high refl g.dst g.src)
   full_half g (inr e) = full_move 16 g e (extension16_line Full i.dst i.src high refl g.dst g.src)
 
-  full_extends : Given (form.Arithmetic operator.Move Full source.Register) → ((is_int i.offset 8 || is_int i.offset 16) ≡ true) ⊎ (is_int i.offset 32 ≡ true) → Says (form.Arithmetic operator.Move Full source.Register) i high
+  full_extends : Given (form.Arithmetic operator.Move Full source.Register) → ((is_int i.offset 8 || is_int i.offset 16) ≡ true) ⊎ (is_int i.offset 32 ≡ true)
+      → Says (form.Arithmetic operator.Move Full source.Register) i high
   full_extends g (inl e) = full_half g (or_cases (is_int i.offset 8) (is_int i.offset 16) e)
   full_extends g (inr e) = full_move 32 g e (extension32_line Full i.dst i.src high refl g.dst g.src)
 
-  full_moves : Given (form.Arithmetic operator.Move Full source.Register) → (is_int i.offset 0 ≡ true) ⊎ ((is_int i.offset 8 || is_int i.offset 16 || is_int i.offset 32) ≡ true) → Says (form.Arithmetic operator.Move Full source.Register) i high
-  full_moves g (inl e) = full_move 0 g e (register_line operator.Move 0 Full i.dst i.src high (operator_written operator.Move tt) (omega arith) g.dst g.src (register_means operator.Move tt Full i.dst i.src))
+  full_moves : Given (form.Arithmetic operator.Move Full source.Register)
+      → (is_int i.offset 0 ≡ true) ⊎ ((is_int i.offset 8 || is_int i.offset 16 || is_int i.offset 32) ≡ true)
+      → Says (form.Arithmetic operator.Move Full source.Register) i high
+  full_moves g (inl e) = full_move 0 g e (register_line operator.Move 0 Full i.dst i.src high (operator_written operator.Move tt) (omega arith) g.dst g.src
+      (register_means operator.Move tt Full i.dst i.src))
   full_moves g (inr e) = full_extends g (or_cases (is_int i.offset 8 || is_int i.offset 16) (is_int i.offset 32) e)
 
   register_says : (op : Operator) (w : Width) → IsTwo op → Given (form.Arithmetic op w source.Register) → Says (form.Arithmetic op w source.Register) i high
-  register_says operator.Sum w h g = subst (λ k. Says (form.Arithmetic operator.Sum w source.Register) k high) (same (form.Arithmetic operator.Sum w source.Register) i i.dst i.src (pos 0) (pos 0) g.op refl refl (int_is i.offset 0 g.parts.form) (int_is i.imm 0 g.parts.imm)) (register_line operator.Sum 0 w i.dst i.src high (operator_written operator.Sum tt) (omega arith) g.dst g.src (register_means operator.Sum tt w i.dst i.src))
-  register_says operator.Difference w h g = subst (λ k. Says (form.Arithmetic operator.Difference w source.Register) k high) (same (form.Arithmetic operator.Difference w source.Register) i i.dst i.src (pos 0) (pos 0) g.op refl refl (int_is i.offset 0 g.parts.form) (int_is i.imm 0 g.parts.imm)) (register_line operator.Difference 0 w i.dst i.src high (operator_written operator.Difference tt) (omega arith) g.dst g.src (register_means operator.Difference tt w i.dst i.src))
-  register_says operator.Product w h g = subst (λ k. Says (form.Arithmetic operator.Product w source.Register) k high) (same (form.Arithmetic operator.Product w source.Register) i i.dst i.src (pos 0) (pos 0) g.op refl refl (int_is i.offset 0 g.parts.form) (int_is i.imm 0 g.parts.imm)) (register_line operator.Product 0 w i.dst i.src high (operator_written operator.Product tt) (omega arith) g.dst g.src (register_means operator.Product tt w i.dst i.src))
+  register_says operator.Sum w h g = subst
+      (λ k. Says (form.Arithmetic operator.Sum w source.Register) k high) (same (form.Arithmetic operator.Sum w source.Register) i i.dst i.src (pos 0) (pos 0)
+      g.op refl refl (int_is i.offset 0 g.parts.form) (int_is i.imm 0 g.parts.imm))
+      (register_line operator.Sum 0 w i.dst i.src high (operator_written operator.Sum tt) (omega arith) g.dst g.src
+      (register_means operator.Sum tt w i.dst i.src))
+  register_says operator.Difference w h g = subst (λ k. Says (form.Arithmetic operator.Difference w source.Register) k high)
+      (same (form.Arithmetic operator.Difference w source.Register) i i.dst i.src (pos 0) (pos 0) g.op refl refl (int_is i.offset 0 g.parts.form)
+      (int_is i.imm 0 g.parts.imm)) (register_line operator.Difference 0 w i.dst i.src high (operator_written operator.Difference tt) (omega arith) g.dst g.src
+      (register_means operator.Difference tt w i.dst i.src))
+  register_says operator.Product w h g = subst
+      (λ k. Says (form.Arithmetic operator.Product w source.Register) k high)
+      (same (form.Arithmetic operator.Product w source.Register) i i.dst i.src (pos 0) (pos 0) g.op refl refl (int_is i.offset 0 g.parts.form)
+      (int_is i.imm 0 g.parts.imm)) (register_line operator.Product 0 w i.dst i.src high (operator_written operator.Product tt) (omega arith) g.dst g.src
+      (register_means operator.Product tt w i.dst i.src))
   register_says operator.Quotient w h g = register_quotient w g (or_cases (is_int i.offset 0) (is_int i.offset 1) g.parts.form)
-  register_says operator.Or w h g = subst (λ k. Says (form.Arithmetic operator.Or w source.Register) k high) (same (form.Arithmetic operator.Or w source.Register) i i.dst i.src (pos 0) (pos 0) g.op refl refl (int_is i.offset 0 g.parts.form) (int_is i.imm 0 g.parts.imm)) (register_line operator.Or 0 w i.dst i.src high (operator_written operator.Or tt) (omega arith) g.dst g.src (register_means operator.Or tt w i.dst i.src))
-  register_says operator.And w h g = subst (λ k. Says (form.Arithmetic operator.And w source.Register) k high) (same (form.Arithmetic operator.And w source.Register) i i.dst i.src (pos 0) (pos 0) g.op refl refl (int_is i.offset 0 g.parts.form) (int_is i.imm 0 g.parts.imm)) (register_line operator.And 0 w i.dst i.src high (operator_written operator.And tt) (omega arith) g.dst g.src (register_means operator.And tt w i.dst i.src))
-  register_says operator.ShiftLeft w h g = subst (λ k. Says (form.Arithmetic operator.ShiftLeft w source.Register) k high) (same (form.Arithmetic operator.ShiftLeft w source.Register) i i.dst i.src (pos 0) (pos 0) g.op refl refl (int_is i.offset 0 g.parts.form) (int_is i.imm 0 g.parts.imm)) (register_line operator.ShiftLeft 0 w i.dst i.src high (operator_written operator.ShiftLeft tt) (omega arith) g.dst g.src (register_means operator.ShiftLeft tt w i.dst i.src))
-  register_says operator.ShiftRight w h g = subst (λ k. Says (form.Arithmetic operator.ShiftRight w source.Register) k high) (same (form.Arithmetic operator.ShiftRight w source.Register) i i.dst i.src (pos 0) (pos 0) g.op refl refl (int_is i.offset 0 g.parts.form) (int_is i.imm 0 g.parts.imm)) (register_line operator.ShiftRight 0 w i.dst i.src high (operator_written operator.ShiftRight tt) (omega arith) g.dst g.src (register_means operator.ShiftRight tt w i.dst i.src))
+  register_says operator.Or w h g = subst
+      (λ k. Says (form.Arithmetic operator.Or w source.Register) k high)
+      (same (form.Arithmetic operator.Or w source.Register) i i.dst i.src (pos 0) (pos 0) g.op refl refl (int_is i.offset 0 g.parts.form)
+      (int_is i.imm 0 g.parts.imm)) (register_line operator.Or 0 w i.dst i.src high (operator_written operator.Or tt) (omega arith) g.dst g.src
+      (register_means operator.Or tt w i.dst i.src))
+  register_says operator.And w h g = subst
+      (λ k. Says (form.Arithmetic operator.And w source.Register) k high) (same (form.Arithmetic operator.And w source.Register) i i.dst i.src (pos 0) (pos 0)
+      g.op refl refl (int_is i.offset 0 g.parts.form) (int_is i.imm 0 g.parts.imm))
+      (register_line operator.And 0 w i.dst i.src high (operator_written operator.And tt) (omega arith) g.dst g.src
+      (register_means operator.And tt w i.dst i.src))
+  register_says operator.ShiftLeft w h g = subst (λ k. Says (form.Arithmetic operator.ShiftLeft w source.Register) k high)
+      (same (form.Arithmetic operator.ShiftLeft w source.Register) i i.dst i.src (pos 0) (pos 0) g.op refl refl (int_is i.offset 0 g.parts.form)
+      (int_is i.imm 0 g.parts.imm)) (register_line operator.ShiftLeft 0 w i.dst i.src high (operator_written operator.ShiftLeft tt) (omega arith) g.dst g.src
+      (register_means operator.ShiftLeft tt w i.dst i.src))
+  register_says operator.ShiftRight w h g = subst (λ k. Says (form.Arithmetic operator.ShiftRight w source.Register) k high)
+      (same (form.Arithmetic operator.ShiftRight w source.Register) i i.dst i.src (pos 0) (pos 0) g.op refl refl (int_is i.offset 0 g.parts.form)
+      (int_is i.imm 0 g.parts.imm)) (register_line operator.ShiftRight 0 w i.dst i.src high (operator_written operator.ShiftRight tt) (omega arith) g.dst g.src
+      (register_means operator.ShiftRight tt w i.dst i.src))
   register_says operator.Remainder w h g = register_remainder w g (or_cases (is_int i.offset 0) (is_int i.offset 1) g.parts.form)
-  register_says operator.Xor w h g = subst (λ k. Says (form.Arithmetic operator.Xor w source.Register) k high) (same (form.Arithmetic operator.Xor w source.Register) i i.dst i.src (pos 0) (pos 0) g.op refl refl (int_is i.offset 0 g.parts.form) (int_is i.imm 0 g.parts.imm)) (register_line operator.Xor 0 w i.dst i.src high (operator_written operator.Xor tt) (omega arith) g.dst g.src (register_means operator.Xor tt w i.dst i.src))
+  register_says operator.Xor w h g = subst
+      (λ k. Says (form.Arithmetic operator.Xor w source.Register) k high) (same (form.Arithmetic operator.Xor w source.Register) i i.dst i.src (pos 0) (pos 0)
+      g.op refl refl (int_is i.offset 0 g.parts.form) (int_is i.imm 0 g.parts.imm))
+      (register_line operator.Xor 0 w i.dst i.src high (operator_written operator.Xor tt) (omega arith) g.dst g.src
+      (register_means operator.Xor tt w i.dst i.src))
   register_says operator.Move Narrow h g = narrow_moves g (or_cases (is_int i.offset 0) (is_int i.offset 8 || is_int i.offset 16) g.parts.form)
-  register_says operator.Move Full h g = full_moves g (or_cases (is_int i.offset 0) (is_int i.offset 8 || is_int i.offset 16 || is_int i.offset 32) g.parts.form)
-  register_says operator.ShiftSigned w h g = subst (λ k. Says (form.Arithmetic operator.ShiftSigned w source.Register) k high) (same (form.Arithmetic operator.ShiftSigned w source.Register) i i.dst i.src (pos 0) (pos 0) g.op refl refl (int_is i.offset 0 g.parts.form) (int_is i.imm 0 g.parts.imm)) (register_line operator.ShiftSigned 0 w i.dst i.src high (operator_written operator.ShiftSigned tt) (omega arith) g.dst g.src (register_means operator.ShiftSigned tt w i.dst i.src))
+  register_says operator.Move Full h g =
+      full_moves g (or_cases (is_int i.offset 0) (is_int i.offset 8 || is_int i.offset 16 || is_int i.offset 32) g.parts.form)
+  register_says operator.ShiftSigned w h g = subst (λ k. Says (form.Arithmetic operator.ShiftSigned w source.Register) k high)
+      (same (form.Arithmetic operator.ShiftSigned w source.Register) i i.dst i.src (pos 0) (pos 0) g.op refl refl (int_is i.offset 0 g.parts.form)
+      (int_is i.imm 0 g.parts.imm)) (register_line operator.ShiftSigned 0 w i.dst i.src high (operator_written operator.ShiftSigned tt) (omega arith) g.dst
+      g.src (register_means operator.ShiftSigned tt w i.dst i.src))
   register_says operator.Negate w h g = absurd h
   register_says operator.SwapBytes w h g = absurd h
 
-  swap_bits : (w : Width) (s : Source) (bits : ℕ) → Given (form.Arithmetic operator.SwapBytes w s) → is_int i.imm bits ≡ true → IsWritten (swap_text w s (pos bits)) (Swap w s bits) → bits ≤ 64 → Says (form.Arithmetic operator.SwapBytes w s) i high
-  swap_bits w s bits g e o few = subst (λ k. Says (form.Arithmetic operator.SwapBytes w s) k high) (same (form.Arithmetic operator.SwapBytes w s) i i.dst 0 (pos 0) (pos bits) g.op refl (zero_src g.parts.src) (int_is i.offset 0 g.parts.offset) (int_is i.imm bits e)) (swap_line w s bits i.dst high o few g.dst)
+  swap_bits : (w : Width) (s : Source) (bits : ℕ) → Given (form.Arithmetic operator.SwapBytes w s) → is_int i.imm bits ≡ true
+      → IsWritten (swap_text w s (pos bits)) (Swap w s bits) → bits ≤ 64 → Says (form.Arithmetic operator.SwapBytes w s) i high
+  swap_bits w s bits g e o few = subst
+      (λ k. Says (form.Arithmetic operator.SwapBytes w s) k high) (same (form.Arithmetic operator.SwapBytes w s) i i.dst 0 (pos 0) (pos bits) g.op refl
+      (zero_src g.parts.src) (int_is i.offset 0 g.parts.offset) (int_is i.imm bits e)) (swap_line w s bits i.dst high o few g.dst)
 
-  swap_low : (w : Width) (s : Source) → Given (form.Arithmetic operator.SwapBytes w s) → IsWritten (swap_text w s (pos 16)) (Swap w s 16) → IsWritten (swap_text w s (pos 32)) (Swap w s 32) → (is_int i.imm 16 ≡ true) ⊎ (is_int i.imm 32 ≡ true) → Says (form.Arithmetic operator.SwapBytes w s) i high
+  swap_low : (w : Width) (s : Source) → Given (form.Arithmetic operator.SwapBytes w s) → IsWritten (swap_text w s (pos 16)) (Swap w s 16)
+      → IsWritten (swap_text w s (pos 32)) (Swap w s 32) → (is_int i.imm 16 ≡ true) ⊎ (is_int i.imm 32 ≡ true)
+      → Says (form.Arithmetic operator.SwapBytes w s) i high
   swap_low w s g a b (inl e) = swap_bits w s 16 g e a (omega arith)
   swap_low w s g a b (inr e) = swap_bits w s 32 g e b (omega arith)
 
-  swap_by : (w : Width) (s : Source) → Given (form.Arithmetic operator.SwapBytes w s) → IsWritten (swap_text w s (pos 16)) (Swap w s 16) → IsWritten (swap_text w s (pos 32)) (Swap w s 32) → IsWritten (swap_text w s (pos 64)) (Swap w s 64) → ((is_int i.imm 16 || is_int i.imm 32) ≡ true) ⊎ (is_int i.imm 64 ≡ true) → Says (form.Arithmetic operator.SwapBytes w s) i high
+  swap_by : (w : Width) (s : Source) → Given (form.Arithmetic operator.SwapBytes w s) → IsWritten (swap_text w s (pos 16)) (Swap w s 16)
+      → IsWritten (swap_text w s (pos 32)) (Swap w s 32) → IsWritten (swap_text w s (pos 64)) (Swap w s 64)
+      → ((is_int i.imm 16 || is_int i.imm 32) ≡ true) ⊎ (is_int i.imm 64 ≡ true) → Says (form.Arithmetic operator.SwapBytes w s) i high
   swap_by w s g a b c (inl e) = swap_low w s g a b (or_cases (is_int i.imm 16) (is_int i.imm 32) e)
   swap_by w s g a b c (inr e) = swap_bits w s 64 g e c (omega arith)
 
-  swap_says : (w : Width) (s : Source) → has_form operator.SwapBytes w s ≡ true → Given (form.Arithmetic operator.SwapBytes w s) → Says (form.Arithmetic operator.SwapBytes w s) i high
-  swap_says Narrow source.Immediate h g = swap_by Narrow source.Immediate g le16_written le32_written le64_written (or_cases (is_int i.imm 16 || is_int i.imm 32) (is_int i.imm 64) g.parts.form)
-  swap_says Narrow source.Register h g = swap_by Narrow source.Register g be16_written be32_written be64_written (or_cases (is_int i.imm 16 || is_int i.imm 32) (is_int i.imm 64) g.parts.form)
-  swap_says Full source.Immediate h g = swap_by Full source.Immediate g bswap16_written bswap32_written bswap64_written (or_cases (is_int i.imm 16 || is_int i.imm 32) (is_int i.imm 64) g.parts.form)
+  swap_says : (w : Width) (s : Source) → has_form operator.SwapBytes w s ≡ true → Given (form.Arithmetic operator.SwapBytes w s)
+      → Says (form.Arithmetic operator.SwapBytes w s) i high
+  swap_says Narrow source.Immediate h g =
+      swap_by Narrow source.Immediate g le16_written le32_written le64_written (or_cases (is_int i.imm 16 || is_int i.imm 32) (is_int i.imm 64) g.parts.form)
+  swap_says Narrow source.Register h g =
+      swap_by Narrow source.Register g be16_written be32_written be64_written (or_cases (is_int i.imm 16 || is_int i.imm 32) (is_int i.imm 64) g.parts.form)
+  swap_says Full source.Immediate h g = swap_by Full source.Immediate g bswap16_written bswap32_written bswap64_written
+      (or_cases (is_int i.imm 16 || is_int i.imm 32) (is_int i.imm 64) g.parts.form)
   swap_says Full source.Register h g = absurd (cc)
 
   zero_dst : (i.dst == 0) ≡ true → i.dst ≡ 0
   zero_dst h = eqb-true i.dst 0 h
 
   form_says : (f : Form) → HasOpcode f → Given f → Says f i high
-  form_says (form.Arithmetic operator.Negate w source.Immediate) h g = subst (λ k. Says (form.Arithmetic operator.Negate w source.Immediate) k high) (same (form.Arithmetic operator.Negate w source.Immediate) i i.dst 0 (pos 0) (pos 0) g.op refl (zero_src g.parts.src) (int_is i.offset 0 g.parts.offset) (int_is i.imm 0 g.parts.imm)) (negation_line w i.dst high g.dst)
+  form_says (form.Arithmetic operator.Negate w source.Immediate) h g = subst
+      (λ k. Says (form.Arithmetic operator.Negate w source.Immediate) k high)
+      (same (form.Arithmetic operator.Negate w source.Immediate) i i.dst 0 (pos 0) (pos 0) g.op refl (zero_src g.parts.src) (int_is i.offset 0 g.parts.offset)
+      (int_is i.imm 0 g.parts.imm)) (negation_line w i.dst high g.dst)
   form_says (form.Arithmetic operator.Negate w source.Register) h g = absurd (cc)
   form_says (form.Arithmetic operator.SwapBytes w s) h g = swap_says w s h g
   form_says (form.Arithmetic operator.Sum w source.Immediate) h g = number_says operator.Sum w tt g
@@ -241,17 +370,39 @@ module _ (i : Inst) (high : ℤ) (off : FitsSigned w16 i.offset) (imm : FitsSign
   form_says (form.Arithmetic operator.Move w source.Register) h g = register_says operator.Move w tt g
   form_says (form.Arithmetic operator.ShiftSigned w source.Immediate) h g = number_says operator.ShiftSigned w tt g
   form_says (form.Arithmetic operator.ShiftSigned w source.Register) h g = register_says operator.ShiftSigned w tt g
-  form_says form.Wide h g = subst (λ k. Says form.Wide k high) (same form.Wide i i.dst 0 (pos 0) i.imm g.op refl (zero_src g.parts.src) (int_is i.offset 0 g.parts.offset) refl) (wide_line i.dst i.imm high imm up g.dst)
-  form_says (form.Load n) h g = subst (λ k. Says (form.Load n) k high) (same (form.Load n) i i.dst i.src i.offset (pos 0) g.op refl refl refl (int_is i.imm 0 g.parts.imm)) (load_line (form.Load n) (size_text n) (Unsigned n) i.dst i.src i.offset high (unsigned_size n) refl refl g.dst g.src off)
-  form_says (form.LoadSigned n) h g = subst (λ k. Says (form.LoadSigned n) k high) (same (form.LoadSigned n) i i.dst i.src i.offset (pos 0) g.op refl refl refl (int_is i.imm 0 g.parts.imm)) (load_line (form.LoadSigned n) (signed_size_text n) (Signed n) i.dst i.src i.offset high (signed_size n h) refl refl g.dst g.src off)
-  form_says (form.StoreImmediate n) h g = subst (λ k. Says (form.StoreImmediate n) k high) (same (form.StoreImmediate n) i i.dst 0 i.offset i.imm g.op refl (zero_src g.parts.src) refl refl) (number_store_line n i.dst i.offset i.imm high g.dst off imm)
-  form_says (form.StoreRegister n) h g = subst (λ k. Says (form.StoreRegister n) k high) (same (form.StoreRegister n) i i.dst i.src i.offset (pos 0) g.op refl refl refl (int_is i.imm 0 g.parts.imm)) (register_store_line n i.dst i.src i.offset high g.dst g.src off)
-  form_says form.Goto h g = subst (λ k. Says form.Goto k high) (same form.Goto i 0 0 i.offset (pos 0) g.op (zero_dst g.parts.dst) (zero_src g.parts.src) refl (int_is i.imm 0 g.parts.imm)) (goto_line i.offset high off)
-  form_says form.GotoLong h g = subst (λ k. Says form.GotoLong k high) (same form.GotoLong i 0 0 (pos 0) i.imm g.op (zero_dst g.parts.dst) (zero_src g.parts.src) (int_is i.offset 0 g.parts.offset) refl) (gotol_line i.imm high imm)
-  form_says (form.Branch c w source.Immediate) h g = subst (λ k. Says (form.Branch c w source.Immediate) k high) (same (form.Branch c w source.Immediate) i i.dst 0 i.offset i.imm g.op refl (zero_src g.parts.src) refl refl) (branch_number_line c w i.dst i.imm i.offset high g.dst imm off)
-  form_says (form.Branch c w source.Register) h g = subst (λ k. Says (form.Branch c w source.Register) k high) (same (form.Branch c w source.Register) i i.dst i.src i.offset (pos 0) g.op refl refl refl (int_is i.imm 0 g.parts.imm)) (branch_register_line c w i.dst i.src i.offset high g.dst g.src off)
-  form_says form.Call h g = subst (λ k. Says form.Call k high) (same form.Call i 0 0 (pos 0) i.imm g.op (zero_dst g.parts.dst) (zero_src g.parts.src) (int_is i.offset 0 g.parts.offset) refl) (call_line i.imm high imm)
-  form_says form.Exit h g = subst (λ k. Says form.Exit k high) (same form.Exit i 0 0 (pos 0) (pos 0) g.op (zero_dst g.parts.dst) (zero_src g.parts.src) (int_is i.offset 0 g.parts.offset) (int_is i.imm 0 g.parts.imm)) (exit_line high)
+  form_says form.Wide h g = subst
+      (λ k. Says form.Wide k high) (same form.Wide i i.dst 0 (pos 0) i.imm g.op refl (zero_src g.parts.src) (int_is i.offset 0 g.parts.offset) refl)
+      (wide_line i.dst i.imm high imm up g.dst)
+  form_says (form.Load n) h g = subst
+      (λ k. Says (form.Load n) k high) (same (form.Load n) i i.dst i.src i.offset (pos 0) g.op refl refl refl (int_is i.imm 0 g.parts.imm))
+      (load_line (form.Load n) (size_text n) (Unsigned n) i.dst i.src i.offset high (unsigned_size n) refl refl g.dst g.src off)
+  form_says (form.LoadSigned n) h g = subst
+      (λ k. Says (form.LoadSigned n) k high) (same (form.LoadSigned n) i i.dst i.src i.offset (pos 0) g.op refl refl refl (int_is i.imm 0 g.parts.imm))
+      (load_line (form.LoadSigned n) (signed_size_text n) (Signed n) i.dst i.src i.offset high (signed_size n h) refl refl g.dst g.src off)
+  form_says (form.StoreImmediate n) h g = subst
+      (λ k. Says (form.StoreImmediate n) k high) (same (form.StoreImmediate n) i i.dst 0 i.offset i.imm g.op refl (zero_src g.parts.src) refl refl)
+      (number_store_line n i.dst i.offset i.imm high g.dst off imm)
+  form_says (form.StoreRegister n) h g = subst
+      (λ k. Says (form.StoreRegister n) k high) (same (form.StoreRegister n) i i.dst i.src i.offset (pos 0) g.op refl refl refl (int_is i.imm 0 g.parts.imm))
+      (register_store_line n i.dst i.src i.offset high g.dst g.src off)
+  form_says form.Goto h g = subst
+      (λ k. Says form.Goto k high) (same form.Goto i 0 0 i.offset (pos 0) g.op (zero_dst g.parts.dst) (zero_src g.parts.src) refl (int_is i.imm 0 g.parts.imm))
+      (goto_line i.offset high off)
+  form_says form.GotoLong h g = subst
+      (λ k. Says form.GotoLong k high) (same form.GotoLong i 0 0 (pos 0) i.imm g.op (zero_dst g.parts.dst) (zero_src g.parts.src)
+      (int_is i.offset 0 g.parts.offset) refl) (gotol_line i.imm high imm)
+  form_says (form.Branch c w source.Immediate) h g = subst
+      (λ k. Says (form.Branch c w source.Immediate) k high) (same (form.Branch c w source.Immediate) i i.dst 0 i.offset i.imm g.op refl (zero_src g.parts.src)
+      refl refl) (branch_number_line c w i.dst i.imm i.offset high g.dst imm off)
+  form_says (form.Branch c w source.Register) h g = subst
+      (λ k. Says (form.Branch c w source.Register) k high) (same (form.Branch c w source.Register) i i.dst i.src i.offset (pos 0) g.op refl refl refl
+      (int_is i.imm 0 g.parts.imm)) (branch_register_line c w i.dst i.src i.offset high g.dst g.src off)
+  form_says form.Call h g = subst
+      (λ k. Says form.Call k high) (same form.Call i 0 0 (pos 0) i.imm g.op (zero_dst g.parts.dst) (zero_src g.parts.src) (int_is i.offset 0 g.parts.offset)
+      refl) (call_line i.imm high imm)
+  form_says form.Exit h g = subst
+      (λ k. Says form.Exit k high) (same form.Exit i 0 0 (pos 0) (pos 0) g.op (zero_dst g.parts.dst) (zero_src g.parts.src) (int_is i.offset 0 g.parts.offset)
+      (int_is i.imm 0 g.parts.imm)) (exit_line high)
 
 -- ---- opcodes
 
@@ -288,7 +439,8 @@ two_tests true true o e = (refl, refl)
 two_tests true false o e = absurd (cc)
 two_tests false b o e = absurd (cc)
 
-form_found : (o : Option Form) (i : Inst) → first_fault o i false ≡ None → (f : Form) × (o ≡ Some f) × (has_right_fields f i ≡ true) × (has_right_registers f i ≡ true)
+form_found : (o : Option Form) (i : Inst) → first_fault o i false ≡ None → (f : Form) × (o ≡ Some f) × (has_right_fields f i ≡ true)
+    × (has_right_registers f i ≡ true)
 form_found None i e = absurd (cc)
 form_found (Some f) i e = let h = two_tests (has_right_fields f i) (has_right_registers f i) (half_wide f false) e in (f, refl, h.0, h.1)
 
@@ -301,19 +453,30 @@ high_fits first (First i ∷ us) h = zero32
 high_fits true (Second v ∷ us) h = absurd h
 high_fits false (Second v ∷ us) h = h.0
 
-inst_says : (i : Inst) (high : ℤ) → IsInstruction i → FitsSigned w32 high → (f : Form) → form_of i.opcode ≡ Some f → has_right_fields f i ≡ true → has_right_registers f i ≡ true → Says f i high
+inst_says : (i : Inst) (high : ℤ) → IsInstruction i → FitsSigned w32 high → (f : Form) → form_of i.opcode ≡ Some f → has_right_fields f i ≡ true
+    → has_right_registers f i ≡ true → Says f i high
 inst_says i high s up f is fields registers =
     let op = opcode_is f i.opcode is s.opcode in
     let p = parts_of f i fields in
     let r = both_true (not (uses f).dst || nat_le i.dst 10) (not (uses f).src || nat_le i.src 10) registers in
-    form_says i high s.offset s.imm up f op.1 (record { op = op.0; parts = p; dst = small_field (uses f).dst i.dst p.dst r.0; src = small_field (uses f).src i.src p.src r.1 })
+    form_says i high s.offset s.imm up f op.1 (record {
+      op = op.0;
+      parts = p;
+      dst = small_field (uses f).dst i.dst p.dst r.0;
+      src = small_field (uses f).src i.src p.src r.1;
+    })
 
 all_say : (first : Bool) (us : List ProgramUnit) → AreUnits first us → AllSay first us
 all_say true [] h = tt
 all_say true (First i ∷ us) h =
     let found = form_found (form_of i.opcode) i h.0.sound in
-    let next = not (is_wide (form_of i.opcode)) in
-    (found.0, found.1, inst_says i (high_of us) h.0 (high_fits next us h.1) found.0 found.1 found.2 found.3, subst (λ o. AllSay (not (is_wide o)) us) found.1 (all_say next us h.1))
+    let next = not (is_wide (form_of i.opcode)) in (
+      found.0,
+      found.1,
+      inst_says i (high_of us) h.0 (high_fits next us h.1) found.0 found.1 found.2 found.3,
+      subst
+          (λ o. AllSay (not (is_wide o)) us) found.1 (all_say next us h.1),
+    )
 all_say true (Second v ∷ us) h = absurd h
 all_say false [] h = absurd h
 all_say false (First i ∷ us) h = absurd h

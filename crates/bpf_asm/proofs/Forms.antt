@@ -1,5 +1,6 @@
 -- The line of each form says its instruction.
-use Rattle.std.proofs.Common.{◌≡◌, ◌<◌, ◌≤◌, ◌+◌, ◌^◌, ◌*◌, ◌/◌, ◌%◌, ℕ, suc, List, [], ◌∷◌, ◌++◌, length, map, Option, Some, None, Bool, true, false, refl, ap, sym, ◌∙◌, subst, arith, rules, w16, w32, FitsSigned, inl, inr}
+use Rattle.std.proofs.Common.{◌≡◌, ◌<◌, ◌≤◌, ◌+◌, ◌^◌, ◌*◌, ◌/◌, ◌%◌, ℕ, suc, List, [], ◌∷◌, ◌++◌, length, map, Option, Some, None, Bool, true, false, refl, ap}
+use Rattle.std.proofs.Common.{sym, ◌∙◌, subst, arith, rules, w16, w32, FitsSigned, inl, inr}
 use Rattle.std.specs.Prelude.{codes, ◌&&◌, ◌==◌, ◌⊎◌, ℤ, pos, negsuc, option_map, ⊤}
 use Rattle.std.specs.Char.{is_ascii_digit}
 use Rattle.std.specs.Str.{all_ascii_digits}
@@ -25,17 +26,21 @@ use Rattle.bpf_model.specs.declared.instruction.Size.TheVariants.{Byte, Half, Wo
 use Rattle.bpf_model.specs.declared.instruction.Form.{Form}
 use Rattle.bpf_model.specs.declared.instruction.Form.TheVariants as form
 use Rattle.bpf_asm.specs.declared.token.Token.{Token}
-use Rattle.bpf_asm.specs.declared.token.Token.TheVariants.{Register, Number, Assign, Compare, Unsigned, Signed, Swap, If, Goto, GotoLong, Call, Long, Open, Close, Star, Plus, Minus}
+use Rattle.bpf_asm.specs.declared.token.Token.TheVariants.{Register, Number, Assign, Compare, Unsigned, Signed, Swap, If, Goto, GotoLong, Call, Long, Open}
+use Rattle.bpf_asm.specs.declared.token.Token.TheVariants.{Close, Star, Plus, Minus}
 use Rattle.bpf_asm.specs.declared.grammar.Value.{Value}
 use Rattle.bpf_asm.specs.declared.grammar.Target.TheVariants.{Distance}
 use Rattle.bpf_asm.specs.declared.grammar.Statement.TheVariants.{Plain, Wide, Jump}
 use Rattle.bpf_asm.specs.declared.grammar.Line.{Line}
 use Rattle.bpf_asm.specs.declared.grammar.Line.TheVariants as line
 use Rattle.bpf_asm.specs.Lex.{Text, token_len, continues_word, kind_of}
-use Rattle.bpf_asm.specs.Grammar.{Tokens, plus, minus, exactly, fields, plain, line_of, is_same, when, statement, no_fields, first_some, operand, swap, extend, extension, guarded, load_form, load_with}
-use Rattle.bpf_asm.specs.Text.{Piece, Next, After, token_of, register_text, operator_text, condition_text, size_text, signed_size_text, number, distance, shift, place, swap_text, upper}
+use Rattle.bpf_asm.specs.Grammar.{Tokens, plus, minus, exactly, fields, plain, line_of, is_same, when, statement, no_fields, first_some, operand, swap, extend}
+use Rattle.bpf_asm.specs.Grammar.{extension, guarded, load_form, load_with}
+use Rattle.bpf_asm.specs.Text.{Piece, Next, After, token_of, register_text, operator_text, condition_text, size_text, signed_size_text, number, distance, shift}
+use Rattle.bpf_asm.specs.Text.{place, swap_text, upper}
 use Rattle.bpf_asm.specs.Program.{fits, inst_of, int_of, low_half, high_half}
-use Rattle.bpf_asm.proofs.Again.{stops, body, IsFront, lit, number_front, register_front, decimal_digits, digits_continue, prefix_front, digit_code, number_kind, register_by, minus_token, plus_token}
+use Rattle.bpf_asm.proofs.Again.{stops, body, IsFront, lit, number_front, register_front, decimal_digits, digits_continue, prefix_front, digit_code}
+use Rattle.bpf_asm.proofs.Again.{number_kind, register_by, minus_token, plus_token}
 use Rattle.bpf_asm.proofs.LineText.{clean, clean_append, decimal_clean, AreGood}
 use Rattle.bpf_asm.proofs.ReadBack.{SaysOf}
 
@@ -143,18 +148,30 @@ IsTwo operator.Negate = ⊥
 IsTwo operator.SwapBytes = ⊥
 
 pub operator_written : (op : Operator) → IsTwo op → IsWritten (operator_text op (pos 0)) (Assign op 0)
-operator_written operator.Sum h = record { front = λ u. lit (operator_text operator.Sum (pos 0)) (32 ∷ u) (omega arith) refl refl; plain_text = refl; kind = refl }
-operator_written operator.Difference h = record { front = λ u. lit (operator_text operator.Difference (pos 0)) (32 ∷ u) (omega arith) refl refl; plain_text = refl; kind = refl }
-operator_written operator.Product h = record { front = λ u. lit (operator_text operator.Product (pos 0)) (32 ∷ u) (omega arith) refl refl; plain_text = refl; kind = refl }
-operator_written operator.Quotient h = record { front = λ u. lit (operator_text operator.Quotient (pos 0)) (32 ∷ u) (omega arith) refl refl; plain_text = refl; kind = refl }
-operator_written operator.Or h = record { front = λ u. lit (operator_text operator.Or (pos 0)) (32 ∷ u) (omega arith) refl refl; plain_text = refl; kind = refl }
-operator_written operator.And h = record { front = λ u. lit (operator_text operator.And (pos 0)) (32 ∷ u) (omega arith) refl refl; plain_text = refl; kind = refl }
-operator_written operator.ShiftLeft h = record { front = λ u. lit (operator_text operator.ShiftLeft (pos 0)) (32 ∷ u) (omega arith) refl refl; plain_text = refl; kind = refl }
-operator_written operator.ShiftRight h = record { front = λ u. lit (operator_text operator.ShiftRight (pos 0)) (32 ∷ u) (omega arith) refl refl; plain_text = refl; kind = refl }
-operator_written operator.Remainder h = record { front = λ u. lit (operator_text operator.Remainder (pos 0)) (32 ∷ u) (omega arith) refl refl; plain_text = refl; kind = refl }
-operator_written operator.Xor h = record { front = λ u. lit (operator_text operator.Xor (pos 0)) (32 ∷ u) (omega arith) refl refl; plain_text = refl; kind = refl }
-operator_written operator.Move h = record { front = λ u. lit (operator_text operator.Move (pos 0)) (32 ∷ u) (omega arith) refl refl; plain_text = refl; kind = refl }
-operator_written operator.ShiftSigned h = record { front = λ u. lit (operator_text operator.ShiftSigned (pos 0)) (32 ∷ u) (omega arith) refl refl; plain_text = refl; kind = refl }
+operator_written operator.Sum h =
+    record { front = λ u. lit (operator_text operator.Sum (pos 0)) (32 ∷ u) (omega arith) refl refl; plain_text = refl; kind = refl }
+operator_written operator.Difference h =
+    record { front = λ u. lit (operator_text operator.Difference (pos 0)) (32 ∷ u) (omega arith) refl refl; plain_text = refl; kind = refl }
+operator_written operator.Product h =
+    record { front = λ u. lit (operator_text operator.Product (pos 0)) (32 ∷ u) (omega arith) refl refl; plain_text = refl; kind = refl }
+operator_written operator.Quotient h =
+    record { front = λ u. lit (operator_text operator.Quotient (pos 0)) (32 ∷ u) (omega arith) refl refl; plain_text = refl; kind = refl }
+operator_written operator.Or h =
+    record { front = λ u. lit (operator_text operator.Or (pos 0)) (32 ∷ u) (omega arith) refl refl; plain_text = refl; kind = refl }
+operator_written operator.And h =
+    record { front = λ u. lit (operator_text operator.And (pos 0)) (32 ∷ u) (omega arith) refl refl; plain_text = refl; kind = refl }
+operator_written operator.ShiftLeft h =
+    record { front = λ u. lit (operator_text operator.ShiftLeft (pos 0)) (32 ∷ u) (omega arith) refl refl; plain_text = refl; kind = refl }
+operator_written operator.ShiftRight h =
+    record { front = λ u. lit (operator_text operator.ShiftRight (pos 0)) (32 ∷ u) (omega arith) refl refl; plain_text = refl; kind = refl }
+operator_written operator.Remainder h =
+    record { front = λ u. lit (operator_text operator.Remainder (pos 0)) (32 ∷ u) (omega arith) refl refl; plain_text = refl; kind = refl }
+operator_written operator.Xor h =
+    record { front = λ u. lit (operator_text operator.Xor (pos 0)) (32 ∷ u) (omega arith) refl refl; plain_text = refl; kind = refl }
+operator_written operator.Move h =
+    record { front = λ u. lit (operator_text operator.Move (pos 0)) (32 ∷ u) (omega arith) refl refl; plain_text = refl; kind = refl }
+operator_written operator.ShiftSigned h =
+    record { front = λ u. lit (operator_text operator.ShiftSigned (pos 0)) (32 ∷ u) (omega arith) refl refl; plain_text = refl; kind = refl }
 operator_written operator.Negate h = absurd h
 operator_written operator.SwapBytes h = absurd h
 
@@ -165,17 +182,27 @@ pub signed_remainder : IsWritten (operator_text operator.Remainder (pos 1)) (Ass
 signed_remainder = record { front = λ u. lit (codes "s%=") (32 ∷ u) (omega arith) refl refl; plain_text = refl; kind = refl }
 
 pub condition_written : (c : Condition) → IsWritten (condition_text c) (Compare c)
-condition_written condition.Equal = record { front = λ u. lit (condition_text condition.Equal) (32 ∷ u) (omega arith) refl refl; plain_text = refl; kind = refl }
+condition_written condition.Equal =
+    record { front = λ u. lit (condition_text condition.Equal) (32 ∷ u) (omega arith) refl refl; plain_text = refl; kind = refl }
 condition_written condition.Over = record { front = λ u. lit (condition_text condition.Over) (32 ∷ u) (omega arith) refl refl; plain_text = refl; kind = refl }
-condition_written condition.NotBelow = record { front = λ u. lit (condition_text condition.NotBelow) (32 ∷ u) (omega arith) refl refl; plain_text = refl; kind = refl }
-condition_written condition.SharesBit = record { front = λ u. lit (condition_text condition.SharesBit) (32 ∷ u) (omega arith) refl refl; plain_text = refl; kind = refl }
-condition_written condition.Differs = record { front = λ u. lit (condition_text condition.Differs) (32 ∷ u) (omega arith) refl refl; plain_text = refl; kind = refl }
-condition_written condition.OverSigned = record { front = λ u. lit (condition_text condition.OverSigned) (32 ∷ u) (omega arith) refl refl; plain_text = refl; kind = refl }
-condition_written condition.NotBelowSigned = record { front = λ u. lit (condition_text condition.NotBelowSigned) (32 ∷ u) (omega arith) refl refl; plain_text = refl; kind = refl }
-condition_written condition.Below = record { front = λ u. lit (condition_text condition.Below) (32 ∷ u) (omega arith) refl refl; plain_text = refl; kind = refl }
-condition_written condition.NotOver = record { front = λ u. lit (condition_text condition.NotOver) (32 ∷ u) (omega arith) refl refl; plain_text = refl; kind = refl }
-condition_written condition.BelowSigned = record { front = λ u. lit (condition_text condition.BelowSigned) (32 ∷ u) (omega arith) refl refl; plain_text = refl; kind = refl }
-condition_written condition.NotOverSigned = record { front = λ u. lit (condition_text condition.NotOverSigned) (32 ∷ u) (omega arith) refl refl; plain_text = refl; kind = refl }
+condition_written condition.NotBelow =
+    record { front = λ u. lit (condition_text condition.NotBelow) (32 ∷ u) (omega arith) refl refl; plain_text = refl; kind = refl }
+condition_written condition.SharesBit =
+    record { front = λ u. lit (condition_text condition.SharesBit) (32 ∷ u) (omega arith) refl refl; plain_text = refl; kind = refl }
+condition_written condition.Differs =
+    record { front = λ u. lit (condition_text condition.Differs) (32 ∷ u) (omega arith) refl refl; plain_text = refl; kind = refl }
+condition_written condition.OverSigned =
+    record { front = λ u. lit (condition_text condition.OverSigned) (32 ∷ u) (omega arith) refl refl; plain_text = refl; kind = refl }
+condition_written condition.NotBelowSigned =
+    record { front = λ u. lit (condition_text condition.NotBelowSigned) (32 ∷ u) (omega arith) refl refl; plain_text = refl; kind = refl }
+condition_written condition.Below =
+    record { front = λ u. lit (condition_text condition.Below) (32 ∷ u) (omega arith) refl refl; plain_text = refl; kind = refl }
+condition_written condition.NotOver =
+    record { front = λ u. lit (condition_text condition.NotOver) (32 ∷ u) (omega arith) refl refl; plain_text = refl; kind = refl }
+condition_written condition.BelowSigned =
+    record { front = λ u. lit (condition_text condition.BelowSigned) (32 ∷ u) (omega arith) refl refl; plain_text = refl; kind = refl }
+condition_written condition.NotOverSigned =
+    record { front = λ u. lit (condition_text condition.NotOverSigned) (32 ∷ u) (omega arith) refl refl; plain_text = refl; kind = refl }
 
 -- ---- lines of three tokens and more
 
@@ -192,12 +219,17 @@ same_width Full = refl
 pub short_number : (n : ℕ) → n ≤ 32 → fits (2 ^ 15) (exactly n) ≡ true
 short_number n l = grind (arith, nat_tests)
 
-pub number_line : (op : Operator) (n : ℕ) (w : Width) (d : ℕ) (z high : ℤ) → IsWritten (operator_text op (pos n)) (Assign op n) → n ≤ 32 → d ≤ 10 → FitsSigned w32 z → statement (Register w d ∷ Assign op n ∷ number_tokens z []) ≡ Some (Plain (form.Arithmetic op w source.Immediate) (fields d 0 (exactly n) (value_of z))) → SaysOf (Next (register_text w d) ∷ After (operator_text op (pos n)) ∷ number z []) false (inst_of (form.Arithmetic op w source.Immediate) d 0 (pos n) z) high
+pub number_line : (op : Operator) (n : ℕ) (w : Width) (d : ℕ) (z high : ℤ) → IsWritten (operator_text op (pos n)) (Assign op n) → n ≤ 32 → d ≤ 10
+    → FitsSigned w32 z → statement (Register w d ∷ Assign op n ∷ number_tokens z [])
+    ≡ Some (Plain (form.Arithmetic op w source.Immediate) (fields d 0 (exactly n) (value_of z)))
+    → SaysOf (Next (register_text w d) ∷ After (operator_text op (pos n)) ∷ number z []) false (inst_of (form.Arithmetic op w source.Immediate) d 0 (pos n) z)
+    high
 number_line op n w d (pos k) high o small l h m =
     record {
       says = Plain (form.Arithmetic op w source.Immediate) (fields d 0 (exactly n) (value_of (pos k)));
       good = (register_good w d _ l refl, register_clean w d l, (o.front _, o.plain_text, number_good (pos k) [] h tt tt));
-      means = line_by _ (Register w d ∷ Assign op n ∷ number_tokens (pos k) []) _ (λ j. register_kind w d l j ∷ o.kind j ∷ number_kinds (pos k) [] h j) (ap (option_map line.Statement) m);
+      means = line_by _ (Register w d ∷ Assign op n ∷ number_tokens (pos k) []) _
+          (λ j. register_kind w d l j ∷ o.kind j ∷ number_kinds (pos k) [] h j) (ap (option_map line.Statement) m);
       fits = both (fits (2 ^ 15) (exactly n)) (fits (2 ^ 31) (value_of (pos k))) (short_number n small) (in_range32 (pos k) h);
       no_label = refl;
       len = refl;
@@ -207,26 +239,32 @@ number_line op n w d (negsuc k) high o small l h m =
     record {
       says = Plain (form.Arithmetic op w source.Immediate) (fields d 0 (exactly n) (value_of (negsuc k)));
       good = (register_good w d _ l refl, register_clean w d l, (o.front _, o.plain_text, number_good (negsuc k) [] h tt tt));
-      means = line_by _ (Register w d ∷ Assign op n ∷ number_tokens (negsuc k) []) _ (λ j. register_kind w d l j ∷ o.kind j ∷ number_kinds (negsuc k) [] h j) (ap (option_map line.Statement) m);
+      means = line_by _ (Register w d ∷ Assign op n ∷ number_tokens (negsuc k) []) _ (λ j. register_kind w d l j ∷ o.kind j ∷ number_kinds (negsuc k) [] h j)
+          (ap (option_map line.Statement) m);
       fits = both (fits (2 ^ 15) (exactly n)) (fits (2 ^ 31) (value_of (negsuc k))) (short_number n small) (in_range32 (negsuc k) h);
       no_label = refl;
       len = refl;
       units = λ ls at name. refl;
     }
 
-pub register_line : (op : Operator) (n : ℕ) (w : Width) (d s : ℕ) (high : ℤ) → IsWritten (operator_text op (pos n)) (Assign op n) → n ≤ 32 → d ≤ 10 → s ≤ 10 → statement (Register w d ∷ Assign op n ∷ Register w s ∷ []) ≡ Some (Plain (form.Arithmetic op w source.Register) (fields d s (exactly n) (exactly 0))) → SaysOf (Next (register_text w d) ∷ After (operator_text op (pos n)) ∷ After (register_text w s) ∷ []) false (inst_of (form.Arithmetic op w source.Register) d s (pos n) (pos 0)) high
+pub register_line : (op : Operator) (n : ℕ) (w : Width) (d s : ℕ) (high : ℤ) → IsWritten (operator_text op (pos n)) (Assign op n) → n ≤ 32 → d ≤ 10 → s ≤ 10
+    → statement (Register w d ∷ Assign op n ∷ Register w s ∷ []) ≡ Some (Plain (form.Arithmetic op w source.Register) (fields d s (exactly n) (exactly 0)))
+    → SaysOf (Next (register_text w d) ∷ After (operator_text op (pos n)) ∷ After (register_text w s) ∷ []) false
+    (inst_of (form.Arithmetic op w source.Register) d s (pos n) (pos 0)) high
 register_line op n w d s high o small l r m =
     record {
       says = Plain (form.Arithmetic op w source.Register) (fields d s (exactly n) (exactly 0));
       good = (register_good w d _ l refl, register_clean w d l, (o.front _, o.plain_text, (register_good w s [] r tt, register_clean w s r, tt)));
-      means = line_by _ (Register w d ∷ Assign op n ∷ Register w s ∷ []) _ (λ j. register_kind w d l j ∷ o.kind j ∷ register_kind w s r j ∷ []) (ap (option_map line.Statement) m);
+      means = line_by _ (Register w d ∷ Assign op n ∷ Register w s ∷ []) _
+          (λ j. register_kind w d l j ∷ o.kind j ∷ register_kind w s r j ∷ []) (ap (option_map line.Statement) m);
       fits = both (fits (2 ^ 15) (exactly n)) (fits (2 ^ 31) (exactly 0)) (short_number n small) refl;
       no_label = refl;
       len = refl;
       units = λ ls at name. refl;
     }
 
-pub number_means : (op : Operator) → IsTwo op → (w : Width) (d : ℕ) (z : ℤ) → statement (Register w d ∷ Assign op 0 ∷ number_tokens z []) ≡ Some (Plain (form.Arithmetic op w source.Immediate) (fields d 0 (exactly 0) (value_of z)))
+pub number_means : (op : Operator) → IsTwo op → (w : Width) (d : ℕ) (z : ℤ) → statement (Register w d ∷ Assign op 0 ∷ number_tokens z [])
+    ≡ Some (Plain (form.Arithmetic op w source.Immediate) (fields d 0 (exactly 0) (value_of z)))
 number_means operator.Sum h w d (pos k) = refl
 number_means operator.Sum h w d (negsuc k) = refl
 number_means operator.Difference h w d (pos k) = refl
@@ -254,27 +292,42 @@ number_means operator.ShiftSigned h w d (negsuc k) = refl
 number_means operator.Negate h w d z = absurd h
 number_means operator.SwapBytes h w d z = absurd h
 
-pub signed_quotient_means : (w : Width) (d : ℕ) (z : ℤ) → statement (Register w d ∷ Assign operator.Quotient 1 ∷ number_tokens z []) ≡ Some (Plain (form.Arithmetic operator.Quotient w source.Immediate) (fields d 0 (exactly 1) (value_of z)))
+pub signed_quotient_means : (w : Width) (d : ℕ) (z : ℤ) → statement (Register w d ∷ Assign operator.Quotient 1 ∷ number_tokens z [])
+    ≡ Some (Plain (form.Arithmetic operator.Quotient w source.Immediate) (fields d 0 (exactly 1) (value_of z)))
 signed_quotient_means w d (pos k) = refl
 signed_quotient_means w d (negsuc k) = refl
 
-pub signed_remainder_means : (w : Width) (d : ℕ) (z : ℤ) → statement (Register w d ∷ Assign operator.Remainder 1 ∷ number_tokens z []) ≡ Some (Plain (form.Arithmetic operator.Remainder w source.Immediate) (fields d 0 (exactly 1) (value_of z)))
+pub signed_remainder_means : (w : Width) (d : ℕ) (z : ℤ) → statement (Register w d ∷ Assign operator.Remainder 1 ∷ number_tokens z [])
+    ≡ Some (Plain (form.Arithmetic operator.Remainder w source.Immediate) (fields d 0 (exactly 1) (value_of z)))
 signed_remainder_means w d (pos k) = refl
 signed_remainder_means w d (negsuc k) = refl
 
-pub register_means : (op : Operator) → IsTwo op → (w : Width) (d s : ℕ) → statement (Register w d ∷ Assign op 0 ∷ Register w s ∷ []) ≡ Some (Plain (form.Arithmetic op w source.Register) (fields d s (exactly 0) (exactly 0)))
-register_means operator.Sum h w d s = ap (λ b. when b (Plain (form.Arithmetic operator.Sum w source.Register) (fields d s (exactly 0) (exactly 0)))) (same_width w)
-register_means operator.Difference h w d s = ap (λ b. when b (Plain (form.Arithmetic operator.Difference w source.Register) (fields d s (exactly 0) (exactly 0)))) (same_width w)
-register_means operator.Product h w d s = ap (λ b. when b (Plain (form.Arithmetic operator.Product w source.Register) (fields d s (exactly 0) (exactly 0)))) (same_width w)
-register_means operator.Quotient h w d s = ap (λ b. when b (Plain (form.Arithmetic operator.Quotient w source.Register) (fields d s (exactly 0) (exactly 0)))) (same_width w)
-register_means operator.Or h w d s = ap (λ b. when b (Plain (form.Arithmetic operator.Or w source.Register) (fields d s (exactly 0) (exactly 0)))) (same_width w)
-register_means operator.And h w d s = ap (λ b. when b (Plain (form.Arithmetic operator.And w source.Register) (fields d s (exactly 0) (exactly 0)))) (same_width w)
-register_means operator.ShiftLeft h w d s = ap (λ b. when b (Plain (form.Arithmetic operator.ShiftLeft w source.Register) (fields d s (exactly 0) (exactly 0)))) (same_width w)
-register_means operator.ShiftRight h w d s = ap (λ b. when b (Plain (form.Arithmetic operator.ShiftRight w source.Register) (fields d s (exactly 0) (exactly 0)))) (same_width w)
-register_means operator.Remainder h w d s = ap (λ b. when b (Plain (form.Arithmetic operator.Remainder w source.Register) (fields d s (exactly 0) (exactly 0)))) (same_width w)
-register_means operator.Xor h w d s = ap (λ b. when b (Plain (form.Arithmetic operator.Xor w source.Register) (fields d s (exactly 0) (exactly 0)))) (same_width w)
-register_means operator.Move h w d s = ap (λ b. when b (Plain (form.Arithmetic operator.Move w source.Register) (fields d s (exactly 0) (exactly 0)))) (same_width w)
-register_means operator.ShiftSigned h w d s = ap (λ b. when b (Plain (form.Arithmetic operator.ShiftSigned w source.Register) (fields d s (exactly 0) (exactly 0)))) (same_width w)
+pub register_means : (op : Operator) → IsTwo op → (w : Width) (d s : ℕ) → statement (Register w d ∷ Assign op 0 ∷ Register w s ∷ [])
+    ≡ Some (Plain (form.Arithmetic op w source.Register) (fields d s (exactly 0) (exactly 0)))
+register_means operator.Sum h w d s =
+    ap (λ b. when b (Plain (form.Arithmetic operator.Sum w source.Register) (fields d s (exactly 0) (exactly 0)))) (same_width w)
+register_means operator.Difference h w d s =
+    ap (λ b. when b (Plain (form.Arithmetic operator.Difference w source.Register) (fields d s (exactly 0) (exactly 0)))) (same_width w)
+register_means operator.Product h w d s =
+    ap (λ b. when b (Plain (form.Arithmetic operator.Product w source.Register) (fields d s (exactly 0) (exactly 0)))) (same_width w)
+register_means operator.Quotient h w d s =
+    ap (λ b. when b (Plain (form.Arithmetic operator.Quotient w source.Register) (fields d s (exactly 0) (exactly 0)))) (same_width w)
+register_means operator.Or h w d s =
+    ap (λ b. when b (Plain (form.Arithmetic operator.Or w source.Register) (fields d s (exactly 0) (exactly 0)))) (same_width w)
+register_means operator.And h w d s =
+    ap (λ b. when b (Plain (form.Arithmetic operator.And w source.Register) (fields d s (exactly 0) (exactly 0)))) (same_width w)
+register_means operator.ShiftLeft h w d s =
+    ap (λ b. when b (Plain (form.Arithmetic operator.ShiftLeft w source.Register) (fields d s (exactly 0) (exactly 0)))) (same_width w)
+register_means operator.ShiftRight h w d s =
+    ap (λ b. when b (Plain (form.Arithmetic operator.ShiftRight w source.Register) (fields d s (exactly 0) (exactly 0)))) (same_width w)
+register_means operator.Remainder h w d s =
+    ap (λ b. when b (Plain (form.Arithmetic operator.Remainder w source.Register) (fields d s (exactly 0) (exactly 0)))) (same_width w)
+register_means operator.Xor h w d s =
+    ap (λ b. when b (Plain (form.Arithmetic operator.Xor w source.Register) (fields d s (exactly 0) (exactly 0)))) (same_width w)
+register_means operator.Move h w d s =
+    ap (λ b. when b (Plain (form.Arithmetic operator.Move w source.Register) (fields d s (exactly 0) (exactly 0)))) (same_width w)
+register_means operator.ShiftSigned h w d s =
+    ap (λ b. when b (Plain (form.Arithmetic operator.ShiftSigned w source.Register) (fields d s (exactly 0) (exactly 0)))) (same_width w)
 register_means operator.Negate h w d s = absurd h
 register_means operator.SwapBytes h w d s = absurd h
 
@@ -290,12 +343,21 @@ pub minus_register : (w : Width) (n : ℕ) (u : Text) → IsFront (codes "-") (r
 minus_register Full n u = lit (codes "-") (register_text Full n ++ u) (omega arith) refl refl
 minus_register Narrow n u = lit (codes "-") (register_text Narrow n ++ u) (omega arith) refl refl
 
-pub negation_line : (w : Width) (d : ℕ) (high : ℤ) → d ≤ 10 → SaysOf (Next (register_text w d) ∷ After (codes "=") ∷ After (codes "-") ∷ Next (register_text w d) ∷ []) false (inst_of (form.Arithmetic operator.Negate w source.Immediate) d 0 (pos 0) (pos 0)) high
+pub negation_line : (w : Width) (d : ℕ) (high : ℤ) → d ≤ 10
+    → SaysOf (Next (register_text w d) ∷ After (codes "=") ∷ After (codes "-") ∷ Next (register_text w d) ∷ []) false
+    (inst_of (form.Arithmetic operator.Negate w source.Immediate) d 0 (pos 0) (pos 0)) high
 negation_line w d high l =
     record {
       says = Plain (form.Arithmetic operator.Negate w source.Immediate) (fields d 0 (exactly 0) (exactly 0));
-      good = (register_good w d _ l refl, register_clean w d l, (move_written.front _, refl, (minus_register w d [], refl, (register_good w d [] l tt, register_clean w d l, tt))));
-      means = line_by _ (Register w d ∷ Assign operator.Move 0 ∷ Minus ∷ Register w d ∷ []) _ (λ j. register_kind w d l j ∷ Assign operator.Move 0 ∷ Minus ∷ register_kind w d l j ∷ []) (ap (λ b. option_map line.Statement (first_some (when b (plain (form.Arithmetic operator.Negate w source.Immediate) d 0 (exactly 0) (exactly 0))) (operand operator.Move 0 w d (Minus ∷ Register w d ∷ [])))) (both (is_same w w) (d == d) (same_width w) (same_number d)));
+      good = (
+        register_good w d _ l refl,
+        register_clean w d l,
+        (move_written.front _, refl, (minus_register w d [], refl, (register_good w d [] l tt, register_clean w d l, tt))),
+      );
+      means = line_by _ (Register w d ∷ Assign operator.Move 0 ∷ Minus ∷ Register w d ∷ []) _
+          (λ j. register_kind w d l j ∷ Assign operator.Move 0 ∷ Minus ∷ register_kind w d l j ∷ [])
+          (ap (λ b. option_map line.Statement (first_some (when b (plain (form.Arithmetic operator.Negate w source.Immediate) d 0 (exactly 0) (exactly 0)))
+          (operand operator.Move 0 w d (Minus ∷ Register w d ∷ [])))) (both (is_same w w) (d == d) (same_width w) (same_number d)));
       fits = refl;
       no_label = refl;
       len = refl;
@@ -317,41 +379,59 @@ pub written_as : (t u : Text) (k : Token) → t ≡ u → IsWritten u k → IsWr
 written_as t u k e h = subst (λ x. IsWritten x k) (sym e) h
 
 pub le16_written : IsWritten (swap_text Narrow source.Immediate (pos 16)) (Swap Narrow source.Immediate 16)
-le16_written = written_as (codes "le" ++ decimal 16) (codes "le16") (Swap Narrow source.Immediate 16) (ap (λ t. codes "le" ++ t) decimal16) (record { front = λ u. lit (codes "le16") (32 ∷ u) (omega arith) refl refl; plain_text = refl; kind = refl })
+le16_written = written_as (codes "le" ++ decimal 16) (codes "le16") (Swap Narrow source.Immediate 16) (ap (λ t. codes "le" ++ t) decimal16)
+    (record { front = λ u. lit (codes "le16") (32 ∷ u) (omega arith) refl refl; plain_text = refl; kind = refl })
 
 pub le32_written : IsWritten (swap_text Narrow source.Immediate (pos 32)) (Swap Narrow source.Immediate 32)
-le32_written = written_as (codes "le" ++ decimal 32) (codes "le32") (Swap Narrow source.Immediate 32) (ap (λ t. codes "le" ++ t) decimal32) (record { front = λ u. lit (codes "le32") (32 ∷ u) (omega arith) refl refl; plain_text = refl; kind = refl })
+le32_written = written_as (codes "le" ++ decimal 32) (codes "le32") (Swap Narrow source.Immediate 32) (ap (λ t. codes "le" ++ t) decimal32)
+    (record { front = λ u. lit (codes "le32") (32 ∷ u) (omega arith) refl refl; plain_text = refl; kind = refl })
 
 pub le64_written : IsWritten (swap_text Narrow source.Immediate (pos 64)) (Swap Narrow source.Immediate 64)
-le64_written = written_as (codes "le" ++ decimal 64) (codes "le64") (Swap Narrow source.Immediate 64) (ap (λ t. codes "le" ++ t) decimal64) (record { front = λ u. lit (codes "le64") (32 ∷ u) (omega arith) refl refl; plain_text = refl; kind = refl })
+le64_written = written_as (codes "le" ++ decimal 64) (codes "le64") (Swap Narrow source.Immediate 64) (ap (λ t. codes "le" ++ t) decimal64)
+    (record { front = λ u. lit (codes "le64") (32 ∷ u) (omega arith) refl refl; plain_text = refl; kind = refl })
 
 pub be16_written : IsWritten (swap_text Narrow source.Register (pos 16)) (Swap Narrow source.Register 16)
-be16_written = written_as (codes "be" ++ decimal 16) (codes "be16") (Swap Narrow source.Register 16) (ap (λ t. codes "be" ++ t) decimal16) (record { front = λ u. lit (codes "be16") (32 ∷ u) (omega arith) refl refl; plain_text = refl; kind = refl })
+be16_written = written_as (codes "be" ++ decimal 16) (codes "be16") (Swap Narrow source.Register 16) (ap (λ t. codes "be" ++ t) decimal16)
+    (record { front = λ u. lit (codes "be16") (32 ∷ u) (omega arith) refl refl; plain_text = refl; kind = refl })
 
 pub be32_written : IsWritten (swap_text Narrow source.Register (pos 32)) (Swap Narrow source.Register 32)
-be32_written = written_as (codes "be" ++ decimal 32) (codes "be32") (Swap Narrow source.Register 32) (ap (λ t. codes "be" ++ t) decimal32) (record { front = λ u. lit (codes "be32") (32 ∷ u) (omega arith) refl refl; plain_text = refl; kind = refl })
+be32_written = written_as (codes "be" ++ decimal 32) (codes "be32") (Swap Narrow source.Register 32) (ap (λ t. codes "be" ++ t) decimal32)
+    (record { front = λ u. lit (codes "be32") (32 ∷ u) (omega arith) refl refl; plain_text = refl; kind = refl })
 
 pub be64_written : IsWritten (swap_text Narrow source.Register (pos 64)) (Swap Narrow source.Register 64)
-be64_written = written_as (codes "be" ++ decimal 64) (codes "be64") (Swap Narrow source.Register 64) (ap (λ t. codes "be" ++ t) decimal64) (record { front = λ u. lit (codes "be64") (32 ∷ u) (omega arith) refl refl; plain_text = refl; kind = refl })
+be64_written = written_as (codes "be" ++ decimal 64) (codes "be64") (Swap Narrow source.Register 64) (ap (λ t. codes "be" ++ t) decimal64)
+    (record { front = λ u. lit (codes "be64") (32 ∷ u) (omega arith) refl refl; plain_text = refl; kind = refl })
 
 pub bswap16_written : IsWritten (swap_text Full source.Immediate (pos 16)) (Swap Full source.Immediate 16)
-bswap16_written = written_as (codes "bswap" ++ decimal 16) (codes "bswap16") (Swap Full source.Immediate 16) (ap (λ t. codes "bswap" ++ t) decimal16) (record { front = λ u. lit (codes "bswap16") (32 ∷ u) (omega arith) refl refl; plain_text = refl; kind = refl })
+bswap16_written = written_as (codes "bswap" ++ decimal 16) (codes "bswap16") (Swap Full source.Immediate 16) (ap (λ t. codes "bswap" ++ t) decimal16)
+    (record { front = λ u. lit (codes "bswap16") (32 ∷ u) (omega arith) refl refl; plain_text = refl; kind = refl })
 
 pub bswap32_written : IsWritten (swap_text Full source.Immediate (pos 32)) (Swap Full source.Immediate 32)
-bswap32_written = written_as (codes "bswap" ++ decimal 32) (codes "bswap32") (Swap Full source.Immediate 32) (ap (λ t. codes "bswap" ++ t) decimal32) (record { front = λ u. lit (codes "bswap32") (32 ∷ u) (omega arith) refl refl; plain_text = refl; kind = refl })
+bswap32_written = written_as (codes "bswap" ++ decimal 32) (codes "bswap32") (Swap Full source.Immediate 32) (ap (λ t. codes "bswap" ++ t) decimal32)
+    (record { front = λ u. lit (codes "bswap32") (32 ∷ u) (omega arith) refl refl; plain_text = refl; kind = refl })
 
 pub bswap64_written : IsWritten (swap_text Full source.Immediate (pos 64)) (Swap Full source.Immediate 64)
-bswap64_written = written_as (codes "bswap" ++ decimal 64) (codes "bswap64") (Swap Full source.Immediate 64) (ap (λ t. codes "bswap" ++ t) decimal64) (record { front = λ u. lit (codes "bswap64") (32 ∷ u) (omega arith) refl refl; plain_text = refl; kind = refl })
+bswap64_written = written_as (codes "bswap" ++ decimal 64) (codes "bswap64") (Swap Full source.Immediate 64) (ap (λ t. codes "bswap" ++ t) decimal64)
+    (record { front = λ u. lit (codes "bswap64") (32 ∷ u) (omega arith) refl refl; plain_text = refl; kind = refl })
 
 pub low_bits : (n : ℕ) → n ≤ 64 → fits (2 ^ 31) (exactly n) ≡ true
 low_bits n l = grind (arith, nat_tests)
 
-pub swap_line : (w : Width) (s : Source) (bits d : ℕ) (high : ℤ) → IsWritten (swap_text w s (pos bits)) (Swap w s bits) → bits ≤ 64 → d ≤ 10 → SaysOf (Next (register_text Full d) ∷ After (codes "=") ∷ After (swap_text w s (pos bits)) ∷ After (register_text Full d) ∷ []) false (inst_of (form.Arithmetic operator.SwapBytes w s) d 0 (pos 0) (pos bits)) high
+pub swap_line : (w : Width) (s : Source) (bits d : ℕ) (high : ℤ) → IsWritten (swap_text w s (pos bits)) (Swap w s bits) → bits ≤ 64 → d ≤ 10
+    → SaysOf (Next (register_text Full d) ∷ After (codes "=") ∷ After (swap_text w s (pos bits)) ∷ After (register_text Full d) ∷ []) false
+    (inst_of (form.Arithmetic operator.SwapBytes w s) d 0 (pos 0) (pos bits)) high
 swap_line w s bits d high o few l =
     record {
       says = Plain (form.Arithmetic operator.SwapBytes w s) (fields d 0 (exactly 0) (exactly bits));
-      good = (register_good Full d _ l refl, register_clean Full d l, (move_written.front _, refl, (o.front _, o.plain_text, (register_good Full d [] l tt, register_clean Full d l, tt))));
-      means = line_by _ (Register Full d ∷ Assign operator.Move 0 ∷ Swap w s bits ∷ Register Full d ∷ []) _ (λ j. register_kind Full d l j ∷ Assign operator.Move 0 ∷ o.kind j ∷ register_kind Full d l j ∷ []) (ap (λ b. option_map line.Statement (first_some (when b (swap w s bits d)) (operand operator.Move 0 Full d (Swap w s bits ∷ Register Full d ∷ [])))) (same_number d));
+      good = (
+        register_good Full d _ l refl,
+        register_clean Full d l,
+        (move_written.front _, refl, (o.front _, o.plain_text, (register_good Full d [] l tt, register_clean Full d l, tt))),
+      );
+      means = line_by _ (Register Full d ∷ Assign operator.Move 0 ∷ Swap w s bits ∷ Register Full d ∷ []) _
+          (λ j. register_kind Full d l j ∷ Assign operator.Move 0 ∷ o.kind j ∷ register_kind Full d l j ∷ [])
+          (ap (λ b. option_map line.Statement (first_some (when b (swap w s bits d)) (operand operator.Move 0 Full d (Swap w s bits ∷ Register Full d ∷ []))))
+          (same_number d));
       fits = low_bits bits few;
       no_label = refl;
       len = refl;
@@ -360,36 +440,105 @@ swap_line w s bits d high o few l =
 
 -- ---- sign extensions
 
-pub extension8_line : (w : Width) (d s : ℕ) (high : ℤ) → extend w d s (extension w Byte) ≡ Some (plain (form.Arithmetic operator.Move w source.Register) d s (exactly 8) (exactly 0)) → d ≤ 10 → s ≤ 10 → SaysOf (Next (register_text w d) ∷ After (codes "=") ∷ After (codes "(") ∷ Next (codes "s8") ∷ Next (codes ")") ∷ Next (register_text w s) ∷ []) false (inst_of (form.Arithmetic operator.Move w source.Register) d s (pos 8) (pos 0)) high
+pub extension8_line : (w : Width) (d s : ℕ) (high : ℤ)
+    → extend w d s (extension w Byte) ≡ Some (plain (form.Arithmetic operator.Move w source.Register) d s (exactly 8) (exactly 0)) → d ≤ 10 → s ≤ 10
+    → SaysOf (Next (register_text w d) ∷ After (codes "=") ∷ After (codes "(") ∷ Next (codes "s8") ∷ Next (codes ")") ∷ Next (register_text w s) ∷ []) false
+    (inst_of (form.Arithmetic operator.Move w source.Register) d s (pos 8) (pos 0)) high
 extension8_line w d s high e l r =
     record {
       says = Plain (form.Arithmetic operator.Move w source.Register) (fields d s (exactly 8) (exactly 0));
-      good = (register_good w d _ l refl, register_clean w d l, (move_written.front _, refl, (lit (codes "(") _ (omega arith) refl refl, refl, (lit (codes "s8") _ (omega arith) refl refl, refl, (lit (codes ")") _ (omega arith) refl refl, refl, (register_good w s [] r tt, register_clean w s r, tt))))));
-      means = line_by _ (Register w d ∷ Assign operator.Move 0 ∷ Open ∷ Signed Byte ∷ Close ∷ Register w s ∷ []) _ (λ j. register_kind w d l j ∷ Assign operator.Move 0 ∷ Open ∷ Signed Byte ∷ Close ∷ register_kind w s r j ∷ []) (ap (λ b. option_map line.Statement (first_some (guarded b (extend w d s (extension w Byte))) (operand operator.Move 0 w d (Open ∷ Signed Byte ∷ Close ∷ Register w s ∷ [])))) (same_width w) ∙ ap (λ o. option_map line.Statement (first_some o (operand operator.Move 0 w d (Open ∷ Signed Byte ∷ Close ∷ Register w s ∷ [])))) e);
+      good = (
+        register_good w d _ l refl,
+        register_clean w d l,
+        (
+          move_written.front _,
+          refl,
+          (
+            lit (codes "(") _ (omega arith) refl refl,
+            refl,
+            (
+              lit (codes "s8") _ (omega arith) refl refl,
+              refl,
+              (lit (codes ")") _ (omega arith) refl refl, refl, (register_good w s [] r tt, register_clean w s r, tt)),
+            ),
+          ),
+        ),
+      );
+      means = line_by _ (Register w d ∷ Assign operator.Move 0 ∷ Open ∷ Signed Byte ∷ Close ∷ Register w s ∷ []) _
+          (λ j. register_kind w d l j ∷ Assign operator.Move 0 ∷ Open ∷ Signed Byte ∷ Close ∷ register_kind w s r j ∷ [])
+          (ap (λ b. option_map line.Statement
+          (first_some (guarded b (extend w d s (extension w Byte))) (operand operator.Move 0 w d (Open ∷ Signed Byte ∷ Close ∷ Register w s ∷ []))))
+          (same_width w) ∙ ap (λ o. option_map line.Statement (first_some o (operand operator.Move 0 w d (Open ∷ Signed Byte ∷ Close ∷ Register w s ∷ [])))) e);
       fits = refl;
       no_label = refl;
       len = refl;
       units = λ ls at name. refl;
     }
 
-pub extension16_line : (w : Width) (d s : ℕ) (high : ℤ) → extend w d s (extension w Half) ≡ Some (plain (form.Arithmetic operator.Move w source.Register) d s (exactly 16) (exactly 0)) → d ≤ 10 → s ≤ 10 → SaysOf (Next (register_text w d) ∷ After (codes "=") ∷ After (codes "(") ∷ Next (codes "s16") ∷ Next (codes ")") ∷ Next (register_text w s) ∷ []) false (inst_of (form.Arithmetic operator.Move w source.Register) d s (pos 16) (pos 0)) high
+pub extension16_line : (w : Width) (d s : ℕ) (high : ℤ)
+    → extend w d s (extension w Half) ≡ Some (plain (form.Arithmetic operator.Move w source.Register) d s (exactly 16) (exactly 0)) → d ≤ 10 → s ≤ 10
+    → SaysOf (Next (register_text w d) ∷ After (codes "=") ∷ After (codes "(") ∷ Next (codes "s16") ∷ Next (codes ")") ∷ Next (register_text w s) ∷ []) false
+    (inst_of (form.Arithmetic operator.Move w source.Register) d s (pos 16) (pos 0)) high
 extension16_line w d s high e l r =
     record {
       says = Plain (form.Arithmetic operator.Move w source.Register) (fields d s (exactly 16) (exactly 0));
-      good = (register_good w d _ l refl, register_clean w d l, (move_written.front _, refl, (lit (codes "(") _ (omega arith) refl refl, refl, (lit (codes "s16") _ (omega arith) refl refl, refl, (lit (codes ")") _ (omega arith) refl refl, refl, (register_good w s [] r tt, register_clean w s r, tt))))));
-      means = line_by _ (Register w d ∷ Assign operator.Move 0 ∷ Open ∷ Signed Half ∷ Close ∷ Register w s ∷ []) _ (λ j. register_kind w d l j ∷ Assign operator.Move 0 ∷ Open ∷ Signed Half ∷ Close ∷ register_kind w s r j ∷ []) (ap (λ b. option_map line.Statement (first_some (guarded b (extend w d s (extension w Half))) (operand operator.Move 0 w d (Open ∷ Signed Half ∷ Close ∷ Register w s ∷ [])))) (same_width w) ∙ ap (λ o. option_map line.Statement (first_some o (operand operator.Move 0 w d (Open ∷ Signed Half ∷ Close ∷ Register w s ∷ [])))) e);
+      good = (
+        register_good w d _ l refl,
+        register_clean w d l,
+        (
+          move_written.front _,
+          refl,
+          (
+            lit (codes "(") _ (omega arith) refl refl,
+            refl,
+            (
+              lit (codes "s16") _ (omega arith) refl refl,
+              refl,
+              (lit (codes ")") _ (omega arith) refl refl, refl, (register_good w s [] r tt, register_clean w s r, tt)),
+            ),
+          ),
+        ),
+      );
+      means = line_by _ (Register w d ∷ Assign operator.Move 0 ∷ Open ∷ Signed Half ∷ Close ∷ Register w s ∷ []) _
+          (λ j. register_kind w d l j ∷ Assign operator.Move 0 ∷ Open ∷ Signed Half ∷ Close ∷ register_kind w s r j ∷ [])
+          (ap (λ b. option_map line.Statement
+          (first_some (guarded b (extend w d s (extension w Half))) (operand operator.Move 0 w d (Open ∷ Signed Half ∷ Close ∷ Register w s ∷ []))))
+          (same_width w) ∙ ap (λ o. option_map line.Statement (first_some o (operand operator.Move 0 w d (Open ∷ Signed Half ∷ Close ∷ Register w s ∷ [])))) e);
       fits = refl;
       no_label = refl;
       len = refl;
       units = λ ls at name. refl;
     }
 
-pub extension32_line : (w : Width) (d s : ℕ) (high : ℤ) → extend w d s (extension w Word) ≡ Some (plain (form.Arithmetic operator.Move w source.Register) d s (exactly 32) (exactly 0)) → d ≤ 10 → s ≤ 10 → SaysOf (Next (register_text w d) ∷ After (codes "=") ∷ After (codes "(") ∷ Next (codes "s32") ∷ Next (codes ")") ∷ Next (register_text w s) ∷ []) false (inst_of (form.Arithmetic operator.Move w source.Register) d s (pos 32) (pos 0)) high
+pub extension32_line : (w : Width) (d s : ℕ) (high : ℤ)
+    → extend w d s (extension w Word) ≡ Some (plain (form.Arithmetic operator.Move w source.Register) d s (exactly 32) (exactly 0)) → d ≤ 10 → s ≤ 10
+    → SaysOf (Next (register_text w d) ∷ After (codes "=") ∷ After (codes "(") ∷ Next (codes "s32") ∷ Next (codes ")") ∷ Next (register_text w s) ∷ []) false
+    (inst_of (form.Arithmetic operator.Move w source.Register) d s (pos 32) (pos 0)) high
 extension32_line w d s high e l r =
     record {
       says = Plain (form.Arithmetic operator.Move w source.Register) (fields d s (exactly 32) (exactly 0));
-      good = (register_good w d _ l refl, register_clean w d l, (move_written.front _, refl, (lit (codes "(") _ (omega arith) refl refl, refl, (lit (codes "s32") _ (omega arith) refl refl, refl, (lit (codes ")") _ (omega arith) refl refl, refl, (register_good w s [] r tt, register_clean w s r, tt))))));
-      means = line_by _ (Register w d ∷ Assign operator.Move 0 ∷ Open ∷ Signed Word ∷ Close ∷ Register w s ∷ []) _ (λ j. register_kind w d l j ∷ Assign operator.Move 0 ∷ Open ∷ Signed Word ∷ Close ∷ register_kind w s r j ∷ []) (ap (λ b. option_map line.Statement (first_some (guarded b (extend w d s (extension w Word))) (operand operator.Move 0 w d (Open ∷ Signed Word ∷ Close ∷ Register w s ∷ [])))) (same_width w) ∙ ap (λ o. option_map line.Statement (first_some o (operand operator.Move 0 w d (Open ∷ Signed Word ∷ Close ∷ Register w s ∷ [])))) e);
+      good = (
+        register_good w d _ l refl,
+        register_clean w d l,
+        (
+          move_written.front _,
+          refl,
+          (
+            lit (codes "(") _ (omega arith) refl refl,
+            refl,
+            (
+              lit (codes "s32") _ (omega arith) refl refl,
+              refl,
+              (lit (codes ")") _ (omega arith) refl refl, refl, (register_good w s [] r tt, register_clean w s r, tt)),
+            ),
+          ),
+        ),
+      );
+      means = line_by _ (Register w d ∷ Assign operator.Move 0 ∷ Open ∷ Signed Word ∷ Close ∷ Register w s ∷ []) _
+          (λ j. register_kind w d l j ∷ Assign operator.Move 0 ∷ Open ∷ Signed Word ∷ Close ∷ register_kind w s r j ∷ [])
+          (ap (λ b. option_map line.Statement
+          (first_some (guarded b (extend w d s (extension w Word))) (operand operator.Move 0 w d (Open ∷ Signed Word ∷ Close ∷ Register w s ∷ []))))
+          (same_width w) ∙ ap (λ o. option_map line.Statement (first_some o (operand operator.Move 0 w d (Open ∷ Signed Word ∷ Close ∷ Register w s ∷ [])))) e);
       fits = refl;
       no_label = refl;
       len = refl;
@@ -407,7 +556,9 @@ wide_high a b h k = omega arith
 pub unsigned_small : (z : ℤ) → FitsSigned w32 z → cast_unsigned w32 z < 2 ^ 32
 unsigned_small z h = let f = Fits-of_z {w = w32} {z = z} h in omega (arith, f)
 
-pub wide_line : (d : ℕ) (imm high : ℤ) → FitsSigned w32 imm → FitsSigned w32 high → d ≤ 10 → SaysOf (Next (register_text Full d) ∷ After (codes "=") ∷ After (decimal (upper imm high)) ∷ After (codes "ll") ∷ []) true (inst_of form.Wide d 0 (pos 0) imm) high
+pub wide_line : (d : ℕ) (imm high : ℤ) → FitsSigned w32 imm → FitsSigned w32 high → d ≤ 10
+    → SaysOf (Next (register_text Full d) ∷ After (codes "=") ∷ After (decimal (upper imm high)) ∷ After (codes "ll") ∷ []) true
+    (inst_of form.Wide d 0 (pos 0) imm) high
 wide_line d imm high f g l =
     let a = cast_unsigned w32 imm in
     let b = cast_unsigned w32 high in
@@ -416,12 +567,22 @@ wide_line d imm high f g l =
     let top : high_half (upper imm high) ≡ high = ap (cast_signed w32) (wide_high a b (unsigned_small imm f) (unsigned_small high g)) ∙ to_z-of_z w32 high g in
     record {
       says = Wide d (Some (upper imm high));
-      good = (register_good Full d _ l refl, register_clean Full d l, (move_written.front _, refl, (number_front (upper imm high) _ small refl, decimal_clean (upper imm high) small, (lit (codes "ll") [] (omega arith) refl refl, refl, tt))));
-      means = line_by _ (Register Full d ∷ Assign operator.Move 0 ∷ Number (Some (upper imm high)) ∷ Long ∷ []) _ (λ j. register_kind Full d l j ∷ Assign operator.Move 0 ∷ number_kind (upper imm high) small j ∷ Long ∷ []) refl;
+      good = (
+        register_good Full d _ l refl,
+        register_clean Full d l,
+        (
+          move_written.front _,
+          refl,
+          (number_front (upper imm high) _ small refl, decimal_clean (upper imm high) small, (lit (codes "ll") [] (omega arith) refl refl, refl, tt)),
+        ),
+      );
+      means = line_by _ (Register Full d ∷ Assign operator.Move 0 ∷ Number (Some (upper imm high)) ∷ Long ∷ []) _
+          (λ j. register_kind Full d l j ∷ Assign operator.Move 0 ∷ number_kind (upper imm high) small j ∷ Long ∷ []) refl;
       fits = refl;
       no_label = refl;
       len = refl;
-      units = λ ls at name. ap (λ z. First (inst_of form.Wide d 0 (pos 0) z) ∷ Second (high_half (upper imm high)) ∷ []) low ∙ ap (λ z. First (inst_of form.Wide d 0 (pos 0) imm) ∷ Second z ∷ []) top;
+      units = λ ls at name. ap (λ z. First (inst_of form.Wide d 0 (pos 0) z) ∷ Second (high_half (upper imm high)) ∷ []) low ∙ ap
+          (λ z. First (inst_of form.Wide d 0 (pos 0) imm) ∷ Second z ∷ []) top;
     }
 
 -- ---- places
@@ -458,34 +619,103 @@ pub record IsSize (t : Text) (k : Token) : Type 0 where
   pub kind : kind_of t ≡ k
 
 pub unsigned_size : (n : Size) → IsSize (size_text n) (Unsigned n)
-unsigned_size Byte = record { front = λ u. lit (size_text Byte) (32 ∷ u) (omega arith) refl refl; open_front = λ u. lit (codes "(") (size_text Byte ++ u) (omega arith) refl refl; plain_text = refl; kind = refl }
-unsigned_size Half = record { front = λ u. lit (size_text Half) (32 ∷ u) (omega arith) refl refl; open_front = λ u. lit (codes "(") (size_text Half ++ u) (omega arith) refl refl; plain_text = refl; kind = refl }
-unsigned_size Word = record { front = λ u. lit (size_text Word) (32 ∷ u) (omega arith) refl refl; open_front = λ u. lit (codes "(") (size_text Word ++ u) (omega arith) refl refl; plain_text = refl; kind = refl }
-unsigned_size Double = record { front = λ u. lit (size_text Double) (32 ∷ u) (omega arith) refl refl; open_front = λ u. lit (codes "(") (size_text Double ++ u) (omega arith) refl refl; plain_text = refl; kind = refl }
+unsigned_size Byte = record {
+  front = λ u. lit (size_text Byte) (32 ∷ u) (omega arith) refl refl;
+  open_front = λ u. lit (codes "(") (size_text Byte ++ u) (omega arith) refl refl;
+  plain_text = refl;
+  kind = refl;
+}
+unsigned_size Half = record {
+  front = λ u. lit (size_text Half) (32 ∷ u) (omega arith) refl refl;
+  open_front = λ u. lit (codes "(") (size_text Half ++ u) (omega arith) refl refl;
+  plain_text = refl;
+  kind = refl;
+}
+unsigned_size Word = record {
+  front = λ u. lit (size_text Word) (32 ∷ u) (omega arith) refl refl;
+  open_front = λ u. lit (codes "(") (size_text Word ++ u) (omega arith) refl refl;
+  plain_text = refl;
+  kind = refl;
+}
+unsigned_size Double = record {
+  front = λ u. lit (size_text Double) (32 ∷ u) (omega arith) refl refl;
+  open_front = λ u. lit (codes "(") (size_text Double ++ u) (omega arith) refl refl;
+  plain_text = refl;
+  kind = refl;
+}
 
 pub signed_size : (n : Size) → is_double n ≡ false → IsSize (signed_size_text n) (Signed n)
-signed_size Byte h = record { front = λ u. lit (signed_size_text Byte) (32 ∷ u) (omega arith) refl refl; open_front = λ u. lit (codes "(") (signed_size_text Byte ++ u) (omega arith) refl refl; plain_text = refl; kind = refl }
-signed_size Half h = record { front = λ u. lit (signed_size_text Half) (32 ∷ u) (omega arith) refl refl; open_front = λ u. lit (codes "(") (signed_size_text Half ++ u) (omega arith) refl refl; plain_text = refl; kind = refl }
-signed_size Word h = record { front = λ u. lit (signed_size_text Word) (32 ∷ u) (omega arith) refl refl; open_front = λ u. lit (codes "(") (signed_size_text Word ++ u) (omega arith) refl refl; plain_text = refl; kind = refl }
+signed_size Byte h = record {
+  front = λ u. lit (signed_size_text Byte) (32 ∷ u) (omega arith) refl refl;
+  open_front = λ u. lit (codes "(") (signed_size_text Byte ++ u) (omega arith) refl refl;
+  plain_text = refl;
+  kind = refl;
+}
+signed_size Half h = record {
+  front = λ u. lit (signed_size_text Half) (32 ∷ u) (omega arith) refl refl;
+  open_front = λ u. lit (codes "(") (signed_size_text Half ++ u) (omega arith) refl refl;
+  plain_text = refl;
+  kind = refl;
+}
+signed_size Word h = record {
+  front = λ u. lit (signed_size_text Word) (32 ∷ u) (omega arith) refl refl;
+  open_front = λ u. lit (codes "(") (signed_size_text Word ++ u) (omega arith) refl refl;
+  plain_text = refl;
+  kind = refl;
+}
 signed_size Double h = absurd (cc)
 
-pub place_good : (t : Text) (k : Token) (base : ℕ) (z : ℤ) (rest : List Piece) → IsSize t k → base ≤ 10 → FitsSigned w16 z → IsFront (codes ")") (body rest) → AreGood rest → AreGood (place t base z rest)
-place_good t k base z rest o l h close g =
-    (o.open_front _, refl, (o.front _, o.plain_text, (lit (codes "*") _ (omega arith) refl refl, refl, (lit (codes ")") _ (omega arith) refl refl, refl, (lit (codes "(") _ (omega arith) refl refl, refl, (register_good Full base _ l (shift_stops z _), register_clean Full base l, shift_good z (Next (codes ")") ∷ rest) h refl (close, refl, g)))))))
+pub place_good : (t : Text) (k : Token) (base : ℕ) (z : ℤ) (rest : List Piece) → IsSize t k → base ≤ 10 → FitsSigned w16 z → IsFront (codes ")") (body rest)
+    → AreGood rest → AreGood (place t base z rest)
+place_good t k base z rest o l h close g = (
+  o.open_front _,
+  refl,
+  (
+    o.front _,
+    o.plain_text,
+    (
+      lit (codes "*") _ (omega arith) refl refl,
+      refl,
+      (
+        lit (codes ")") _ (omega arith) refl refl,
+        refl,
+        (
+          lit (codes "(") _ (omega arith) refl refl,
+          refl,
+          (register_good Full base _ l (shift_stops z _), register_clean Full base l, shift_good z (Next (codes ")") ∷ rest) h refl (close, refl, g)),
+        ),
+      ),
+    ),
+  ),
+)
 
-pub place_kinds : (t : Text) (k : Token) (base : ℕ) (z : ℤ) (rest : List Piece) → IsSize t k → base ≤ 10 → FitsSigned w16 z → map kind_of (map token_of (place t base z rest)) ≡ Open ∷ k ∷ Star ∷ Close ∷ Open ∷ Register Full base ∷ sign_tokens z (Close ∷ map kind_of (map token_of rest))
+pub place_kinds : (t : Text) (k : Token) (base : ℕ) (z : ℤ) (rest : List Piece) → IsSize t k → base ≤ 10 → FitsSigned w16 z
+    → map kind_of (map token_of (place t base z rest)) ≡ Open ∷ k ∷ Star ∷ Close ∷ Open ∷ Register Full base
+    ∷ sign_tokens z (Close ∷ map kind_of (map token_of rest))
 place_kinds t k base z rest o l h = λ j. Open ∷ o.kind j ∷ Star ∷ Close ∷ Open ∷ register_kind Full base l j ∷ shift_kinds z (Next (codes ")") ∷ rest) h j
 
-pub load_means : (f : Form) (k : Token) (d b : ℕ) (z : ℤ) → load_form k ≡ Some f → line_of (Register Full d ∷ Assign operator.Move 0 ∷ Star ∷ Open ∷ k ∷ Star ∷ Close ∷ Open ∷ Register Full b ∷ sign_tokens z (Close ∷ [])) ≡ Some (line.Statement (Plain f (fields d b (value_of z) (exactly 0))))
+pub load_means : (f : Form) (k : Token) (d b : ℕ) (z : ℤ) → load_form k ≡ Some f
+    → line_of (Register Full d ∷ Assign operator.Move 0 ∷ Star ∷ Open ∷ k ∷ Star ∷ Close ∷ Open ∷ Register Full b ∷ sign_tokens z (Close ∷ []))
+    ≡ Some (line.Statement (Plain f (fields d b (value_of z) (exactly 0))))
 load_means f k d b (pos n) e = ap (λ o. option_map line.Statement (first_some (load_with d o (Some (b, plus (Some n), []))) None)) e
 load_means f k d b (negsuc n) e = ap (λ o. option_map line.Statement (first_some (load_with d o (Some (b, minus (Some (suc n)), []))) None)) e
 
-pub load_line : (f : Form) (t : Text) (k : Token) (d b : ℕ) (z high : ℤ) → IsSize t k → load_form k ≡ Some f → is_wide (Some f) ≡ false → d ≤ 10 → b ≤ 10 → FitsSigned w16 z → SaysOf (Next (register_text Full d) ∷ After (codes "=") ∷ After (codes "*") ∷ place t b z []) false (inst_of f d b z (pos 0)) high
+pub load_line : (f : Form) (t : Text) (k : Token) (d b : ℕ) (z high : ℤ) → IsSize t k → load_form k ≡ Some f → is_wide (Some f) ≡ false → d ≤ 10 → b ≤ 10
+    → FitsSigned w16 z → SaysOf (Next (register_text Full d) ∷ After (codes "=") ∷ After (codes "*") ∷ place t b z []) false (inst_of f d b z (pos 0)) high
 load_line f t k d b z high o e narrow l r h =
     record {
       says = Plain f (fields d b (value_of z) (exactly 0));
-      good = (register_good Full d _ l refl, register_clean Full d l, (move_written.front _, refl, (lit (codes "*") _ (omega arith) refl refl, refl, place_good t k b z [] o r h (lit (codes ")") [] (omega arith) refl refl) tt)));
-      means = line_by _ (Register Full d ∷ Assign operator.Move 0 ∷ Star ∷ Open ∷ k ∷ Star ∷ Close ∷ Open ∷ Register Full b ∷ sign_tokens z (Close ∷ [])) _ (λ j. register_kind Full d l j ∷ Assign operator.Move 0 ∷ Star ∷ place_kinds t k b z [] o r h j) (load_means f k d b z e);
+      good = (
+        register_good Full d _ l refl,
+        register_clean Full d l,
+        (
+          move_written.front _,
+          refl,
+          (lit (codes "*") _ (omega arith) refl refl, refl, place_good t k b z [] o r h (lit (codes ")") [] (omega arith) refl refl) tt),
+        ),
+      );
+      means = line_by _ (Register Full d ∷ Assign operator.Move 0 ∷ Star ∷ Open ∷ k ∷ Star ∷ Close ∷ Open ∷ Register Full b ∷ sign_tokens z (Close ∷ [])) _
+          (λ j. register_kind Full d l j ∷ Assign operator.Move 0 ∷ Star ∷ place_kinds t k b z [] o r h j) (load_means f k d b z e);
       fits = both (fits (2 ^ 15) (value_of z)) (fits (2 ^ 31) (exactly 0)) (in_range16 z h) refl;
       no_label = refl;
       len = refl;
@@ -494,11 +724,15 @@ load_line f t k d b z high o e narrow l r h =
 
 -- ---- stores
 
-pub register_store_means : (n : Size) (b s : ℕ) (z : ℤ) → line_of (Star ∷ Open ∷ Unsigned n ∷ Star ∷ Close ∷ Open ∷ Register Full b ∷ sign_tokens z (Close ∷ Assign operator.Move 0 ∷ Register Full s ∷ [])) ≡ Some (line.Statement (Plain (form.StoreRegister n) (fields b s (value_of z) (exactly 0))))
+pub register_store_means : (n : Size) (b s : ℕ) (z : ℤ)
+    → line_of (Star ∷ Open ∷ Unsigned n ∷ Star ∷ Close ∷ Open ∷ Register Full b ∷ sign_tokens z (Close ∷ Assign operator.Move 0 ∷ Register Full s ∷ []))
+    ≡ Some (line.Statement (Plain (form.StoreRegister n) (fields b s (value_of z) (exactly 0))))
 register_store_means n b s (pos k) = refl
 register_store_means n b s (negsuc k) = refl
 
-pub number_store_means : (n : Size) (b : ℕ) (z v : ℤ) → line_of (Star ∷ Open ∷ Unsigned n ∷ Star ∷ Close ∷ Open ∷ Register Full b ∷ sign_tokens z (Close ∷ Assign operator.Move 0 ∷ number_tokens v [])) ≡ Some (line.Statement (Plain (form.StoreImmediate n) (fields b 0 (value_of z) (value_of v))))
+pub number_store_means : (n : Size) (b : ℕ) (z v : ℤ)
+    → line_of (Star ∷ Open ∷ Unsigned n ∷ Star ∷ Close ∷ Open ∷ Register Full b ∷ sign_tokens z (Close ∷ Assign operator.Move 0 ∷ number_tokens v []))
+    ≡ Some (line.Statement (Plain (form.StoreImmediate n) (fields b 0 (value_of z) (value_of v))))
 number_store_means n b (pos k) (pos m) = refl
 number_store_means n b (pos k) (negsuc m) = refl
 number_store_means n b (negsuc k) (pos m) = refl
@@ -508,28 +742,50 @@ pub equals_number : (v : ℤ) → IsFront (codes "=") (body (number v []))
 equals_number (pos n) = move_written.front _
 equals_number (negsuc n) = move_written.front _
 
-pub register_store_line : (n : Size) (b s : ℕ) (z high : ℤ) → b ≤ 10 → s ≤ 10 → FitsSigned w16 z → SaysOf (Next (codes "*") ∷ place (size_text n) b z (After (codes "=") ∷ After (register_text Full s) ∷ [])) false (inst_of (form.StoreRegister n) b s z (pos 0)) high
+pub register_store_line : (n : Size) (b s : ℕ) (z high : ℤ) → b ≤ 10 → s ≤ 10 → FitsSigned w16 z
+    → SaysOf (Next (codes "*") ∷ place (size_text n) b z (After (codes "=") ∷ After (register_text Full s) ∷ [])) false
+    (inst_of (form.StoreRegister n) b s z (pos 0)) high
 register_store_line n b s z high l r h =
     record {
       says = Plain (form.StoreRegister n) (fields b s (value_of z) (exactly 0));
-      good = (lit (codes "*") _ (omega arith) refl refl, refl, place_good (size_text n) (Unsigned n) b z (After (codes "=") ∷ After (register_text Full s) ∷ []) (unsigned_size n) l h (lit (codes ")") _ (omega arith) refl refl) (move_written.front _, refl, (register_good Full s [] r tt, register_clean Full s r, tt)));
-      means = line_by _ (Star ∷ Open ∷ Unsigned n ∷ Star ∷ Close ∷ Open ∷ Register Full b ∷ sign_tokens z (Close ∷ Assign operator.Move 0 ∷ Register Full s ∷ [])) _ ((λ j. Star ∷ place_kinds (size_text n) (Unsigned n) b z (After (codes "=") ∷ After (register_text Full s) ∷ []) (unsigned_size n) l h j) ∙ ap (λ k. Star ∷ Open ∷ Unsigned n ∷ Star ∷ Close ∷ Open ∷ Register Full b ∷ sign_tokens z (Close ∷ Assign operator.Move 0 ∷ k ∷ [])) (register_kind Full s r)) (register_store_means n b s z);
+      good = (
+        lit (codes "*") _ (omega arith) refl refl,
+        refl,
+        place_good (size_text n) (Unsigned n) b z (After (codes "=") ∷ After (register_text Full s) ∷ [])
+            (unsigned_size n) l h (lit (codes ")") _ (omega arith) refl refl)
+            (move_written.front _, refl, (register_good Full s [] r tt, register_clean Full s r, tt)),
+      );
+      means = line_by _ (Star ∷ Open ∷ Unsigned n ∷ Star ∷ Close ∷ Open ∷ Register Full b
+          ∷ sign_tokens z (Close ∷ Assign operator.Move 0 ∷ Register Full s ∷ [])) _
+          ((λ j. Star ∷ place_kinds (size_text n) (Unsigned n) b z (After (codes "=") ∷ After (register_text Full s) ∷ []) (unsigned_size n) l h j) ∙ ap
+          (λ k. Star ∷ Open ∷ Unsigned n ∷ Star ∷ Close ∷ Open ∷ Register Full b ∷ sign_tokens z (Close ∷ Assign operator.Move 0 ∷ k ∷ []))
+          (register_kind Full s r)) (register_store_means n b s z);
       fits = both (fits (2 ^ 15) (value_of z)) (fits (2 ^ 31) (exactly 0)) (in_range16 z h) refl;
       no_label = refl;
       len = refl;
       units = λ ls at name. ap (λ x. First (inst_of (form.StoreRegister n) b s x (pos 0)) ∷ []) (int_back z);
     }
 
-pub number_store_line : (n : Size) (b : ℕ) (z v high : ℤ) → b ≤ 10 → FitsSigned w16 z → FitsSigned w32 v → SaysOf (Next (codes "*") ∷ place (size_text n) b z (After (codes "=") ∷ number v [])) false (inst_of (form.StoreImmediate n) b 0 z v) high
+pub number_store_line : (n : Size) (b : ℕ) (z v high : ℤ) → b ≤ 10 → FitsSigned w16 z → FitsSigned w32 v
+    → SaysOf (Next (codes "*") ∷ place (size_text n) b z (After (codes "=") ∷ number v [])) false (inst_of (form.StoreImmediate n) b 0 z v) high
 number_store_line n b z v high l h g =
     record {
       says = Plain (form.StoreImmediate n) (fields b 0 (value_of z) (value_of v));
-      good = (lit (codes "*") _ (omega arith) refl refl, refl, place_good (size_text n) (Unsigned n) b z (After (codes "=") ∷ number v []) (unsigned_size n) l h (lit (codes ")") _ (omega arith) refl refl) (equals_number v, refl, number_good v [] g tt tt));
-      means = line_by _ (Star ∷ Open ∷ Unsigned n ∷ Star ∷ Close ∷ Open ∷ Register Full b ∷ sign_tokens z (Close ∷ Assign operator.Move 0 ∷ number_tokens v [])) _ ((λ j. Star ∷ place_kinds (size_text n) (Unsigned n) b z (After (codes "=") ∷ number v []) (unsigned_size n) l h j) ∙ ap (λ k. Star ∷ Open ∷ Unsigned n ∷ Star ∷ Close ∷ Open ∷ Register Full b ∷ sign_tokens z (Close ∷ Assign operator.Move 0 ∷ k)) (number_kinds v [] g)) (number_store_means n b z v);
+      good = (
+        lit (codes "*") _ (omega arith) refl refl,
+        refl,
+        place_good (size_text n) (Unsigned n) b z (After (codes "=") ∷ number v []) (unsigned_size n) l h
+            (lit (codes ")") _ (omega arith) refl refl) (equals_number v, refl, number_good v [] g tt tt),
+      );
+      means = line_by _ (Star ∷ Open ∷ Unsigned n ∷ Star ∷ Close ∷ Open ∷ Register Full b ∷ sign_tokens z (Close ∷ Assign operator.Move 0 ∷ number_tokens v []))
+          _ ((λ j. Star ∷ place_kinds (size_text n) (Unsigned n) b z (After (codes "=") ∷ number v []) (unsigned_size n) l h j) ∙ ap
+          (λ k. Star ∷ Open ∷ Unsigned n ∷ Star ∷ Close ∷ Open ∷ Register Full b ∷ sign_tokens z (Close ∷ Assign operator.Move 0 ∷ k)) (number_kinds v [] g))
+          (number_store_means n b z v);
       fits = both (fits (2 ^ 15) (value_of z)) (fits (2 ^ 31) (value_of v)) (in_range16 z h) (in_range32 v g);
       no_label = refl;
       len = refl;
-      units = λ ls at name. ap (λ x. First (inst_of (form.StoreImmediate n) b 0 x (int_of (value_of v))) ∷ []) (int_back z) ∙ ap (λ x. First (inst_of (form.StoreImmediate n) b 0 z x) ∷ []) (int_back v);
+      units = λ ls at name. ap (λ x. First (inst_of (form.StoreImmediate n) b 0 x (int_of (value_of v))) ∷ []) (int_back z) ∙ ap
+          (λ x. First (inst_of (form.StoreImmediate n) b 0 z x) ∷ []) (int_back v);
     }
 
 -- ---- jumps
@@ -609,40 +865,79 @@ gotol_line z high h =
       units = λ ls at name. ap (λ x. First (inst_of form.GotoLong 0 0 (pos 0) x) ∷ []) (int_back z);
     }
 
-pub branch_register_means : (c : Condition) (w : Width) (d s : ℕ) (z : ℤ) → line_of (If ∷ Register w d ∷ Compare c ∷ Register w s ∷ Goto ∷ sign_tokens z []) ≡ Some (line.Statement (Jump (form.Branch c w source.Register) (fields d s (exactly 0) (exactly 0)) (Distance (value_of z))))
-branch_register_means c w d s (pos n) = ap (λ b. option_map line.Statement (guarded b (Some (Jump (form.Branch c w source.Register) (fields d s (exactly 0) (exactly 0)) (Distance (plus (Some n))))))) (same_width w)
-branch_register_means c w d s (negsuc n) = ap (λ b. option_map line.Statement (guarded b (Some (Jump (form.Branch c w source.Register) (fields d s (exactly 0) (exactly 0)) (Distance (minus (Some (suc n)))))))) (same_width w)
+pub branch_register_means : (c : Condition) (w : Width) (d s : ℕ) (z : ℤ) → line_of (If ∷ Register w d ∷ Compare c ∷ Register w s ∷ Goto ∷ sign_tokens z [])
+    ≡ Some (line.Statement (Jump (form.Branch c w source.Register) (fields d s (exactly 0) (exactly 0)) (Distance (value_of z))))
+branch_register_means c w d s (pos n) = ap
+    (λ b. option_map line.Statement (guarded b (Some (Jump (form.Branch c w source.Register) (fields d s (exactly 0) (exactly 0)) (Distance (plus (Some n)))))))
+    (same_width w)
+branch_register_means c w d s (negsuc n) = ap
+    (λ b. option_map line.Statement
+    (guarded b (Some (Jump (form.Branch c w source.Register) (fields d s (exactly 0) (exactly 0)) (Distance (minus (Some (suc n)))))))) (same_width w)
 
-pub branch_number_means : (c : Condition) (w : Width) (d : ℕ) (v z : ℤ) → line_of (If ∷ Register w d ∷ Compare c ∷ number_tokens v (Goto ∷ sign_tokens z [])) ≡ Some (line.Statement (Jump (form.Branch c w source.Immediate) (fields d 0 (exactly 0) (value_of v)) (Distance (value_of z))))
+pub branch_number_means : (c : Condition) (w : Width) (d : ℕ) (v z : ℤ) → line_of (If ∷ Register w d ∷ Compare c ∷ number_tokens v (Goto ∷ sign_tokens z []))
+    ≡ Some (line.Statement (Jump (form.Branch c w source.Immediate) (fields d 0 (exactly 0) (value_of v)) (Distance (value_of z))))
 branch_number_means c w d (pos m) (pos n) = refl
 branch_number_means c w d (pos m) (negsuc n) = refl
 branch_number_means c w d (negsuc m) (pos n) = refl
 branch_number_means c w d (negsuc m) (negsuc n) = refl
 
-pub branch_register_line : (c : Condition) (w : Width) (d s : ℕ) (z high : ℤ) → d ≤ 10 → s ≤ 10 → FitsSigned w16 z → SaysOf (Next (codes "if") ∷ After (register_text w d) ∷ After (condition_text c) ∷ After (register_text w s) ∷ After (codes "goto") ∷ distance z []) false (inst_of (form.Branch c w source.Register) d s z (pos 0)) high
+pub branch_register_line : (c : Condition) (w : Width) (d s : ℕ) (z high : ℤ) → d ≤ 10 → s ≤ 10 → FitsSigned w16 z
+    → SaysOf (Next (codes "if") ∷ After (register_text w d) ∷ After (condition_text c) ∷ After (register_text w s) ∷ After (codes "goto") ∷ distance z []) false
+    (inst_of (form.Branch c w source.Register) d s z (pos 0)) high
 branch_register_line c w d s z high l r h =
     let o = condition_written c in
     record {
       says = Jump (form.Branch c w source.Register) (fields d s (exactly 0) (exactly 0)) (Distance (value_of z));
-      good = (lit (codes "if") _ (omega arith) refl refl, refl, (register_good w d _ l refl, register_clean w d l, (o.front _, o.plain_text, (register_good w s _ r refl, register_clean w s r, (before_distance (codes "goto") Goto z goto_written, refl, distance_good z (wider z h))))));
-      means = line_by _ (If ∷ Register w d ∷ Compare c ∷ Register w s ∷ Goto ∷ sign_tokens z []) _ (λ j. If ∷ register_kind w d l j ∷ o.kind j ∷ register_kind w s r j ∷ Goto ∷ distance_kinds z (wider z h) j) (branch_register_means c w d s z);
+      good = (
+        lit (codes "if") _ (omega arith) refl refl,
+        refl,
+        (
+          register_good w d _ l refl,
+          register_clean w d l,
+          (
+            o.front _,
+            o.plain_text,
+            (register_good w s _ r refl, register_clean w s r, (before_distance (codes "goto") Goto z goto_written, refl, distance_good z (wider z h))),
+          ),
+        ),
+      );
+      means = line_by _ (If ∷ Register w d ∷ Compare c ∷ Register w s ∷ Goto ∷ sign_tokens z []) _
+          (λ j. If ∷ register_kind w d l j ∷ o.kind j ∷ register_kind w s r j ∷ Goto ∷ distance_kinds z (wider z h) j) (branch_register_means c w d s z);
       fits = in_range16 z h;
       no_label = refl;
       len = refl;
       units = λ ls at name. ap (λ x. First (inst_of (form.Branch c w source.Register) d s x (pos 0)) ∷ []) (int_back z);
     }
 
-pub branch_number_line : (c : Condition) (w : Width) (d : ℕ) (v z high : ℤ) → d ≤ 10 → FitsSigned w32 v → FitsSigned w16 z → SaysOf (Next (codes "if") ∷ After (register_text w d) ∷ After (condition_text c) ∷ number v (After (codes "goto") ∷ distance z [])) false (inst_of (form.Branch c w source.Immediate) d 0 z v) high
+pub branch_number_line : (c : Condition) (w : Width) (d : ℕ) (v z high : ℤ) → d ≤ 10 → FitsSigned w32 v → FitsSigned w16 z
+    → SaysOf (Next (codes "if") ∷ After (register_text w d) ∷ After (condition_text c) ∷ number v (After (codes "goto") ∷ distance z [])) false
+    (inst_of (form.Branch c w source.Immediate) d 0 z v) high
 branch_number_line c w d v z high l g h =
     let o = condition_written c in
     record {
       says = Jump (form.Branch c w source.Immediate) (fields d 0 (exactly 0) (value_of v)) (Distance (value_of z));
-      good = (lit (codes "if") _ (omega arith) refl refl, refl, (register_good w d _ l refl, register_clean w d l, (before_number (condition_text c) (Compare c) v _ o, o.plain_text, number_good v (After (codes "goto") ∷ distance z []) g refl (before_distance (codes "goto") Goto z goto_written, refl, distance_good z (wider z h)))));
-      means = line_by _ (If ∷ Register w d ∷ Compare c ∷ number_tokens v (Goto ∷ sign_tokens z [])) _ ((λ j. If ∷ register_kind w d l j ∷ o.kind j ∷ number_kinds v (After (codes "goto") ∷ distance z []) g j) ∙ ap (λ t. If ∷ Register w d ∷ Compare c ∷ number_tokens v (Goto ∷ t)) (distance_kinds z (wider z h))) (branch_number_means c w d v z);
+      good = (
+        lit (codes "if") _ (omega arith) refl refl,
+        refl,
+        (
+          register_good w d _ l refl,
+          register_clean w d l,
+          (
+            before_number (condition_text c) (Compare c) v _ o,
+            o.plain_text,
+            number_good v (After (codes "goto") ∷ distance z []) g refl
+                (before_distance (codes "goto") Goto z goto_written, refl, distance_good z (wider z h)),
+          ),
+        ),
+      );
+      means = line_by _ (If ∷ Register w d ∷ Compare c ∷ number_tokens v (Goto ∷ sign_tokens z [])) _
+          ((λ j. If ∷ register_kind w d l j ∷ o.kind j ∷ number_kinds v (After (codes "goto") ∷ distance z []) g j) ∙ ap
+          (λ t. If ∷ Register w d ∷ Compare c ∷ number_tokens v (Goto ∷ t)) (distance_kinds z (wider z h))) (branch_number_means c w d v z);
       fits = both (fits (2 ^ 31) (value_of v)) (fits (2 ^ 15) (value_of z)) (in_range32 v g) (in_range16 z h);
       no_label = refl;
       len = refl;
-      units = λ ls at name. ap (λ x. First (inst_of (form.Branch c w source.Immediate) d 0 x (int_of (value_of v))) ∷ []) (int_back z) ∙ ap (λ x. First (inst_of (form.Branch c w source.Immediate) d 0 z x) ∷ []) (int_back v);
+      units = λ ls at name. ap (λ x. First (inst_of (form.Branch c w source.Immediate) d 0 x (int_of (value_of v))) ∷ []) (int_back z) ∙ ap
+          (λ x. First (inst_of (form.Branch c w source.Immediate) d 0 z x) ∷ []) (int_back v);
     }
 
 pub call_means : (v : ℤ) → line_of (Call ∷ number_tokens v []) ≡ Some (line.Statement (Plain form.Call (fields 0 0 (exactly 0) (value_of v))))

@@ -1,5 +1,6 @@
 -- The text of pieces is one line, which is cut into the pieces' tokens again.
-use Rattle.std.proofs.Common.{◌≡◌, ◌<◌, ◌^◌, ℕ, suc, List, [], ◌∷◌, ◌++◌, length, take, take_all, map, Some, None, Bool, true, false, refl, ap, sym, ◌∙◌, append_assoc, arith}
+use Rattle.std.proofs.Common.{◌≡◌, ◌<◌, ◌^◌, ℕ, suc, List, [], ◌∷◌, ◌++◌, length, take, take_all, map, Some, None, Bool, true, false, refl, ap, sym, ◌∙◌}
+use Rattle.std.proofs.Common.{append_assoc, arith}
 use Rattle.std.specs.Prelude.{◌&&◌, ◌||◌, ◌==◌, not, nat_lt, cond, slice_index, ⊤}
 use Rattle.std.specs.List.{list_all}
 use Rattle.std.specs.Char.{is_ascii_digit}
@@ -78,7 +79,8 @@ pub clean_append : (a b : Text) → clean a ≡ true → clean b ≡ true → cl
 clean_append [] b g h = h
 clean_append (x ∷ []) b g h =
     let p = parts x [] g in
-    three (nat_lt 10 x && nat_lt x 128) (not (x == 47) || (slice_index b 0 == 61)) (clean b) p.byte (ap (λ s. not s || (slice_index b 0 == 61)) (slash_ends (x == 47) p.slash)) h
+    three (nat_lt 10 x && nat_lt x 128) (not (x == 47) || (slice_index b 0 == 61)) (clean b) p.byte
+    (ap (λ s. not s || (slice_index b 0 == 61)) (slash_ends (x == 47) p.slash)) h
 clean_append (x ∷ y ∷ a) b g h =
     let p = parts x (y ∷ a) g in
     three (nat_lt 10 x && nat_lt x 128) (not (x == 47) || (y == 61)) (clean (y ∷ a ++ b)) p.byte p.slash (clean_append (y ∷ a) b p.rest h)
@@ -88,11 +90,13 @@ digit_clean d t digit h =
     let low : nat_lt 10 d ≡ true = grind (arith, nat_tests) in
     let high : nat_lt d 128 ≡ true = grind (arith, nat_tests) in
     let no : (d == 47) ≡ false = grind (arith, nat_tests) in
-    three (nat_lt 10 d && nat_lt d 128) (not (d == 47) || (slice_index t 0 == 61)) (clean t) (ap (λ x. x && nat_lt d 128) low ∙ high) (ap (λ x. not x || (slice_index t 0 == 61)) no) h
+    three (nat_lt 10 d && nat_lt d 128) (not (d == 47) || (slice_index t 0 == 61)) (clean t) (ap (λ x. x && nat_lt d 128) low ∙ high)
+    (ap (λ x. not x || (slice_index t 0 == 61)) no) h
 
 digits_clean : (t : Text) → all_ascii_digits t ≡ true → clean t ≡ true
 digits_clean [] all = refl
-digits_clean (d ∷ t) all = digit_clean d t (and_left (is_ascii_digit d) (all_ascii_digits t) all) (digits_clean t (and_right (is_ascii_digit d) (all_ascii_digits t) all))
+digits_clean (d ∷ t) all =
+    digit_clean d t (and_left (is_ascii_digit d) (all_ascii_digits t) all) (digits_clean t (and_right (is_ascii_digit d) (all_ascii_digits t) all))
 
 pub decimal_clean : (n : ℕ) → n < 2 ^ 64 → clean (decimal n) ≡ true
 decimal_clean n small = digits_clean (decimal n) (decimal_digits n small)
@@ -130,5 +134,6 @@ words_are ps g =
     ∙ cut_again ps (good_cut ps g)
 
 -- a line of pieces says what its tokens say
-pub line_says : (ps : List Piece) (l : Line) → AreGood ps → line_of (map kind_of (map token_of ps)) ≡ Some l → row_of (body ps) ≡ Some (row l (label_of l (map token_of ps)))
+pub line_says : (ps : List Piece) (l : Line) → AreGood ps → line_of (map kind_of (map token_of ps)) ≡ Some l
+    → row_of (body ps) ≡ Some (row l (label_of l (map token_of ps)))
 line_says ps l g h = ap row_by (words_are ps g) ∙ ap (λ o. row_with o (map token_of ps)) h

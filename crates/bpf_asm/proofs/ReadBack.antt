@@ -1,5 +1,6 @@
 -- The canonical text of a program spells the program, where each of its instructions' lines says the instruction.
-use Rattle.std.proofs.Common.{◌≡◌, ◌<◌, ◌≤◌, ◌+◌, ℕ, List, [], ◌∷◌, ◌++◌, length, map, Some, None, Bool, true, false, refl, ap, sym, ◌∙◌, subst, append_assoc, arith, length-append}
+use Rattle.std.proofs.Common.{◌≡◌, ◌<◌, ◌≤◌, ◌+◌, ℕ, List, [], ◌∷◌, ◌++◌, length, map, Some, None, Bool, true, false, refl, ap, sym, ◌∙◌, subst, append_assoc}
+use Rattle.std.proofs.Common.{arith, length-append}
 use Rattle.std.specs.Prelude.{◌&&◌, not, Ok, cond, ℤ, is_some, ⊤}
 use Rattle.std.proofs.lemmas.Bool.Decides.{nat_tests}
 use Rattle.bpf_model.specs.declared.instruction.Inst.{Inst}
@@ -13,7 +14,9 @@ use Rattle.bpf_asm.specs.declared.grammar.Line.TheVariants as line
 use Rattle.bpf_asm.specs.Lex.{Text, kind_of}
 use Rattle.bpf_asm.specs.Grammar.{line_of}
 use Rattle.bpf_asm.specs.Text.{Piece, token_of, pieces, instruction_text, canon, high_of}
-use Rattle.bpf_asm.specs.Program.{row, row_of, with_row, rows_of, last_word, statement_fits, row_fault, or_fault, first_line_fault, Definition, statement_len, units_in, labels_from, label_fault, goes_to_label, place_found, statement_units, units_from, length_fault, rows_fault, fault_of, assembled_with, assembled, cut}
+use Rattle.bpf_asm.specs.Program.{row, row_of, with_row, rows_of, last_word, statement_fits, row_fault, or_fault, first_line_fault, Definition, statement_len}
+use Rattle.bpf_asm.specs.Program.{units_in, labels_from, label_fault, goes_to_label, place_found, statement_units, units_from, length_fault, rows_fault}
+use Rattle.bpf_asm.specs.Program.{fault_of, assembled_with, assembled, cut}
 use Rattle.bpf_asm.proofs.Again.{body}
 use Rattle.bpf_asm.proofs.LineText.{AreGood, body_clean, cut_clean, line_body, line_says}
 
@@ -52,16 +55,21 @@ record Back (text : Text) (us : List ProgramUnit) : Type 0 where
   units : (ls : List Definition) (at : ℕ) → units_from ls at (rows_of (cut text)) ≡ us
   count : units_in (rows_of (cut text)) ≡ length us
 
-module _ (ps : List Piece) (s : Statement) (lab : Text) (more : Text) (us us' : List ProgramUnit) (clean_line : cut (body ps ++ 10 ∷ more) ≡ body ps ∷ cut more) (said : row_of (body ps) ≡ Some (row (line.Statement s) lab)) (fits : statement_fits s ≡ true) (no_label : goes_to_label s ≡ false) (here : (ls : List Definition) (at : ℕ) → statement_units ls at lab s ++ us ≡ us') (len : statement_len s + length us ≡ length us') (b : Back more us) where
+module _ (ps : List Piece) (s : Statement) (lab : Text) (more : Text) (us us' : List ProgramUnit) (clean_line : cut (body ps ++ 10 ∷ more) ≡ body ps ∷ cut more)
+    (said : row_of (body ps) ≡ Some (row (line.Statement s) lab)) (fits : statement_fits s ≡ true) (no_label : goes_to_label s ≡ false)
+    (here : (ls : List Definition) (at : ℕ) → statement_units ls at lab s ++ us ≡ us') (len : statement_len s + length us ≡ length us') (b : Back more us) where
   rows_are : rows_of (cut (body ps ++ 10 ∷ more)) ≡ row (line.Statement s) lab ∷ rows_of (cut more)
   rows_are = ap rows_of clean_line ∙ ap (λ o. with_row o (rows_of (cut more))) said
 
   one_line : Back (body ps ++ 10 ∷ more) us'
   one_line =
       record {
-        none = λ n. ap (first_line_fault n) clean_line ∙ ap (λ o. or_fault (row_fault n o) (first_line_fault (n + 1) (cut more))) said ∙ ap (λ x. or_fault (cond x None (Some (OutOfRange n))) (first_line_fault (n + 1) (cut more))) fits ∙ b.none (n + 1);
+        none = λ n. ap (first_line_fault n) clean_line ∙ ap (λ o. or_fault (row_fault n o) (first_line_fault (n + 1) (cut more))) said ∙ ap
+            (λ x. or_fault (cond x None (Some (OutOfRange n))) (first_line_fault (n + 1) (cut more))) fits ∙ b.none (n + 1);
         labels = λ at. ap (labels_from at) rows_are ∙ b.labels (at + statement_len s);
-        faultless = λ all n before. ap (label_fault all n before) rows_are ∙ ap (λ x. cond (x && not (is_some (place_found all lab))) (Some (BadLabel n)) (label_fault all (n + 1) before (rows_of (cut more)))) no_label ∙ b.faultless all (n + 1) before;
+        faultless = λ all n before. ap (label_fault all n before) rows_are ∙ ap
+            (λ x. cond (x && not (is_some (place_found all lab))) (Some (BadLabel n)) (label_fault all (n + 1) before (rows_of (cut more)))) no_label
+            ∙ b.faultless all (n + 1) before;
         units = λ ls at. ap (units_from ls at) rows_are ∙ ap (λ l. statement_units ls at lab s ++ l) (b.units ls (at + statement_len s)) ∙ here ls at;
         count = ap units_in rows_are ∙ ap (λ n. statement_len s + n) b.count ∙ len;
       }
@@ -90,16 +98,20 @@ text_is f i us is =
 lengths : (a b c : List ProgramUnit) → a ++ b ≡ c → length a + length b ≡ length c
 lengths a b c e = sym (length-append a b) ∙ ap length e
 
-one_back : (f : Form) (i : Inst) (us : List ProgramUnit) → form_of i.opcode ≡ Some f → Says f i (high_of us) → AllSay (not (is_wide (Some f))) us → Back (canon us) (behind (not (is_wide (Some f))) us) → Back (canon (First i ∷ us)) (First i ∷ us)
+one_back : (f : Form) (i : Inst) (us : List ProgramUnit) → form_of i.opcode ≡ Some f → Says f i (high_of us) → AllSay (not (is_wide (Some f))) us
+    → Back (canon us) (behind (not (is_wide (Some f))) us) → Back (canon (First i ∷ us)) (First i ∷ us)
 one_back f i us is s rest b =
     let ps = pieces f i (high_of us) in
     let wide = is_wide (Some f) in
     let lab = last_word (map token_of ps) in
     let whole = whole_units wide i us rest in
-    let here : (ls : List Definition) (at : ℕ) → statement_units ls at lab s.says ++ behind (not wide) us ≡ First i ∷ us = λ ls at. ap (λ l. l ++ behind (not wide) us) (s.units ls at lab) ∙ whole in
-    let len : statement_len s.says + length (behind (not wide) us) ≡ length (First i ∷ us) = ap (λ n. n + length (behind (not wide) us)) s.len ∙ lengths (units_by wide i (high_of us)) (behind (not wide) us) (First i ∷ us) whole in
+    let here : (ls : List Definition) (at : ℕ) → statement_units ls at lab s.says ++ behind (not wide) us ≡ First i ∷ us =
+    λ ls at. ap (λ l. l ++ behind (not wide) us) (s.units ls at lab) ∙ whole in
+    let len : statement_len s.says + length (behind (not wide) us) ≡ length (First i ∷ us) =
+    ap (λ n. n + length (behind (not wide) us)) s.len ∙ lengths (units_by wide i (high_of us)) (behind (not wide) us) (First i ∷ us) whole in
     subst (λ t. Back t (First i ∷ us)) (sym (text_is f i us is))
-    (one_line ps s.says lab (canon us) (behind (not wide) us) (First i ∷ us) (cut_clean (body ps) (canon us) (body_clean ps s.good)) (line_says ps (line.Statement s.says) s.good s.means) s.fits s.no_label here len b)
+    (one_line ps s.says lab (canon us) (behind (not wide) us) (First i ∷ us) (cut_clean (body ps) (canon us) (body_clean ps s.good))
+    (line_says ps (line.Statement s.says) s.good s.means) s.fits s.no_label here len b)
 
 all_back : (first : Bool) (us : List ProgramUnit) → AllSay first us → Back (canon us) (behind first us)
 all_back true [] h = record { none = λ n. refl; labels = λ at. refl; faultless = λ all n before. refl; units = λ ls at. refl; count = refl }

@@ -19,7 +19,8 @@ use Rattle.bpf_model.specs.declared.instruction.Form.{Form}
 use Rattle.bpf_model.specs.declared.instruction.Form.TheVariants as form
 use Rattle.bpf_model.specs.Reading.{form_of, has_form, has_right_fields, extends_from}
 use Rattle.bpf_asm.specs.declared.token.Token.{Token}
-use Rattle.bpf_asm.specs.declared.token.Token.TheVariants.{Register, Number, Assign, Compare, Unsigned, Signed, Swap, If, Goto, GotoLong, Call, Exit, Long, Open, Close, Star, Plus, Minus, Colon, Name}
+use Rattle.bpf_asm.specs.declared.token.Token.TheVariants.{Register, Number, Assign, Compare, Unsigned, Signed, Swap, If, Goto, GotoLong, Call, Exit, Long}
+use Rattle.bpf_asm.specs.declared.token.Token.TheVariants.{Open, Close, Star, Plus, Minus, Colon, Name}
 use Rattle.bpf_asm.specs.declared.grammar.Value.{Value}
 use Rattle.bpf_asm.specs.declared.grammar.Fields.{Fields}
 use Rattle.bpf_asm.specs.declared.grammar.Target.{Target}
@@ -28,13 +29,16 @@ use Rattle.bpf_asm.specs.declared.grammar.Statement.TheVariants.{Plain, Wide}
 use Rattle.bpf_asm.specs.declared.grammar.Line.{Line}
 use Rattle.bpf_asm.specs.declared.grammar.Line.TheVariants as line
 use Rattle.bpf_asm.specs.Lex.{Text, Table, symbols, words, lookup, numbered, register_or_name, kind_of, small, number_value}
-use Rattle.bpf_asm.specs.Grammar.{Tokens, plus, minus, exactly, fields, is_same, when, operand, sized, based, plain, load_form, load_with, load_of, extension, extend, swap, is_full, guarded, first_some, only_assigned, assigned, stored, store_with, store_of, target, jump_to, branch, no_fields, statement, is_word, line_of}
+use Rattle.bpf_asm.specs.Grammar.{Tokens, plus, minus, exactly, fields, is_same, when, operand, sized, based, plain, load_form, load_with, load_of, extension}
+use Rattle.bpf_asm.specs.Grammar.{extend, swap, is_full, guarded, first_some, only_assigned, assigned, stored, store_with, store_of, target, jump_to, branch}
+use Rattle.bpf_asm.specs.Grammar.{no_fields, statement, is_word, line_of}
 use Rattle.bpf_asm.specs.Program.{Row, row_with, row_by, row_of, words_of, with_row, rows_of, opcode_of, inst_of, int_of}
 use Rattle.bpf_asm.specs.Sound.{IsSoundForm, IsJump, IsSound, AreSound}
 
 -- ---- the decoder reads back the form of each opcode
 
-arithmetic_opcode : (op : Operator) (w : Width) (s : Source) → has_form op w s ≡ true → form_of (opcode_of (form.Arithmetic op w s)) ≡ Some (form.Arithmetic op w s)
+arithmetic_opcode : (op : Operator) (w : Width) (s : Source) → has_form op w s ≡ true
+    → form_of (opcode_of (form.Arithmetic op w s)) ≡ Some (form.Arithmetic op w s)
 arithmetic_opcode operator.Sum Narrow source.Immediate h = refl
 arithmetic_opcode operator.Sum Narrow source.Register h = refl
 arithmetic_opcode operator.Sum Full source.Immediate h = refl
@@ -204,7 +208,8 @@ alone a g = ap (λ x. x && true) g
 
 -- ---- instructions
 
-immediate_fields : (op : Operator) (n : ℕ) (w : Width) (dst : ℕ) (v : Value) → takes op n ≡ true → has_right_fields (form.Arithmetic op w source.Immediate) (inst_of (form.Arithmetic op w source.Immediate) dst 0 (int_of (exactly n)) (int_of v)) ≡ true
+immediate_fields : (op : Operator) (n : ℕ) (w : Width) (dst : ℕ) (v : Value) → takes op n ≡ true
+    → has_right_fields (form.Arithmetic op w source.Immediate) (inst_of (form.Arithmetic op w source.Immediate) dst 0 (int_of (exactly n)) (int_of v)) ≡ true
 immediate_fields operator.Sum n w dst v h = h
 immediate_fields operator.Difference n w dst v h = h
 immediate_fields operator.Product n w dst v h = h
@@ -220,7 +225,9 @@ immediate_fields operator.Move n w dst v h = ap (λ b. b || extends_from w sourc
 immediate_fields operator.ShiftSigned n w dst v h = h
 immediate_fields operator.SwapBytes n w dst v h = absurd (cc)
 
-register_fields : (op : Operator) (n : ℕ) (w : Width) (dst src : ℕ) → takes op n ≡ true → has_right_fields (form.Arithmetic op w source.Register) (inst_of (form.Arithmetic op w source.Register) dst src (int_of (exactly n)) (int_of (exactly 0))) ≡ true
+register_fields : (op : Operator) (n : ℕ) (w : Width) (dst src : ℕ) → takes op n ≡ true
+    → has_right_fields (form.Arithmetic op w source.Register) (inst_of (form.Arithmetic op w source.Register) dst src (int_of (exactly n)) (int_of (exactly 0)))
+    ≡ true
 register_fields operator.Sum n w dst src h = h
 register_fields operator.Difference n w dst src h = h
 register_fields operator.Product n w dst src h = h
@@ -236,46 +243,285 @@ register_fields operator.Move n w dst src h = ap (λ b. b || extends_from w sour
 register_fields operator.ShiftSigned n w dst src h = h
 register_fields operator.SwapBytes n w dst src h = absurd (cc)
 
-immediate_plain : (op : Operator) (n : ℕ) (w : Width) (dst : ℕ) (v : Value) → takes op n ≡ true → nat_le dst 10 ≡ true → IsSoundForm (form.Arithmetic op w source.Immediate) (fields dst 0 (exactly n) v)
-immediate_plain operator.Sum n w dst v h d = record { is_of = record { form_is = arithmetic_opcode operator.Sum w source.Immediate refl; narrow = refl; dst = d; src = refl }; fields = immediate_fields operator.Sum n w dst v h; registers = alone (nat_le dst 10) d }
-immediate_plain operator.Difference n w dst v h d = record { is_of = record { form_is = arithmetic_opcode operator.Difference w source.Immediate refl; narrow = refl; dst = d; src = refl }; fields = immediate_fields operator.Difference n w dst v h; registers = alone (nat_le dst 10) d }
-immediate_plain operator.Product n w dst v h d = record { is_of = record { form_is = arithmetic_opcode operator.Product w source.Immediate refl; narrow = refl; dst = d; src = refl }; fields = immediate_fields operator.Product n w dst v h; registers = alone (nat_le dst 10) d }
-immediate_plain operator.Quotient n w dst v h d = record { is_of = record { form_is = arithmetic_opcode operator.Quotient w source.Immediate refl; narrow = refl; dst = d; src = refl }; fields = immediate_fields operator.Quotient n w dst v h; registers = alone (nat_le dst 10) d }
-immediate_plain operator.Or n w dst v h d = record { is_of = record { form_is = arithmetic_opcode operator.Or w source.Immediate refl; narrow = refl; dst = d; src = refl }; fields = immediate_fields operator.Or n w dst v h; registers = alone (nat_le dst 10) d }
-immediate_plain operator.And n w dst v h d = record { is_of = record { form_is = arithmetic_opcode operator.And w source.Immediate refl; narrow = refl; dst = d; src = refl }; fields = immediate_fields operator.And n w dst v h; registers = alone (nat_le dst 10) d }
-immediate_plain operator.ShiftLeft n w dst v h d = record { is_of = record { form_is = arithmetic_opcode operator.ShiftLeft w source.Immediate refl; narrow = refl; dst = d; src = refl }; fields = immediate_fields operator.ShiftLeft n w dst v h; registers = alone (nat_le dst 10) d }
-immediate_plain operator.ShiftRight n w dst v h d = record { is_of = record { form_is = arithmetic_opcode operator.ShiftRight w source.Immediate refl; narrow = refl; dst = d; src = refl }; fields = immediate_fields operator.ShiftRight n w dst v h; registers = alone (nat_le dst 10) d }
+immediate_plain : (op : Operator) (n : ℕ) (w : Width) (dst : ℕ) (v : Value) → takes op n ≡ true → nat_le dst 10 ≡ true
+    → IsSoundForm (form.Arithmetic op w source.Immediate) (fields dst 0 (exactly n) v)
+immediate_plain operator.Sum n w dst v h d = record {
+  is_of = record {
+    form_is = arithmetic_opcode operator.Sum w source.Immediate refl;
+    narrow = refl;
+    dst = d;
+    src = refl;
+  };
+  fields = immediate_fields operator.Sum n w dst v h;
+  registers = alone (nat_le dst 10) d;
+}
+immediate_plain operator.Difference n w dst v h d = record {
+  is_of = record {
+    form_is = arithmetic_opcode operator.Difference w source.Immediate refl;
+    narrow = refl;
+    dst = d;
+    src = refl;
+  };
+  fields = immediate_fields operator.Difference n w dst v h;
+  registers = alone (nat_le dst 10) d;
+}
+immediate_plain operator.Product n w dst v h d = record {
+  is_of = record {
+    form_is = arithmetic_opcode operator.Product w source.Immediate refl;
+    narrow = refl;
+    dst = d;
+    src = refl;
+  };
+  fields = immediate_fields operator.Product n w dst v h;
+  registers = alone (nat_le dst 10) d;
+}
+immediate_plain operator.Quotient n w dst v h d = record {
+  is_of = record {
+    form_is = arithmetic_opcode operator.Quotient w source.Immediate refl;
+    narrow = refl;
+    dst = d;
+    src = refl;
+  };
+  fields = immediate_fields operator.Quotient n w dst v h;
+  registers = alone (nat_le dst 10) d;
+}
+immediate_plain operator.Or n w dst v h d = record {
+  is_of = record {
+    form_is = arithmetic_opcode operator.Or w source.Immediate refl;
+    narrow = refl;
+    dst = d;
+    src = refl;
+  };
+  fields = immediate_fields operator.Or n w dst v h;
+  registers = alone (nat_le dst 10) d;
+}
+immediate_plain operator.And n w dst v h d = record {
+  is_of = record {
+    form_is = arithmetic_opcode operator.And w source.Immediate refl;
+    narrow = refl;
+    dst = d;
+    src = refl;
+  };
+  fields = immediate_fields operator.And n w dst v h;
+  registers = alone (nat_le dst 10) d;
+}
+immediate_plain operator.ShiftLeft n w dst v h d = record {
+  is_of = record {
+    form_is = arithmetic_opcode operator.ShiftLeft w source.Immediate refl;
+    narrow = refl;
+    dst = d;
+    src = refl;
+  };
+  fields = immediate_fields operator.ShiftLeft n w dst v h;
+  registers = alone (nat_le dst 10) d;
+}
+immediate_plain operator.ShiftRight n w dst v h d = record {
+  is_of = record {
+    form_is = arithmetic_opcode operator.ShiftRight w source.Immediate refl;
+    narrow = refl;
+    dst = d;
+    src = refl;
+  };
+  fields = immediate_fields operator.ShiftRight n w dst v h;
+  registers = alone (nat_le dst 10) d;
+}
 immediate_plain operator.Negate n w dst v h d = absurd (cc)
-immediate_plain operator.Remainder n w dst v h d = record { is_of = record { form_is = arithmetic_opcode operator.Remainder w source.Immediate refl; narrow = refl; dst = d; src = refl }; fields = immediate_fields operator.Remainder n w dst v h; registers = alone (nat_le dst 10) d }
-immediate_plain operator.Xor n w dst v h d = record { is_of = record { form_is = arithmetic_opcode operator.Xor w source.Immediate refl; narrow = refl; dst = d; src = refl }; fields = immediate_fields operator.Xor n w dst v h; registers = alone (nat_le dst 10) d }
-immediate_plain operator.Move n w dst v h d = record { is_of = record { form_is = arithmetic_opcode operator.Move w source.Immediate refl; narrow = refl; dst = d; src = refl }; fields = immediate_fields operator.Move n w dst v h; registers = alone (nat_le dst 10) d }
-immediate_plain operator.ShiftSigned n w dst v h d = record { is_of = record { form_is = arithmetic_opcode operator.ShiftSigned w source.Immediate refl; narrow = refl; dst = d; src = refl }; fields = immediate_fields operator.ShiftSigned n w dst v h; registers = alone (nat_le dst 10) d }
+immediate_plain operator.Remainder n w dst v h d = record {
+  is_of = record {
+    form_is = arithmetic_opcode operator.Remainder w source.Immediate refl;
+    narrow = refl;
+    dst = d;
+    src = refl;
+  };
+  fields = immediate_fields operator.Remainder n w dst v h;
+  registers = alone (nat_le dst 10) d;
+}
+immediate_plain operator.Xor n w dst v h d = record {
+  is_of = record {
+    form_is = arithmetic_opcode operator.Xor w source.Immediate refl;
+    narrow = refl;
+    dst = d;
+    src = refl;
+  };
+  fields = immediate_fields operator.Xor n w dst v h;
+  registers = alone (nat_le dst 10) d;
+}
+immediate_plain operator.Move n w dst v h d = record {
+  is_of = record {
+    form_is = arithmetic_opcode operator.Move w source.Immediate refl;
+    narrow = refl;
+    dst = d;
+    src = refl;
+  };
+  fields = immediate_fields operator.Move n w dst v h;
+  registers = alone (nat_le dst 10) d;
+}
+immediate_plain operator.ShiftSigned n w dst v h d = record {
+  is_of = record {
+    form_is = arithmetic_opcode operator.ShiftSigned w source.Immediate refl;
+    narrow = refl;
+    dst = d;
+    src = refl;
+  };
+  fields = immediate_fields operator.ShiftSigned n w dst v h;
+  registers = alone (nat_le dst 10) d;
+}
 immediate_plain operator.SwapBytes n w dst v h d = absurd (cc)
 
-register_plain : (op : Operator) (n : ℕ) (w : Width) (dst src : ℕ) → takes op n ≡ true → nat_le dst 10 ≡ true → nat_le src 10 ≡ true → IsSoundForm (form.Arithmetic op w source.Register) (fields dst src (exactly n) (exactly 0))
-register_plain operator.Sum n w dst src h d e = record { is_of = record { form_is = arithmetic_opcode operator.Sum w source.Register refl; narrow = refl; dst = d; src = e }; fields = register_fields operator.Sum n w dst src h; registers = both (nat_le dst 10) (nat_le src 10) d e }
-register_plain operator.Difference n w dst src h d e = record { is_of = record { form_is = arithmetic_opcode operator.Difference w source.Register refl; narrow = refl; dst = d; src = e }; fields = register_fields operator.Difference n w dst src h; registers = both (nat_le dst 10) (nat_le src 10) d e }
-register_plain operator.Product n w dst src h d e = record { is_of = record { form_is = arithmetic_opcode operator.Product w source.Register refl; narrow = refl; dst = d; src = e }; fields = register_fields operator.Product n w dst src h; registers = both (nat_le dst 10) (nat_le src 10) d e }
-register_plain operator.Quotient n w dst src h d e = record { is_of = record { form_is = arithmetic_opcode operator.Quotient w source.Register refl; narrow = refl; dst = d; src = e }; fields = register_fields operator.Quotient n w dst src h; registers = both (nat_le dst 10) (nat_le src 10) d e }
-register_plain operator.Or n w dst src h d e = record { is_of = record { form_is = arithmetic_opcode operator.Or w source.Register refl; narrow = refl; dst = d; src = e }; fields = register_fields operator.Or n w dst src h; registers = both (nat_le dst 10) (nat_le src 10) d e }
-register_plain operator.And n w dst src h d e = record { is_of = record { form_is = arithmetic_opcode operator.And w source.Register refl; narrow = refl; dst = d; src = e }; fields = register_fields operator.And n w dst src h; registers = both (nat_le dst 10) (nat_le src 10) d e }
-register_plain operator.ShiftLeft n w dst src h d e = record { is_of = record { form_is = arithmetic_opcode operator.ShiftLeft w source.Register refl; narrow = refl; dst = d; src = e }; fields = register_fields operator.ShiftLeft n w dst src h; registers = both (nat_le dst 10) (nat_le src 10) d e }
-register_plain operator.ShiftRight n w dst src h d e = record { is_of = record { form_is = arithmetic_opcode operator.ShiftRight w source.Register refl; narrow = refl; dst = d; src = e }; fields = register_fields operator.ShiftRight n w dst src h; registers = both (nat_le dst 10) (nat_le src 10) d e }
+register_plain : (op : Operator) (n : ℕ) (w : Width) (dst src : ℕ) → takes op n ≡ true → nat_le dst 10 ≡ true → nat_le src 10 ≡ true
+    → IsSoundForm (form.Arithmetic op w source.Register) (fields dst src (exactly n) (exactly 0))
+register_plain operator.Sum n w dst src h d e = record {
+  is_of = record {
+    form_is = arithmetic_opcode operator.Sum w source.Register refl;
+    narrow = refl;
+    dst = d;
+    src = e;
+  };
+  fields = register_fields operator.Sum n w dst src h;
+  registers = both (nat_le dst 10) (nat_le src 10) d e;
+}
+register_plain operator.Difference n w dst src h d e = record {
+  is_of = record {
+    form_is = arithmetic_opcode operator.Difference w source.Register refl;
+    narrow = refl;
+    dst = d;
+    src = e;
+  };
+  fields = register_fields operator.Difference n w dst src h;
+  registers = both (nat_le dst 10) (nat_le src 10) d e;
+}
+register_plain operator.Product n w dst src h d e = record {
+  is_of = record {
+    form_is = arithmetic_opcode operator.Product w source.Register refl;
+    narrow = refl;
+    dst = d;
+    src = e;
+  };
+  fields = register_fields operator.Product n w dst src h;
+  registers = both (nat_le dst 10) (nat_le src 10) d e;
+}
+register_plain operator.Quotient n w dst src h d e = record {
+  is_of = record {
+    form_is = arithmetic_opcode operator.Quotient w source.Register refl;
+    narrow = refl;
+    dst = d;
+    src = e;
+  };
+  fields = register_fields operator.Quotient n w dst src h;
+  registers = both (nat_le dst 10) (nat_le src 10) d e;
+}
+register_plain operator.Or n w dst src h d e = record {
+  is_of = record {
+    form_is = arithmetic_opcode operator.Or w source.Register refl;
+    narrow = refl;
+    dst = d;
+    src = e;
+  };
+  fields = register_fields operator.Or n w dst src h;
+  registers = both (nat_le dst 10) (nat_le src 10) d e;
+}
+register_plain operator.And n w dst src h d e = record {
+  is_of = record {
+    form_is = arithmetic_opcode operator.And w source.Register refl;
+    narrow = refl;
+    dst = d;
+    src = e;
+  };
+  fields = register_fields operator.And n w dst src h;
+  registers = both (nat_le dst 10) (nat_le src 10) d e;
+}
+register_plain operator.ShiftLeft n w dst src h d e = record {
+  is_of = record {
+    form_is = arithmetic_opcode operator.ShiftLeft w source.Register refl;
+    narrow = refl;
+    dst = d;
+    src = e;
+  };
+  fields = register_fields operator.ShiftLeft n w dst src h;
+  registers = both (nat_le dst 10) (nat_le src 10) d e;
+}
+register_plain operator.ShiftRight n w dst src h d e = record {
+  is_of = record {
+    form_is = arithmetic_opcode operator.ShiftRight w source.Register refl;
+    narrow = refl;
+    dst = d;
+    src = e;
+  };
+  fields = register_fields operator.ShiftRight n w dst src h;
+  registers = both (nat_le dst 10) (nat_le src 10) d e;
+}
 register_plain operator.Negate n w dst src h d e = absurd (cc)
-register_plain operator.Remainder n w dst src h d e = record { is_of = record { form_is = arithmetic_opcode operator.Remainder w source.Register refl; narrow = refl; dst = d; src = e }; fields = register_fields operator.Remainder n w dst src h; registers = both (nat_le dst 10) (nat_le src 10) d e }
-register_plain operator.Xor n w dst src h d e = record { is_of = record { form_is = arithmetic_opcode operator.Xor w source.Register refl; narrow = refl; dst = d; src = e }; fields = register_fields operator.Xor n w dst src h; registers = both (nat_le dst 10) (nat_le src 10) d e }
-register_plain operator.Move n w dst src h d e = record { is_of = record { form_is = arithmetic_opcode operator.Move w source.Register refl; narrow = refl; dst = d; src = e }; fields = register_fields operator.Move n w dst src h; registers = both (nat_le dst 10) (nat_le src 10) d e }
-register_plain operator.ShiftSigned n w dst src h d e = record { is_of = record { form_is = arithmetic_opcode operator.ShiftSigned w source.Register refl; narrow = refl; dst = d; src = e }; fields = register_fields operator.ShiftSigned n w dst src h; registers = both (nat_le dst 10) (nat_le src 10) d e }
+register_plain operator.Remainder n w dst src h d e = record {
+  is_of = record {
+    form_is = arithmetic_opcode operator.Remainder w source.Register refl;
+    narrow = refl;
+    dst = d;
+    src = e;
+  };
+  fields = register_fields operator.Remainder n w dst src h;
+  registers = both (nat_le dst 10) (nat_le src 10) d e;
+}
+register_plain operator.Xor n w dst src h d e = record {
+  is_of = record {
+    form_is = arithmetic_opcode operator.Xor w source.Register refl;
+    narrow = refl;
+    dst = d;
+    src = e;
+  };
+  fields = register_fields operator.Xor n w dst src h;
+  registers = both (nat_le dst 10) (nat_le src 10) d e;
+}
+register_plain operator.Move n w dst src h d e = record {
+  is_of = record {
+    form_is = arithmetic_opcode operator.Move w source.Register refl;
+    narrow = refl;
+    dst = d;
+    src = e;
+  };
+  fields = register_fields operator.Move n w dst src h;
+  registers = both (nat_le dst 10) (nat_le src 10) d e;
+}
+register_plain operator.ShiftSigned n w dst src h d e = record {
+  is_of = record {
+    form_is = arithmetic_opcode operator.ShiftSigned w source.Register refl;
+    narrow = refl;
+    dst = d;
+    src = e;
+  };
+  fields = register_fields operator.ShiftSigned n w dst src h;
+  registers = both (nat_le dst 10) (nat_le src 10) d e;
+}
 register_plain operator.SwapBytes n w dst src h d e = absurd (cc)
 
-negate_plain : (w : Width) (dst : ℕ) → nat_le dst 10 ≡ true → IsSoundForm (form.Arithmetic operator.Negate w source.Immediate) (fields dst 0 (exactly 0) (exactly 0))
-negate_plain w dst d = record { is_of = record { form_is = arithmetic_opcode operator.Negate w source.Immediate refl; narrow = refl; dst = d; src = refl }; fields = refl; registers = alone (nat_le dst 10) d }
+negate_plain : (w : Width) (dst : ℕ) → nat_le dst 10 ≡ true
+    → IsSoundForm (form.Arithmetic operator.Negate w source.Immediate) (fields dst 0 (exactly 0) (exactly 0))
+negate_plain w dst d = record {
+  is_of = record { form_is = arithmetic_opcode operator.Negate w source.Immediate refl; narrow = refl; dst = d; src = refl };
+  fields = refl;
+  registers = alone (nat_le dst 10) d;
+}
 
-swap_plain : (w : Width) (s : Source) (bits dst : ℕ) → has_form operator.SwapBytes w s ≡ true → ((bits == 16) || (bits == 32) || (bits == 64)) ≡ true → nat_le dst 10 ≡ true → IsSoundForm (form.Arithmetic operator.SwapBytes w s) (fields dst 0 (exactly 0) (exactly bits))
-swap_plain w s bits dst f b d = record { is_of = record { form_is = arithmetic_opcode operator.SwapBytes w s f; narrow = refl; dst = d; src = refl }; fields = b; registers = alone (nat_le dst 10) d }
+swap_plain : (w : Width) (s : Source) (bits dst : ℕ) → has_form operator.SwapBytes w s ≡ true → ((bits == 16) || (bits == 32) || (bits == 64)) ≡ true
+    → nat_le dst 10 ≡ true → IsSoundForm (form.Arithmetic operator.SwapBytes w s) (fields dst 0 (exactly 0) (exactly bits))
+swap_plain w s bits dst f b d = record {
+  is_of = record { form_is = arithmetic_opcode operator.SwapBytes w s f; narrow = refl; dst = d; src = refl };
+  fields = b;
+  registers = alone (nat_le dst 10) d;
+}
 
-move_plain : (w : Width) (bits dst src : ℕ) → extends_from w source.Register (pos bits) ≡ true → nat_le dst 10 ≡ true → nat_le src 10 ≡ true → has_right_fields (form.Arithmetic operator.Move w source.Register) (inst_of (form.Arithmetic operator.Move w source.Register) dst src (pos bits) (pos 0)) ≡ true → IsSoundForm (form.Arithmetic operator.Move w source.Register) (fields dst src (exactly bits) (exactly 0))
-move_plain w bits dst src h d e f = record { is_of = record { form_is = arithmetic_opcode operator.Move w source.Register refl; narrow = refl; dst = d; src = e }; fields = f; registers = both (nat_le dst 10) (nat_le src 10) d e }
+move_plain : (w : Width) (bits dst src : ℕ) → extends_from w source.Register (pos bits) ≡ true → nat_le dst 10 ≡ true → nat_le src 10 ≡ true
+    → has_right_fields (form.Arithmetic operator.Move w source.Register) (inst_of (form.Arithmetic operator.Move w source.Register) dst src (pos bits) (pos 0))
+    ≡ true → IsSoundForm (form.Arithmetic operator.Move w source.Register) (fields dst src (exactly bits) (exactly 0))
+move_plain w bits dst src h d e f = record {
+  is_of = record {
+    form_is = arithmetic_opcode operator.Move w source.Register refl;
+    narrow = refl;
+    dst = d;
+    src = e;
+  };
+  fields = f;
+  registers = both (nat_le dst 10) (nat_le src 10) d e;
+}
 
 -- ---- statements
 
@@ -295,8 +541,11 @@ first_sound : (a b : Option Statement) → SoundOption a → SoundOption b → S
 first_sound None b g h = h
 first_sound (Some s) b g h = g
 
-operand_sound : (op : Operator) (n : ℕ) (w : Width) (dst : ℕ) (tokens : Tokens) → takes op n ≡ true → nat_le dst 10 ≡ true → list_all is_sound tokens ≡ true → SoundOption (operand op n w dst tokens)
-operand_sound op n w dst (Register v src ∷ []) a d t = when_sound (is_same w v) (Plain (form.Arithmetic op w source.Register) (fields dst src (exactly n) (exactly 0))) (register_plain op n w dst src a d (and_left (nat_le src 10) true t))
+operand_sound : (op : Operator) (n : ℕ) (w : Width) (dst : ℕ) (tokens : Tokens) → takes op n ≡ true → nat_le dst 10 ≡ true → list_all is_sound tokens ≡ true
+    → SoundOption (operand op n w dst tokens)
+operand_sound op n w dst (Register v src ∷ []) a d t =
+    when_sound (is_same w v) (Plain (form.Arithmetic op w source.Register) (fields dst src (exactly n) (exactly 0)))
+    (register_plain op n w dst src a d (and_left (nat_le src 10) true t))
 operand_sound op n w dst (Number k ∷ []) a d t = immediate_plain op n w dst (plus k) a d
 operand_sound op n w dst (Minus ∷ Number k ∷ []) a d t = immediate_plain op n w dst (minus k) a d
 operand_sound op n w dst tokens a d t = tt
@@ -306,12 +555,19 @@ SoundPlace None = ⊤
 SoundPlace (Some (base, offset, rest)) = (nat_le base 10 ≡ true) × (list_all is_sound rest ≡ true)
 
 based_sound : (tokens : Tokens) → list_all is_sound tokens ≡ true → SoundPlace (based tokens)
-based_sound (Open ∷ Register Full base ∷ Plus ∷ Number n ∷ Close ∷ rest) t = (and_left (nat_le base 10) (list_all is_sound rest) t, and_right (nat_le base 10) (list_all is_sound rest) t)
-based_sound (Open ∷ Register Full base ∷ Minus ∷ Number n ∷ Close ∷ rest) t = (and_left (nat_le base 10) (list_all is_sound rest) t, and_right (nat_le base 10) (list_all is_sound rest) t)
+based_sound (Open ∷ Register Full base ∷ Plus ∷ Number n ∷ Close ∷ rest) t =
+    (and_left (nat_le base 10) (list_all is_sound rest) t, and_right (nat_le base 10) (list_all is_sound rest) t)
+based_sound (Open ∷ Register Full base ∷ Minus ∷ Number n ∷ Close ∷ rest) t =
+    (and_left (nat_le base 10) (list_all is_sound rest) t, and_right (nat_le base 10) (list_all is_sound rest) t)
 based_sound tokens t = tt
 
-load_plain : (size : Size) (dst base : ℕ) (offset : Value) → nat_le dst 10 ≡ true → nat_le base 10 ≡ true → IsSoundForm (form.Load size) (fields dst base offset (exactly 0))
-load_plain size dst base offset d b = record { is_of = record { form_is = load_opcode size; narrow = refl; dst = d; src = b }; fields = refl; registers = both (nat_le dst 10) (nat_le base 10) d b }
+load_plain : (size : Size) (dst base : ℕ) (offset : Value) → nat_le dst 10 ≡ true → nat_le base 10 ≡ true
+    → IsSoundForm (form.Load size) (fields dst base offset (exactly 0))
+load_plain size dst base offset d b = record {
+  is_of = record { form_is = load_opcode size; narrow = refl; dst = d; src = b };
+  fields = refl;
+  registers = both (nat_le dst 10) (nat_le base 10) d b;
+}
 
 signed_opcode : (size : Size) → not_double size ≡ true → form_of (opcode_of (form.LoadSigned size)) ≡ Some (form.LoadSigned size)
 signed_opcode Byte h = refl
@@ -319,10 +575,16 @@ signed_opcode Half h = refl
 signed_opcode Word h = refl
 signed_opcode Double h = absurd (cc)
 
-signed_plain : (size : Size) (dst base : ℕ) (offset : Value) → not_double size ≡ true → nat_le dst 10 ≡ true → nat_le base 10 ≡ true → IsSoundForm (form.LoadSigned size) (fields dst base offset (exactly 0))
-signed_plain size dst base offset h d b = record { is_of = record { form_is = signed_opcode size h; narrow = refl; dst = d; src = b }; fields = refl; registers = both (nat_le dst 10) (nat_le base 10) d b }
+signed_plain : (size : Size) (dst base : ℕ) (offset : Value) → not_double size ≡ true → nat_le dst 10 ≡ true → nat_le base 10 ≡ true
+    → IsSoundForm (form.LoadSigned size) (fields dst base offset (exactly 0))
+signed_plain size dst base offset h d b = record {
+  is_of = record { form_is = signed_opcode size h; narrow = refl; dst = d; src = b };
+  fields = refl;
+  registers = both (nat_le dst 10) (nat_le base 10) d b;
+}
 
-load_by : (dst : ℕ) (size : Token) (place : Option (ℕ × Value × Tokens)) → nat_le dst 10 ≡ true → is_sound size ≡ true → SoundPlace place → SoundOption (load_with dst (load_form size) place)
+load_by : (dst : ℕ) (size : Token) (place : Option (ℕ × Value × Tokens)) → nat_le dst 10 ≡ true → is_sound size ≡ true → SoundPlace place
+    → SoundOption (load_with dst (load_form size) place)
 load_by dst (Unsigned size) (Some (base, offset, [])) d h p = load_plain size dst base offset d p.0
 load_by dst (Unsigned size) (Some (base, offset, token ∷ rest)) d h p = tt
 load_by dst (Unsigned size) None d h p = tt
@@ -332,7 +594,8 @@ load_by dst (Signed size) None d h p = tt
 load_by dst token place d h p = tt
 
 load_sound : (dst : ℕ) (tokens : Tokens) → nat_le dst 10 ≡ true → list_all is_sound tokens ≡ true → SoundOption (load_of dst (sized tokens))
-load_sound dst (Open ∷ size ∷ Star ∷ Close ∷ rest) d t = load_by dst size (based rest) d (and_left (is_sound size) (list_all is_sound rest) t) (based_sound rest (and_right (is_sound size) (list_all is_sound rest) t))
+load_sound dst (Open ∷ size ∷ Star ∷ Close ∷ rest) d t = load_by dst size (based rest) d (and_left (is_sound size) (list_all is_sound rest) t)
+    (based_sound rest (and_right (is_sound size) (list_all is_sound rest) t))
 load_sound dst tokens d t = tt
 
 extend_sound : (w : Width) (dst src : ℕ) (size : Size) → nat_le dst 10 ≡ true → nat_le src 10 ≡ true → SoundOption (extend w dst src (extension w size))
@@ -345,27 +608,41 @@ extend_sound Narrow dst src Word d e = tt
 extend_sound Narrow dst src Double d e = tt
 extend_sound Full dst src Double d e = tt
 
-only_assigned_sound : (w : Width) (dst : ℕ) (tokens : Tokens) → nat_le dst 10 ≡ true → list_all is_sound tokens ≡ true → SoundOption (only_assigned w dst tokens)
-only_assigned_sound w dst (Minus ∷ Register v src ∷ []) d t = when_sound (is_same w v && (dst == src)) (plain (form.Arithmetic operator.Negate w source.Immediate) dst 0 (exactly 0) (exactly 0)) (negate_plain w dst d)
-only_assigned_sound w dst (Open ∷ Signed size ∷ Close ∷ Register v src ∷ []) d t = guarded_sound (is_same w v) (extend w dst src (extension w size)) (extend_sound w dst src size d (and_left (nat_le src 10) true (and_right (not_double size) (nat_le src 10 && true) t)))
+only_assigned_sound : (w : Width) (dst : ℕ) (tokens : Tokens) → nat_le dst 10 ≡ true → list_all is_sound tokens ≡ true
+    → SoundOption (only_assigned w dst tokens)
+only_assigned_sound w dst (Minus ∷ Register v src ∷ []) d t =
+    when_sound (is_same w v && (dst == src)) (plain (form.Arithmetic operator.Negate w source.Immediate) dst 0 (exactly 0) (exactly 0)) (negate_plain w dst d)
+only_assigned_sound w dst (Open ∷ Signed size ∷ Close ∷ Register v src ∷ []) d t = guarded_sound (is_same w v) (extend w dst src (extension w size))
+    (extend_sound w dst src size d (and_left (nat_le src 10) true (and_right (not_double size) (nat_le src 10 && true) t)))
 only_assigned_sound w dst (Swap v s bits ∷ Register Full src ∷ []) d t =
     let h = and_left (has_form operator.SwapBytes v s && ((bits == 16) || (bits == 32) || (bits == 64))) (nat_le src 10 && true) t in
-    when_sound (is_full w && (dst == src)) (swap v s bits dst) (swap_plain v s bits dst (and_left (has_form operator.SwapBytes v s) ((bits == 16) || (bits == 32) || (bits == 64)) h) (and_right (has_form operator.SwapBytes v s) ((bits == 16) || (bits == 32) || (bits == 64)) h) d)
+    when_sound (is_full w && (dst == src)) (swap v s bits dst)
+    (swap_plain v s bits dst (and_left (has_form operator.SwapBytes v s) ((bits == 16) || (bits == 32) || (bits == 64)) h)
+    (and_right (has_form operator.SwapBytes v s) ((bits == 16) || (bits == 32) || (bits == 64)) h) d)
 only_assigned_sound w dst (Number n ∷ Long ∷ []) d t = when_sound (is_full w) (Wide dst n) d
 only_assigned_sound w dst (Star ∷ rest) d t = guarded_sound (is_full w) (load_of dst (sized rest)) (load_sound dst rest d t)
 only_assigned_sound w dst tokens d t = tt
 
 assigned_sound : (w : Width) (dst : ℕ) (tokens : Tokens) → nat_le dst 10 ≡ true → list_all is_sound tokens ≡ true → SoundOption (assigned w dst tokens)
-assigned_sound w dst tokens d t = first_sound (only_assigned w dst tokens) (operand operator.Move 0 w dst tokens) (only_assigned_sound w dst tokens d t) (operand_sound operator.Move 0 w dst tokens refl d t)
+assigned_sound w dst tokens d t = first_sound (only_assigned w dst tokens) (operand operator.Move 0 w dst tokens) (only_assigned_sound w dst tokens d t)
+    (operand_sound operator.Move 0 w dst tokens refl d t)
 
 number_store_plain : (size : Size) (base : ℕ) (offset v : Value) → nat_le base 10 ≡ true → IsSoundForm (form.StoreImmediate size) (fields base 0 offset v)
-number_store_plain size base offset v b = record { is_of = record { form_is = number_store_opcode size; narrow = refl; dst = b; src = refl }; fields = refl; registers = alone (nat_le base 10) b }
+number_store_plain size base offset v b =
+    record { is_of = record { form_is = number_store_opcode size; narrow = refl; dst = b; src = refl }; fields = refl; registers = alone (nat_le base 10) b }
 
-register_store_plain : (size : Size) (base src : ℕ) (offset : Value) → nat_le base 10 ≡ true → nat_le src 10 ≡ true → IsSoundForm (form.StoreRegister size) (fields base src offset (exactly 0))
-register_store_plain size base src offset b e = record { is_of = record { form_is = register_store_opcode size; narrow = refl; dst = b; src = e }; fields = refl; registers = both (nat_le base 10) (nat_le src 10) b e }
+register_store_plain : (size : Size) (base src : ℕ) (offset : Value) → nat_le base 10 ≡ true → nat_le src 10 ≡ true
+    → IsSoundForm (form.StoreRegister size) (fields base src offset (exactly 0))
+register_store_plain size base src offset b e = record {
+  is_of = record { form_is = register_store_opcode size; narrow = refl; dst = b; src = e };
+  fields = refl;
+  registers = both (nat_le base 10) (nat_le src 10) b e;
+}
 
-stored_sound : (size : Size) (base : ℕ) (offset : Value) (tokens : Tokens) → nat_le base 10 ≡ true → list_all is_sound tokens ≡ true → SoundOption (stored size base offset tokens)
-stored_sound size base offset (Assign operator.Move o ∷ Register Full src ∷ []) b t = register_store_plain size base src offset b (and_left (nat_le src 10) true (and_right (o == 0) (nat_le src 10 && true) t))
+stored_sound : (size : Size) (base : ℕ) (offset : Value) (tokens : Tokens) → nat_le base 10 ≡ true → list_all is_sound tokens ≡ true
+    → SoundOption (stored size base offset tokens)
+stored_sound size base offset (Assign operator.Move o ∷ Register Full src ∷ []) b t =
+    register_store_plain size base src offset b (and_left (nat_le src 10) true (and_right (o == 0) (nat_le src 10 && true) t))
 stored_sound size base offset (Assign operator.Move o ∷ Number n ∷ []) b t = number_store_plain size base offset (plus n) b
 stored_sound size base offset (Assign operator.Move o ∷ Minus ∷ Number n ∷ []) b t = number_store_plain size base offset (minus n) b
 stored_sound size base offset tokens b t = tt
@@ -389,16 +666,33 @@ goto_jump = record { is_of = record { form_is = refl; narrow = refl; dst = refl;
 long_jump : IsJump form.GotoLong no_fields
 long_jump = record { is_of = record { form_is = refl; narrow = refl; dst = refl; src = refl }; fields = λ z. refl; registers = λ z. refl; opcode = λ z. refl }
 
-register_jump : (c : Condition) (w : Width) (dst src : ℕ) → nat_le dst 10 ≡ true → nat_le src 10 ≡ true → IsJump (form.Branch c w source.Register) (fields dst src (exactly 0) (exactly 0))
-register_jump c w dst src d e = record { is_of = record { form_is = branch_opcode c w source.Register; narrow = refl; dst = d; src = e }; fields = λ z. refl; registers = λ z. both (nat_le dst 10) (nat_le src 10) d e; opcode = λ z. refl }
+register_jump : (c : Condition) (w : Width) (dst src : ℕ) → nat_le dst 10 ≡ true → nat_le src 10 ≡ true
+    → IsJump (form.Branch c w source.Register) (fields dst src (exactly 0) (exactly 0))
+register_jump c w dst src d e = record {
+  is_of = record { form_is = branch_opcode c w source.Register; narrow = refl; dst = d; src = e };
+  fields = λ z. refl;
+  registers = λ z. both (nat_le dst 10) (nat_le src 10) d e;
+  opcode = λ z. refl;
+}
 
 number_jump : (c : Condition) (w : Width) (dst : ℕ) (v : Value) → nat_le dst 10 ≡ true → IsJump (form.Branch c w source.Immediate) (fields dst 0 (exactly 0) v)
-number_jump c w dst v d = record { is_of = record { form_is = branch_opcode c w source.Immediate; narrow = refl; dst = d; src = refl }; fields = λ z. refl; registers = λ z. alone (nat_le dst 10) d; opcode = λ z. refl }
+number_jump c w dst v d = record {
+  is_of = record { form_is = branch_opcode c w source.Immediate; narrow = refl; dst = d; src = refl };
+  fields = λ z. refl;
+  registers = λ z. alone (nat_le dst 10) d;
+  opcode = λ z. refl;
+}
 
-branch_sound : (c : Condition) (w : Width) (dst : ℕ) (tokens : Tokens) → nat_le dst 10 ≡ true → list_all is_sound tokens ≡ true → SoundOption (branch c w dst tokens)
-branch_sound c w dst (Register v src ∷ Goto ∷ rest) d t = guarded_sound (is_same w v) (jump_to (form.Branch c w source.Register) (fields dst src (exactly 0) (exactly 0)) (target rest)) (jump_sound (form.Branch c w source.Register) (fields dst src (exactly 0) (exactly 0)) (target rest) (register_jump c w dst src d (and_left (nat_le src 10) (list_all is_sound rest) t)))
-branch_sound c w dst (Number n ∷ Goto ∷ rest) d t = jump_sound (form.Branch c w source.Immediate) (fields dst 0 (exactly 0) (plus n)) (target rest) (number_jump c w dst (plus n) d)
-branch_sound c w dst (Minus ∷ Number n ∷ Goto ∷ rest) d t = jump_sound (form.Branch c w source.Immediate) (fields dst 0 (exactly 0) (minus n)) (target rest) (number_jump c w dst (minus n) d)
+branch_sound : (c : Condition) (w : Width) (dst : ℕ) (tokens : Tokens) → nat_le dst 10 ≡ true → list_all is_sound tokens ≡ true
+    → SoundOption (branch c w dst tokens)
+branch_sound c w dst (Register v src ∷ Goto ∷ rest) d t =
+    guarded_sound (is_same w v) (jump_to (form.Branch c w source.Register) (fields dst src (exactly 0) (exactly 0)) (target rest))
+    (jump_sound (form.Branch c w source.Register) (fields dst src (exactly 0) (exactly 0)) (target rest)
+    (register_jump c w dst src d (and_left (nat_le src 10) (list_all is_sound rest) t)))
+branch_sound c w dst (Number n ∷ Goto ∷ rest) d t =
+    jump_sound (form.Branch c w source.Immediate) (fields dst 0 (exactly 0) (plus n)) (target rest) (number_jump c w dst (plus n) d)
+branch_sound c w dst (Minus ∷ Number n ∷ Goto ∷ rest) d t =
+    jump_sound (form.Branch c w source.Immediate) (fields dst 0 (exactly 0) (minus n)) (target rest) (number_jump c w dst (minus n) d)
 branch_sound c w dst tokens d t = tt
 
 call_plain : (v : Value) → IsSoundForm form.Call (fields 0 0 (exactly 0) v)
@@ -408,14 +702,18 @@ exit_plain : IsSoundForm form.Exit (fields 0 0 (exactly 0) (exactly 0))
 exit_plain = record { is_of = record { form_is = refl; narrow = refl; dst = refl; src = refl }; fields = refl; registers = refl }
 
 statement_sound : (tokens : Tokens) → list_all is_sound tokens ≡ true → SoundOption (statement tokens)
-statement_sound (Register w dst ∷ Assign operator.Move offset ∷ rest) t = assigned_sound w dst rest (and_left (nat_le dst 10) ((offset == 0) && list_all is_sound rest) t) (and_right (offset == 0) (list_all is_sound rest) (and_right (nat_le dst 10) ((offset == 0) && list_all is_sound rest) t))
+statement_sound (Register w dst ∷ Assign operator.Move offset ∷ rest) t =
+    assigned_sound w dst rest (and_left (nat_le dst 10) ((offset == 0) && list_all is_sound rest) t)
+    (and_right (offset == 0) (list_all is_sound rest) (and_right (nat_le dst 10) ((offset == 0) && list_all is_sound rest) t))
 statement_sound (Register w dst ∷ Assign op offset ∷ rest) t =
     let more = and_right (nat_le dst 10) (takes op offset && list_all is_sound rest) t in
-    operand_sound op offset w dst rest (and_left (takes op offset) (list_all is_sound rest) more) (and_left (nat_le dst 10) (takes op offset && list_all is_sound rest) t) (and_right (takes op offset) (list_all is_sound rest) more)
+    operand_sound op offset w dst rest (and_left (takes op offset) (list_all is_sound rest) more)
+    (and_left (nat_le dst 10) (takes op offset && list_all is_sound rest) t) (and_right (takes op offset) (list_all is_sound rest) more)
 statement_sound (Star ∷ rest) t = store_sound rest t
 statement_sound (Goto ∷ rest) t = jump_sound form.Goto no_fields (target rest) goto_jump
 statement_sound (GotoLong ∷ rest) t = jump_sound form.GotoLong no_fields (target rest) long_jump
-statement_sound (If ∷ Register w dst ∷ Compare c ∷ rest) t = branch_sound c w dst rest (and_left (nat_le dst 10) (list_all is_sound rest) t) (and_right (nat_le dst 10) (list_all is_sound rest) t)
+statement_sound (If ∷ Register w dst ∷ Compare c ∷ rest) t =
+    branch_sound c w dst rest (and_left (nat_le dst 10) (list_all is_sound rest) t) (and_right (nat_le dst 10) (list_all is_sound rest) t)
 statement_sound (Call ∷ Number n ∷ []) t = call_plain (plus n)
 statement_sound (Call ∷ Minus ∷ Number n ∷ []) t = call_plain (minus n)
 statement_sound (Exit ∷ []) t = exit_plain
@@ -444,7 +742,8 @@ cond_sound : (b : Bool) (x y : Token) → is_sound x ≡ true → is_sound y ≡
 cond_sound true x y g h = g
 cond_sound false x y g h = h
 
-lookup_sound : (table : Table) (text : Text) (other : Token) → list_all (λ (e : Text × Token). is_sound e.1) table ≡ true → is_sound other ≡ true → is_sound (lookup table text other) ≡ true
+lookup_sound : (table : Table) (text : Text) (other : Token) → list_all (λ (e : Text × Token). is_sound e.1) table ≡ true → is_sound other ≡ true
+    → is_sound (lookup table text other) ≡ true
 lookup_sound [] text other all h = h
 lookup_sound (e ∷ table) text other all h =
     cond_sound (bytes_eq e.0 text) e.1 (lookup table text other) (and_left (is_sound e.1) (list_all (λ (e : Text × Token). is_sound e.1) table) all)
@@ -476,7 +775,9 @@ register_sound text =
     (cond_sound (slice_index text 0 == 119) (numbered Narrow text) Name (numbered_sound Narrow text) refl)
 
 kind_sound : (text : Text) → is_sound (kind_of text) ≡ true
-kind_sound text = cond_sound (is_ascii_digit (slice_index text 0)) (Number (small (number_value text))) (lookup symbols text (lookup words text (register_or_name text))) refl (lookup_sound symbols text (lookup words text (register_or_name text)) symbols_sound (lookup_sound words text (register_or_name text) words_sound (register_sound text)))
+kind_sound text = cond_sound (is_ascii_digit (slice_index text 0)) (Number (small (number_value text)))
+    (lookup symbols text (lookup words text (register_or_name text))) refl (lookup_sound symbols text (lookup words text (register_or_name text)) symbols_sound
+    (lookup_sound words text (register_or_name text) words_sound (register_sound text)))
 
 kinds_sound : (texts : List Text) → list_all is_sound (map kind_of texts) ≡ true
 kinds_sound [] = refl

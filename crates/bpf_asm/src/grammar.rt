@@ -257,7 +257,8 @@ fn swap(width: Width, source: Source, bits: u64, dst: u8) -> Statement
 }
 
 fn negation(width: Width, dst: u8) -> Statement
-    ensures { result ≡ spec.plain (Form.Arithmetic Operator.Negate width Source.Immediate) dst 0 (spec.exactly 0) (spec.exactly 0) }
+    ensures { result ≡ spec.plain (Form.Arithmetic Operator.Negate width Source.Immediate) dst 0
+        (spec.exactly 0) (spec.exactly 0) }
 {
     plain(
         Form::Arithmetic(Operator::Negate, width, Source::Immediate),

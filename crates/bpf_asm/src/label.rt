@@ -41,7 +41,8 @@ fn define<'a>(
     name: &'a [u8],
     at: u64,
 ) -> Result<(), AllocError>
-    ensures { OnOk result ((more : List spec.Definition) → map (λ d. spec.definition d.0.now d.1) labels.new.items ++ more ≡ map (λ d. spec.definition d.0.now d.1) labels.old.items ++ spec.defining says name.now at more) }
+    ensures { OnOk result ((more : List spec.Definition) → map (λ d. spec.definition d.0.now d.1) labels.new.items
+        ++ more ≡ map (λ d. spec.definition d.0.now d.1) labels.old.items ++ spec.defining says name.now at more) }
 {
     match says {
         Line::Label => Ok(labels.push((name, at))?),
@@ -55,7 +56,9 @@ pub fn labels_of<'a>(
     alloc: Global,
     rows: &[(Line, &'a [u8])],
 ) -> Result<Vec<(&'a [u8], u64)>, AllocError>
-    ensures { IfOk result (λ v. map (λ d. spec.definition d.0.now d.1) v.items ≡ spec.labels_from 0 (map (λ p. spec.row p.0 p.1.now) rows.now)) }
+    ensures { IfOk result
+        (λ v. map (λ d. spec.definition d.0.now d.1) v.items
+        ≡ spec.labels_from 0 (map (λ p. spec.row p.0 p.1.now) rows.now)) }
 {
     let mut labels = Vec::new(alloc);
     let mut rest = rows;
@@ -101,7 +104,8 @@ fn goes_to_label(statement: Statement) -> bool
 
 // The row defines a label again, or names one that no row defines.
 fn is_wrong(labels: &[(&[u8], u64)], seen: &[&[u8]], says: Line, name: &[u8]) -> bool
-    ensures { result ≡ spec.is_wrong (map (λ d. spec.definition d.0.now d.1) labels.now) (map (λ t. t.now) seen.now) says name.now }
+    ensures { result ≡ spec.is_wrong (map (λ d. spec.definition d.0.now d.1) labels.now)
+        (map (λ t. t.now) seen.now) says name.now }
 {
     match says {
         Line::Empty => false,
@@ -111,7 +115,8 @@ fn is_wrong(labels: &[(&[u8], u64)], seen: &[&[u8]], says: Line, name: &[u8]) ->
 }
 
 fn note<'a>(seen: &mut Vec<&'a [u8]>, says: Line, name: &'a [u8]) -> Result<(), AllocError>
-    ensures { OnOk result (map (λ t. t.now) seen.new.items ≡ spec.with_name says name.now (map (λ t. t.now) seen.old.items)) }
+    ensures { OnOk result (map (λ t. t.now) seen.new.items
+        ≡ spec.with_name says name.now (map (λ t. t.now) seen.old.items)) }
 {
     match says {
         Line::Label => Ok(seen.push(name)?),
@@ -126,7 +131,9 @@ pub fn label_fault(
     labels: &[(&[u8], u64)],
     rows: &[(Line, &[u8])],
 ) -> Result<Option<AsmFault>, AllocError>
-    ensures { IfOk result (λ fault. fault ≡ spec.label_fault (map (λ d. spec.definition d.0.now d.1) labels.now) 1 [] (map (λ p. spec.row p.0 p.1.now) rows.now)) }
+    ensures { IfOk result
+        (λ fault. fault ≡ spec.label_fault (map (λ d. spec.definition d.0.now d.1) labels.now) 1 []
+        (map (λ p. spec.row p.0 p.1.now) rows.now)) }
 {
     let mut seen = Vec::new(alloc);
     let mut rest = rows;

@@ -1,7 +1,8 @@
 // Programs as assembler text, and back.
 #![tactic(auto)]
 
-ghost use Rattle.std.specs.Prelude.{◌≡◌, ◌++◌, IfOk, IfErr, OnOk, map, None, ◌&&◌, nat_le, string_bytes, option_map, codes};
+ghost use Rattle.std.specs.Prelude.{◌≡◌, ◌++◌, IfOk, IfErr, OnOk, map, None, ◌&&◌, nat_le, string_bytes, option_map};
+ghost use Rattle.std.specs.Prelude.{codes};
 ghost use Rattle.std.specs.Fmt.{decimal};
 ghost use Rattle.bpf_model.specs.Reading.{form_of};
 ghost use Rattle.bpf_asm.specs.Numbered.{line_of_unit, numbered_from};
@@ -104,7 +105,8 @@ pub fn disassemble_numbered(alloc: Global, code: &Code) -> Result<String, AllocE
 
 /// Adds the line of an instruction, with the number of its unit.
 fn write_numbered(out: &mut String, number: u64, inst: Inst, high: i32) -> Result<(), AllocError>
-    ensures { OnOk result (string_bytes out.new ≡ string_bytes out.old ++ decimal number ++ codes ": " ++ instruction_text (form_of inst.opcode) inst high) }
+    ensures { OnOk result (string_bytes out.new ≡ string_bytes out.old ++ decimal number ++ codes ": "
+        ++ instruction_text (form_of inst.opcode) inst high) }
 {
     write!(out, "{number}: ")?;
     text::write_instruction(out, inst, high)
@@ -122,7 +124,8 @@ fn assemble_rows(alloc: Global, rows: &[(Line, &[u8])]) -> Result<Code, AsmFault
     requires sound { AreSound (map (λ p. spec.row p.0 p.1.now) rows.now) }
     ensures ok { IfOk result (λ code. code ≡ spec.spelled (map (λ p. spec.row p.0 p.1.now) rows.now)) }
     ensures none { IfOk result (λ code. spec.rows_fault (map (λ p. spec.row p.0 p.1.now) rows.now) ≡ None) }
-    ensures refused { IfErr result (λ fault. spec.IsFault (spec.rows_fault (map (λ p. spec.row p.0 p.1.now) rows.now)) fault) }
+    ensures refused { IfErr result
+        (λ fault. spec.IsFault (spec.rows_fault (map (λ p. spec.row p.0 p.1.now) rows.now)) fault) }
 {
     let count = label::units_in(rows);
     if !is_length(count) {

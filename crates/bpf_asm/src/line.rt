@@ -1,6 +1,7 @@
 // What a line of text says.
 
-ghost use Rattle.std.specs.Prelude.{◌≡◌, ◌^◌, ◌≤◌, ◌<◌, ◌+◌, length, drop, map, take, option_map, IfOk, IfErr, Some, None, nat_lt};
+ghost use Rattle.std.specs.Prelude.{◌≡◌, ◌^◌, ◌≤◌, ◌<◌, ◌+◌, length, drop, map, take, option_map, IfOk, IfErr, Some};
+ghost use Rattle.std.specs.Prelude.{None, nat_lt};
 ghost use Rattle.std.specs.List.{list_all};
 ghost use Rattle.bpf_asm.specs.Program as spec;
 ghost use Rattle.bpf_asm.specs.Lex.{split};
@@ -169,9 +170,11 @@ fn row_at<'a>(alloc: Global, number: u64, line: &'a [u8]) -> Result<(Line, &'a [
 
 /// What each line says, or the first line at fault.
 pub fn rows_of<'a>(alloc: Global, lines: &[&'a [u8]]) -> Result<Vec<(Line, &'a [u8])>, AsmFault>
-    ensures ok { IfOk result (λ v. map (λ p. spec.row p.0 p.1.now) v.items ≡ spec.rows_of (map (λ t. t.now) lines.now)) }
+    ensures ok { IfOk result
+        (λ v. map (λ p. spec.row p.0 p.1.now) v.items ≡ spec.rows_of (map (λ t. t.now) lines.now)) }
     ensures none { IfOk result (λ v. spec.first_line_fault 1 (map (λ t. t.now) lines.now) ≡ None) }
-    ensures refused { IfErr result (λ fault. spec.IsFault (spec.first_line_fault 1 (map (λ t. t.now) lines.now)) fault) }
+    ensures refused { IfErr result
+        (λ fault. spec.IsFault (spec.first_line_fault 1 (map (λ t. t.now) lines.now)) fault) }
 {
     let mut rows = Vec::new(alloc);
     let mut rest = lines;

@@ -1,9 +1,12 @@
 // The text of one instruction.
 
-ghost use Rattle.std.specs.Prelude.{◌≡◌, ◌++◌, ◌+◌, ◌*◌, ◌^◌, ◌≤◌, ◌↔◌, IsTrue, [], ◌∷◌, pos, Some, OnOk, string_bytes, codes};
+ghost use Rattle.std.specs.Prelude.{◌≡◌, ◌++◌, ◌+◌, ◌*◌, ◌^◌, ◌≤◌, ◌↔◌, IsTrue, [], ◌∷◌, pos, Some, OnOk, string_bytes};
+ghost use Rattle.std.specs.Prelude.{codes};
 ghost use Rattle.std.specs.Int.{cast_unsigned, w32};
 ghost use Rattle.std.specs.Fmt.{decimal, signed_decimal};
-ghost use Rattle.bpf_asm.specs.Text.{line_text, pieces, register_text, operator_text, condition_text, size_text, signed_size_text, extension_text, swap_text, instruction_text, distance, number, shift, left_width, right_pieces, upper, HasSecondOperand};
+ghost use Rattle.bpf_asm.specs.Text.{line_text, pieces, register_text, operator_text, condition_text, size_text};
+ghost use Rattle.bpf_asm.specs.Text.{signed_size_text, extension_text, swap_text, instruction_text, distance, number};
+ghost use Rattle.bpf_asm.specs.Text.{shift, left_width, right_pieces, upper, HasSecondOperand};
 ghost use Rattle.bpf_model.specs.Reading.{form_of};
 
 use bpf_model::instruction::{Condition, Form, Inst, Operator, Size, Source, Width};
@@ -130,7 +133,8 @@ impl fmt::Display for Distance {
 
 // The operators that have a form of their own: one register's, and the sign extension.
 fn write_swap(out: &mut String, width: Width, source: Source, inst: Inst) -> Result<(), AllocError>
-    ensures { OnOk result (string_bytes out.new ≡ string_bytes out.old ++ line_text (pieces (Form.Arithmetic Operator.SwapBytes width source) inst (pos 0))) }
+    ensures { OnOk result (string_bytes out.new ≡ string_bytes out.old
+        ++ line_text (pieces (Form.Arithmetic Operator.SwapBytes width source) inst (pos 0))) }
 {
     let order = match (width, source) {
         (Width::Narrow, Source::Immediate) => "le",
@@ -148,7 +152,8 @@ fn write_negation(
     source: Source,
     inst: Inst,
 ) -> Result<(), AllocError>
-    ensures { OnOk result (string_bytes out.new ≡ string_bytes out.old ++ line_text (pieces (Form.Arithmetic Operator.Negate width source) inst (pos 0))) }
+    ensures { OnOk result (string_bytes out.new ≡ string_bytes out.old
+        ++ line_text (pieces (Form.Arithmetic Operator.Negate width source) inst (pos 0))) }
 {
     let dst = Name(width, inst.dst);
     write!(out, "{dst} = -{dst}\n")
@@ -165,7 +170,8 @@ fn name_of_extension(offset: i16) -> &'static str
 }
 
 fn write_move(out: &mut String, width: Width, source: Source, inst: Inst) -> Result<(), AllocError>
-    ensures { OnOk result (string_bytes out.new ≡ string_bytes out.old ++ line_text (pieces (Form.Arithmetic Operator.Move width source) inst (pos 0))) }
+    ensures { OnOk result (string_bytes out.new ≡ string_bytes out.old
+        ++ line_text (pieces (Form.Arithmetic Operator.Move width source) inst (pos 0))) }
 {
     let dst = Name(width, inst.dst);
     let src = Name(width, inst.src);
@@ -203,7 +209,8 @@ fn write_plain(
     inst: Inst,
 ) -> Result<(), AllocError>
     requires { HasSecondOperand operator }
-    ensures { OnOk result (string_bytes out.new ≡ string_bytes out.old ++ line_text (pieces (Form.Arithmetic operator width source) inst (pos 0))) }
+    ensures { OnOk result (string_bytes out.new ≡ string_bytes out.old
+        ++ line_text (pieces (Form.Arithmetic operator width source) inst (pos 0))) }
 {
     let dst = Name(width, inst.dst);
     let symbol = symbol_of_operator(operator, inst.offset);
@@ -226,7 +233,8 @@ fn write_arithmetic(
     source: Source,
     inst: Inst,
 ) -> Result<(), AllocError>
-    ensures { OnOk result (string_bytes out.new ≡ string_bytes out.old ++ line_text (pieces (Form.Arithmetic operator width source) inst (pos 0))) }
+    ensures { OnOk result (string_bytes out.new ≡ string_bytes out.old
+        ++ line_text (pieces (Form.Arithmetic operator width source) inst (pos 0))) }
 {
     match operator {
         Operator::Negate => write_negation(out, width, source, inst),
@@ -246,7 +254,8 @@ fn write_wide(out: &mut String, inst: Inst, high: i32) -> Result<(), AllocError>
 }
 
 fn write_load(out: &mut String, size: Size, inst: Inst) -> Result<(), AllocError>
-    ensures { OnOk result (string_bytes out.new ≡ string_bytes out.old ++ line_text (pieces (Form.Load size) inst (pos 0))) }
+    ensures { OnOk result (string_bytes out.new ≡ string_bytes out.old
+        ++ line_text (pieces (Form.Load size) inst (pos 0))) }
 {
     let dst = Name(Width::Full, inst.dst);
     let src = Name(Width::Full, inst.src);
@@ -256,7 +265,8 @@ fn write_load(out: &mut String, size: Size, inst: Inst) -> Result<(), AllocError
 }
 
 fn write_signed_load(out: &mut String, size: Size, inst: Inst) -> Result<(), AllocError>
-    ensures { OnOk result (string_bytes out.new ≡ string_bytes out.old ++ line_text (pieces (Form.LoadSigned size) inst (pos 0))) }
+    ensures { OnOk result (string_bytes out.new ≡ string_bytes out.old
+        ++ line_text (pieces (Form.LoadSigned size) inst (pos 0))) }
 {
     let dst = Name(Width::Full, inst.dst);
     let src = Name(Width::Full, inst.src);
@@ -266,7 +276,8 @@ fn write_signed_load(out: &mut String, size: Size, inst: Inst) -> Result<(), All
 }
 
 fn write_number_store(out: &mut String, size: Size, inst: Inst) -> Result<(), AllocError>
-    ensures { OnOk result (string_bytes out.new ≡ string_bytes out.old ++ line_text (pieces (Form.StoreImmediate size) inst (pos 0))) }
+    ensures { OnOk result (string_bytes out.new ≡ string_bytes out.old
+        ++ line_text (pieces (Form.StoreImmediate size) inst (pos 0))) }
 {
     let dst = Name(Width::Full, inst.dst);
     let name = name_of_size(size);
@@ -276,7 +287,8 @@ fn write_number_store(out: &mut String, size: Size, inst: Inst) -> Result<(), Al
 }
 
 fn write_register_store(out: &mut String, size: Size, inst: Inst) -> Result<(), AllocError>
-    ensures { OnOk result (string_bytes out.new ≡ string_bytes out.old ++ line_text (pieces (Form.StoreRegister size) inst (pos 0))) }
+    ensures { OnOk result (string_bytes out.new ≡ string_bytes out.old
+        ++ line_text (pieces (Form.StoreRegister size) inst (pos 0))) }
 {
     let dst = Name(Width::Full, inst.dst);
     let src = Name(Width::Full, inst.src);
@@ -292,7 +304,8 @@ fn write_branch(
     source: Source,
     inst: Inst,
 ) -> Result<(), AllocError>
-    ensures { OnOk result (string_bytes out.new ≡ string_bytes out.old ++ line_text (pieces (Form.Branch condition width source) inst (pos 0))) }
+    ensures { OnOk result (string_bytes out.new ≡ string_bytes out.old
+        ++ line_text (pieces (Form.Branch condition width source) inst (pos 0))) }
 {
     let dst = Name(width, inst.dst);
     let symbol = symbol_of_condition(condition);
@@ -332,7 +345,8 @@ fn write_call(out: &mut String, inst: Inst) -> Result<(), AllocError>
 
 /// Adds the line of an instruction.
 pub fn write_instruction(out: &mut String, inst: Inst, high: i32) -> Result<(), AllocError>
-    ensures { OnOk result (string_bytes out.new ≡ string_bytes out.old ++ instruction_text (form_of inst.opcode) inst high) }
+    ensures { OnOk result (string_bytes out.new ≡ string_bytes out.old
+        ++ instruction_text (form_of inst.opcode) inst high) }
 {
     match Form::from_opcode(inst.opcode) {
         None => Ok(()),

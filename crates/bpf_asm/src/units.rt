@@ -201,7 +201,9 @@ fn jump_inst(
     requires fits { spec.statement_fits (Statement.Jump form fields target) ≡ true }
     requires at { at ≤ 512 }
     requires places { spec.AreWithin 512 (map (λ d. spec.definition d.0.now d.1) labels.now) }
-    ensures { result ≡ spec.jump_inst form fields (spec.distance_of (map (λ d. spec.definition d.0.now d.1) labels.now) at name.now target) }
+    ensures { result
+        ≡ spec.jump_inst form fields
+        (spec.distance_of (map (λ d. spec.definition d.0.now d.1) labels.now) at name.now target) }
 {
     match (form, target) {
         (Form::GotoLong, Target::Label) => inst_of(
@@ -248,7 +250,8 @@ fn high_half(n: u64) -> i32
 }
 
 fn push_wide(units: &mut Vec<Unit>, dst: u8, n: u64) -> Result<(), AllocError>
-    ensures { OnOk result (units.new.items ≡ units.old.items ++ spec.statement_units [] 0 [] (Statement.Wide dst (Some n))) }
+    ensures { OnOk result (units.new.items ≡ units.old.items
+        ++ spec.statement_units [] 0 [] (Statement.Wide dst (Some n))) }
 {
     units.push(Unit::First(inst_of(Form::Wide, dst, 0, 0, low_half(n))))?;
     Ok(units.push(Unit::Second(high_half(n)))?)
@@ -265,7 +268,8 @@ fn push_units(
     requires fits { spec.line_fits says ≡ true }
     requires at { at ≤ 512 }
     requires places { spec.AreWithin 512 (map (λ d. spec.definition d.0.now d.1) labels.now) }
-    ensures { OnOk result (units.new.items ≡ units.old.items ++ spec.line_units (map (λ d. spec.definition d.0.now d.1) labels.now) at name.now says) }
+    ensures { OnOk result (units.new.items ≡ units.old.items
+        ++ spec.line_units (map (λ d. spec.definition d.0.now d.1) labels.now) at name.now says) }
 {
     match says {
         Line::Empty => Ok(()),
@@ -297,7 +301,9 @@ pub fn units_of(
     requires fits { spec.AreRight (map (λ p. spec.row p.0 p.1.now) rows.now) }
     requires few { spec.units_in (map (λ p. spec.row p.0 p.1.now) rows.now) ≤ 512 }
     requires places { spec.AreWithin 512 (map (λ d. spec.definition d.0.now d.1) labels.now) }
-    ensures { IfOk result (λ v. v.items ≡ spec.units_from (map (λ d. spec.definition d.0.now d.1) labels.now) 0 (map (λ p. spec.row p.0 p.1.now) rows.now)) }
+    ensures { IfOk result
+        (λ v. v.items ≡ spec.units_from (map (λ d. spec.definition d.0.now d.1) labels.now) 0
+        (map (λ p. spec.row p.0 p.1.now) rows.now)) }
 {
     let mut units = Vec::new(alloc);
     let mut rest = rows;

@@ -1,5 +1,6 @@
 -- Units that are sound one by one are a program: their bytes are read as the same units.
-use Rattle.std.proofs.Common.{◌≡◌, ℕ, zero, suc, ◌+◌, ◌*◌, ◌<◌, ◌≤◌, List, [], ◌∷◌, ◌++◌, Option, Some, None, Bool, true, false, refl, sym, ap, ◌∙◌, subst, arith, length, drop, append_assoc, w16, w32, FitsSigned}
+use Rattle.std.proofs.Common.{◌≡◌, ℕ, zero, suc, ◌+◌, ◌*◌, ◌<◌, ◌≤◌, List, [], ◌∷◌, ◌++◌, Option, Some, None, Bool, true, false, refl, sym, ap, ◌∙◌, subst}
+use Rattle.std.proofs.Common.{arith, length, drop, append_assoc, w16, w32, FitsSigned}
 use Rattle.std.specs.Prelude.{◌/◌, ◌%◌, ◌==◌, ◌&&◌, not, cond, slice_index, ℤ}
 use Rattle.std.specs.Int.{cast_signed, cast_unsigned}
 use Rattle.std.proofs.Math.Facts.{Fits-of_z, Fits-of_lt, sfits_to_z}
@@ -12,12 +13,14 @@ use Rattle.std.proofs.lemmas.Bool.Decides.{nat_tests}
 use Rattle.byteorder.specs.Endian.{little_bytes, little_number}
 use Rattle.bpf_model.specs.declared.instruction.Inst.{Inst}
 use Rattle.bpf_model.specs.declared.instruction.Form.{Form}
-use Rattle.bpf_model.specs.declared.instruction.Form.TheVariants.{Arithmetic, Wide, Load, LoadSigned, StoreImmediate, StoreRegister, Goto, GotoLong, Branch, Call, Exit}
+use Rattle.bpf_model.specs.declared.instruction.Form.TheVariants.{Arithmetic, Wide, Load, LoadSigned, StoreImmediate, StoreRegister, Goto, GotoLong, Branch}
+use Rattle.bpf_model.specs.declared.instruction.Form.TheVariants.{Call, Exit}
 use Rattle.bpf_model.specs.declared.instruction.Unit.{Unit as ProgramUnit}
 use Rattle.bpf_model.specs.declared.instruction.Unit.TheVariants.{First, Second}
 use Rattle.bpf_model.specs.declared.instruction.UnitFault.{UnitFault}
 use Rattle.bpf_model.specs.declared.instruction.UnitFault.TheVariants.{Field, Register as BadRegister}
-use Rattle.bpf_model.specs.Reading.{unit_at, units_below, unit_fault, fields_at, imm_at, begins, first_fault, second_fault, form_of, opcode_at, is_last, fault_below, or_at, is_wide, half_wide, has_right_fields, has_right_registers}
+use Rattle.bpf_model.specs.Reading.{unit_at, units_below, unit_fault, fields_at, imm_at, begins, first_fault, second_fault, form_of, opcode_at, is_last}
+use Rattle.bpf_model.specs.Reading.{fault_below, or_at, is_wide, half_wide, has_right_fields, has_right_registers}
 use Rattle.bpf_decode.specs.Encoded.{unit_bytes, encoded}
 use Rattle.bpf_decode.specs.Faults.{AreBytes, IsProgram}
 use Rattle.bpf_decode.specs.Making.{IsInstruction, AreUnits}
@@ -47,7 +50,8 @@ module _ (bytes : List ℕ) (pc : ℕ) where
   later : (us : List ℕ) (n : ℕ) → drop (8 * pc) bytes ≡ us → drop (8 * pc + n) bytes ≡ drop n us
   later us n h = sym (drop-drop n (8 * pc) bytes) ∙ ap (drop n) h
 
-  imm_is : (a b c d : ℕ) (v : ℤ) (rest : List ℕ) → FitsSigned w32 v → drop (8 * pc) bytes ≡ a ∷ b ∷ c ∷ d ∷ (little_bytes 4 (cast_unsigned w32 v) ++ rest) → imm_at bytes pc ≡ v
+  imm_is : (a b c d : ℕ) (v : ℤ) (rest : List ℕ) → FitsSigned w32 v → drop (8 * pc) bytes ≡ a ∷ b ∷ c ∷ d ∷ (little_bytes 4 (cast_unsigned w32 v) ++ rest)
+      → imm_at bytes pc ≡ v
   imm_is a b c d v rest fits h =
       ap (λ l. cast_signed w32 (little_number 4 l)) (later _ 4 h)
       ∙ ap (cast_signed w32) (four_bytes (cast_unsigned w32 v) (small_imm v fits))
@@ -108,7 +112,8 @@ sound_at o i false e w = e
 sound_at None i true e w = absurd (cc)
 sound_at (Some form) i true e w =
     let h = two_tests (has_right_fields form i) (has_right_registers form i) (half_wide form false) e in
-    let narrow : is_wide (Some form) ≡ false = elim (is_wide (Some form)) as (λ b. (b ≡ true → true ≡ false) → b ≡ false) [ true ↦ (λ f. f refl) | false ↦ (λ f. refl) ] w in
+    let narrow : is_wide (Some form) ≡ false =
+    elim (is_wide (Some form)) as (λ b. (b ≡ true → true ≡ false) → b ≡ false) [ true ↦ (λ f. f refl) | false ↦ (λ f. refl) ] w in
     passes (has_right_fields form i) (has_right_registers form i) (half_wide form true) h.0 h.1 (not_half form narrow)
 
 some_next : (us : List ProgramUnit) → AreUnits false us → 0 < length us
@@ -134,7 +139,8 @@ module _ (bytes : List ℕ) (n : ℕ) (whole : length bytes ≡ 8 * n) where
   next_units pc (First i) us h = ap (λ k. drop k bytes) (eight_more pc) ∙ later bytes pc (unit_bytes (First i) ++ encoded us) 8 h
   next_units pc (Second v) us h = ap (λ k. drop k bytes) (eight_more pc) ∙ later bytes pc (unit_bytes (Second v) ++ encoded us) 8 h
 
-  one_more : (pc : ℕ) (first next : Bool) (front us : List ProgramUnit) (u : ProgramUnit) → Kept pc first front (u ∷ us) → unit_fault bytes pc ≡ None → unit_at bytes pc ≡ u → not (first && is_wide (form_of (opcode_at bytes pc))) ≡ next → Kept (suc pc) next (front ++ u ∷ []) us
+  one_more : (pc : ℕ) (first next : Bool) (front us : List ProgramUnit) (u : ProgramUnit) → Kept pc first front (u ∷ us) → unit_fault bytes pc ≡ None
+      → unit_at bytes pc ≡ u → not (first && is_wide (form_of (opcode_at bytes pc))) ≡ next → Kept (suc pc) next (front ++ u ∷ []) us
   one_more pc first next front us u k sound is wide =
       record {
         rest = next_units pc u us k.rest;
@@ -177,20 +183,24 @@ module _ (bytes : List ℕ) (n : ℕ) (whole : length bytes ≡ 8 * n) where
   append_none [] = refl
   append_none (u ∷ us) = ap (λ l. u ∷ l) (append_none us)
 
-  all_kept : (back : List ProgramUnit) (pc : ℕ) (first : Bool) (front : List ProgramUnit) → pc + length back ≡ n → AreUnits first back → Kept pc first front back → (fault_below bytes n ≡ None) × (units_below bytes n ≡ front ++ back)
+  all_kept : (back : List ProgramUnit) (pc : ℕ) (first : Bool) (front : List ProgramUnit) → pc + length back ≡ n → AreUnits first back
+      → Kept pc first front back → (fault_below bytes n ≡ None) × (units_below bytes n ≡ front ++ back)
   all_kept [] pc true front l h k =
       let e : pc ≡ n = omega arith in
       (subst (λ m. fault_below bytes m ≡ None) e k.sound, subst (λ m. units_below bytes m ≡ front) e k.read ∙ sym (append_none front))
   all_kept [] pc false front l h k = absurd h
   all_kept (First i ∷ us) pc true front l h k =
       let next = not (is_wide (form_of i.opcode)) in
-      let w : is_wide (form_of i.opcode) ≡ true → is_last bytes pc ≡ false = λ e. let more = more_units next us (ap not e) h.1 in not_last pc (omega (arith, more)) in
-      let r = all_kept us (suc pc) next (front ++ First i ∷ []) (omega arith) h.1 (one_more pc true next front us (First i) k (first_sound pc i front us k h.0 w) (first_read pc i front us k h.0) (first_next pc i front us k h.0)) in
+      let w : is_wide (form_of i.opcode) ≡ true → is_last bytes pc ≡ false = λ e. let more =
+      more_units next us (ap not e) h.1 in not_last pc (omega (arith, more)) in
+      let r = all_kept us (suc pc) next (front ++ First i ∷ []) (omega arith) h.1
+      (one_more pc true next front us (First i) k (first_sound pc i front us k h.0 w) (first_read pc i front us k h.0) (first_next pc i front us k h.0)) in
       (r.0, r.1 ∙ append_assoc front (First i ∷ []) us)
   all_kept (First i ∷ us) pc false front l h k = absurd h
   all_kept (Second v ∷ us) pc true front l h k = absurd h
   all_kept (Second v ∷ us) pc false front l h k =
-      let r = all_kept us (suc pc) true (front ++ Second v ∷ []) (omega arith) h.1 (one_more pc false true front us (Second v) k (second_sound pc v front us k h.0) (second_read pc v front us k h.0) refl) in
+      let r = all_kept us (suc pc) true (front ++ Second v ∷ []) (omega arith) h.1
+      (one_more pc false true front us (Second v) k (second_sound pc v front us k h.0) (second_read pc v front us k h.0) refl) in
       (r.0, r.1 ∙ append_assoc front (Second v ∷ []) us)
 
 -- ---- the bytes
@@ -243,8 +253,12 @@ program_of_units us h some few =
     let bytes = encoded us in
     let whole = length_encoded us in
     let half : length bytes / 8 ≡ length us = omega (arith, whole) in
-    let r = all_kept bytes (length us) whole us 0 true [] (omega arith) h (record { rest = refl; place = refl; sound = refl; read = refl }) in
-    (bytes, all_units bytes us (right_length bytes (omega (arith, whole)) (omega (arith, whole)) (omega (arith, whole))) (subst (λ m. fault_below bytes m ≡ None) (sym half) r.0) (sym (subst (λ m. units_below bytes m ≡ us) (sym half) r.1)), are_bytes true us h)
+    let r = all_kept bytes (length us) whole us 0 true [] (omega arith) h (record { rest = refl; place = refl; sound = refl; read = refl }) in (
+      bytes,
+      all_units bytes us (right_length bytes (omega (arith, whole)) (omega (arith, whole)) (omega (arith, whole)))
+          (subst (λ m. fault_below bytes m ≡ None) (sym half) r.0) (sym (subst (λ m. units_below bytes m ≡ us) (sym half) r.1)),
+      are_bytes true us h,
+    )
 
 -- ---- the other way: a program's units are sound one by one
 
@@ -322,7 +336,8 @@ module _ (bytes : List ℕ) (small : AreBytes bytes) where
   goes_on : (pc : ℕ) → is_last bytes pc ≡ false → pc + 1 < length bytes / 8
   goes_on pc e = grind (arith, nat_tests)
 
-  all_units_are : (us : List ProgramUnit) (pc : ℕ) (first : Bool) → pc + length us ≡ length bytes / 8 → begins bytes pc ≡ first → ((k m : ℕ) (u : ProgramUnit) → slice_get us k ≡ Some u → m ≡ pc + k → IsUnit bytes m u) → (first ≡ false → 0 < length us) → AreUnits first us
+  all_units_are : (us : List ProgramUnit) (pc : ℕ) (first : Bool) → pc + length us ≡ length bytes / 8 → begins bytes pc ≡ first
+      → ((k m : ℕ) (u : ProgramUnit) → slice_get us k ≡ Some u → m ≡ pc + k → IsUnit bytes m u) → (first ≡ false → 0 < length us) → AreUnits first us
   all_units_are [] pc true l place unit some = tt
   all_units_are [] pc false l place unit some = absurd (let no = some refl in omega (arith, no))
   all_units_are (First i ∷ us) pc true l place unit some =
@@ -351,11 +366,15 @@ module _ (bytes : List ℕ) (small : AreBytes bytes) where
   all_units_are (Second v ∷ us) pc false l place unit some =
       let u = unit 0 pc (Second v) refl (omega arith) in
       let is = same_imm (imm_at bytes pc) v (sym (ap (λ b. cond b (First (fields_at bytes pc)) (Second (imm_at bytes pc))) place) ∙ u.is) in
-      let next : begins bytes (suc pc) ≡ true = ap (λ b. not (b && is_wide (form_of (opcode_at bytes pc)))) place in
-      (subst (FitsSigned w32) is (imm_fits pc), all_units_are us (suc pc) true (omega arith) next (λ k m x g e. unit (suc k) m x g (omega arith)) (λ e. absurd (cc)))
+      let next : begins bytes (suc pc) ≡ true = ap (λ b. not (b && is_wide (form_of (opcode_at bytes pc)))) place in (
+        subst (FitsSigned w32) is (imm_fits pc),
+        all_units_are us (suc pc) true (omega arith) next
+            (λ k m x g e. unit (suc k) m x g (omega arith)) (λ e. absurd (cc)),
+      )
 
 -- a program's units are sound one by one
 pub units_of_program : (us : List ProgramUnit) → IsProgram us → AreUnits true us
 units_of_program us p =
     let long = length_of_units p.0 us p.1 in
-    all_units_are p.0 p.2 us 0 true (omega (arith, long)) refl (λ k m u g e. units_at p.0 us m u p.1 (ap (slice_get us) (e ∙ zero-add k) ∙ g)) (λ e. absurd (cc))
+    all_units_are p.0 p.2 us 0 true (omega (arith, long)) refl (λ k m u g e. units_at p.0 us m u p.1 (ap (slice_get us) (e ∙ zero-add k) ∙ g))
+    (λ e. absurd (cc))

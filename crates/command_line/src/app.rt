@@ -2,7 +2,9 @@
 ghost use Rattle.std.specs.Prelude.{◌≡◌, false, IfOk, codes};
 ghost use Rattle.clap.specs.Words.{app_of, with_rule, new_app, rule_of};
 ghost use Rattle.clap.specs.declared.builder.command.Command.TheViews.{out-Command};
-ghost use Rattle.command_line.specs.Asked.{context_rule, file_rule, flag_rule, journal_rule, mask_rule, of_file, asm_app, dis_app, verify_app, play_app, audit_app, report_app, serve_app, fc_app};
+ghost use Rattle.command_line.specs.Asked.{context_rule, file_rule, flag_rule, journal_rule, mask_rule, of_file};
+ghost use Rattle.command_line.specs.Asked.{asm_app, dis_app, verify_app, play_app, audit_app, report_app, serve_app};
+ghost use Rattle.command_line.specs.Asked.{fc_app};
 
 use clap::{Arg, ArgAction, Command, value_parser};
 use std::alloc::{AllocError, Global};

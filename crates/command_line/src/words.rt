@@ -1,8 +1,10 @@
 //! Reading the words of a command line.
-ghost use Rattle.std.specs.Prelude.{◌≡◌, IsTrue, IsSome, None, false, [], IfOk, IfErr, OnOk, map, codes, option_map, string_bytes, ◌↔◌};
+ghost use Rattle.std.specs.Prelude.{◌≡◌, IsTrue, IsSome, None, false, [], IfOk, IfErr, OnOk, map, codes, option_map};
+ghost use Rattle.std.specs.Prelude.{string_bytes, ◌↔◌};
 ghost use Rattle.clap.specs.Words.{first_of, rows_of, found_of, subcommand_of, subcommand_rows_of, takes, fault_of};
 ghost use Rattle.clap.specs.Values.{kind_of};
-ghost use Rattle.command_line.specs.Asked.{fc_app, asked, asked_of, is_set, layout_in, layout_named, IsShown, MayShow, RefusesBy};
+ghost use Rattle.command_line.specs.Asked.{fc_app, asked, asked_of, is_set, layout_in, layout_named, IsShown, MayShow};
+ghost use Rattle.command_line.specs.Asked.{RefusesBy};
 ghost use Rattle.command_line.specs.Refusing.{Finds, FindsIn, ReadsMask, IsUnasked, IsRefusalOf};
 
 use crate::app::fc;
@@ -254,11 +256,13 @@ fn told_of(alloc: Global, error: Error) -> Result<Job, CommandFault>
 /// The job that the words ask for, the first of which is the program's name. Words that are no use of
 /// the program are refused with the text of its usage.
 pub fn command(alloc: Global, words: Vec<String>) -> Result<Job, CommandFault>
-    ensures asked { IfOk result (λ job. IsSome (asked job) → asked_of (subcommand_of fc_app (map string_bytes words.items)) ≡ asked job) }
+    ensures asked { IfOk result
+        (λ job. IsSome (asked job) → asked_of (subcommand_of fc_app (map string_bytes words.items)) ≡ asked job) }
     ensures shown { IfOk result (λ job. asked job ≡ None → takes fc_app (map string_bytes words.items) ≡ false) }
     ensures faultless { IfOk result (λ job. IsSome (asked job) → fault_of fc_app (map string_bytes words.items) ≡ []) }
     ensures helps { IfOk result (λ job. asked job ≡ None → MayShow (fault_of fc_app (map string_bytes words.items))) }
-    ensures refused { IfErr result (RefusesBy (fault_of fc_app (map string_bytes words.items)) (subcommand_of fc_app (map string_bytes words.items))) }
+    ensures refused { IfErr result
+        (RefusesBy (fault_of fc_app (map string_bytes words.items)) (subcommand_of fc_app (map string_bytes words.items))) }
 {
     let command = fc(alloc)?;
     match command.try_get_matches_from(words.as_slice()) {

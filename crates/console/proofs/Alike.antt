@@ -22,7 +22,8 @@ use Rattle.console.specs.Play.{EventAnswered, IsAccepted, LoadAnswered, load_of,
 second : {A B : Type 0} → A × B → B
 second p = p.1
 
-event_alike : (old : SiteValue) (moment : ℕ) (act : Act) (a b : Answer) (new other : SiteValue) → EventAnswered old moment act a new → EventAnswered old moment act b other
+event_alike : (old : SiteValue) (moment : ℕ) (act : Act) (a b : Answer) (new other : SiteValue) → EventAnswered old moment act a new
+    → EventAnswered old moment act b other
     → ¬ (a ≡ answers.OutOfMemory) → ¬ (b ≡ answers.OutOfMemory) → (a ≡ b) × (new ≡ other)
 event_alike old moment act (answers.Entered number reply) (answers.Entered n r) new other h k p q =
     (ap₂ (λ x y. answers.Entered x y) (h.1.number_is ∙ sym k.1.number_is) (h.1.reply_is ∙ sym k.1.reply_is), h.1.site_is ∙ sym k.1.site_is)
@@ -40,7 +41,8 @@ event_alike old moment act (answers.Line fault) b new other h k p q = absurd h
 event_alike old moment act (answers.Program n u t) b new other h k p q = absurd h
 
 -- a refusal that has numbers is the bytes' own
-wanted_is : (wanted : Option Refusal) (refusal : Refusal) (numbers : ℕ × (Option ℕ) × (Option ℕ)) → IsRefusal wanted refusal → shown_by refusal ≡ Some numbers → wanted ≡ Some refusal
+wanted_is : (wanted : Option Refusal) (refusal : Refusal) (numbers : ℕ × (Option ℕ) × (Option ℕ)) → IsRefusal wanted refusal
+    → shown_by refusal ≡ Some numbers → wanted ≡ Some refusal
 wanted_is wanted refusals.OutOfMemory numbers h e = absurd (cc)
 wanted_is wanted (refusals.Decode fault) numbers h e = h
 wanted_is wanted (refusals.Flow fault) numbers h e = h
@@ -50,7 +52,8 @@ some_alike : (x y : Numbers) → Some x ≡ Some y → x ≡ y
 some_alike x y e = cc
 
 module _ (old : SiteValue) (moment slot : ℕ) (text : ProgramText) where
-  not_both : (number : ℕ) (unit part : Option ℕ) (other : SiteValue) → IsAccepted text → LoadAnswered old moment slot text (answers.Program number unit part) other → ⊥
+  not_both : (number : ℕ) (unit part : Option ℕ) (other : SiteValue) → IsAccepted text
+      → LoadAnswered old moment slot text (answers.Program number unit part) other → ⊥
   not_both number unit part other h k =
       let some : refusal_of text ≡ Some k.refusal = wanted_is (refusal_of text) k.refusal (number, unit, part) k.answers k.shown in
       let none : None ≡ Some k.refusal = sym h.accepted ∙ some in absurd (cc)
@@ -89,17 +92,20 @@ module _ (old : SiteValue) (moment slot : ℕ) (text : ProgramText) where
       let g : part ≡ t = ap (λ (x : Numbers). x.2) alike in
       (ap (λ x. answers.Program x unit part) e ∙ ap₂ (λ y z. answers.Program n y z) f g, h.same ∙ sym k.same)
 
-act_alike : (old : SiteValue) (moment : ℕ) (act : Act) (a b : Answer) (new other : SiteValue) → ActAnswered old moment act a new → ActAnswered old moment act b other
+act_alike : (old : SiteValue) (moment : ℕ) (act : Act) (a b : Answer) (new other : SiteValue) → ActAnswered old moment act a new
+    → ActAnswered old moment act b other
     → ¬ (a ≡ answers.OutOfMemory) → ¬ (b ≡ answers.OutOfMemory) → (a ≡ b) × (new ≡ other)
 act_alike old moment (acts.Till till request) a b new other h k p q = event_alike old moment (acts.Till till request) a b new other h k p q
 act_alike old moment (acts.Dispenser point event) a b new other h k p q = event_alike old moment (acts.Dispenser point event) a b new other h k p q
 act_alike old moment (acts.Load slot mask layout bytes) a b new other h k p q = load_alike old moment slot (as_loaded bytes mask layout) a b new other h k p q
 
-line_alike : (line : Result ScriptLine LineFault) (s : ℕ × SiteValue) (text other : List ℕ) (m n : ℕ × SiteValue) → LineSaid line s text m → LineSaid line s other n
+line_alike : (line : Result ScriptLine LineFault) (s : ℕ × SiteValue) (text other : List ℕ) (m n : ℕ × SiteValue) → LineSaid line s text m
+    → LineSaid line s other n
     → ¬ IsWantTold text → ¬ IsWantTold other → (text ≡ other) × (m ≡ n)
 line_alike (Err fault) s text other m n h k w v = (h.0 ∙ sym k.0, h.1 ∙ sym k.1)
 line_alike (Ok (lines.Act act)) s text other m n h k w v =
-    let e = act_alike s.1 s.0 act h.0.answer k.0.answer m.1 n.1 h.0.answered k.0.answered (λ is. w (h.0.text_is ∙ ap answer_line is)) (λ is. v (k.0.text_is ∙ ap answer_line is)) in
+    let e = act_alike s.1 s.0 act h.0.answer k.0.answer m.1 n.1 h.0.answered k.0.answered (λ is. w (h.0.text_is ∙ ap answer_line is))
+    (λ is. v (k.0.text_is ∙ ap answer_line is)) in
     (h.0.text_is ∙ ap answer_line e.0 ∙ sym k.0.text_is, ap₂ (λ x y. (x, y)) (h.1 ∙ sym k.1) e.1)
 line_alike (Ok (lines.Moment moment)) s text other m n h k w v = (h.0 ∙ sym k.0, h.1 ∙ sym k.1)
 line_alike (Ok (lines.Counter counter)) s text other m n h k w v = (h.0 ∙ sym k.0, h.1 ∙ sym k.1)
@@ -110,4 +116,5 @@ plays_determined s line text other m n h k w v = line_alike (line_of line) s tex
 
 pub plays_alike : PlaysAlike
 plays_alike site bytes out out_t out_u in_t in_u count_t count_u cut_t cut_u one other w v =
-    cuts_alike Plays plays_determined (0, site) (one.moment, one.left) (other.moment, other.left) bytes out out_t out_u in_t in_u count_t count_u cut_t cut_u one.ends other.ends w v
+    cuts_alike Plays plays_determined (0, site) (one.moment, one.left) (other.moment, other.left) bytes out out_t out_u in_t in_u count_t count_u cut_t
+    cut_u one.ends other.ends w v

@@ -17,7 +17,8 @@ front_taken a b text h =
     let P : List ℕ → Type 0 = λ t. Appends a b t in
     (length h.front, subst P (sym (ap (take (length h.front)) h.begins ∙ take_front h.front h.after)) h.written)
 
-pub breaks_none : {S : Type 0} (says : S → List ℕ → List ℕ → S → Type 0) (drops : S → List ℕ → S → Type 0) (s : S) (i o : Option (List ℕ)) → Breaks says drops s s i i o o
+pub breaks_none : {S : Type 0} (says : S → List ℕ → List ℕ → S → Type 0) (drops : S → List ℕ → S → Type 0) (s : S) (i o : Option (List ℕ))
+    → Breaks says drops s s i i o o
 breaks_none says drops s i o = record {
   lines = [];
   texts = [];

@@ -35,7 +35,8 @@ fn enter_event(site: &mut Site, moment: u64, what: What) -> Answer
 
 /// The answer to bytes that were refused.
 fn answer_refusal(refusal: Refusal) -> Answer
-    ensures { (old : SiteValue) (moment slot : ℕ) (p : ProgramText) → IsRefused p refusal → IsRefusal (refusal_of p) refusal → LoadAnswered old moment slot p result old }
+    ensures { (old : SiteValue) (moment slot : ℕ) (p : ProgramText) → IsRefused p refusal
+        → IsRefusal (refusal_of p) refusal → LoadAnswered old moment slot p result old }
 {
     match refusal.shown() {
         Some((number, unit, part)) => Answer::Program(number, unit, part),

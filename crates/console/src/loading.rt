@@ -19,7 +19,9 @@ pub struct RefusedLoad {
 /// Why the program of a script's line is refused, where the line is a load; the line is without its LF. None where it
 /// is another line, or where its program is accepted. The error is want of memory.
 pub fn refused_load(alloc: Global, line: &[u8]) -> Result<Option<RefusedLoad>, AllocError>
-    ensures { IfOk result (λ found. IfSome found (λ load. IsRefusedLoad line.now load.slot load.program.refusal (option_map string_bytes load.program.line))) }
+    ensures { IfOk result
+        (λ found. IfSome found
+        (λ load. IsRefusedLoad line.now load.slot load.program.refusal (option_map string_bytes load.program.line))) }
 {
     match parse_script_line(alloc, line) {
         Ok(ScriptLine::Act(act)) => refused_act(alloc, &act),
@@ -30,7 +32,9 @@ pub fn refused_load(alloc: Global, line: &[u8]) -> Result<Option<RefusedLoad>, A
 
 /// The same of an act.
 fn refused_act(alloc: Global, act: &Act) -> Result<Option<RefusedLoad>, AllocError>
-    ensures { IfOk result (λ found. IfSome found (λ load. IsRefusedAct act.now load.slot load.program.refusal (option_map string_bytes load.program.line))) }
+    ensures { IfOk result
+        (λ found. IfSome found
+        (λ load. IsRefusedAct act.now load.slot load.program.refusal (option_map string_bytes load.program.line))) }
 {
     match act {
         Act::Load {

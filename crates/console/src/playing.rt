@@ -20,8 +20,12 @@ pub fn play_within<I: LineIn, O: LineOut>(
     left: &mut u32,
 ) -> Result<Ended, SessionFault>
     requires { left.old ≤ 67108864 }
-    ensures said { IfOk result (λ ended. PlaysOut (new_site config) (I.remaining input.old) (I.remaining input.new) (O.written output.old) (O.written output.new) ended.lines ended.cut) }
-    ensures broken { OnErr result (PlayBreaks (new_site config) (I.remaining input.old) (I.remaining input.new) (O.written output.old) (O.written output.new)) }
+    ensures said { IfOk result
+        (λ ended. PlaysOut (new_site config) (I.remaining input.old) (I.remaining input.new) (O.written output.old)
+        (O.written output.new) ended.lines ended.cut) }
+    ensures broken { OnErr result
+        (PlayBreaks (new_site config) (I.remaining input.old) (I.remaining input.new) (O.written output.old)
+        (O.written output.new)) }
     ensures read_fault { RoseBy (one_if (is_read result)) (I.failures input.old) (I.failures input.new) }
     ensures write_fault { RoseBy (one_if (is_write result)) (O.failures output.old) (O.failures output.new) }
     ensures left { left.new ≤ left.old }
@@ -46,11 +50,16 @@ pub fn play<I: LineIn, O: LineOut>(
     input: &mut I,
     output: &mut O,
 ) -> Result<Ended, SessionFault>
-    ensures said { IfOk result (λ ended. PlaysOut (new_site config) (I.remaining input.old) (I.remaining input.new) (O.written output.old) (O.written output.new) ended.lines ended.cut) }
-    ensures broken { OnErr result (PlayBreaks (new_site config) (I.remaining input.old) (I.remaining input.new) (O.written output.old) (O.written output.new)) }
+    ensures said { IfOk result
+        (λ ended. PlaysOut (new_site config) (I.remaining input.old) (I.remaining input.new) (O.written output.old)
+        (O.written output.new) ended.lines ended.cut) }
+    ensures broken { OnErr result
+        (PlayBreaks (new_site config) (I.remaining input.old) (I.remaining input.new) (O.written output.old)
+        (O.written output.new)) }
     ensures read_fault { RoseBy (one_if (is_read result)) (I.failures input.old) (I.failures input.new) }
     ensures write_fault { RoseBy (one_if (is_write result)) (O.failures output.old) (O.failures output.new) }
-    ensures reads { (k : ℕ) × (k ≤ 67108864) × RoseBy k (I.reads input.old) (I.reads input.new) × (result ≡ Err SessionFault.ReadsSpent → k ≡ 67108864)
+    ensures reads { (k : ℕ) × (k ≤ 67108864) × RoseBy k (I.reads input.old) (I.reads input.new)
+        × (result ≡ Err SessionFault.ReadsSpent → k ≡ 67108864)
         × RoseBy k (I.asked input.old) (I.asked input.new) }
 {
     let mut left = READS;

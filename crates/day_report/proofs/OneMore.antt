@@ -26,37 +26,50 @@ cons-nil : {A : Type 0} (o : Option A) → cons_option o [] ≡ option_to_list o
 cons-nil None = refl
 cons-nil (Some x) = refl
 
-pub sales-push : (points : List PointState) (entries : List Entry) (entry : Entry) → sales points (entries ++ entry ∷ []) ≡ sales points entries ++ option_to_list (sale_of (stand points entries) entry)
+pub sales-push : (points : List PointState) (entries : List Entry) (entry : Entry) → sales points (entries ++ entry ∷ []) ≡ sales points entries
+    ++ option_to_list (sale_of (stand points entries) entry)
 sales-push points [] entry = cons-nil (sale_of points entry)
 sales-push points (e ∷ entries) entry =
-    ap (λ xs. cons_option (sale_of points e) xs) (sales-push (with_entry points e) entries entry) ∙ cons-append (sale_of points e) (sales (with_entry points e) entries) (option_to_list (sale_of (stand (with_entry points e) entries) entry))
+    ap (λ xs. cons_option (sale_of points e) xs) (sales-push (with_entry points e) entries entry)
+    ∙ cons-append (sale_of points e) (sales (with_entry points e) entries) (option_to_list (sale_of (stand (with_entry points e) entries) entry))
 
-pub stand-push : (points : List PointState) (entries : List Entry) (entry : Entry) → stand points (entries ++ entry ∷ []) ≡ with_entry (stand points entries) entry
+pub stand-push : (points : List PointState) (entries : List Entry) (entry : Entry)
+    → stand points (entries ++ entry ∷ []) ≡ with_entry (stand points entries) entry
 stand-push points entries entry = fold_push with_entry points entries entry
 
-pub loads-push : (moment : ℕ) (entries : List Entry) (entry : Entry) → loads moment (entries ++ entry ∷ []) ≡ loads moment entries ++ option_to_list (load_of (fold moment_after moment entries) entry)
+pub loads-push : (moment : ℕ) (entries : List Entry) (entry : Entry) → loads moment (entries ++ entry ∷ []) ≡ loads moment entries
+    ++ option_to_list (load_of (fold moment_after moment entries) entry)
 loads-push moment [] entry = cons-nil (load_of moment entry)
 loads-push moment (e ∷ entries) entry =
-    ap (λ xs. cons_option (load_of moment e) xs) (loads-push (moment_after moment e) entries entry) ∙ cons-append (load_of moment e) (loads (moment_after moment e) entries) (option_to_list (load_of (fold moment_after (moment_after moment e) entries) entry))
+    ap (λ xs. cons_option (load_of moment e) xs) (loads-push (moment_after moment e) entries entry)
+    ∙ cons-append (load_of moment e) (loads (moment_after moment e) entries)
+    (option_to_list (load_of (fold moment_after (moment_after moment e) entries) entry))
 
 -- at a step of a loop
-pub stand-more : (points : List PointState) (entries : List Entry) (i : ℕ) (entry : Entry) → i < length entries → entry ≡ get_or entries i entry → stand points (take (i + 1) entries) ≡ with_entry (stand points (take i entries)) entry
+pub stand-more : (points : List PointState) (entries : List Entry) (i : ℕ) (entry : Entry) → i < length entries → entry ≡ get_or entries i entry
+    → stand points (take (i + 1) entries) ≡ with_entry (stand points (take i entries)) entry
 stand-more points entries i entry h is =
     ap (λ es. stand points es) (take_more entries i entry h ∙ ap (λ e. take i entries ++ e ∷ []) (sym is)) ∙ stand-push points (take i entries) entry
 
-pub sales-more : (points : List PointState) (entries : List Entry) (i : ℕ) (entry : Entry) → i < length entries → entry ≡ get_or entries i entry → sales points (take (i + 1) entries) ≡ sales points (take i entries) ++ option_to_list (sale_of (stand points (take i entries)) entry)
+pub sales-more : (points : List PointState) (entries : List Entry) (i : ℕ) (entry : Entry) → i < length entries → entry ≡ get_or entries i entry
+    → sales points (take (i + 1) entries) ≡ sales points (take i entries) ++ option_to_list (sale_of (stand points (take i entries)) entry)
 sales-more points entries i entry h is =
     ap (λ es. sales points es) (take_more entries i entry h ∙ ap (λ e. take i entries ++ e ∷ []) (sym is)) ∙ sales-push points (take i entries) entry
 
-pub loads-more : (moment : ℕ) (entries : List Entry) (i : ℕ) (entry : Entry) → i < length entries → entry ≡ get_or entries i entry → loads moment (take (i + 1) entries) ≡ loads moment (take i entries) ++ option_to_list (load_of (fold moment_after moment (take i entries)) entry)
+pub loads-more : (moment : ℕ) (entries : List Entry) (i : ℕ) (entry : Entry) → i < length entries → entry ≡ get_or entries i entry
+    → loads moment (take (i + 1) entries) ≡ loads moment (take i entries) ++ option_to_list (load_of (fold moment_after moment (take i entries)) entry)
 loads-more moment entries i entry h is =
     ap (λ es. loads moment es) (take_more entries i entry h ∙ ap (λ e. take i entries ++ e ∷ []) (sym is)) ∙ loads-push moment (take i entries) entry
 
-pub moment-more : (moment : ℕ) (entries : List Entry) (i : ℕ) (entry : Entry) → i < length entries → entry ≡ get_or entries i entry → fold moment_after moment (take (i + 1) entries) ≡ moment_after (fold moment_after moment (take i entries)) entry
+pub moment-more : (moment : ℕ) (entries : List Entry) (i : ℕ) (entry : Entry) → i < length entries → entry ≡ get_or entries i entry
+    → fold moment_after moment (take (i + 1) entries) ≡ moment_after (fold moment_after moment (take i entries)) entry
 moment-more moment entries i entry h is =
-    ap (λ es. fold moment_after moment es) (take_more entries i entry h ∙ ap (λ e. take i entries ++ e ∷ []) (sym is)) ∙ fold_push moment_after moment (take i entries) entry
+    ap (λ es. fold moment_after moment es) (take_more entries i entry h ∙ ap (λ e. take i entries ++ e ∷ []) (sym is))
+    ∙ fold_push moment_after moment (take i entries) entry
 
-pub decided-more : (part : Deciding) (granted : Bool) (v : ℕ) (decisions : List Decision) (i : ℕ) (d : Decision) → i < length decisions → d ≡ get_or decisions i d → decided_by part granted v (take (i + 1) decisions) ≡ decided_by part granted v (take i decisions) + (if is_wanted part granted d && d.version == v then 1 else 0)
+pub decided-more : (part : Deciding) (granted : Bool) (v : ℕ) (decisions : List Decision) (i : ℕ) (d : Decision) → i < length decisions
+    → d ≡ get_or decisions i d → decided_by part granted v (take (i + 1) decisions) ≡ decided_by part granted v (take i decisions)
+    + (if is_wanted part granted d && d.version == v then 1 else 0)
 decided-more part granted v decisions i d h is =
     let one : Decision → ℕ = λ (x : Decision). if is_wanted part granted x && x.version == v then 1 else 0 in
     sum_by_more one decisions i d h ∙ ap (λ x. decided_by part granted v (take i decisions) + one x) (sym is)
@@ -67,11 +80,13 @@ pub map-option : {A B : Type 0} (f : A → B) (o : Option A) → map f (option_t
 map-option f None = refl
 map-option f (Some x) = refl
 
-unpaid-push : (n : ℕ) (points : List PointState) (p : PointState) → unpaid_from n (points ++ p ∷ []) ≡ unpaid_from n points ++ map (unpaid_transaction (n + length points)) p.unpaid
+unpaid-push : (n : ℕ) (points : List PointState) (p : PointState) → unpaid_from n (points ++ p ∷ []) ≡ unpaid_from n points
+    ++ map (unpaid_transaction (n + length points)) p.unpaid
 unpaid-push n [] p = append-nil (map (unpaid_transaction n) p.unpaid) ∙ ap (λ m. map (unpaid_transaction m) p.unpaid) (omega arith)
 unpaid-push n (q ∷ points) p =
     let same : n + 1 + length points ≡ n + length (q ∷ points) = omega arith in
-    ap (λ xs. map (unpaid_transaction n) q.unpaid ++ xs) (unpaid-push (n + 1) points p ∙ ap (λ m. unpaid_from (n + 1) points ++ map (unpaid_transaction m) p.unpaid) same)
+    ap (λ xs. map (unpaid_transaction n) q.unpaid ++ xs) (unpaid-push (n + 1) points p ∙ ap
+    (λ m. unpaid_from (n + 1) points ++ map (unpaid_transaction m) p.unpaid) same)
     ∙ sym (append_assoc (map (unpaid_transaction n) q.unpaid) (unpaid_from (n + 1) points) (map (unpaid_transaction (n + length (q ∷ points))) p.unpaid))
 
 pub unpaid-none : unpaid_of [] ≡ []
@@ -79,7 +94,10 @@ unfolding unpaid_of
 unpaid-none = refl
 
 -- a point with these two transactions, of which the second may be missing
-pub unpaid-more : (points : List PointState) (i : ℕ) (p : PointState) (first second : Option Transaction) → i < length points → p ≡ get_or points i p → option_to_list first ++ option_to_list second ≡ p.unpaid → unpaid_of (take (i + 1) points) ≡ (unpaid_of (take i points) ++ option_to_list (option_map (unpaid_transaction (i + 1)) first)) ++ option_to_list (option_map (unpaid_transaction (i + 1)) second)
+pub unpaid-more : (points : List PointState) (i : ℕ) (p : PointState) (first second : Option Transaction) → i < length points → p ≡ get_or points i p
+    → option_to_list first ++ option_to_list second ≡ p.unpaid
+    → unpaid_of (take (i + 1) points) ≡ (unpaid_of (take i points) ++ option_to_list (option_map (unpaid_transaction (i + 1)) first))
+    ++ option_to_list (option_map (unpaid_transaction (i + 1)) second)
 unfolding unpaid_of
 unpaid-more points i p first second h is both =
     let f : Transaction → Unpaid = unpaid_transaction (i + 1) in
@@ -89,5 +107,6 @@ unpaid-more points i p first second h is both =
     ∙ unpaid-push 1 (take i points) p
     ∙ ap (λ m. unpaid_from 1 (take i points) ++ map (unpaid_transaction m) p.unpaid) place
     ∙ ap (λ ts. unpaid_from 1 (take i points) ++ map f ts) (sym both)
-    ∙ ap (λ xs. unpaid_from 1 (take i points) ++ xs) (map-append f (option_to_list first) (option_to_list second) ∙ (λ j. map-option f first j ++ map-option f second j))
+    ∙ ap (λ xs. unpaid_from 1 (take i points) ++ xs) (map-append f (option_to_list first) (option_to_list second)
+    ∙ (λ j. map-option f first j ++ map-option f second j))
     ∙ sym (append_assoc (unpaid_from 1 (take i points)) (option_to_list (option_map f first)) (option_to_list (option_map f second)))

@@ -1,5 +1,6 @@
 -- The grants and denials of all versions are the decisions of the history.
-use Rattle.std.proofs.Common.{◌≡◌, ℕ, ◌+◌, ◌≤◌, ◌&&◌, Bool, true, false, not, List, [], ◌∷◌, ◌++◌, length, reverse, Option, Some, None, Result, Ok, Err, refl, arith, ap, ◌∙◌, sym, subst}
+use Rattle.std.proofs.Common.{◌≡◌, ℕ, ◌+◌, ◌≤◌, ◌&&◌, Bool, true, false, not, List, [], ◌∷◌, ◌++◌, length, reverse, Option, Some, None, Result, Ok, Err, refl}
+use Rattle.std.proofs.Common.{arith, ap, ◌∙◌, sym, subst}
 use Rattle.std.specs.Prelude.{if◌then◌else◌, ◌==◌, nat_le, nat_lt, sum_by, count_by, option_to_list, fold}
 use Rattle.std.specs.List.{range_with_len, filter_map}
 use Rattle.std.proofs.lemmas.List.{reverse-append, reverse-reverse, length-append}
@@ -28,7 +29,8 @@ use Rattle.site_core.specs.Limits.{ConfigValue}
 use Rattle.site_core.specs.State.{SiteState, at_number, first_busy, view_of}
 use Rattle.site_core.specs.Context.{context}
 use Rattle.site_core.specs.History.{loaded, in_force, versions}
-use Rattle.site_core.specs.Decide.{Effect, replied, refused, denied, no_such_till, is_decided, is_till, release_question, preset_question, price_question, decided, verdict, ran, grant}
+use Rattle.site_core.specs.Decide.{Effect, replied, refused, denied, no_such_till, is_decided, is_till, release_question, preset_question, price_question}
+use Rattle.site_core.specs.Decide.{decided, verdict, ran, grant}
 use Rattle.site_core.specs.Step.{effect, asked, commanded, command_effect, reported, event_effect, order_reply, fault_reply, show_reply}
 use Rattle.site_core.specs.Legal.{Legal}
 use Rattle.site_core.proofs.Points.{commanded-none, commanded-some, reported-none, reported-some}
@@ -48,7 +50,9 @@ use Rattle.day_report.proofs.SiteSales.{one-key, add-keys, no-keys}
 
 -- ---- six counts are one
 
-one-of-six : (a : Asked) (g b : Bool) → (if (is_release a && g) && b then 1 else 0) + (if (is_release a && not g) && b then 1 else 0) + (if (is_preset a && g) && b then 1 else 0) + (if (is_preset a && not g) && b then 1 else 0) + (if (is_price a && g) && b then 1 else 0) + (if (is_price a && not g) && b then 1 else 0) ≡ (if b then 1 else 0)
+one-of-six : (a : Asked) (g b : Bool) → (if (is_release a && g) && b then 1 else 0) + (if (is_release a && not g) && b then 1 else 0)
+    + (if (is_preset a && g) && b then 1 else 0) + (if (is_preset a && not g) && b then 1 else 0) + (if (is_price a && g) && b then 1 else 0)
+    + (if (is_price a && not g) && b then 1 else 0) ≡ (if b then 1 else 0)
 one-of-six kinds.Release true true = refl
 one-of-six kinds.Release true false = refl
 one-of-six kinds.Release false true = refl
@@ -107,14 +111,21 @@ all-versions n (d ∷ ds) fits =
 abbrev InRange : Version → ℕ → Type 0
 InRange v n = (1 ≤ v.number) × (v.number ≤ n)
 
-if-force : (b : Bool) (n : ℕ) (p : ProgramText) (o : Option Version) (v : Version) → (o ≡ Some v → InRange v n) → (if b then Some (record { number = n + 1; program = p }) else o) ≡ Some v → InRange v (n + 1)
+if-force : (b : Bool) (n : ℕ) (p : ProgramText) (o : Option Version) (v : Version) → (o ≡ Some v → InRange v n)
+    → (if b then Some (record { number = n + 1; program = p }) else o) ≡ Some v → InRange v (n + 1)
 if-force true n p o v earlier h =
     let e : ◌≡◌ {A = Version} (record { number = n + 1; program = p }) v = cc in
     let is : n + 1 ≡ v.number = ap (λ (x : Version). x.number) e in
     (omega (arith, is), omega (arith, is))
 if-force false n p o v earlier h = let r = earlier h in let l : v.number ≤ n = r.1 in (r.0, omega (arith, l))
 
-force-more : (slot : ℕ) (earlier : List Entry) (v : Version) (o : Option (ℕ × ProgramText)) → (in_force slot earlier ≡ Some v → InRange v (versions earlier)) → (elim o as (λ _. Option Version) [ Some l ↦ if l.0 == slot then Some (record { number = versions earlier + 1; program = l.1 }) else in_force slot earlier | None ↦ in_force slot earlier ]) ≡ Some v → InRange v (elim o as (λ _. ℕ) [ Some _ ↦ versions earlier + 1 | None ↦ versions earlier ])
+force-more : (slot : ℕ) (earlier : List Entry) (v : Version) (o : Option (ℕ × ProgramText)) → (in_force slot earlier ≡ Some v → InRange v (versions earlier))
+    → (elim o as (λ _. Option Version) [
+      | Some l ↦ if l.0 == slot then Some (record { number = versions earlier + 1; program = l.1 })
+          else in_force slot earlier
+      | None ↦ in_force slot earlier
+    ]) ≡ Some v
+    → InRange v (elim o as (λ _. ℕ) [ Some _ ↦ versions earlier + 1 | None ↦ versions earlier ])
 force-more slot earlier v None h is = h is
 force-more slot earlier v (Some l) h is = if-force (l.0 == slot) (versions earlier) l.1 (in_force slot earlier) v h is
 
@@ -137,9 +148,30 @@ verdict-none (reply.Version v) h = refl
 verdict-none (reply.Order o) h = refl
 verdict-none (reply.Point b c d e f g i) h = refl
 
-ask-none : (till : ℕ) (o : Option Asked) (w : Option (ℕ × Bool)) → w ≡ None → (elim o as (λ _. Option Decision) [ None ↦ None | Some a ↦ elim w as (λ _. Option Decision) [ None ↦ None | Some v ↦ Some (record { till = till; asked = a; version = v.0; is_granted = v.1 }) ] ]) ≡ None
+ask-none : (till : ℕ) (o : Option Asked) (w : Option (ℕ × Bool)) → w ≡ None
+    → (elim o as (λ _. Option Decision) [
+      | None ↦ None
+      | Some a ↦ elim w as (λ _. Option Decision) [
+        | None ↦ None
+        | Some v ↦ Some (record {
+          till = till;
+          asked = a;
+          version = v.0;
+          is_granted = v.1;
+        })
+      ]
+    ]) ≡ None
 ask-none till None w h = refl
-ask-none till (Some a) w h = ap (λ (w : Option (ℕ × Bool)). elim w as (λ _. Option Decision) [ None ↦ None | Some v ↦ Some (record { till = till; asked = a; version = v.0; is_granted = v.1 }) ]) h
+ask-none till (Some a) w h = ap
+    (λ (w : Option (ℕ × Bool)). elim w as (λ _. Option Decision) [
+      | None ↦ None
+      | Some v ↦ Some (record {
+        till = till;
+        asked = a;
+        version = v.0;
+        is_granted = v.1;
+      })
+    ]) h
 
 act-none : (a : Act) (r : Reply) → is_decided r ≡ false → told.decided a r ≡ None
 act-none (act.Till till q) r h = ask-none till (asked_by q) (verdict_of r) (verdict-none r h)
@@ -155,30 +187,48 @@ quiet past a r h =
     }
 
 -- a decision of a version in force
-says : (past : List Entry) (till : ℕ) (q : Request) (x : Asked) (r : Reply) (v : Version) (g : Bool) → asked_by q ≡ Some x → verdict_of r ≡ Some (v.number, g) → is_decided r ≡ true → InRange v (versions past) → DecidesOne past (act.Till till q) r
+says : (past : List Entry) (till : ℕ) (q : Request) (x : Asked) (r : Reply) (v : Version) (g : Bool) → asked_by q ≡ Some x → verdict_of r ≡ Some (v.number, g)
+    → is_decided r ≡ true → InRange v (versions past) → DecidesOne past (act.Till till q) r
 says past till q x r v g asks gives is range =
     let made : told.decided (act.Till till q) r ≡ Some (record { till = till; asked = x; version = v.number; is_granted = g }) =
-    (λ i. elim (asks i) as (λ _. Option Decision) [ None ↦ None | Some a ↦ elim (gives i) as (λ _. Option Decision) [ None ↦ None | Some w ↦ Some (record { till = till; asked = a; version = w.0; is_granted = w.1 }) ] ]) in
+    (λ i. elim (asks i) as (λ _. Option Decision) [
+      | None ↦ None
+      | Some a ↦ elim (gives i) as (λ _. Option Decision) [
+        | None ↦ None
+        | Some w ↦ Some (record {
+          till = till;
+          asked = a;
+          version = w.0;
+          is_granted = w.1;
+        })
+      ]
+    ]) in
     record {
       count = ap (λ o. length (option_to_list o)) made ∙ ap (λ (b : Bool). if b then 1 else 0) (sym is);
       fits = subst (λ o. VersionsFit (versions past) (option_to_list o)) (sym made) (range, tt);
     }
 
-verdict-says : (past : List Entry) (s : SiteState) (till moment : ℕ) (q : Question) (v : Version) (n : ℕ) (c : Counters) (r : Request) (x : Asked) (b : Bool) → (n == 0) ≡ b → asked_by r ≡ Some x → InRange v (versions past) → DecidesOne past (act.Till till r) (verdict s till moment q v n c).reply
+verdict-says : (past : List Entry) (s : SiteState) (till moment : ℕ) (q : Question) (v : Version) (n : ℕ) (c : Counters) (r : Request) (x : Asked) (b : Bool)
+    → (n == 0) ≡ b → asked_by r ≡ Some x → InRange v (versions past) → DecidesOne past (act.Till till r) (verdict s till moment q v n c).reply
 verdict-says past s till moment q v n c r x true is asks range =
-    subst (λ e. DecidesOne past (act.Till till r) e.reply) (sym (verdict-deny s till moment n q v c is)) (says past till r x (denied v.number) v false asks refl refl range)
+    subst (λ e. DecidesOne past (act.Till till r) e.reply) (sym (verdict-deny s till moment n q v c is))
+    (says past till r x (denied v.number) v false asks refl refl range)
 verdict-says past s till moment q v n c r x false is asks range =
     let g = grant (record s { counters = c }) till q n in
-    subst (λ e. DecidesOne past (act.Till till r) e.reply) (sym (verdict-grant s till moment n g.0 q v c g.1 is refl)) (says past till r x (reply.Granted g.0 v.number) v true asks refl refl range)
+    subst (λ e. DecidesOne past (act.Till till r) e.reply) (sym (verdict-grant s till moment n g.0 q v c g.1 is refl))
+    (says past till r x (reply.Granted g.0 v.number) v true asks refl refl range)
 
-version-says : (past : List Entry) (s : SiteState) (till moment : ℕ) (q : Question) (r : Request) (x : Asked) (o : Option Version) → in_force q.slot past ≡ o → asked_by r ≡ Some x → DecidesOne past (act.Till till r) (decided past s till moment (Ok q)).reply
+version-says : (past : List Entry) (s : SiteState) (till moment : ℕ) (q : Question) (r : Request) (x : Asked) (o : Option Version) → in_force q.slot past ≡ o
+    → asked_by r ≡ Some x → DecidesOne past (act.Till till r) (decided past s till moment (Ok q)).reply
 version-says past s till moment q r x None none asks =
     subst (λ e. DecidesOne past (act.Till till r) e.reply) (sym (decided-none past s till moment q none)) (quiet past (act.Till till r) _ refl)
 version-says past s till moment q r x (Some v) some asks =
     let y : ℕ × Counters = ran (outcome v.program (bytes_of (context v.program.layout s till moment q)) (view_of s) s.counters) s.counters in
-    subst (λ e. DecidesOne past (act.Till till r) e.reply) (sym (decided-some past s till moment q v some)) (verdict-says past s till moment q v y.0 y.1 r x (y.0 == 0) refl asks (in-range q.slot past v some))
+    subst (λ e. DecidesOne past (act.Till till r) e.reply) (sym (decided-some past s till moment q v some))
+    (verdict-says past s till moment q v y.0 y.1 r x (y.0 == 0) refl asks (in-range q.slot past v some))
 
-question-says : (past : List Entry) (s : SiteState) (till moment : ℕ) (r : Request) (x : Asked) (y : Result Question Reply) → asked_by r ≡ Some x → refuses y ≡ false → DecidesOne past (act.Till till r) (decided past s till moment y).reply
+question-says : (past : List Entry) (s : SiteState) (till moment : ℕ) (r : Request) (x : Asked) (y : Result Question Reply) → asked_by r ≡ Some x
+    → refuses y ≡ false → DecidesOne past (act.Till till r) (decided past s till moment y).reply
 question-says past s till moment r x (Err f) asks silent =
     subst (λ e. DecidesOne past (act.Till till r) e.reply) (sym (decided-refused past s till moment f)) (quiet past (act.Till till r) f silent)
 question-says past s till moment r x (Ok q) asks silent = version-says past s till moment q r x (in_force q.slot past) refl asks
@@ -209,7 +259,8 @@ event-no : (s : SiteState) (n : ℕ) (a : Answer (Option Order)) → is_decided 
 event-no s n (Ok (p, o)) = order-no o
 event-no s n (Err f) = fault-no f
 
-reported-no : (s : SiteState) (n : ℕ) (event : DispenserEvent) (o : Option PointState) → at_number s.points n ≡ o → is_decided (reported s n event).reply ≡ false
+reported-no : (s : SiteState) (n : ℕ) (event : DispenserEvent) (o : Option PointState) → at_number s.points n ≡ o
+    → is_decided (reported s n event).reply ≡ false
 reported-no s n event None at = ap (λ e. is_decided e.reply) (reported-none s n event at)
 reported-no s n event (Some p) at = ap (λ e. is_decided e.reply) (reported-some s n event p at) ∙ event-no s n (event_step p event)
 
@@ -225,32 +276,48 @@ load-no false more v = refl
 
 -- ---- all acts
 
-asked-decides : (config : ConfigValue) (past : List Entry) (s : SiteState) (till moment : ℕ) (r : Request) → DecidesOne past (act.Till till r) (asked config past s till moment r).reply
-asked-decides config past s till moment (request.Release n a) = question-says past s till moment (request.Release n a) kinds.Release (release_question config s n a) refl (release-no config s n a (at_number s.points n) refl)
-asked-decides config past s till moment (request.Preset n a) = question-says past s till moment (request.Preset n a) kinds.Preset (preset_question config s n a) refl (preset-no config s n a (at_number s.points n) refl)
-asked-decides config past s till moment (request.Price n a) = question-says past s till moment (request.Price n a) kinds.Price (price_question config s n a) refl (price-no (first_busy s) n a config.price_slot)
-asked-decides config past s till moment (request.OpenPoint n) = quiet past (act.Till till (request.OpenPoint n)) _ (commanded-no s till n command.OpenPoint (at_number s.points n) refl)
-asked-decides config past s till moment (request.ClosePoint n) = quiet past (act.Till till (request.ClosePoint n)) _ (commanded-no s till n command.ClosePoint (at_number s.points n) refl)
-asked-decides config past s till moment (request.Suspend n) = quiet past (act.Till till (request.Suspend n)) _ (commanded-no s till n command.Suspend (at_number s.points n) refl)
-asked-decides config past s till moment (request.Resume n) = quiet past (act.Till till (request.Resume n)) _ (commanded-no s till n command.Resume (at_number s.points n) refl)
-asked-decides config past s till moment (request.Stop n) = quiet past (act.Till till (request.Stop n)) _ (commanded-no s till n command.Stop (at_number s.points n) refl)
-asked-decides config past s till moment (request.Lock n x) = quiet past (act.Till till (request.Lock n x)) _ (commanded-no s till n (command.Lock x) (at_number s.points n) refl)
-asked-decides config past s till moment (request.Unlock n x) = quiet past (act.Till till (request.Unlock n x)) _ (commanded-no s till n (command.Unlock x) (at_number s.points n) refl)
-asked-decides config past s till moment (request.Clear n x) = quiet past (act.Till till (request.Clear n x)) _ (commanded-no s till n (command.Clear x) (at_number s.points n) refl)
+asked-decides : (config : ConfigValue) (past : List Entry) (s : SiteState) (till moment : ℕ) (r : Request)
+    → DecidesOne past (act.Till till r) (asked config past s till moment r).reply
+asked-decides config past s till moment (request.Release n a) = question-says past s till moment (request.Release n a) kinds.Release
+    (release_question config s n a) refl (release-no config s n a (at_number s.points n) refl)
+asked-decides config past s till moment (request.Preset n a) =
+    question-says past s till moment (request.Preset n a) kinds.Preset (preset_question config s n a) refl (preset-no config s n a (at_number s.points n) refl)
+asked-decides config past s till moment (request.Price n a) =
+    question-says past s till moment (request.Price n a) kinds.Price (price_question config s n a) refl (price-no (first_busy s) n a config.price_slot)
+asked-decides config past s till moment (request.OpenPoint n) =
+    quiet past (act.Till till (request.OpenPoint n)) _ (commanded-no s till n command.OpenPoint (at_number s.points n) refl)
+asked-decides config past s till moment (request.ClosePoint n) =
+    quiet past (act.Till till (request.ClosePoint n)) _ (commanded-no s till n command.ClosePoint (at_number s.points n) refl)
+asked-decides config past s till moment (request.Suspend n) =
+    quiet past (act.Till till (request.Suspend n)) _ (commanded-no s till n command.Suspend (at_number s.points n) refl)
+asked-decides config past s till moment (request.Resume n) =
+    quiet past (act.Till till (request.Resume n)) _ (commanded-no s till n command.Resume (at_number s.points n) refl)
+asked-decides config past s till moment (request.Stop n) =
+    quiet past (act.Till till (request.Stop n)) _ (commanded-no s till n command.Stop (at_number s.points n) refl)
+asked-decides config past s till moment (request.Lock n x) =
+    quiet past (act.Till till (request.Lock n x)) _ (commanded-no s till n (command.Lock x) (at_number s.points n) refl)
+asked-decides config past s till moment (request.Unlock n x) =
+    quiet past (act.Till till (request.Unlock n x)) _ (commanded-no s till n (command.Unlock x) (at_number s.points n) refl)
+asked-decides config past s till moment (request.Clear n x) =
+    quiet past (act.Till till (request.Clear n x)) _ (commanded-no s till n (command.Clear x) (at_number s.points n) refl)
 asked-decides config past s till moment (request.Show n) = quiet past (act.Till till (request.Show n)) _ (show-no s n (at_number s.points n) refl)
 
-till-decides : (config : ConfigValue) (past : List Entry) (s : SiteState) (till moment : ℕ) (r : Request) (b : Bool) → DecidesOne past (act.Till till r) (if b then asked config past s till moment r else replied no_such_till s).reply
+till-decides : (config : ConfigValue) (past : List Entry) (s : SiteState) (till moment : ℕ) (r : Request) (b : Bool)
+    → DecidesOne past (act.Till till r) (if b then asked config past s till moment r else replied no_such_till s).reply
 till-decides config past s till moment r true = asked-decides config past s till moment r
 till-decides config past s till moment r false = quiet past (act.Till till r) no_such_till refl
 
 effect-decides : (config : ConfigValue) (past : List Entry) (s : SiteState) (moment : ℕ) (a : Act) → DecidesOne past a (effect config past s moment a).reply
 effect-decides config past s moment (act.Till till r) = till-decides config past s till moment r (is_till config till)
 effect-decides config past s moment (act.Dispenser n event) = quiet past (act.Dispenser n event) _ (reported-no s n event (at_number s.points n) refl)
-effect-decides config past s moment (act.Load slot mask layout bytes) = quiet past (act.Load slot mask layout bytes) _ (load-no (nat_le slot 15) (nat_lt (versions past) 4096) (versions past + 1))
+effect-decides config past s moment (act.Load slot mask layout bytes) =
+    quiet past (act.Load slot mask layout bytes) _ (load-no (nat_le slot 15) (nat_lt (versions past) 4096) (versions past + 1))
 
 -- ---- the walk
 
-entry-decides : (past : List Entry) (entry : Entry) → DecidesOne past entry.act entry.reply → (length (option_to_list (decision_of entry)) ≡ (if is_decided entry.reply then 1 else 0)) × VersionsFit (versions past) (option_to_list (decision_of entry))
+entry-decides : (past : List Entry) (entry : Entry) → DecidesOne past entry.act entry.reply
+    → (length (option_to_list (decision_of entry)) ≡ (if is_decided entry.reply then 1 else 0))
+    × VersionsFit (versions past) (option_to_list (decision_of entry))
 unfolding decision_of
 entry-decides past entry d = (d.count, d.fits)
 
@@ -258,7 +325,8 @@ one-decision : (entry : Entry) (o : Option Decision) → decision_of entry ≡ o
 one-decision entry None is = rw is refl
 one-decision entry (Some d) is = rw is refl
 
-loaded-long : (number moment : ℕ) (a : Act) (r : Reply) (n : ℕ) → n + length (option_to_list (loaded_at number moment a r)) ≡ (elim (loaded a r) as (λ _. ℕ) [ Some _ ↦ n + 1 | None ↦ n ])
+loaded-long : (number moment : ℕ) (a : Act) (r : Reply) (n : ℕ) → n + length (option_to_list (loaded_at number moment a r))
+    ≡ (elim (loaded a r) as (λ _. ℕ) [ Some _ ↦ n + 1 | None ↦ n ])
 loaded-long number moment (act.Load slot mask layout bytes) (reply.Version v) n = refl
 loaded-long number moment (act.Load slot mask layout bytes) reply.Done n = omega arith
 loaded-long number moment (act.Load slot mask layout bytes) (reply.Granted g v) n = omega arith
@@ -282,20 +350,26 @@ comes-more past entry one h =
     let turned : reverse (entry ∷ past) ≡ reverse past ++ entry ∷ [] = reverse-append (entry ∷ []) past in
     let e = entry-decides past entry one in
     let last : filter_map decision_of (entry ∷ []) ≡ option_to_list (decision_of entry) = one-decision entry (decision_of entry) refl in
-    let split : filter_map decision_of (reverse (entry ∷ past)) ≡ filter_map decision_of (reverse past) ++ option_to_list (decision_of entry) = ap (filter_map decision_of) turned ∙ filter_map-append decision_of (reverse past) (entry ∷ []) ∙ ap (λ xs. filter_map decision_of (reverse past) ++ xs) last in
-    let counts = ap (λ h. count_by (λ (x : Entry). is_decided x.reply) h) turned ∙ sum_by-append (λ (x : Entry). if is_decided x.reply then 1 else 0) (reverse past) (entry ∷ []) in
+    let split : filter_map decision_of (reverse (entry ∷ past)) ≡ filter_map decision_of (reverse past) ++ option_to_list (decision_of entry) =
+    ap (filter_map decision_of) turned ∙ filter_map-append decision_of (reverse past) (entry ∷ []) ∙ ap
+    (λ xs. filter_map decision_of (reverse past) ++ xs) last in
+    let counts = ap (λ h. count_by (λ (x : Entry). is_decided x.reply) h) turned ∙ sum_by-append
+    (λ (x : Entry). if is_decided x.reply then 1 else 0) (reverse past) (entry ∷ []) in
     let single = sum_by-cons (λ (x : Entry). if is_decided x.reply then 1 else 0) entry [] in
     let before = h.count in
     let long = ap length split ∙ length-append (filter_map decision_of (reverse past)) (option_to_list (decision_of entry)) in
     let first = e.0 in
     let none : sum_by (λ (x : Entry). if is_decided x.reply then 1 else 0) [] ≡ 0 = refl in
     let loading = load-long (fold moment_after 0 (reverse past)) entry past in
-    let pushed = ap (λ h. length (loads 0 h)) turned ∙ ap length (loads-push 0 (reverse past) entry) ∙ length-append (loads 0 (reverse past)) (option_to_list (load_of (fold moment_after 0 (reverse past)) entry)) in
+    let pushed = ap (λ h. length (loads 0 h)) turned ∙ ap length (loads-push 0 (reverse past) entry)
+    ∙ length-append (loads 0 (reverse past)) (option_to_list (load_of (fold moment_after 0 (reverse past)) entry)) in
     let were = h.loaded in
     let more : versions past ≤ versions (entry ∷ past) = omega (arith, loading) in
     record {
       count = omega (arith, counts, single, before, long, first, none);
-      fits = subst (VersionsFit (versions (entry ∷ past))) (sym split) (fit-more (versions past) (versions (entry ∷ past)) _ more (fit-append (versions past) (filter_map decision_of (reverse past)) (option_to_list (decision_of entry)) h.fits e.1));
+      fits = subst (VersionsFit (versions (entry ∷ past))) (sym split)
+          (fit-more (versions past) (versions (entry ∷ past)) _ more
+          (fit-append (versions past) (filter_map decision_of (reverse past)) (option_to_list (decision_of entry)) h.fits e.1));
       loaded = omega (arith, pushed, were, loading);
     }
 
@@ -312,6 +386,8 @@ tells config history state legal =
     let same : reverse (reverse history) ≡ history = reverse-reverse history in
     let ds = filter_map decision_of history in
     let loaded : length (loads 0 history) ≡ versions (reverse history) = ap (λ h. length (loads 0 h)) (sym same) ∙ c.loaded in
-    let fits : VersionsFit (length (loads 0 history)) ds = subst (λ n. VersionsFit n ds) (sym loaded) (subst (λ h. VersionsFit (versions (reverse history)) (filter_map decision_of h)) same c.fits) in
-    let count : length ds ≡ count_by (λ (x : Entry). is_decided x.reply) history = subst (λ h. length (filter_map decision_of h) ≡ count_by (λ (x : Entry). is_decided x.reply) h) same c.count in
+    let fits : VersionsFit (length (loads 0 history)) ds =
+    subst (λ n. VersionsFit n ds) (sym loaded) (subst (λ h. VersionsFit (versions (reverse history)) (filter_map decision_of h)) same c.fits) in
+    let count : length ds ≡ count_by (λ (x : Entry). is_decided x.reply) history =
+    subst (λ h. length (filter_map decision_of h) ≡ count_by (λ (x : Entry). is_decided x.reply) h) same c.count in
     (λ i. sum_by (λ v. six v ds i) (range_with_len 1 (length (loads 0 history)))) ∙ all-versions (length (loads 0 history)) ds fits ∙ count

@@ -1,5 +1,6 @@
 -- What a journal tells of its sales is what its site came to.
-use Rattle.std.proofs.Common.{◌≡◌, ℕ, zero, suc, ◌+◌, ◌-◌, ◌<◌, ◌≤◌, Bool, true, false, List, [], ◌∷◌, ◌++◌, length, map, replicate, reverse, Option, Some, None, slice_get, refl, arith, ap, ◌∙◌, sym, subst}
+use Rattle.std.proofs.Common.{◌≡◌, ℕ, zero, suc, ◌+◌, ◌-◌, ◌<◌, ◌≤◌, Bool, true, false, List, [], ◌∷◌, ◌++◌, length, map, replicate, reverse, Option, Some}
+use Rattle.std.proofs.Common.{None, slice_get, refl, arith, ap, ◌∙◌, sym, subst}
 use Rattle.std.specs.Prelude.{if◌then◌else◌, ◌==◌, nat_le, nat_lt, sum_by, option_to_list}
 use Rattle.std.specs.List.{range_with_len}
 use Rattle.std.proofs.lemmas.Bool.Decides.{nat_tests}
@@ -38,15 +39,19 @@ use Rattle.day_report.proofs.SiteSteps.{Tells, effect-says, paid, cents_of, one_
 sold : Entry → Option Clearing → Option Transaction → Option Sale
 sold entry None t = None
 sold entry (Some c) None = None
-sold entry (Some c) (Some t) = Some (record { number = entry.number; moment = entry.moment; till = c.till; point = c.point; amount = t.amount; volume = t.volume })
+sold entry (Some c) (Some t) =
+    Some (record { number = entry.number; moment = entry.moment; till = c.till; point = c.point; amount = t.amount; volume = t.volume })
 
-sale-is : (points : List PointState) (entry : Entry) (o : Option Clearing) (t : Option Transaction) → clearing_of entry.act entry.reply ≡ o → paid points o ≡ t → sale_of points entry ≡ sold entry o t
+sale-is : (points : List PointState) (entry : Entry) (o : Option Clearing) (t : Option Transaction) → clearing_of entry.act entry.reply ≡ o → paid points o ≡ t
+    → sale_of points entry ≡ sold entry o t
 unfolding sale_of sold
 sale-is points entry None t is pays = rw (is, sale_of) refl
 sale-is points entry (Some c) None is pays = rw (is, sale_of) (rw pays refl)
 sale-is points entry (Some c) (Some t) is pays = rw (is, sale_of) (rw pays refl)
 
-sold-sums : (entry : Entry) (o : Option Clearing) (points : List PointState) (t : Option Transaction) → paid points o ≡ t → (cents_in part.All (option_to_list (sold entry o t)) ≡ cents_of (paid points o)) × (count_in part.All (option_to_list (sold entry o t)) ≡ one_of (paid points o))
+sold-sums : (entry : Entry) (o : Option Clearing) (points : List PointState) (t : Option Transaction) → paid points o ≡ t
+    → (cents_in part.All (option_to_list (sold entry o t)) ≡ cents_of (paid points o))
+    × (count_in part.All (option_to_list (sold entry o t)) ≡ one_of (paid points o))
 unfolding sold
 sold-sums entry None points t pays = (refl, refl)
 sold-sums entry (Some c) points None pays = (ap cents_of (sym pays), ap one_of (sym pays))
@@ -54,7 +59,9 @@ sold-sums entry (Some c) points (Some t) pays =
     let e : cents_of (Some t) ≡ cents_of (paid points (Some c)) = ap cents_of (sym pays) in
     (omega (arith, e), ap one_of (sym pays))
 
-sale-of-paid : (points : List PointState) (entry : Entry) → (cents_in part.All (option_to_list (sale_of points entry)) ≡ cents_of (paid points (clearing_of entry.act entry.reply))) × (count_in part.All (option_to_list (sale_of points entry)) ≡ one_of (paid points (clearing_of entry.act entry.reply)))
+sale-of-paid : (points : List PointState) (entry : Entry)
+    → (cents_in part.All (option_to_list (sale_of points entry)) ≡ cents_of (paid points (clearing_of entry.act entry.reply)))
+    × (count_in part.All (option_to_list (sale_of points entry)) ≡ one_of (paid points (clearing_of entry.act entry.reply)))
 sale-of-paid points entry =
     let o = clearing_of entry.act entry.reply in
     let is = sale-is points entry o (paid points o) refl refl in
@@ -113,18 +120,24 @@ of-done a (reply.Order o) c h = absurd (cc)
 of-done a (reply.Point b d e f g i j) c h = absurd (cc)
 of-done a (reply.Refused n v) c h = absurd (cc)
 
-till-clears : (config : ConfigValue) (past : List Entry) (s : SiteState) (till moment : ℕ) (r : Request) (b : Bool) (c : Clearing) → is_till config till ≡ b → clearing_of (act.Till till r) (if b then asked config past s till moment r else replied no_such_till s).reply ≡ Some c → is_till config c.till ≡ true
-till-clears config past s till moment r true c is h = ap (is_till config) (some-till till r c (of-done (act.Till till r) (asked config past s till moment r).reply c h)) ∙ is
+till-clears : (config : ConfigValue) (past : List Entry) (s : SiteState) (till moment : ℕ) (r : Request) (b : Bool) (c : Clearing) → is_till config till ≡ b
+    → clearing_of (act.Till till r) (if b then asked config past s till moment r else replied no_such_till s).reply ≡ Some c → is_till config c.till ≡ true
+till-clears config past s till moment r true c is h =
+    ap (is_till config) (some-till till r c (of-done (act.Till till r) (asked config past s till moment r).reply c h)) ∙ is
 till-clears config past s till moment r false c is h = absurd (cc)
 
-effect-clears : (config : ConfigValue) (past : List Entry) (s : SiteState) (moment : ℕ) (a : Act) (c : Clearing) → clearing_of a (effect config past s moment a).reply ≡ Some c → is_till config c.till ≡ true
+effect-clears : (config : ConfigValue) (past : List Entry) (s : SiteState) (moment : ℕ) (a : Act) (c : Clearing)
+    → clearing_of a (effect config past s moment a).reply ≡ Some c → is_till config c.till ≡ true
 effect-clears config past s moment (act.Till till r) c h = till-clears config past s till moment r (is_till config till) c refl h
 effect-clears config past s moment (act.Dispenser n event) c h = none-clearing (act.Dispenser n event) _ c refl h
 effect-clears config past s moment (act.Load slot mask layout bytes) c h = none-clearing (act.Load slot mask layout bytes) _ c refl h
 
 -- a point that pays is there
-there : (points : List PointState) (n x : ℕ) (t : Transaction) (o : Option PointState) → at_number points n ≡ o → unpaid_at points n x ≡ Some t → (p : PointState) × (at_number points n ≡ Some p)
-there points n x t None is h = absurd (let e : ◌≡◌ {A = Option Transaction} None (Some t) = sym (ap (λ o. elim o as (λ _. Option Transaction) [ None ↦ None | Some p ↦ find_number x p.unpaid ]) is) ∙ h in cc)
+there : (points : List PointState) (n x : ℕ) (t : Transaction) (o : Option PointState) → at_number points n ≡ o → unpaid_at points n x ≡ Some t
+    → (p : PointState) × (at_number points n ≡ Some p)
+there points n x t None is h =
+    absurd (let e : ◌≡◌ {A = Option Transaction} None (Some t) = sym
+    (ap (λ o. elim o as (λ _. Option Transaction) [ None ↦ None | Some p ↦ find_number x p.unpaid ]) is) ∙ h in cc)
 there points n x t (Some p) is h = (p, is)
 
 short : (points : List PointState) (k : ℕ) (p : PointState) → slice_get points k ≡ Some p → k < length points
@@ -132,7 +145,8 @@ short [] k p h = absurd (cc)
 short (x ∷ points) zero p h = omega arith
 short (x ∷ points) (suc k) p h = let l : k < length points = short points k p h in omega (arith, l)
 
-in-bounds : (points : List PointState) (n : ℕ) (p : PointState) (b : Bool) → nat_le 1 n ≡ b → (if b then slice_get points (n - 1) else None) ≡ Some p → (1 ≤ n) × (n ≤ length points)
+in-bounds : (points : List PointState) (n : ℕ) (p : PointState) (b : Bool) → nat_le 1 n ≡ b → (if b then slice_get points (n - 1) else None) ≡ Some p
+    → (1 ≤ n) × (n ≤ length points)
 in-bounds points n p true is h =
     let one : 1 ≤ n = grind (arith, nat_tests, is) in
     let l : n - 1 < length points = short points (n - 1) p h in
@@ -159,7 +173,10 @@ record Comes (config : ConfigValue) (past : List Entry) (s : SiteState) : Type 0
 reverse-more : (entry : Entry) (past : List Entry) → reverse (entry ∷ past) ≡ reverse past ++ entry ∷ []
 reverse-more entry past = reverse-append (entry ∷ []) past
 
-entry-tells : (config : ConfigValue) (past : List Entry) (b : SiteState) (entry : Entry) (e : Effect) → entry ≡ entry_of past entry.pass entry.moment entry.act e → Tells b entry.act e → (with_entry b.points entry ≡ e.after.points) × (e.after.cleared ≡ b.cleared + cents_of (paid b.points (clearing_of entry.act entry.reply))) × (e.after.clears ≡ b.clears + one_of (paid b.points (clearing_of entry.act entry.reply)))
+entry-tells : (config : ConfigValue) (past : List Entry) (b : SiteState) (entry : Entry) (e : Effect)
+    → entry ≡ entry_of past entry.pass entry.moment entry.act e → Tells b entry.act e
+    → (with_entry b.points entry ≡ e.after.points) × (e.after.cleared ≡ b.cleared + cents_of (paid b.points (clearing_of entry.act entry.reply)))
+    × (e.after.clears ≡ b.clears + one_of (paid b.points (clearing_of entry.act entry.reply)))
 unfolding with_entry
 entry-tells config past b entry e is tells =
     let answered : entry.reply ≡ e.reply = ap (λ (x : Entry). x.reply) is in (
@@ -173,15 +190,18 @@ opening-long : (points : List (ℕ × ℕ)) → length (map (λ (_ : ℕ × ℕ)
 opening-long [] = refl
 opening-long (p ∷ points) = ap suc (opening-long points)
 
-changed-long : (points : List PointState) (n : ℕ) (becomes : PointState → PointState) (o : Option PointState) → at_number points n ≡ o → length (with_changed points n becomes) ≡ length points
+changed-long : (points : List PointState) (n : ℕ) (becomes : PointState → PointState) (o : Option PointState) → at_number points n ≡ o
+    → length (with_changed points n becomes) ≡ length points
 changed-long points n becomes None is = ap length (changed-nowhere points n becomes is)
 changed-long points n becomes (Some p) is = ap length (changed-at points n p becomes is) ∙ length-set points (n - 1) (becomes p)
 
-if-long : (points : List PointState) (n : ℕ) (becomes : PointState → PointState) (b : Bool) → length (if b then with_changed points n becomes else points) ≡ length points
+if-long : (points : List PointState) (n : ℕ) (becomes : PointState → PointState) (b : Bool)
+    → length (if b then with_changed points n becomes else points) ≡ length points
 if-long points n becomes true = changed-long points n becomes (at_number points n) refl
 if-long points n becomes false = refl
 
-told-long : (points : List PointState) (till : ℕ) (o : Option (ℕ × Command)) → length (elim o as (λ _. List PointState) [ None ↦ points | Some c ↦ with_command points till c ]) ≡ length points
+told-long : (points : List PointState) (till : ℕ) (o : Option (ℕ × Command))
+    → length (elim o as (λ _. List PointState) [ None ↦ points | Some c ↦ with_command points till c ]) ≡ length points
 told-long points till None = refl
 told-long points till (Some c) = if-long points c.0 (λ p. after_command p till c.1) (nat_lt 0 till)
 
@@ -195,7 +215,9 @@ unfolding with_entry
 entry-long points entry = act-long points entry.act entry.reply
 
 -- the sale of an entry is at a point and by a till of the site
-sold-fits : (config : ConfigValue) (points : List PointState) (entry : Entry) (o : Option Clearing) (t : Option Transaction) → length points ≡ length config.points → ((c : Clearing) → o ≡ Some c → is_till config c.till ≡ true) → paid points o ≡ t → Fit config (option_to_list (sold entry o t))
+sold-fits : (config : ConfigValue) (points : List PointState) (entry : Entry) (o : Option Clearing) (t : Option Transaction)
+    → length points ≡ length config.points → ((c : Clearing) → o ≡ Some c → is_till config c.till ≡ true) → paid points o ≡ t
+    → Fit config (option_to_list (sold entry o t))
 unfolding sold
 sold-fits config points entry None t long tills pays = tt
 sold-fits config points entry (Some c) None long tills pays = tt
@@ -209,26 +231,37 @@ sold-fits config points entry (Some c) (Some t) long tills pays =
     let few : c.point ≤ length points = w.1 in
     (record { some_point = some; point = omega (arith, few, long); some_till = least; till = most }, tt)
 
-sale-fits : (config : ConfigValue) (past : List Entry) (b : SiteState) (entry : Entry) (o : Option Clearing) (t : Option Transaction) → length b.points ≡ length config.points → entry ≡ entry_of past entry.pass entry.moment entry.act (effect config past b entry.moment entry.act) → clearing_of entry.act entry.reply ≡ o → paid b.points o ≡ t → Fit config (option_to_list (sale_of b.points entry))
+sale-fits : (config : ConfigValue) (past : List Entry) (b : SiteState) (entry : Entry) (o : Option Clearing) (t : Option Transaction)
+    → length b.points ≡ length config.points → entry ≡ entry_of past entry.pass entry.moment entry.act (effect config past b entry.moment entry.act)
+    → clearing_of entry.act entry.reply ≡ o → paid b.points o ≡ t → Fit config (option_to_list (sale_of b.points entry))
 sale-fits config past b entry o t long is clears pays =
     let answered : entry.reply ≡ (effect config past b entry.moment entry.act).reply = ap (λ (x : Entry). x.reply) is in
-    let tills : (c : Clearing) → o ≡ Some c → is_till config c.till ≡ true = λ c some. effect-clears config past b entry.moment entry.act c (ap (clearing_of entry.act) (sym answered) ∙ clears ∙ some) in
+    let tills : (c : Clearing) → o ≡ Some c → is_till config c.till ≡ true =
+    λ c some. effect-clears config past b entry.moment entry.act c (ap (clearing_of entry.act) (sym answered) ∙ clears ∙ some) in
     subst (λ x. Fit config (option_to_list x)) (sym (sale-is b.points entry o t clears pays)) (sold-fits config b.points entry o t long tills pays)
 
-comes-more : (config : ConfigValue) (past : List Entry) (b s : SiteState) (entry : Entry) → Comes config past b → entry ≡ entry_of past entry.pass entry.moment entry.act (effect config past b entry.moment entry.act) → s ≡ (effect config past b entry.moment entry.act).after → Comes config (entry ∷ past) s
+comes-more : (config : ConfigValue) (past : List Entry) (b s : SiteState) (entry : Entry) → Comes config past b
+    → entry ≡ entry_of past entry.pass entry.moment entry.act (effect config past b entry.moment entry.act)
+    → s ≡ (effect config past b entry.moment entry.act).after → Comes config (entry ∷ past) s
 comes-more config past b s entry h is leaves =
     let e : Effect = effect config past b entry.moment entry.act in
     let start : List PointState = closed_points (length config.points) in
     let told = entry-tells config past b entry e is (effect-says config past b entry.moment entry.act) in
-    let stands : stand start (reverse (entry ∷ past)) ≡ with_entry b.points entry = ap (stand start) (reverse-more entry past) ∙ stand-push start (reverse past) entry ∙ ap (λ p. with_entry p entry) h.points in
-    let sells : sales start (reverse (entry ∷ past)) ≡ sales start (reverse past) ++ option_to_list (sale_of b.points entry) = ap (sales start) (reverse-more entry past) ∙ sales-push start (reverse past) entry ∙ ap (λ p. sales start (reverse past) ++ option_to_list (sale_of p entry)) h.points in
+    let stands : stand start (reverse (entry ∷ past)) ≡ with_entry b.points entry =
+    ap (stand start) (reverse-more entry past) ∙ stand-push start (reverse past) entry ∙ ap (λ p. with_entry p entry) h.points in
+    let sells : sales start (reverse (entry ∷ past)) ≡ sales start (reverse past) ++ option_to_list (sale_of b.points entry) =
+    ap (sales start) (reverse-more entry past) ∙ sales-push start (reverse past) entry ∙ ap
+    (λ p. sales start (reverse past) ++ option_to_list (sale_of p entry)) h.points in
     let pays = sale-of-paid b.points entry in
     record {
       points = stands ∙ told.0 ∙ ap (λ (x : SiteState). x.points) (sym leaves);
-      count = ap (count_in part.All) sells ∙ sum_by-append _ (sales start (reverse past)) (option_to_list (sale_of b.points entry)) ∙ (λ i. h.count i + pays.1 i) ∙ sym told.2 ∙ ap (λ (x : SiteState). x.clears) (sym leaves);
-      cents = ap (cents_in part.All) sells ∙ sum_by-append _ (sales start (reverse past)) (option_to_list (sale_of b.points entry)) ∙ (λ i. h.cents i + pays.0 i) ∙ sym told.1 ∙ ap (λ (x : SiteState). x.cleared) (sym leaves);
+      count = ap (count_in part.All) sells ∙ sum_by-append _ (sales start (reverse past)) (option_to_list (sale_of b.points entry))
+          ∙ (λ i. h.count i + pays.1 i) ∙ sym told.2 ∙ ap (λ (x : SiteState). x.clears) (sym leaves);
+      cents = ap (cents_in part.All) sells ∙ sum_by-append _ (sales start (reverse past)) (option_to_list (sale_of b.points entry))
+          ∙ (λ i. h.cents i + pays.0 i) ∙ sym told.1 ∙ ap (λ (x : SiteState). x.cleared) (sym leaves);
       long = ap (λ (x : SiteState). length x.points) leaves ∙ ap length (sym told.0) ∙ entry-long b.points entry ∙ h.long;
-      fits = subst (Fit config) (sym sells) (fit-append config (sales start (reverse past)) (option_to_list (sale_of b.points entry)) h.fits (sale-fits config past b entry (clearing_of entry.act entry.reply) (paid b.points (clearing_of entry.act entry.reply)) h.long is refl refl));
+      fits = subst (Fit config) (sym sells) (fit-append config (sales start (reverse past)) (option_to_list (sale_of b.points entry)) h.fits
+          (sale-fits config past b entry (clearing_of entry.act entry.reply) (paid b.points (clearing_of entry.act entry.reply)) h.long is refl refl));
     }
 
 comes : (config : ConfigValue) (past : List Entry) (s : SiteState) → Legal config past s → Comes config past s
@@ -249,7 +282,9 @@ none-key a (suc n) x v below =
     let no : (x == a) ≡ false = grind (arith, nat_tests, below) in
     sum_by-cons (λ k. if x == k then v else 0) a (range_with_len (a + 1) n) ∙ (λ i. (if no i then v else 0) + none-key (a + 1) n x v (omega arith) i)
 
-by-first : (a n x v : ℕ) (b : Bool) → (x == a) ≡ b → a ≤ x → (x < a + suc n) → (a + 1 ≤ x → x < a + 1 + n → sum_by (λ k. if x == k then v else 0) (range_with_len (a + 1) n) ≡ v) → sum_by (λ k. if x == k then v else 0) (a ∷ range_with_len (a + 1) n) ≡ v
+by-first : (a n x v : ℕ) (b : Bool) → (x == a) ≡ b → a ≤ x → (x < a + suc n)
+    → (a + 1 ≤ x → x < a + 1 + n → sum_by (λ k. if x == k then v else 0) (range_with_len (a + 1) n) ≡ v)
+    → sum_by (λ k. if x == k then v else 0) (a ∷ range_with_len (a + 1) n) ≡ v
 by-first a n x v true is least less later =
     let same : x < a + 1 = grind (arith, nat_tests, is) in
     let rest : sum_by (λ k. if x == k then v else 0) (range_with_len (a + 1) n) ≡ 0 = none-key (a + 1) n x v same in
@@ -282,7 +317,8 @@ abbrev KeysFit : (Sale → ℕ) → ℕ → ℕ → List Sale → Type 0
 KeysFit key a n [] = Unit {0}
 KeysFit key a n (sale ∷ sales) = ((a ≤ key sale) × (key sale < a + n)) × KeysFit key a n sales
 
-all-keys : (key : Sale → ℕ) (a n : ℕ) (sales : List Sale) → KeysFit key a n sales → sum_by (λ k. sum_by (λ (sale : Sale). if key sale == k then sale.amount else 0) sales) (range_with_len a n) ≡ sum_by (λ (sale : Sale). sale.amount) sales
+all-keys : (key : Sale → ℕ) (a n : ℕ) (sales : List Sale) → KeysFit key a n sales
+    → sum_by (λ k. sum_by (λ (sale : Sale). if key sale == k then sale.amount else 0) sales) (range_with_len a n) ≡ sum_by (λ (sale : Sale). sale.amount) sales
 all-keys key a n [] fits = no-keys (range_with_len a n)
 all-keys key a n (s ∷ sales) fits =
     let one : ℕ → ℕ = λ k. if key s == k then s.amount else 0 in
@@ -298,7 +334,8 @@ point-keys config (s ∷ sales) f = let l : s.point ≤ length config.points = f
 
 till-keys : (config : ConfigValue) (tills : ℕ) (sales : List Sale) → config.tills ≤ tills → Fit config sales → KeysFit (λ (s : Sale). s.till) 1 tills sales
 till-keys config tills [] most f = tt
-till-keys config tills (s ∷ sales) most f = let l : s.till ≤ config.tills = f.0.till in ((f.0.some_till, omega (arith, l, most)), till-keys config tills sales most f.1)
+till-keys config tills (s ∷ sales) most f = let l : s.till ≤ config.tills =
+    f.0.till in ((f.0.some_till, omega (arith, l, most)), till-keys config tills sales most f.1)
 
 pub tells : SalesTellTheSite
 tells config history state legal =
@@ -311,5 +348,6 @@ tells config history state legal =
       count = ap (λ h. count_in part.All (sales_of config h)) (sym same) ∙ c.count;
       cents = cents;
       by_point = all-keys (λ (s : Sale). s.point) 1 (length config.points) (sales_of config history) (point-keys config (sales_of config history) fits) ∙ cents;
-      by_till = λ tills most. all-keys (λ (s : Sale). s.till) 1 tills (sales_of config history) (till-keys config tills (sales_of config history) most fits) ∙ cents;
+      by_till = λ tills most. all-keys (λ (s : Sale). s.till) 1 tills (sales_of config history) (till-keys config tills (sales_of config history) most fits)
+          ∙ cents;
     }

@@ -62,7 +62,8 @@ moment_after moment entry = if entry.moment == 0 then moment else entry.moment
 
 -- a load that was answered with a version: its entry, slot and version, and the moment that was told last before it
 abbrev pub loaded_at : ℕ → ℕ → Act → Reply → Option Load
-loaded_at number moment (act.Load slot mask layout bytes) (reply.Version version) = Some (record { number = number; moment = moment; slot = slot; version = version })
+loaded_at number moment (act.Load slot mask layout bytes) (reply.Version version) =
+    Some (record { number = number; moment = moment; slot = slot; version = version })
 loaded_at number moment _ _ = None
 
 unfoldable pub load_of : ℕ → Entry → Option Load

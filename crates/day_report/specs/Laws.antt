@@ -42,4 +42,5 @@ decided_in_all v ds =
 abbrev pub VersionsTellAllDecisions : Type 0
 VersionsTellAllDecisions =
     (config : ConfigValue) (history : List Entry) (state : SiteState) → LegalHistory config history state →
-    sum_by (λ v. decided_in_all v (filter_map decision_of history)) (range_with_len 1 (length (loads 0 history))) ≡ count_by (λ (entry : Entry). is_decided entry.reply) history
+    sum_by (λ v. decided_in_all v (filter_map decision_of history)) (range_with_len 1 (length (loads 0 history))) ≡ count_by
+    (λ (entry : Entry). is_decided entry.reply) history

@@ -5,7 +5,8 @@ ghost use Rattle.std.specs.List.{filter_map};
 ghost use Rattle.day_report.specs.Walk.{stand, closed_points};
 ghost use Rattle.day_report.specs.Sales.{sales};
 ghost use Rattle.day_report.specs.Decisions.{decision_of, refusal_of, price_change_of, loads};
-ghost use Rattle.day_report.specs.Totals.{IsSum, SumsUp, CountsRefusals, HasOutcomes, DecidedByTills, versions_of, unpaid_transaction, unpaid_of, part_of_point, part_of_till, part_of_hour};
+ghost use Rattle.day_report.specs.Totals.{IsSum, SumsUp, CountsRefusals, HasOutcomes, DecidedByTills, versions_of};
+ghost use Rattle.day_report.specs.Totals.{unpaid_transaction, unpaid_of, part_of_point, part_of_till, part_of_hour};
 ghost use Rattle.day_report.specs.declared.sales.Part.TheVariants as part;
 ghost use Rattle.day_report.specs.declared.counting.Deciding.TheVariants as deciding;
 
@@ -202,21 +203,31 @@ pub fn add_up(alloc: Global, points: usize, entries: &[Entry]) -> Result<Totals,
     requires points { points ≤ 1000 }
     ensures entries { IfOk result (λ t. t.entries ≡ length entries.now) }
     ensures sold { IfOk result (λ t. IsSum t.sold part.All (sales (closed_points points) entries.now)) }
-    ensures by_point { IfOk result (λ t. SumsUp part_of_point points t.by_point.items (sales (closed_points points) entries.now)) }
-    ensures by_till { IfOk result (λ t. SumsUp part_of_till 64 t.by_till.items (sales (closed_points points) entries.now)) }
-    ensures by_hour { IfOk result (λ t. SumsUp part_of_hour 24 t.by_hour.items (sales (closed_points points) entries.now)) }
+    ensures by_point { IfOk result
+        (λ t. SumsUp part_of_point points t.by_point.items (sales (closed_points points) entries.now)) }
+    ensures by_till { IfOk result
+        (λ t. SumsUp part_of_till 64 t.by_till.items (sales (closed_points points) entries.now)) }
+    ensures by_hour { IfOk result
+        (λ t. SumsUp part_of_hour 24 t.by_hour.items (sales (closed_points points) entries.now)) }
     ensures points { IfOk result (λ t. t.points.items ≡ stand (closed_points points) entries.now) }
     ensures refused { IfOk result (λ t. CountsRefusals t.refused.items (filter_map refusal_of entries.now)) }
     ensures loads { IfOk result (λ t. t.loads.items ≡ loads 0 entries.now) }
     ensures prices { IfOk result (λ t. t.prices.items ≡ filter_map price_change_of entries.now) }
     ensures unpaid { IfOk result (λ t. t.unpaid.items ≡ unpaid_of (stand (closed_points points) entries.now)) }
-    ensures unpaid_cents { IfOk result (λ t. t.unpaid_cents ≡ sum_by (λ (u : Unpaid). u.amount) (unpaid_of (stand (closed_points points) entries.now))) }
-    ensures granted { IfOk result (λ t. t.granted ≡ count_by (λ (d : Decision). d.is_granted) (filter_map decision_of entries.now)) }
-    ensures denied { IfOk result (λ t. t.denied ≡ count_by (λ (d : Decision). not d.is_granted) (filter_map decision_of entries.now)) }
-    ensures tills { IfOk result (λ t. DecidedByTills 64 (versions_of entries.now) (filter_map decision_of entries.now) t.tills.items) }
-    ensures releases { IfOk result (λ t. HasOutcomes deciding.Releases (versions_of entries.now) (filter_map decision_of entries.now) t.releases) }
-    ensures presets { IfOk result (λ t. HasOutcomes deciding.Presets (versions_of entries.now) (filter_map decision_of entries.now) t.presets) }
-    ensures price_requests { IfOk result (λ t. HasOutcomes deciding.Prices (versions_of entries.now) (filter_map decision_of entries.now) t.price_requests) }
+    ensures unpaid_cents { IfOk result
+        (λ t. t.unpaid_cents ≡ sum_by (λ (u : Unpaid). u.amount) (unpaid_of (stand (closed_points points) entries.now))) }
+    ensures granted { IfOk result
+        (λ t. t.granted ≡ count_by (λ (d : Decision). d.is_granted) (filter_map decision_of entries.now)) }
+    ensures denied { IfOk result
+        (λ t. t.denied ≡ count_by (λ (d : Decision). not d.is_granted) (filter_map decision_of entries.now)) }
+    ensures tills { IfOk result
+        (λ t. DecidedByTills 64 (versions_of entries.now) (filter_map decision_of entries.now) t.tills.items) }
+    ensures releases { IfOk result
+        (λ t. HasOutcomes deciding.Releases (versions_of entries.now) (filter_map decision_of entries.now) t.releases) }
+    ensures presets { IfOk result
+        (λ t. HasOutcomes deciding.Presets (versions_of entries.now) (filter_map decision_of entries.now) t.presets) }
+    ensures price_requests { IfOk result
+        (λ t. HasOutcomes deciding.Prices (versions_of entries.now) (filter_map decision_of entries.now) t.price_requests) }
 {
     let found = find_sales(alloc, points, entries)?;
     let loads = loads(alloc, entries)?;

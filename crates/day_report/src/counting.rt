@@ -1,6 +1,7 @@
 //! How often each version granted and denied, and how often each number was refused.
 
-ghost use Rattle.std.specs.Prelude.{◌≡◌, ◌==◌, ◌&&◌, ◌+◌, ◌<◌, ◌≤◌, ℕ, if◌then◌else◌, All, IfOk, length, slice_index, count_by};
+ghost use Rattle.std.specs.Prelude.{◌≡◌, ◌==◌, ◌&&◌, ◌+◌, ◌<◌, ◌≤◌, ℕ, if◌then◌else◌, All, IfOk, length, slice_index};
+ghost use Rattle.std.specs.Prelude.{count_by};
 ghost use Rattle.day_report.specs.Totals.{is_among, has_outcome, is_wanted, decided_by};
 
 use crate::rulings::{Asked, Decision};
@@ -45,7 +46,8 @@ fn is_wanted(part: Deciding, granted: bool, decision: &Decision) -> bool
 fn count_if(counts: &mut [u64], at: usize, wanted: bool)
     requires { All (λ n. n ≤ 18446744073709551614) counts.old }
     ensures length { length counts.new ≡ length counts.old }
-    ensures each { (v : ℕ) → v < length counts.old → slice_index counts.new v ≡ slice_index counts.old v + (if wanted && at == v then 1 else 0) }
+    ensures each { (v : ℕ) → v < length counts.old → slice_index counts.new v ≡ slice_index counts.old v
+        + (if wanted && at == v then 1 else 0) }
 {
     if wanted && at < counts.len() {
         counts[at] += 1;
@@ -62,7 +64,8 @@ pub fn tally(
     granted: bool,
 ) -> Result<Vec<u64>, AllocError>
     ensures length { IfOk result (λ counts. length counts.items ≡ versions) }
-    ensures counts { IfOk result (λ counts. (v : ℕ) → v < versions → slice_index counts.items v ≡ decided_by part granted v decisions.now) }
+    ensures counts { IfOk result
+        (λ counts. (v : ℕ) → v < versions → slice_index counts.items v ≡ decided_by part granted v decisions.now) }
 {
     let mut counts = vec![in alloc; 0u64; versions]?;
     for decision in decisions {

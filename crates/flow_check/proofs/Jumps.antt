@@ -1,5 +1,6 @@
 -- The first jump at fault, and what holds where there is none.
-use Rattle.std.proofs.Common.{◌≡◌, ℕ, zero, suc, ◌+◌, ◌<◌, ◌≤◌, ◌⊎◌, List, [], ◌∷◌, Option, Some, None, refl, sym, ap, ◌∙◌, subst, inl, inr, arith, add-one, length}
+use Rattle.std.proofs.Common.{◌≡◌, ℕ, zero, suc, ◌+◌, ◌<◌, ◌≤◌, ◌⊎◌, List, [], ◌∷◌, Option, Some, None, refl, sym, ap, ◌∙◌, subst, inl, inr, arith, add-one}
+use Rattle.std.proofs.Common.{length}
 use Rattle.std.specs.Prelude.{slice_get, ℤ, pos, negsuc, IfSome}
 use Rattle.std.proofs.lemmas.Bool.{cases_lt}
 use Rattle.std.proofs.lemmas.Bool.Decides.{nat_tests}
@@ -15,11 +16,13 @@ below_suc : (p m : ℕ) → p < suc m → (p ≡ m) ⊎ (p < m)
 below_suc p m h = elim (cases_lt p m) [ inl l ↦ inr l | inr g ↦ inl (omega arith) ]
 
 -- the first fault stays the first
-pub fault_stays : (us : List ProgramUnit) (pc n : ℕ) (f : JumpFault) → pc < n → flow_fault_below us pc ≡ None → jump_fault us pc ≡ Some f → flow_fault_below us n ≡ Some (pc, f)
+pub fault_stays : (us : List ProgramUnit) (pc n : ℕ) (f : JumpFault) → pc < n → flow_fault_below us pc ≡ None → jump_fault us pc ≡ Some f
+    → flow_fault_below us n ≡ Some (pc, f)
 fault_stays us pc zero f lt a b = absurd (omega arith)
 fault_stays us pc (suc m) f lt a b =
     elim (below_suc pc m lt) [
-      | inl e ↦ subst (λ k. or_first (flow_fault_below us k) k (jump_fault us k) ≡ Some (pc, f)) e (ap (λ o. or_first o pc (jump_fault us pc)) a ∙ ap (or_first None pc) b)
+      | inl e ↦ subst (λ k. or_first (flow_fault_below us k) k (jump_fault us k) ≡ Some (pc, f)) e (ap (λ o. or_first o pc (jump_fault us pc)) a
+          ∙ ap (or_first None pc) b)
       | inr h ↦ ap (λ o. or_first o m (jump_fault us m)) (fault_stays us pc m f h a b)
     ]
 
@@ -60,7 +63,8 @@ lands us to (Some (Second v)) e h = absurd (cc)
 reaches : (k n : ℕ) → k + n ≤ 512 → shifted k (pos n) 512 ≡ Some (k + n)
 reaches k n l = grind (arith, nat_tests)
 
-goes : (us : List ProgramUnit) (pc : ℕ) (z : ℤ) → length us ≤ 512 → distance_fault us pc (Some z) ≡ None → (to : ℕ) × (shifted (pc + 1) z 512 ≡ Some to) × IsAhead us pc to
+goes : (us : List ProgramUnit) (pc : ℕ) (z : ℤ) → length us ≤ 512 → distance_fault us pc (Some z) ≡ None
+    → (to : ℕ) × (shifted (pc + 1) z 512 ≡ Some to) × IsAhead us pc to
 goes us pc (negsuc n) small e = absurd (cc)
 goes us pc (pos n) small e =
     let at = lands us (pc + 1 + n) (slice_get us (pc + 1 + n)) refl e in
@@ -79,7 +83,8 @@ goes_forward us small e =
 some_same : (a b : ℕ) → Some a ≡ Some b → a ≡ b
 some_same a b e = cc
 
-target_by : (us : List ProgramUnit) (pc to : ℕ) (o : Option ℤ) → GoesForward us → distance_at us pc ≡ o → and_then o (λ z. shifted (pc + 1) z 512) ≡ Some to → IsAhead us pc to
+target_by : (us : List ProgramUnit) (pc to : ℕ) (o : Option ℤ) → GoesForward us → distance_at us pc ≡ o → and_then o (λ z. shifted (pc + 1) z 512) ≡ Some to
+    → IsAhead us pc to
 target_by us pc to None h e t = absurd (cc)
 target_by us pc to (Some z) h e t =
     let j = h.jumps pc z e in

@@ -3,7 +3,8 @@
 
 ghost use Rattle.std.specs.Prelude.{◌≡◌, ℕ, ◌+◌, ◌≤◌, ◌<◌, length, slice_get, IfOk, IfErr, IfSome, Some, None};
 ghost use Rattle.bpf_model.specs.Reading.{form_of};
-ghost use Rattle.bpf_model.specs.Flow.{distance_by, distance_of, distance_fault, jump_fault, landing_fault, flow_fault, target, IsAhead, GoesForward};
+ghost use Rattle.bpf_model.specs.Flow.{distance_by, distance_of, distance_fault, jump_fault, landing_fault, flow_fault};
+ghost use Rattle.bpf_model.specs.Flow.{target, IsAhead, GoesForward};
 ghost use Rattle.flow_check.specs.Faults.{IsShown, numbered};
 
 use bpf_decode::{Code, Inst, Unit};

@@ -14,8 +14,8 @@ use helpers::View;
 use reg_types::Program;
 
 /// A run and its answer depend on the declared counters alone: where the program answered on the counters `before` and
-/// left those of `after`, it gives the same answer on `now`, whose declared counters are those of `before`. The declared
-/// counters of `now` become those of `after`, and the others stay, as that run would leave them.
+/// left those of `after`, it gives the same answer on `now`, whose declared counters are those of `before`. The
+/// declared counters of `now` become those of `after`, and the others stay, as that run would leave them.
 pub fn rebase(
     program: &Program,
     context: &Context,

@@ -24,39 +24,48 @@ use Rattle.job_texts.specs.declared.told.Told.{Told}
 use Rattle.job_texts.specs.Told.{IsSaid}
 use Rattle.job_texts.specs.AuditTold.{AuditTells, JournalTells, audit_text, legal_text, journal_fault_text}
 
-pub told-legal : {E : Type 0} → (config : ConfigValue) (entries : List Entry) (site : SiteValue) (r : Result Told E) → site.config ≡ config → site.history ≡ entries → Upholds site → IfOk r (λ told. IsSaid told (legal_text entries) 0) → IfOk r (AuditTells config entries)
+pub told-legal : {E : Type 0} → (config : ConfigValue) (entries : List Entry) (site : SiteValue) (r : Result Told E) → site.config ≡ config
+    → site.history ≡ entries → Upholds site → IfOk r (λ told. IsSaid told (legal_text entries) 0) → IfOk r (AuditTells config entries)
 told-legal config entries site (Ok told) c h u said = inl (subst (IsHistory config) h (subst (λ x. IsHistory x site.history) c (upheld site u)), said)
 told-legal config entries site (Err e) c h u said = tt
 
-pub told-fault : {E : Type 0} → (config : ConfigValue) (entries : List Entry) (fault : AuditFault) (r : Result Told E) → (IsHistory config entries → fault ≡ OutOfMemory) → ShowsFault config entries fault → IfOk r (λ told. IsSaid told (audit_text fault) 1) → IfOk r (λ told. fault ≢ OutOfMemory) → IfOk r (AuditTells config entries)
-told-fault config entries fault (Ok told) complete shows said differs = inr (record { none = λ h. differs (complete h); fault = fault; shows = shows; said = said })
+pub told-fault : {E : Type 0} → (config : ConfigValue) (entries : List Entry) (fault : AuditFault) (r : Result Told E)
+    → (IsHistory config entries → fault ≡ OutOfMemory) → ShowsFault config entries fault → IfOk r (λ told. IsSaid told (audit_text fault) 1)
+    → IfOk r (λ told. fault ≢ OutOfMemory) → IfOk r (AuditTells config entries)
+told-fault config entries fault (Ok told) complete shows said differs =
+    inr (record { none = λ h. differs (complete h); fault = fault; shows = shows; said = said })
 told-fault config entries fault (Err e) complete shows said differs = tt
 
 -- the whole text was read
 module _ (text : List ℕ) (entries : List Entry) where
   all-is : (new : Option (List ℕ)) → Consumes (Some text) new (journal_text entries ++ []) → IsAtEnd new → text ≡ journal_text entries
   all-is None taken at_end = absurd taken
-  all-is (Some more) taken at_end = taken ∙ ap (λ m. (journal_text entries ++ []) ++ m) at_end ∙ append-nil (journal_text entries ++ []) ∙ append-nil (journal_text entries)
+  all-is (Some more) taken at_end =
+      taken ∙ ap (λ m. (journal_text entries ++ []) ++ m) at_end ∙ append-nil (journal_text entries ++ []) ∙ append-nil (journal_text entries)
 
   same-history : (config : ConfigValue) → text ≡ journal_text entries → AllByRecursion IsWritten entries → IsJournal config text → IsHistory config entries
   same-history config is written j =
       subst (IsHistory config) (one_journal j.entries entries (fit j.entries j.written) (fit entries written) (sym j.text_is ∙ is)) j.history
 
-  judged : (config : ConfigValue) (told : Told) → text ≡ journal_text entries → AllByRecursion IsWritten entries → AuditTells config entries told → JournalTells config text told
+  judged : (config : ConfigValue) (told : Told) → text ≡ journal_text entries → AllByRecursion IsWritten entries → AuditTells config entries told
+      → JournalTells config text told
   judged config told is written (inl legal) =
       inl (record { journal = record { entries = entries; text_is = is; written = written; history = legal.0 }; said = legal.1 })
   judged config told is written (inr fault) =
       inr (record { none = λ j. fault.none (same-history config is written j); status_is = fault.said.status_is; of = inl (entries, is, fault) })
 
-  pub all-told : (config : ConfigValue) (new : Option (List ℕ)) (told : Told) → ReadsAll (Some text) new entries → AuditTells config entries told → JournalTells config text told
+  pub all-told : (config : ConfigValue) (new : Option (List ℕ)) (told : Told) → ReadsAll (Some text) new entries → AuditTells config entries told
+      → JournalTells config text told
   all-told config new told r tells = judged config told (all-is new r.reads.taken r.at_end) r.reads.each tells
 
 -- all was read, and audited entry by entry
-pub all-taken : (text : List ℕ) (config : ConfigValue) (new : Option (List ℕ)) (before after : AuditorValue) (audited : Result SiteValue AuditFault) (told : Told)
+pub all-taken : (text : List ℕ) (config : ConfigValue) (new : Option (List ℕ)) (before after : AuditorValue)
+    (audited : Result SiteValue AuditFault) (told : Told)
     → before.site ≡ new_site config → before.fault ≡ None → TakesAll (Some text) new (TookEntries before after)
     → ((entries : List Entry) → Found after entries → Audits after.site.config entries audited)
     → ((entries : List Entry) → Found after entries → IsHistory after.site.config entries → IfErr audited (λ _. ⊥))
-    → ((config : ConfigValue) (entries : List Entry) → Audits config entries audited → (IsHistory config entries → IfErr audited (λ fault. fault ≡ OutOfMemory)) → AuditTells config entries told)
+    → ((config : ConfigValue) (entries : List Entry) → Audits config entries audited → (IsHistory config entries → IfErr audited (λ fault. fault ≡ OutOfMemory))
+    → AuditTells config entries told)
     → JournalTells config text told
 all-taken text config new before after audited told site fault taken audits complete tells =
     let took = taken.taken (ap (λ (s : SiteValue). s.history) site, fault) in
@@ -70,10 +79,12 @@ all-taken text config new before after audited told site fault taken audits comp
     no-fault (Err f) h = absurd h
 
 -- a fault was read
-no-journal : (config : ConfigValue) (text : List ℕ) (new : Option (List ℕ)) (fault : JournalFault) → ReadsFault (Some text) new fault → (IsWant fault → ⊥) → IsJournal config text → ⊥
+no-journal : (config : ConfigValue) (text : List ℕ) (new : Option (List ℕ)) (fault : JournalFault) → ReadsFault (Some text) new fault → (IsWant fault → ⊥)
+    → IsJournal config text → ⊥
 no-journal config text new fault r wants j = wants (fault_again j.entries new fault j.written (subst (λ t. ReadsFault (Some t) new fault) j.text_is r))
 
-pub fault-told : {E : Type 0} → (config : ConfigValue) (text : List ℕ) (new : Option (List ℕ)) (fault : JournalFault) (r : Result Told E) → ReadsFault (Some text) new fault → (IsWant fault → ⊥) → IfOk r (λ told. IsSaid told (journal_fault_text fault) 1) → IfOk r (JournalTells config text)
+pub fault-told : {E : Type 0} → (config : ConfigValue) (text : List ℕ) (new : Option (List ℕ)) (fault : JournalFault) (r : Result Told E)
+    → ReadsFault (Some text) new fault → (IsWant fault → ⊥) → IfOk r (λ told. IsSaid told (journal_fault_text fault) 1) → IfOk r (JournalTells config text)
 fault-told config text new fault (Ok told) reads wants said =
     inr (record { none = no-journal config text new fault reads wants; status_is = said.status_is; of = inr (new, fault, reads, said) })
 fault-told config text new fault (Err e) reads wants said = tt

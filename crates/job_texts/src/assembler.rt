@@ -6,7 +6,8 @@ ghost use Rattle.bpf_asm.specs.Text.{canon};
 ghost use Rattle.bpf_asm.specs.Numbered.{numbered_from};
 ghost use Rattle.program_file.specs.Digits.{unit_lines};
 ghost use Rattle.job_texts.specs.Told.{IsSaid};
-ghost use Rattle.job_texts.specs.Assembler.{asm_fault_text, AsmTells, ToldUnits, ToldAsmFault, ToldText, ToldNumbered, ToldDecodeFault, DisTells, DisUnitsTells};
+ghost use Rattle.job_texts.specs.Assembler.{asm_fault_text, AsmTells, ToldUnits, ToldAsmFault, ToldText, ToldNumbered};
+ghost use Rattle.job_texts.specs.Assembler.{ToldDecodeFault, DisTells, DisUnitsTells};
 
 use crate::told::{REFUSED, Told, refused};
 use bpf_asm::{AsmFault, assemble, disassemble, disassemble_numbered};

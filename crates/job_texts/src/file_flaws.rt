@@ -26,7 +26,8 @@ pub fn verify_flaw(
     counters: u32,
     context: Layout,
 ) -> Result<Option<ProgramFlaw>, AllocError>
-    ensures { IfOk result (λ found. MatchOption found (IsAccepted file.now counters context) (IsVerifyFlaw file.now counters context)) }
+    ensures { IfOk result
+        (λ found. MatchOption found (IsAccepted file.now counters context) (IsVerifyFlaw file.now counters context)) }
 {
     match read_program(alloc, file) {
         Ok(bytes) => match refused_program(alloc, &bytes, counters, context)? {

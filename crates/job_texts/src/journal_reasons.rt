@@ -136,7 +136,8 @@ pub fn journal_flaw<I: LineIn>(
     config: Config,
     input: &mut I,
 ) -> Result<Option<(Option<u32>, JournalFlaw)>, JournalFault>
-    ensures told { IfOk result (λ found. IfSome found (λ p. IsJournalFlaw config (I.remaining input.old) (I.remaining input.new) p.0 p.1)) }
+    ensures told { IfOk result
+        (λ found. IfSome found (λ p. IsJournalFlaw config (I.remaining input.old) (I.remaining input.new) p.0 p.1)) }
     ensures want { IfErr result IsWant }
 {
     match read_entries(alloc, input) {

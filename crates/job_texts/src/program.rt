@@ -13,7 +13,8 @@ use till_request::Answer;
 
 /// The line of a program that is accepted.
 fn told_accepted(alloc: Global, program: &Program) -> Result<Told, AllocError>
-    ensures { IfOk result (λ told. IsSaid told (codes "accepted " ++ decimal (length program.now.bytes / 8) ++ codes "\n") 0) }
+    ensures { IfOk result
+        (λ told. IsSaid told (codes "accepted " ++ decimal (length program.now.bytes / 8) ++ codes "\n") 0) }
 {
     let units = program.units();
     let text = format!(in alloc; "accepted {units}\n")?;
@@ -42,7 +43,9 @@ fn verify_bytes(
     counters: u32,
     context: Layout,
 ) -> Result<Told, AllocError>
-    ensures { IfOk result (λ told. Accepted (as_loaded bytes.now counters context) told ⊎ Refused (as_loaded bytes.now counters context) told) }
+    ensures { IfOk result
+        (λ told. Accepted (as_loaded bytes.now counters context) told
+        ⊎ Refused (as_loaded bytes.now counters context) told) }
 {
     match verify(alloc, bytes, counters, context) {
         Ok(program) => told_accepted(alloc, &program),

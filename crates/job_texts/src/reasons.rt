@@ -6,7 +6,8 @@ ghost use Rattle.bpf_asm.specs.Flaws.{Explains};
 ghost use Rattle.bpf_asm.specs.Program as asm;
 ghost use Rattle.reg_types.specs.Refusals.{shown_by};
 ghost use Rattle.reg_types.specs.Shown.{IsRefused};
-ghost use Rattle.job_texts.specs.Reasons.{AreNoUnits, IsSpelling, NamesLine, IsExplained, unit_in, kind_wanted, wanted_at};
+ghost use Rattle.job_texts.specs.Reasons.{AreNoUnits, IsSpelling, NamesLine, IsExplained, unit_in, kind_wanted};
+ghost use Rattle.job_texts.specs.Reasons.{wanted_at};
 
 use bpf_asm::{AsmFault, AsmFlaw, assemble, explain, instruction_line};
 use bpf_decode::{Code, DecodeFault, Unit, decode};
@@ -138,7 +139,8 @@ pub fn explain_refusal(
     refusal: Refusal,
 ) -> Result<RefusedProgram, AllocError>
     ensures refusal { IfOk result (λ told. told.refusal ≡ refusal) }
-    ensures line { IfOk result (λ told. NamesLine bytes.now (unit_in (shown_by refusal)) (option_map string_bytes told.line)) }
+    ensures line { IfOk result
+        (λ told. NamesLine bytes.now (unit_in (shown_by refusal)) (option_map string_bytes told.line)) }
 {
     let Some(unit) = unit_of(refusal) else {
         return Ok(RefusedProgram {
@@ -175,7 +177,9 @@ pub fn refused_program(
     counters: u32,
     context: Layout,
 ) -> Result<Option<RefusedProgram>, AllocError>
-    ensures { IfOk result (λ found. MatchOption found (IsGood (as_loaded bytes.now counters context)) (λ told. IsExplained (as_loaded bytes.now counters context) told.refusal (option_map string_bytes told.line))) }
+    ensures { IfOk result
+        (λ found. MatchOption found (IsGood (as_loaded bytes.now counters context))
+        (λ told. IsExplained (as_loaded bytes.now counters context) told.refusal (option_map string_bytes told.line))) }
 {
     match verify(alloc, bytes, counters, context) {
         Ok(program) => {
@@ -194,7 +198,8 @@ pub fn refused_program(
 /// Why a text of the assembler is refused: its fault, and what that names of the text; none where it spells a
 /// program. The error is want of memory.
 pub fn asm_flaw(alloc: Global, text: &[u8]) -> Result<Option<(AsmFault, AsmFlaw<'_>)>, AllocError>
-    ensures { IfOk result (λ found. MatchOption found (IsSpelling text.now) (λ p. asm.IsRefused text.now p.0 × Explains text.now p.0 p.1)) }
+    ensures { IfOk result
+        (λ found. MatchOption found (IsSpelling text.now) (λ p. asm.IsRefused text.now p.0 × Explains text.now p.0 p.1)) }
 {
     match assemble(alloc, text) {
         Ok(_) => Ok(None),

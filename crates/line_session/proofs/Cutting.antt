@@ -1,5 +1,6 @@
 -- Two sessions over the same bytes.
-use Rattle.std.proofs.Common.{◌≡◌, ℕ, ◌+◌, ◌<◌, ◌≤◌, List, [], ◌∷◌, ◌++◌, length, Option, Some, None, Result, Ok, Err, refl, sym, ◌∙◌, ap, ap₂, subst, arith, append_assoc, length-append}
+use Rattle.std.proofs.Common.{◌≡◌, ℕ, ◌+◌, ◌<◌, ◌≤◌, List, [], ◌∷◌, ◌++◌, length, Option, Some, None, Result, Ok, Err, refl, sym, ◌∙◌, ap, ap₂, subst, arith}
+use Rattle.std.proofs.Common.{append_assoc, length-append}
 use Rattle.std.specs.List.{AllByRecursion}
 use Rattle.till_request.specs.Line.{HasNoLf, IsLine}
 use Rattle.till_request.specs.declared.act.LineFault.{LineFault}
@@ -100,10 +101,13 @@ lines_alike : (ls ks : List (List ℕ)) (c d : Option LineFault) (r q rest more 
 lines_alike [] [] c d r q rest more h k cr dq e =
     let there : Size d (length (r ++ rest)) = subst (λ (bytes : List ℕ). Size d (length bytes)) (sym e) (size d q more dq) in
     (refl, one_cut c d (length (r ++ rest)) (size c r rest cr) there)
-lines_alike [] (k ∷ ks) c d r q rest more h l cr dq e = absurd (no_more c r k rest ((all_lines ks ++ q) ++ more) cr l.0 (e ∙ line_first k (all_lines ks) q more))
-lines_alike (l ∷ ls) [] c d r q rest more h k cr dq e = absurd (no_more d q l more ((all_lines ls ++ r) ++ rest) dq h.0 (sym e ∙ line_first l (all_lines ls) r rest))
+lines_alike [] (k ∷ ks) c d r q rest more h l cr dq e =
+    absurd (no_more c r k rest ((all_lines ks ++ q) ++ more) cr l.0 (e ∙ line_first k (all_lines ks) q more))
+lines_alike (l ∷ ls) [] c d r q rest more h k cr dq e =
+    absurd (no_more d q l more ((all_lines ls ++ r) ++ rest) dq h.0 (sym e ∙ line_first l (all_lines ls) r rest))
 lines_alike (l ∷ ls) (k ∷ ks) c d r q rest more h g cr dq e =
-    let t = first_lf l k ((all_lines ls ++ r) ++ rest) ((all_lines ks ++ q) ++ more) h.0.0 g.0.0 (sym (line_first l (all_lines ls) r rest) ∙ e ∙ line_first k (all_lines ks) q more) in
+    let t = first_lf l k ((all_lines ls ++ r) ++ rest) ((all_lines ks ++ q) ++ more) h.0.0 g.0.0 (sym (line_first l (all_lines ls) r rest) ∙ e
+    ∙ line_first k (all_lines ks) q more) in
     let u = lines_alike ls ks c d r q rest more h.1 g.1 cr dq t.1 in
     (ap₂ (λ x y. x ∷ y) t.0 u.0, u.1)
 
@@ -124,8 +128,10 @@ module _ {S : Type 0} (says : S → List ℕ → List ℕ → S → Type 0) (det
   cuts_alike s t u bytes out out_t out_u None in_u count_t count_u cut_t cut_u one other w v = absurd one.talks.taken
   cuts_alike s t u bytes out out_t out_u (Some rest) None count_t count_u cut_t cut_u one other w v = absurd other.talks.taken
   cuts_alike s t u bytes out out_t out_u (Some rest) (Some more) count_t count_u cut_t cut_u one other w v =
-      let lines = lines_alike one.talks.lines other.talks.lines cut_t cut_u one.rest other.rest rest more one.talks.each other.talks.each one.is_cut other.is_cut (sym one.talks.taken ∙ other.talks.taken) in
-      let said : SaysAll says one.talks.lines s other.talks.texts u = subst (λ (ls : List (List ℕ)). SaysAll says ls s other.talks.texts u) (sym lines.0) other.talks.said in
+      let lines = lines_alike one.talks.lines other.talks.lines cut_t cut_u one.rest other.rest rest more one.talks.each other.talks.each one.is_cut
+      other.is_cut (sym one.talks.taken ∙ other.talks.taken) in
+      let said : SaysAll says one.talks.lines s other.talks.texts u =
+      subst (λ (ls : List (List ℕ)). SaysAll says ls s other.talks.texts u) (sym lines.0) other.talks.said in
       let texts = texts_alike one.talks.lines s one.talks.texts other.talks.texts t u one.talks.said said w v in record {
         state = texts.1;
         written = one.talks.written ∙ ap₂ (λ ts c. out ++ (all_texts ts ++ cut_line c)) texts.0 lines.1 ∙ sym other.talks.written;
@@ -134,7 +140,8 @@ module _ {S : Type 0} (says : S → List ℕ → List ℕ → S → Type 0) (det
       }
 
 module _ {C D : Type 0} (step : D → Act → ℕ → Answer → D → Type 0) (tick : C → ℕ → C → Type 0) (tells : TellsOne tick) (answers : AnswersOne step) where
-  act_alike : (r : Result Act LineFault) (c : C) (d : D) (a b : Answer) (c' : C) (d' : D) (c'' : C) (d'' : D) → AnswersAct step tick r c d a c' d' → AnswersAct step tick r c d b c'' d''
+  act_alike : (r : Result Act LineFault) (c : C) (d : D) (a b : Answer) (c' : C) (d' : D) (c'' : C) (d'' : D) → AnswersAct step tick r c d a c' d'
+      → AnswersAct step tick r c d b c'' d''
       → ¬ (a ≡ OutOfMemory) → ¬ (b ≡ OutOfMemory) → (a ≡ b) × (c' ≡ c'') × (d' ≡ d'')
   act_alike (Ok act) c d a b c' d' c'' d'' h k n m =
       let e = tells c c' c'' h.0 k.0 h.1 k.1 in
@@ -144,7 +151,8 @@ module _ {C D : Type 0} (step : D → Act → ℕ → Answer → D → Type 0) (
 
   desk_determined : (role : Role) → IsDetermined (desk_says step tick role)
   desk_determined role s text t o m n h k w v =
-      let e = act_alike (line_read role text) s.0 s.1 h.answer k.answer m.0 m.1 n.0 n.1 h.answers k.answers (λ is. w (h.text_is ∙ ap answer_line is)) (λ is. v (k.text_is ∙ ap answer_line is)) in
+      let e = act_alike (line_read role text) s.0 s.1 h.answer k.answer m.0 m.1 n.0 n.1 h.answers k.answers (λ is. w (h.text_is ∙ ap answer_line is))
+      (λ is. v (k.text_is ∙ ap answer_line is)) in
       (h.text_is ∙ ap answer_line e.0 ∙ sym k.text_is, ap₂ (λ x y. (x, y)) e.1 e.2)
 
   pub desk_cuts_alike : (role : Role) → CutsAlike (desk_says step tick role)

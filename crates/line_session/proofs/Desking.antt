@@ -26,12 +26,14 @@ module _ {C D O : Type 0} (step : D → Act → ℕ → Answer → D → Type 0)
       let P : Result Act LineFault → Type 0 = λ r. AnswersAct step tick r c d (Line fault) c d in
       record { answer = Line fault; answers = subst P (sym (fails_is fault (line_read role line) f has)) (refl, refl, refl); has_line = has; text_is = refl }
 
-  pub fault_said : {T E : Type 0} (r : Result T E) → OnOk r (Writes written (Line fault) o o') → OnOk r (Said (desk_says step tick role) line (c, d) (c, d) (written o) (written o'))
+  pub fault_said : {T E : Type 0} (r : Result T E) → OnOk r (Writes written (Line fault) o o')
+      → OnOk r (Said (desk_says step tick role) line (c, d) (c, d) (written o) (written o'))
   fault_said (Ok x) w = record { text = answer_line (Line fault); says_it = told w.has_line; written = w.written }
   fault_said (Err e) w = tt
 
   pub fault_broke : {T E : Type 0} (r : Result T E) → OnErr r (((Line fault ≡ Line OutOfMemory) × (o' ≡ o)) ⊎ WritesFront written (Line fault) o o')
-      → OnErr r (Silent c d o c d o' ⊎ (Dropped (desk_drops step tick role) line (c, d) (c, d) o o' ⊎ Half (desk_says step tick role) line (c, d) (c, d) (written o) (written o')))
+      → OnErr r (Silent c d o c d o'
+      ⊎ (Dropped (desk_drops step tick role) line (c, d) (c, d) o o' ⊎ Half (desk_says step tick role) line (c, d) (c, d) (written o) (written o')))
   fault_broke (Ok x) w = tt
   fault_broke (Err e) (inl w) = inl record { first = refl; second = refl; output = w.1 }
   fault_broke (Err e) (inr w) = inr (inr record { text = answer_line (Line fault); says_it = told w.has_line; kept = w.kept; written = w.written })

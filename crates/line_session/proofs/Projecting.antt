@@ -23,7 +23,8 @@ module _ {S T : Type 0} (f : S → T) (says : S → List ℕ → List ℕ → S 
   all_seen [] s (text ∷ texts) s' h = absurd h
   all_seen (line ∷ lines) s [] s' h = absurd h
 
-  talks_seen : (s s' : S) (i j o p : Option (List ℕ)) (count : ℕ) (rest more : List ℕ) → Talks says s s' i j o p count rest more → Talks seen (f s) (f s') i j o p count rest more
+  talks_seen : (s s' : S) (i j o p : Option (List ℕ)) (count : ℕ) (rest more : List ℕ) → Talks says s s' i j o p count rest more
+      → Talks seen (f s) (f s') i j o p count rest more
   talks_seen s s' i j o p count rest more t = record {
     lines = t.lines;
     texts = t.texts;
@@ -34,7 +35,8 @@ module _ {S T : Type 0} (f : S → T) (says : S → List ℕ → List ℕ → S 
     counted = t.counted;
   }
 
-  ends_seen : (s s' : S) (i j o p : Option (List ℕ)) (count : ℕ) (cut : Option LineFault) → Ends says s s' i j o p count cut → Ends seen (f s) (f s') i j o p count cut
+  ends_seen : (s s' : S) (i j o p : Option (List ℕ)) (count : ℕ) (cut : Option LineFault) → Ends says s s' i j o p count cut
+      → Ends seen (f s) (f s') i j o p count cut
   ends_seen s s' i j o p count cut e = record {
     answered = e.answered;
     rest = e.rest;
@@ -67,7 +69,8 @@ module _ {S T : Type 0} (f : S → T) (says : S → List ℕ → List ℕ → S 
 
   module _ {I O : Type 0} (remaining : I → Option (List ℕ)) (reads read_failures : I → ℕ) (written : O → Option (List ℕ)) (write_failures : O → ℕ) where
     sits_seen : (result : Result Ended SessionFault) (i : I) (o : O) (s s' : S)
-        → Sits says drops remaining reads read_failures written write_failures result i o s s' → Sits seen lost remaining reads read_failures written write_failures result i o (f s) (f s')
+        → Sits says drops remaining reads read_failures written write_failures result i o s s'
+        → Sits seen lost remaining reads read_failures written write_failures result i o (f s) (f s')
     sits_seen (Ok ended) i o s s' t = record {
       input = t.input;
       output = t.output;
@@ -120,11 +123,13 @@ module _ {C C' D D' : Type 0} (f : C → C') (g : D → D') (step : D → Act �
     (tick : C → ℕ → C → Type 0) (tick' : C' → ℕ → C' → Type 0)
     (steps : (d : D) (act : Act) (moment : ℕ) (a : Answer) (e : D) → step d act moment a e → step' (g d) act moment a (g e))
     (ticks : (c : C) (moment : ℕ) (e : C) → tick c moment e → tick' (f c) moment (f e)) where
-  answers_seen : (act : Result Act LineFault) (c : C) (d : D) (a : Answer) (c' : C) (d' : D) → AnswersAct step tick act c d a c' d' → AnswersAct step' tick' act (f c) (g d) a (f c') (g d')
+  answers_seen : (act : Result Act LineFault) (c : C) (d : D) (a : Answer) (c' : C) (d' : D) → AnswersAct step tick act c d a c' d'
+      → AnswersAct step' tick' act (f c) (g d) a (f c') (g d')
   answers_seen (Ok act) c d a c' d' h = (h.0, ticks c h.0 c' h.1, steps d act h.0 a d' h.2)
   answers_seen (Err fault) c d a c' d' h = (h.0, ap f h.1, ap g h.2)
 
-  pub desk_seen : (role : Role) (s : C × D) (line text : List ℕ) (s' : C × D) → desk_says step tick role s line text s' → desk_says step' tick' role (f s.0, g s.1) line text (f s'.0, g s'.1)
+  pub desk_seen : (role : Role) (s : C × D) (line text : List ℕ) (s' : C × D) → desk_says step tick role s line text s'
+      → desk_says step' tick' role (f s.0, g s.1) line text (f s'.0, g s'.1)
   desk_seen role s line text s' h = record {
     answer = h.answer;
     answers = answers_seen (line_read role line) s.0 s.1 h.answer s'.0 s'.1 h.answers;
@@ -132,5 +137,6 @@ module _ {C C' D D' : Type 0} (f : C → C') (g : D → D') (step : D → Act �
     text_is = h.text_is;
   }
 
-  pub desk_lost : (role : Role) (s : C × D) (line : List ℕ) (s' : C × D) → desk_drops step tick role s line s' → desk_drops step' tick' role (f s.0, g s.1) line (f s'.0, g s'.1)
+  pub desk_lost : (role : Role) (s : C × D) (line : List ℕ) (s' : C × D) → desk_drops step tick role s line s'
+      → desk_drops step' tick' role (f s.0, g s.1) line (f s'.0, g s'.1)
   desk_lost role s line s' h = (h.0, h.1, h.2, ticks s.0 h.1 s'.0 h.3, steps s.1 h.0 h.1 (Line OutOfMemory) s'.1 h.4)

@@ -1,5 +1,6 @@
 -- Line by line.
-use Rattle.std.proofs.Common.{◌≡◌, ℕ, ◌+◌, List, [], ◌∷◌, ◌++◌, take, drop, Option, Some, None, refl, sym, ◌∙◌, ap, arith, append_assoc, append-nil, length-append, ◌⊎◌, inl, inr}
+use Rattle.std.proofs.Common.{◌≡◌, ℕ, ◌+◌, List, [], ◌∷◌, ◌++◌, take, drop, Option, Some, None, refl, sym, ◌∙◌, ap, arith, append_assoc, append-nil}
+use Rattle.std.proofs.Common.{length-append, ◌⊎◌, inl, inr}
 use Rattle.std.specs.List.{flat_map, AllByRecursion}
 use Rattle.std.specs.Io.KnownBytes.{Consumes, Appends}
 use Rattle.std.proofs.lemmas.List.{take-append-drop}
@@ -76,10 +77,13 @@ module _ {A B : Type 0} (says : A × B → List ℕ → List ℕ → A × B → 
       begins = refl;
     }
 
-    pub breaks_line : {O : Type 0} (out : O → Option (List ℕ)) (s m s' : A × B) (i j k : Option (List ℕ)) (o : Option (List ℕ)) (p q : O) (count : ℕ) (l : List ℕ)
-        → Talks says s m i j o (out p) count [] [] → IsLine l → Consumes j k (l ++ 10 ∷ []) → (Silent m.0 m.1 p s'.0 s'.1 q ⊎ (Dropped drops l m s' p q ⊎ Half says l m s' (out p) (out q)))
+    pub breaks_line : {O : Type 0} (out : O → Option (List ℕ)) (s m s' : A × B) (i j k : Option (List ℕ)) (o : Option (List ℕ)) (p q : O)
+        (count : ℕ) (l : List ℕ)
+        → Talks says s m i j o (out p) count [] [] → IsLine l → Consumes j k (l ++ 10 ∷ [])
+        → (Silent m.0 m.1 p s'.0 s'.1 q ⊎ (Dropped drops l m s' p q ⊎ Half says l m s' (out p) (out q)))
         → Breaks says drops s s' i k o (out q)
-    breaks_line out s m s' i j k o p q count l t whole taken (inl a) = rw (a.first, a.second, a.output) (breaks_here s m i j o (out p) count k (l ++ 10 ∷ []) t taken (inr (l, whole, refl)))
+    breaks_line out s m s' i j k o p q count l t whole taken (inl a) =
+        rw (a.first, a.second, a.output) (breaks_here s m i j o (out p) count k (l ++ 10 ∷ []) t taken (inr (l, whole, refl)))
     breaks_line out s m s' i j k o p q count l t whole taken (inr (inl a)) = rw a.output record {
       lines = t.lines;
       texts = t.texts;
@@ -114,7 +118,8 @@ module _ {A B : Type 0} (says : A × B → List ℕ → List ℕ → A × B → 
     }
 
     pub breaks_cut : (s m : A × B) (i j k o p q : Option (List ℕ)) (count : ℕ) (more : List ℕ) (fault : LineFault) (kept : ℕ)
-        → Talks says s m i j o p count [] [] → Consumes j k more → IsCut (Some fault) k more → Appends p q (take kept (answer_line (Line fault))) → Breaks says drops s m i k o q
+        → Talks says s m i j o p count [] [] → Consumes j k more → IsCut (Some fault) k more → Appends p q (take kept (answer_line (Line fault)))
+        → Breaks says drops s m i k o q
     breaks_cut s m i j k o p q count more fault kept t taken is w = record {
       lines = t.lines;
       texts = t.texts;

@@ -45,4 +45,5 @@ TellsOne {C} tick = (c d e : C) (m n : ℕ) → tick c m d → tick c n e → (m
 -- a desk that answers an act at a moment in one way, want of memory aside
 abbrev pub AnswersOne : {D : Type 0} → (D → Act → ℕ → Answer → D → Type 0) → Type 0
 AnswersOne {D} step =
-    (d e f : D) (act : Act) (moment : ℕ) (a b : Answer) → step d act moment a e → step d act moment b f → ¬ (a ≡ OutOfMemory) → ¬ (b ≡ OutOfMemory) → (a ≡ b) × (e ≡ f)
+    (d e f : D) (act : Act) (moment : ℕ) (a b : Answer) → step d act moment a e → step d act moment b f → ¬ (a ≡ OutOfMemory)
+    → ¬ (b ≡ OutOfMemory) → (a ≡ b) × (e ≡ f)

@@ -24,7 +24,9 @@ good (outcome ∷ outcomes) = one_good outcome + good outcomes
 
 -- a session that ended so at this input and output: all was said, or a beginning of it is out. It failed by a device only
 -- where that failed, and for its reads only where they ran out.
-pub record Sits {S I O : Type 0} (says : S → List ℕ → List ℕ → S → Type 0) (drops : S → List ℕ → S → Type 0) (remaining : I → Option (List ℕ)) (reads read_failures : I → ℕ) (written : O → Option (List ℕ)) (write_failures : O → ℕ) (result : Result Ended SessionFault) (i : I) (o : O) (s s' : S) : Type 0 where
+pub record Sits {S I O : Type 0} (says : S → List ℕ → List ℕ → S → Type 0) (drops : S → List ℕ → S → Type 0) (remaining : I
+    → Option (List ℕ)) (reads read_failures : I → ℕ) (written : O → Option (List ℕ)) (write_failures : O → ℕ) (result : Result Ended SessionFault) (i : I)
+    (o : O) (s s' : S) : Type 0 where
   pub input : I
   pub output : O
   pub said : IfOk result (λ ended. Ends says s s' (remaining i) (remaining input) (written o) (written output) ended.lines ended.cut)
@@ -37,7 +39,8 @@ pub record Sits {S I O : Type 0} (says : S → List ℕ → List ℕ → S → T
   pub spent : result ≡ Err ReadsSpent → count ≡ 67108864
 
 -- one connection: the door did not open, and nobody was asked; or it opened, and a session ran at it
-abbrev pub Visits : {D S I O : Type 0} → (D → I → O → D → Type 0) → (D → D → Type 0) → (Result Ended SessionFault → I → O → S → S → Type 0) → Outcome → D → S → D → S → Type 0
+abbrev pub Visits : {D S I O : Type 0} → (D → I → O → D → Type 0) → (D → D → Type 0) → (Result Ended SessionFault → I → O → S → S → Type 0) → Outcome
+    → D → S → D → S → Type 0
 Visits opens fails sits None d s d' s' = fails d d' × (s' ≡ s)
 Visits {D} {S} {I} {O} opens fails sits (Some result) d s d' s' = (i : I) × (o : O) × opens d i o d' × sits result i o s s'
 

@@ -29,7 +29,8 @@ pub record WritesFront {O : Type 0} (took : O → Option (List ℕ)) (answer : A
   pub written : Appends (took o) (took o') (take kept (answer_line answer))
 
 -- the text is the line of such an answer, which isn't want of memory
-pub record SpeaksAt {C D : Type 0} (step : D → Act → ℕ → Answer → D → Type 0) (tick : C → ℕ → C → Type 0) (role : Role) (line text : List ℕ) (c : C) (d : D) (c' : C) (d' : D) : Type 0 where
+pub record SpeaksAt {C D : Type 0} (step : D → Act → ℕ → Answer → D → Type 0) (tick : C → ℕ → C → Type 0) (role : Role) (line text : List ℕ) (c : C) (d : D)
+    (c' : C) (d' : D) : Type 0 where
   pub answer : Answer
   pub answers : AnswersAct step tick (line_read role line) c d answer c' d'
   pub has_line : answer ≢ Line fault.OutOfMemory

@@ -61,7 +61,8 @@ SaysAll says [] s (text ∷ texts) s' = ⊥
 SaysAll says (line ∷ lines) s [] s' = ⊥
 
 -- lines were taken and answered, and behind them something more was taken and written
-pub record Talks {S : Type 0} (says : S → List ℕ → List ℕ → S → Type 0) (s s' : S) (in_old in_new out_old out_new : Option (List ℕ)) (count : ℕ) (rest more : List ℕ) : Type 0 where
+pub record Talks {S : Type 0} (says : S → List ℕ → List ℕ → S → Type 0) (s s' : S) (in_old in_new out_old out_new : Option (List ℕ)) (count : ℕ)
+    (rest more : List ℕ) : Type 0 where
   pub lines : List (List ℕ)
   pub texts : List (List ℕ)
   pub each : AllByRecursion IsLine lines
@@ -89,7 +90,8 @@ cut_count None = 0
 cut_count (Some fault) = 1
 
 -- all of it was said
-pub record Ends {S : Type 0} (says : S → List ℕ → List ℕ → S → Type 0) (s s' : S) (in_old in_new out_old out_new : Option (List ℕ)) (count : ℕ) (cut : Option LineFault) : Type 0 where
+pub record Ends {S : Type 0} (says : S → List ℕ → List ℕ → S → Type 0) (s s' : S) (in_old in_new out_old out_new : Option (List ℕ)) (count : ℕ)
+    (cut : Option LineFault) : Type 0 where
   pub answered : ℕ
   pub rest : List ℕ
   pub talks : Talks says s s' in_old in_new out_old out_new answered rest (cut_line cut)
@@ -111,7 +113,8 @@ abbrev pub DropsNext : {S : Type 0} → (S → List ℕ → S → Type 0) → S 
 DropsNext drops s s' rest = (s' ≡ s) ⊎ ((line : List ℕ) × IsLine line × (rest ≡ with_lf line) × drops s line s')
 
 -- a beginning of what would be said is out
-pub record Breaks {S : Type 0} (says : S → List ℕ → List ℕ → S → Type 0) (drops : S → List ℕ → S → Type 0) (s s' : S) (in_old in_new out_old out_new : Option (List ℕ)) : Type 0 where
+pub record Breaks {S : Type 0} (says : S → List ℕ → List ℕ → S → Type 0) (drops : S → List ℕ → S
+    → Type 0) (s s' : S) (in_old in_new out_old out_new : Option (List ℕ)) : Type 0 where
   pub lines : List (List ℕ)
   pub texts : List (List ℕ)
   pub each : AllByRecursion IsLine lines

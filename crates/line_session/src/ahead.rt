@@ -24,7 +24,8 @@ const MOST_HELD: usize = 16_384;
 /// Writes what is held, or a front of it; nothing is held then.
 fn let_go<O: LineOut>(output: &mut O, held: &mut MemoryOut) -> Result<(), SessionFault>
     ensures ok { OnOk result (Appends (O.written output.old) (O.written output.new) held.old.bytes.items) }
-    ensures err { OnErr result ((k : ℕ) × Appends (O.written output.old) (O.written output.new) (take k held.old.bytes.items)) }
+    ensures err { OnErr result
+        ((k : ℕ) × Appends (O.written output.old) (O.written output.new) (take k held.old.bytes.items)) }
     ensures none { held.new.bytes.items ≡ [] }
     ensures failed { RoseBy (one_if (is_write result)) (O.failures output.old) (O.failures output.new) }
     ensures cause { IfErr result (λ e. e ≡ SessionFault.Write) }
@@ -44,8 +45,10 @@ fn make_way<S: Doors>(
     output: &mut S::Out,
     held: &mut MemoryOut,
 ) -> Result<(), SessionFault>
-    ensures ok { OnOk result (LetsGo held.old.bytes.items held.new.bytes.items (S.Out.written output.old) (S.Out.written output.new)) }
-    ensures err { OnErr result ((k : ℕ) × Appends (S.Out.written output.old) (S.Out.written output.new) (take k held.old.bytes.items)) }
+    ensures ok { OnOk result
+        (LetsGo held.old.bytes.items held.new.bytes.items (S.Out.written output.old) (S.Out.written output.new)) }
+    ensures err { OnErr result
+        ((k : ℕ) × Appends (S.Out.written output.old) (S.Out.written output.new) (take k held.old.bytes.items)) }
     ensures none { OnErr result (held.new.bytes.items ≡ []) }
     ensures failed { RoseBy (one_if (is_write result)) (S.Out.failures output.old) (S.Out.failures output.new) }
     ensures cause { IfErr result (λ e. e ≡ SessionFault.Write) }
@@ -65,10 +68,12 @@ fn hold_answer<A, B, P: Speaker<A, B>>(
     second: &mut B,
     held: &mut MemoryOut,
 ) -> Result<(), SessionFault>
-    ensures ok { OnOk result (Said (P.says speaker.now) line.now (first.old, second.old) (first.new, second.new) (Some held.old.bytes.items) (Some held.new.bytes.items)) }
+    ensures ok { OnOk result (Said (P.says speaker.now) line.now (first.old, second.old) (first.new, second.new)
+        (Some held.old.bytes.items) (Some held.new.bytes.items)) }
     ensures err { OnErr result (Silent first.old second.old held.old first.new second.new held.new
         ⊎ (Dropped (P.drops speaker.now) line.now (first.old, second.old) (first.new, second.new) held.old held.new
-        ⊎ Half (P.says speaker.now) line.now (first.old, second.old) (first.new, second.new) (Some held.old.bytes.items) (Some held.new.bytes.items))) }
+        ⊎ Half (P.says speaker.now) line.now (first.old, second.old) (first.new, second.new) (Some held.old.bytes.items)
+        (Some held.new.bytes.items))) }
     ensures cause { IfErr result (λ e. e ≡ SessionFault.OutOfMemory) }
 {
     match speaker.speak(alloc, line, first, second, held) {
@@ -80,7 +85,8 @@ fn hold_answer<A, B, P: Speaker<A, B>>(
 /// Holds the answer to the fault that ends a session.
 fn hold_cut(alloc: Global, held: &mut MemoryOut, fault: LineFault) -> Result<(), SessionFault>
     ensures ok { OnOk result (held.new.bytes.items ≡ held.old.bytes.items ++ answer_line (Answer.Line fault)) }
-    ensures err { OnErr result ((k : ℕ) × (held.new.bytes.items ≡ held.old.bytes.items ++ take k (answer_line (Answer.Line fault)))) }
+    ensures err { OnErr result
+        ((k : ℕ) × (held.new.bytes.items ≡ held.old.bytes.items ++ take k (answer_line (Answer.Line fault)))) }
     ensures cause { IfErr result (λ e. e ≡ SessionFault.OutOfMemory) }
 {
     match write_answer(alloc, held, &Answer::Line(fault)) {
@@ -103,9 +109,12 @@ fn talk_held<S: Doors, A, B, P: Speaker<A, B>>(
 ) -> Result<Ended, SessionFault>
     requires { (left.old ≤ 67108864) × (held.old.bytes.items ≡ []) }
     ensures said { IfOk result (λ ended. EndsHeld (P.says speaker.now) (first.old, second.old) (first.new, second.new)
-        (S.In.remaining input.old) (S.In.remaining input.new) (S.Out.written output.old) (S.Out.written output.new) held.new.bytes.items ended.lines ended.cut) }
-    ensures broken { OnErr result (BreaksHeld (P.says speaker.now) (P.drops speaker.now) (first.old, second.old) (first.new, second.new)
-        (S.In.remaining input.old) (S.In.remaining input.new) (S.Out.written output.old) (S.Out.written output.new) held.new.bytes.items) }
+        (S.In.remaining input.old) (S.In.remaining input.new) (S.Out.written output.old) (S.Out.written output.new)
+        held.new.bytes.items ended.lines ended.cut) }
+    ensures broken { OnErr result
+        (BreaksHeld (P.says speaker.now) (P.drops speaker.now) (first.old, second.old) (first.new, second.new)
+        (S.In.remaining input.old) (S.In.remaining input.new) (S.Out.written output.old)
+        (S.Out.written output.new) held.new.bytes.items) }
     ensures read_fault { RoseBy (one_if (is_read result)) (S.In.failures input.old) (S.In.failures input.new) }
     ensures write_fault { RoseBy (one_if (is_write result)) (S.Out.failures output.old) (S.Out.failures output.new) }
     ensures left { left.new ≤ left.old }
@@ -154,12 +163,14 @@ fn talk_ahead<S: Doors, A, B, P: Speaker<A, B>>(
     second: &mut B,
 ) -> Result<Ended, SessionFault>
     ensures said { IfOk result (λ ended. Ends (P.says speaker.now) (first.old, second.old) (first.new, second.new)
-        (S.In.remaining input.old) (S.In.remaining input.new) (S.Out.written output.old) (S.Out.written output.new) ended.lines ended.cut) }
+        (S.In.remaining input.old) (S.In.remaining input.new) (S.Out.written output.old) (S.Out.written output.new)
+        ended.lines ended.cut) }
     ensures broken { OnErr result (Breaks (P.says speaker.now) (P.drops speaker.now) (first.old, second.old) (first.new, second.new)
         (S.In.remaining input.old) (S.In.remaining input.new) (S.Out.written output.old) (S.Out.written output.new)) }
     ensures read_fault { RoseBy (one_if (is_read result)) (S.In.failures input.old) (S.In.failures input.new) }
     ensures write_fault { RoseBy (one_if (is_write result)) (S.Out.failures output.old) (S.Out.failures output.new) }
-    ensures reads { (k : ℕ) × (k ≤ 67108864) × RoseBy k (S.In.reads input.old) (S.In.reads input.new) × (result ≡ Err SessionFault.ReadsSpent → k ≡ 67108864)
+    ensures reads { (k : ℕ) × (k ≤ 67108864) × RoseBy k (S.In.reads input.old) (S.In.reads input.new)
+        × (result ≡ Err SessionFault.ReadsSpent → k ≡ 67108864)
         × RoseBy k (S.In.asked input.old) (S.In.asked input.new) }
 {
     let mut left = READS;
@@ -182,8 +193,8 @@ fn talk_ahead<S: Doors, A, B, P: Speaker<A, B>>(
     }
 }
 
-/// Answers the lines that somebody of a role sends at a door, as `session`; but where the door has further lines already, the answers
-/// are written together.
+/// Answers the lines that somebody of a role sends at a door, as `session`; but where the door has further lines
+/// already, the answers are written together.
 pub fn session_ahead<S: Doors, C: Clock, D: Desk>(
     alloc: Global,
     role: Role,
@@ -194,12 +205,15 @@ pub fn session_ahead<S: Doors, C: Clock, D: Desk>(
     desk: &mut D,
 ) -> Result<Ended, SessionFault>
     ensures said { IfOk result (λ ended. Ends (desk_says D.step C.tick role) (clock.old, desk.old) (clock.new, desk.new)
-        (S.In.remaining input.old) (S.In.remaining input.new) (S.Out.written output.old) (S.Out.written output.new) ended.lines ended.cut) }
-    ensures broken { OnErr result (Breaks (desk_says D.step C.tick role) (desk_drops D.step C.tick role) (clock.old, desk.old) (clock.new, desk.new)
+        (S.In.remaining input.old) (S.In.remaining input.new) (S.Out.written output.old) (S.Out.written output.new)
+        ended.lines ended.cut) }
+    ensures broken { OnErr result
+        (Breaks (desk_says D.step C.tick role) (desk_drops D.step C.tick role) (clock.old, desk.old) (clock.new, desk.new)
         (S.In.remaining input.old) (S.In.remaining input.new) (S.Out.written output.old) (S.Out.written output.new)) }
     ensures read_fault { RoseBy (one_if (is_read result)) (S.In.failures input.old) (S.In.failures input.new) }
     ensures write_fault { RoseBy (one_if (is_write result)) (S.Out.failures output.old) (S.Out.failures output.new) }
-    ensures reads { (k : ℕ) × (k ≤ 67108864) × RoseBy k (S.In.reads input.old) (S.In.reads input.new) × (result ≡ Err SessionFault.ReadsSpent → k ≡ 67108864)
+    ensures reads { (k : ℕ) × (k ≤ 67108864) × RoseBy k (S.In.reads input.old) (S.In.reads input.new)
+        × (result ≡ Err SessionFault.ReadsSpent → k ≡ 67108864)
         × RoseBy k (S.In.asked input.old) (S.In.asked input.new) }
 {
     talk_ahead(alloc, doors, input, output, &AtDesk { role }, clock, desk)

@@ -67,7 +67,8 @@ fn write_cut<O: LineOut>(
     fault: LineFault,
 ) -> Result<(), SessionFault>
     ensures ok { OnOk result (Appends (O.written output.old) (O.written output.new) (answer_line (Answer.Line fault))) }
-    ensures err { OnErr result ((k : ℕ) × Appends (O.written output.old) (O.written output.new) (take k (answer_line (Answer.Line fault)))) }
+    ensures err { OnErr result
+        ((k : ℕ) × Appends (O.written output.old) (O.written output.new) (take k (answer_line (Answer.Line fault)))) }
     ensures failed { RoseBy (one_if (is_write result)) (O.failures output.old) (O.failures output.new) }
     ensures cause { IfErr result (λ e. (e ≡ SessionFault.Write) ⊎ (e ≡ SessionFault.OutOfMemory)) }
 {
@@ -92,7 +93,8 @@ pub fn talk_within<I: LineIn, O: LineOut, A, B, S: Speaker<A, B>>(
 ) -> Result<Ended, SessionFault>
     requires { left.old ≤ 67108864 }
     ensures said { IfOk result (λ ended. Ends (S.says speaker.now) (first.old, second.old) (first.new, second.new)
-        (I.remaining input.old) (I.remaining input.new) (O.written output.old) (O.written output.new) ended.lines ended.cut) }
+        (I.remaining input.old) (I.remaining input.new) (O.written output.old) (O.written output.new)
+        ended.lines ended.cut) }
     ensures broken { OnErr result (Breaks (S.says speaker.now) (S.drops speaker.now) (first.old, second.old) (first.new, second.new)
         (I.remaining input.old) (I.remaining input.new) (O.written output.old) (O.written output.new)) }
     ensures read_fault { RoseBy (one_if (is_read result)) (I.failures input.old) (I.failures input.new) }
@@ -141,12 +143,14 @@ pub fn talk<I: LineIn, O: LineOut, A, B, S: Speaker<A, B>>(
     second: &mut B,
 ) -> Result<Ended, SessionFault>
     ensures said { IfOk result (λ ended. Ends (S.says speaker.now) (first.old, second.old) (first.new, second.new)
-        (I.remaining input.old) (I.remaining input.new) (O.written output.old) (O.written output.new) ended.lines ended.cut) }
+        (I.remaining input.old) (I.remaining input.new) (O.written output.old) (O.written output.new)
+        ended.lines ended.cut) }
     ensures broken { OnErr result (Breaks (S.says speaker.now) (S.drops speaker.now) (first.old, second.old) (first.new, second.new)
         (I.remaining input.old) (I.remaining input.new) (O.written output.old) (O.written output.new)) }
     ensures read_fault { RoseBy (one_if (is_read result)) (I.failures input.old) (I.failures input.new) }
     ensures write_fault { RoseBy (one_if (is_write result)) (O.failures output.old) (O.failures output.new) }
-    ensures reads { (k : ℕ) × (k ≤ 67108864) × RoseBy k (I.reads input.old) (I.reads input.new) × (result ≡ Err SessionFault.ReadsSpent → k ≡ 67108864)
+    ensures reads { (k : ℕ) × (k ≤ 67108864) × RoseBy k (I.reads input.old) (I.reads input.new)
+        × (result ≡ Err SessionFault.ReadsSpent → k ≡ 67108864)
         × RoseBy k (I.asked input.old) (I.asked input.new) }
 {
     let mut left = READS;

@@ -19,7 +19,8 @@ fn ends_unsaid(answer: &Answer) -> bool
 // Writes an answer. Want of memory at a line has none, whoever tells it.
 fn say<O: LineOut>(alloc: Global, output: &mut O, answer: &Answer) -> Result<(), SpeakFault>
     ensures ok { OnOk result (Writes O.written answer.now output.old output.new) }
-    ensures err { OnErr result (((answer.now ≡ Answer.Line LineFault.OutOfMemory) × (output.new ≡ output.old)) ⊎ WritesFront O.written answer.now output.old output.new) }
+    ensures err { OnErr result (((answer.now ≡ Answer.Line LineFault.OutOfMemory) × (output.new ≡ output.old))
+        ⊎ WritesFront O.written answer.now output.old output.new) }
     ensures failed { RoseBy (one_if (is_write_fault result)) (O.failures output.old) (O.failures output.new) }
 {
     if ends_unsaid(answer) {

@@ -6,8 +6,8 @@ use crate::desk::{Clock, Desk};
 use crate::speaker::Speaker;
 use till_request::Role;
 
-/// Whatever sizes the reads of an input give, the same is said to its bytes, by whoever says one thing to a line, want of
-/// memory aside.
+/// Whatever sizes the reads of an input give, the same is said to its bytes, by whoever says one thing to a line, want
+/// of memory aside.
 ///
 /// The clauses of `talk` tell all that was taken and written by the bytes that the input has, whatever its device; by
 /// this law two such calls over the same bytes end alike, so cutting an input otherwise changes nothing. A reader that
@@ -18,7 +18,8 @@ pub fn law_of_the_cut<A, B, S: Speaker<A, B>>(speaker: &S)
     let _ = speaker;
 }
 
-/// The same of the sessions of a role, whose clock tells one moment and whose desk gives one answer, want of memory aside.
+/// The same of the sessions of a role, whose clock tells one moment and whose desk gives one answer, want of memory
+/// aside.
 pub fn law_of_the_cut_at_desks<C: Clock, D: Desk>(role: Role)
     ensures { TellsOne C.tick → AnswersOne D.step → CutsAlike (desk_says D.step C.tick role) }
 {

@@ -23,12 +23,15 @@ pub fn session<I: LineIn, O: LineOut, C: Clock, D: Desk>(
     desk: &mut D,
 ) -> Result<Ended, SessionFault>
     ensures said { IfOk result (λ ended. Ends (desk_says D.step C.tick role) (clock.old, desk.old) (clock.new, desk.new)
-        (I.remaining input.old) (I.remaining input.new) (O.written output.old) (O.written output.new) ended.lines ended.cut) }
-    ensures broken { OnErr result (Breaks (desk_says D.step C.tick role) (desk_drops D.step C.tick role) (clock.old, desk.old) (clock.new, desk.new)
+        (I.remaining input.old) (I.remaining input.new) (O.written output.old) (O.written output.new)
+        ended.lines ended.cut) }
+    ensures broken { OnErr result
+        (Breaks (desk_says D.step C.tick role) (desk_drops D.step C.tick role) (clock.old, desk.old) (clock.new, desk.new)
         (I.remaining input.old) (I.remaining input.new) (O.written output.old) (O.written output.new)) }
     ensures read_fault { RoseBy (one_if (is_read result)) (I.failures input.old) (I.failures input.new) }
     ensures write_fault { RoseBy (one_if (is_write result)) (O.failures output.old) (O.failures output.new) }
-    ensures reads { (k : ℕ) × (k ≤ 67108864) × RoseBy k (I.reads input.old) (I.reads input.new) × (result ≡ Err SessionFault.ReadsSpent → k ≡ 67108864)
+    ensures reads { (k : ℕ) × (k ≤ 67108864) × RoseBy k (I.reads input.old) (I.reads input.new)
+        × (result ≡ Err SessionFault.ReadsSpent → k ≡ 67108864)
         × RoseBy k (I.asked input.old) (I.asked input.new) }
 {
     talk(alloc, input, output, &AtDesk { role }, clock, desk)

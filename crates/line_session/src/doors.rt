@@ -21,7 +21,8 @@ pub trait Doors {
         ensures ok { IfOk result (λ door. opens self.old door.0 door.1 self.new) }
         ensures err { OnErr result (fails self.old self.new) };
 
-    /// Whether a further line is there already, so that its answer may be written with the one before. It is free not to know.
+    /// Whether a further line is there already, so that its answer may be written with the one before. It is free not
+    /// to know.
     fn has_line(&self, _input: &Self::In) -> bool {
         false
     }

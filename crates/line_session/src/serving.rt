@@ -18,7 +18,9 @@ fn attend<S: Doors, C: Clock, D: Desk>(
     clock: &mut C,
     desk: &mut D,
 ) -> Option<Result<Ended, SessionFault>>
-    ensures { Visits S.opens S.fails (Sits (desk_says D.step C.tick role) (desk_drops D.step C.tick role) S.In.remaining S.In.reads S.In.failures S.Out.written S.Out.failures)
+    ensures { Visits S.opens S.fails
+        (Sits (desk_says D.step C.tick role) (desk_drops D.step C.tick role) S.In.remaining S.In.reads S.In.failures
+        S.Out.written S.Out.failures)
         result doors.old (clock.old, desk.old) doors.new (clock.new, desk.new) }
 {
     match doors.next() {
@@ -54,7 +56,10 @@ pub fn worker<S: Doors, C: Clock, D: Desk>(
     desk: &mut D,
     connections: u32,
 ) -> u64
-    ensures { Serves (Visits S.opens S.fails (Sits (desk_says D.step C.tick role) (desk_drops D.step C.tick role) S.In.remaining S.In.reads S.In.failures S.Out.written S.Out.failures))
+    ensures { Serves
+        (Visits S.opens S.fails
+        (Sits (desk_says D.step C.tick role) (desk_drops D.step C.tick role) S.In.remaining S.In.reads S.In.failures
+        S.Out.written S.Out.failures))
         connections result doors.old (clock.old, desk.old) doors.new (clock.new, desk.new) }
 {
     let mut well = 0;

@@ -31,9 +31,12 @@ pub trait Speaker<A, B> {
         second: &mut B,
         output: &mut O,
     ) -> Result<(), SpeakFault>
-        ensures ok { OnOk result (Said (says self.now) line.now (first.old, second.old) (first.new, second.new) (O.written output.old) (O.written output.new)) }
+        ensures ok { OnOk result
+            (Said (says self.now) line.now (first.old, second.old) (first.new, second.new) (O.written output.old)
+            (O.written output.new)) }
         ensures err { OnErr result (Silent first.old second.old output.old first.new second.new output.new
             ⊎ (Dropped (drops self.now) line.now (first.old, second.old) (first.new, second.new) output.old output.new
-            ⊎ Half (says self.now) line.now (first.old, second.old) (first.new, second.new) (O.written output.old) (O.written output.new))) }
+            ⊎ Half (says self.now) line.now (first.old, second.old) (first.new, second.new) (O.written output.old)
+            (O.written output.new))) }
         ensures failed { RoseBy (one_if (is_write_fault result)) (O.failures output.old) (O.failures output.new) };
 }

@@ -60,10 +60,11 @@ impl Slots {
         }
     }
 
-    /// Makes a version of the program and names it in the slot. Versions are numbered from 1; every other slot keeps its own.
+    /// Makes a version of the program and names it in the slot. Versions are numbered from 1; every other slot keeps
+    /// its own.
     ///
-    /// `NoSuchSlot` for a slot over 15, else `VersionsFull` where there are 4,096 versions, else `OutOfMemory` where a growth was
-    /// refused. After a refusal all is as before; the program is given up.
+    /// `NoSuchSlot` for a slot over 15, else `VersionsFull` where there are 4,096 versions, else `OutOfMemory` where a
+    /// growth was refused. After a refusal all is as before; the program is given up.
     pub fn install(&mut self, slot: u32, program: Arc<Program>) -> Result<u32, SlotFault>
         ensures step { IfOk result (λ number. Installs self.old slot (arc_value program) number self.new) }
         ensures refusal { Refuses self.old slot result }
@@ -96,7 +97,8 @@ impl Slots {
 
     /// The program of a version, or none where there is no version of this number.
     pub fn version(&self, number: u32) -> Option<&Arc<Program>>
-        ensures { MatchOption result (program_of self.now number ≡ None) (λ program. program_of self.now number ≡ Some (arc_value program.now)) }
+        ensures { MatchOption result (program_of self.now number ≡ None)
+            (λ program. program_of self.now number ≡ Some (arc_value program.now)) }
     {
         if number == 0 {
             return None;

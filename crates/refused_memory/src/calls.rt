@@ -1,4 +1,5 @@
-//! Calls one by one that find too little memory: each tells so, and what it had been lent is as it was, or it answers as with ample memory.
+//! Calls one by one that find too little memory: each tells so, and what it had been lent is as it was, or it answers
+//! as with ample memory.
 use crate::hoarding::{TURNS, leave_few, room_of};
 use crate::programs::{assembles, checks_flow, decodes, disassembles, encodes, installs, verifies};
 use crate::sites::{
@@ -45,7 +46,8 @@ enum Call {
     LoadBeforeCommit,
 }
 
-/// Whether a call that finds so much memory was answered as with ample memory; none where neither that nor want of memory was told.
+/// Whether a call that finds so much memory was answered as with ample memory; none where neither that nor want of
+/// memory was told.
 fn made_in(alloc: Global, call: Call, size: usize) -> Option<bool> {
     match call {
         Call::Decode => decodes(alloc, size),
@@ -172,7 +174,8 @@ fn each_growth_refused_to_a_site(rt: HostRuntime) -> Result<(), Fail> {
     Ok(())
 }
 
-// Where the results had room and no entry had, a site without entries; then one with four, since a list begins with room for four.
+// Where the results had room and no entry had, a site without entries; then one with four, since a list begins with
+// room for four.
 #[test]
 fn each_growth_refused_in_a_run_of_events(rt: HostRuntime) -> Result<(), Fail> {
     let _few = leave_few(rt.alloc()).ok_or("memory")?;
@@ -194,8 +197,8 @@ fn each_growth_refused_in_a_run_of_events(rt: HostRuntime) -> Result<(), Fail> {
     Ok(())
 }
 
-// A rule is replaced while a run on it is made. The load is refused memory for its bytes. The two commits need none; with one entry more
-// before them, at which the history's list has to grow, both are refused.
+// A rule is replaced while a run on it is made. The load is refused memory for its bytes. The two commits need none;
+// with one entry more before them, at which the history's list has to grow, both are refused.
 #[test]
 fn each_growth_refused_while_a_rule_is_replaced(rt: HostRuntime) -> Result<(), Fail> {
     let alloc = rt.alloc();

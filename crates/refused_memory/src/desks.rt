@@ -1,4 +1,5 @@
-//! Sessions at a desk over a forecourt, one of whose lines finds too little memory: the same as of plays, and the pass closes with the site.
+//! Sessions at a desk over a forecourt, one of whose lines finds too little memory: the same as of plays, and the pass
+//! closes with the site.
 ghost use Rattle.std.specs.Prelude.{◌≡◌, [], None};
 
 use crate::hoarding::{TURNS, leave_few, room_of};
@@ -96,8 +97,8 @@ fn holds(it: bool) -> Option<()> {
     if it { Some(()) } else { None }
 }
 
-/// How often a line was answered `S31` and how often its session ended for want of memory, in rooms that grow until nothing is refused; 0 where
-/// nothing ended unhindered.
+/// How often a line was answered `S31` and how often its session ended for want of memory, in rooms that grow until
+/// nothing is refused; 0 where nothing ended unhindered.
 fn refused_at<R: Wait>(rt: &R, alloc: Global, line: usize) -> Result<(u32, u32), Fail> {
     let script = DELIVERY.as_bytes();
     let unhindered = seated(rt, alloc, script, script.len(), 0)?.text;

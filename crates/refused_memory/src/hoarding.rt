@@ -1,7 +1,8 @@
 //! All memory, but for a room.
 use std::alloc::Global;
 
-/// A freed block of up to 1,032 bytes serves its own size alone, so a room is a larger block of which so much is taken again.
+/// A freed block of up to 1,032 bytes serves its own size alone, so a room is a larger block of which so much is taken
+/// again.
 const HELD: usize = 1080;
 
 /// The most rooms that a call is tried in.
@@ -48,7 +49,8 @@ pub fn take_but(alloc: Global, size: usize) -> Option<Taken> {
     Some(Taken { blocks, held })
 }
 
-/// Takes all memory but 64 MB, which are enough for what a test makes: then each further room costs a hundredth of the time.
+/// Takes all memory but 64 MB, which are enough for what a test makes: then each further room costs a hundredth of the
+/// time.
 pub fn leave_few(alloc: Global) -> Option<Taken> {
     take_but(alloc, 1 << 26)
 }

@@ -1,4 +1,5 @@
-//! Many programs verified at once that find too little memory: there is no list, or each item has its answer or tells want of memory.
+//! Many programs verified at once that find too little memory: there is no list, or each item has its answer or tells
+//! want of memory.
 ghost use Rattle.std.specs.Prelude.{◌<◌, ◌≤◌};
 
 use crate::hoarding::{TURNS, leave_few, room_of, take_but};
@@ -36,7 +37,8 @@ fn is_answered(answer: &Result<Program, Refusal>, is_good: bool) -> Option<bool>
     }
 }
 
-/// How many of three items were answered as with ample memory, by so many workers that find so much memory; 4 where there is no list.
+/// How many of three items were answered as with ample memory, by so many workers that find so much memory; 4 where
+/// there is no list.
 fn answered<R: Threads + Sync>(rt: &R, alloc: Global, workers: u32, size: usize) -> Option<u32>
     requires { (0 < workers) × (workers ≤ 16) }
 {

@@ -6,7 +6,8 @@ use std::alloc::Global;
 use till_request::devices::MemoryIn;
 use till_request::{DeviceFault, LineIn};
 
-/// Gives what is in memory. From the first byte of one line on memory has a room alone, and behind that line all is given back.
+/// Gives what is in memory. From the first byte of one line on memory has a room alone, and behind that line all is
+/// given back.
 #[derive(Drop)]
 pub struct Narrow {
     input: MemoryIn,

@@ -1,5 +1,5 @@
-//! Plays one of whose lines finds too little memory: the line is answered `S31` and changes nothing, or the play ends for want of memory behind
-//! the answers of the lines before it, or nothing is refused.
+//! Plays one of whose lines finds too little memory: the line is answered `S31` and changes nothing, or the play ends
+//! for want of memory behind the answers of the lines before it, or nothing is refused.
 use crate::hoarding::{TURNS, leave_few, room_of};
 use crate::narrow::Narrow;
 use crate::texts::output;
@@ -82,8 +82,8 @@ pub fn with_want(alloc: Global, text: &[u8], line: usize) -> Option<Vec<u8>> {
     Some(all)
 }
 
-/// How often a line was answered `S31` and how often its play ended for want of memory, in rooms that grow until nothing is refused. None where
-/// a refusal left another answer, or nothing ended unhindered.
+/// How often a line was answered `S31` and how often its play ended for want of memory, in rooms that grow until
+/// nothing is refused. None where a refusal left another answer, or nothing ended unhindered.
 fn refused_at(alloc: Global, site: &str, script: &str, line: usize) -> Option<(u32, u32)> {
     let lines = script.len();
     let unhindered = played(alloc, site, script.as_bytes(), lines, 0)?.text;
@@ -127,8 +127,8 @@ fn refused_in(alloc: Global, site: &str, script: &str, lines: usize) -> Option<(
     Some((wanted, ended))
 }
 
-// The history's list begins with room for four entries and is next refused memory at its fifth, so two lines stand before the load, the
-// opening and the release. The release is refused, and granted when it is sent again.
+// The history's list begins with room for four entries and is next refused memory at its fifth, so two lines stand
+// before the load, the opening and the release. The release is refused, and granted when it is sent again.
 #[test]
 fn a_refused_release_is_sent_again(rt: HostRuntime) -> Result<(), Fail> {
     let alloc = rt.alloc();

@@ -1,5 +1,5 @@
-//! Calls on programs that find so much memory. Each tells whether it was answered as with ample memory, `false` where it told want of
-//! memory and left what it had as it was, and nothing where it did neither.
+//! Calls on programs that find so much memory. Each tells whether it was answered as with ample memory, `false` where
+//! it told want of memory and left what it had as it was, and nothing where it did neither.
 use crate::hoarding::take_but;
 use bpf_asm::{AsmFault, assemble, disassemble};
 use bpf_decode::{DecodeFault, decode, encode};

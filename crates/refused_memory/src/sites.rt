@@ -226,8 +226,8 @@ pub fn commits(alloc: Global, size: usize) -> Option<bool> {
     (site.history().len() == 5).then_some(first)
 }
 
-/// A run on version 1 that is committed after version 2 was loaded, and then one on version 2, both in so much memory and behind so many
-/// entries: whether the first was found stale, and whether the second was entered.
+/// A run on version 1 that is committed after version 2 was loaded, and then one on version 2, both in so much memory
+/// and behind so many entries: whether the first was found stale, and whether the second was entered.
 pub fn replaces(alloc: Global, shown: u32, size: usize) -> Option<(bool, bool)> {
     let mut site = opened(alloc, shown)?;
     let ready = ran(&site)?;
@@ -242,7 +242,8 @@ pub fn replaces(alloc: Global, shown: u32, size: usize) -> Option<(bool, bool)> 
     (site.history().len() == before.wrapping_add(more)).then_some((is_stale, is_entered))
 }
 
-/// The same, where the load alone finds so much memory: whether it was entered. Where it is refused the run isn't stale.
+/// The same, where the load alone finds so much memory: whether it was entered. Where it is refused the run isn't
+/// stale.
 pub fn loads_before_commit(alloc: Global, size: usize) -> Option<bool> {
     let mut site = opened(alloc, 0)?;
     let replaced = load(alloc, &RULE)?;

@@ -1,5 +1,5 @@
-//! A worker one of whose connections finds too little memory at a line: the connection isn't counted, what it entered stays, and the next
-//! one is served.
+//! A worker one of whose connections finds too little memory at a line: the connection isn't counted, what it entered
+//! stays, and the next one is served.
 ghost use Rattle.std.specs.Prelude.{◌≡◌, [], None};
 
 use crate::desks::Still;
@@ -87,7 +87,8 @@ fn worked_of<R: Wait>(
     worked::<Brand, R>(rt, alloc, Blank::new(1), config, doors)
 }
 
-/// How often the connection ended for want of memory, and how often one line alone was refused, in rooms that grow until nothing is.
+/// How often the connection ended for want of memory, and how often one line alone was refused, in rooms that grow
+/// until nothing is.
 fn refused_at<R: Wait>(rt: &R, alloc: Global, line: usize) -> Result<(u32, u32), Fail> {
     let _few = leave_few(alloc).ok_or("memory")?;
     let (mut ended, mut wanted) = (0u32, 0u32);

@@ -1,4 +1,5 @@
-//! Calls on a forecourt that find too little memory: there is none, or the pass is as before, and the call made again is answered.
+//! Calls on a forecourt that find too little memory: there is none, or the pass is as before, and the call made again
+//! is answered.
 ghost use Rattle.std.specs.Prelude.{◌≡◌, [], None};
 
 use crate::hoarding::{TURNS, leave_few, room_of, take_but};
@@ -62,8 +63,8 @@ fn prepare<L: Yard, R: Wait>(
     Some(())
 }
 
-/// How often the gate was called before a call at a new forecourt, which finds so much memory, was refused; none where it was answered.
-/// After a refusal the pass has no receipt of it, and is answered when it calls again.
+/// How often the gate was called before a call at a new forecourt, which finds so much memory, was refused; none where
+/// it was answered. After a refusal the pass has no receipt of it, and is answered when it calls again.
 fn refused_after<L: Yard, R: Wait>(
     rt: &R,
     alloc: Global,

@@ -17,7 +17,8 @@ use Rattle.reg_types.specs.Effects.{Effect}
 use Rattle.reg_types.specs.declared.types.Flaw.{Flaw}
 use Rattle.reg_types.specs.declared.refusal.TypeFault.{TypeFault}
 use Rattle.reg_types.specs.Facts.{IsBelow, IsSound, IsTyped, Enters, Covers, IsCovered}
-use Rattle.reg_types.specs.Inference.{leads, join_fact, entry_fact, fact_after, form_with, instruction_of, instruction_at, ruled, flaw_in, flaw_of, flaw_under, taken_in, arrived, arrived_all, passed_by, passed_from, passed, known, inferred, or_else, first_flaw_below, first_flaw}
+use Rattle.reg_types.specs.Inference.{leads, join_fact, entry_fact, fact_after, form_with, instruction_of, instruction_at, ruled, flaw_in, flaw_of, flaw_under}
+use Rattle.reg_types.specs.Inference.{taken_in, arrived, arrived_all, passed_by, passed_from, passed, known, inferred, or_else, first_flaw_below, first_flaw}
 use Rattle.operations.specs.Operations.{upper_of}
 use Rattle.reg_types.proofs.Good.{judged_is, good}
 use Rattle.reg_types.proofs.Ahead.{leads_ahead, there, first_there}
@@ -39,7 +40,8 @@ instruction_is (Some (First i)) x e =
     let p = form_is i (form_of i.opcode) x e in
     (ap (λ j. Some (First j)) p.0, subst (λ j. form_of j.opcode ≡ Some x.1) p.0 p.1)
 
-pub instruction_from : (us : List ProgramUnit) (pc : ℕ) (i : Inst) (form : Form) → slice_get us pc ≡ Some (First i) → form_of i.opcode ≡ Some form → instruction_at us pc ≡ Some (i, form)
+pub instruction_from : (us : List ProgramUnit) (pc : ℕ) (i : Inst) (form : Form) → slice_get us pc ≡ Some (First i) → form_of i.opcode ≡ Some form
+    → instruction_at us pc ≡ Some (i, form)
 instruction_from us pc i form at is = ap instruction_of at ∙ ap (form_with i) is
 
 some_is : (o : Option Form) → IsSome o → (form : Form) × (o ≡ Some form)
@@ -85,7 +87,8 @@ arrived_wider q to fact o = cond_both (q == to) (Some (taken_in o fact)) o (IsWi
 all_wider : (q : ℕ) (fact : Fact) (tos : List ℕ) (o : Option Fact) → IsWider o (arrived_all q fact tos o)
 all_wider q fact [] o = IsWider-refl o
 all_wider q fact (to ∷ tos) o =
-    IsWider-trans o (arrived q fact to o) (arrived_all q fact tos (arrived q fact to o)) (arrived_wider q to fact o) (all_wider q fact tos (arrived q fact to o))
+    IsWider-trans o (arrived q fact to o) (arrived_all q fact tos (arrived q fact to o)) (arrived_wider q to fact o)
+    (all_wider q fact tos (arrived q fact to o))
 
 by_wider : (q : ℕ) (fact : Fact) (r : Result Effect Flaw) (tos : Option (List ℕ)) (o : Option Fact) → IsWider o (passed_by q fact r tos o)
 by_wider q fact (Err flaw) tos o = IsWider-refl o
@@ -99,13 +102,15 @@ arrived_here to fact o = (taken_in o fact, cond-true (to == to) (Some (taken_in 
 all_come : (fact : Fact) (tos : List ℕ) (old : ℕ → Option Fact) → AllByRecursion (λ to. IsWider (Some fact) (arrived_all to fact tos (old to))) tos
 all_come fact [] old = tt
 all_come fact (to ∷ tos) old = (
-  IsWider-trans (Some fact) (arrived to fact to (old to)) (arrived_all to fact tos (arrived to fact to (old to))) (arrived_here to fact (old to)) (all_wider to fact tos (arrived to fact to (old to))),
+  IsWider-trans (Some fact) (arrived to fact to (old to)) (arrived_all to fact tos (arrived to fact to (old to))) (arrived_here to fact (old to))
+      (all_wider to fact tos (arrived to fact to (old to))),
   all_come fact tos (λ q. arrived q fact to (old q)),
 )
 
 -- ---- units behind stay as they are
 
-pub behind : (us : List ProgramUnit) (pc q : ℕ) (fact : Fact) → q ≤ pc → (tos : List ℕ) → AllByRecursion (IsAhead us pc) tos → (o : Option Fact) → arrived_all q fact tos o ≡ o
+pub behind : (us : List ProgramUnit) (pc q : ℕ) (fact : Fact) → q ≤ pc → (tos : List ℕ) → AllByRecursion (IsAhead us pc) tos → (o : Option Fact)
+    → arrived_all q fact tos o ≡ o
 behind us pc q fact l [] all o = refl
 behind us pc q fact l (to ∷ tos) all o =
     let further = all.0.ahead in
@@ -160,22 +165,26 @@ module _ (us : List ProgramUnit) (terms : Terms) where
   known_wider n (suc m) q l =
       elim (cases_eq n (suc m)) [
         | inl same ↦ subst (λ k. IsWider (known us terms n q) (known us terms k q)) same (IsWider-refl (known us terms n q))
-        | inr other ↦ IsWider-trans (known us terms n q) (known us terms m q) (known us terms (suc m) q) (known_wider n m q (omega arith)) (passed_wider m (known us terms m m) q (known us terms m q))
+        | inr other ↦ IsWider-trans (known us terms n q) (known us terms m q) (known us terms (suc m) q) (known_wider n m q (omega arith))
+            (passed_wider m (known us terms m m) q (known us terms m q))
       ]
 
   module _ (sound : IsSound us) where
-    ahead_of : (pc : ℕ) (fact : Fact) (x : Inst × Form) (e : Effect) → instruction_at us pc ≡ Some x → ruled us terms pc fact x ≡ Ok e → (tos : List ℕ) × (leads pc x.0 x.1 ≡ Some tos) × AllByRecursion (IsAhead us pc) tos
+    ahead_of : (pc : ℕ) (fact : Fact) (x : Inst × Form) (e : Effect) → instruction_at us pc ≡ Some x → ruled us terms pc fact x ≡ Ok e
+        → (tos : List ℕ) × (leads pc x.0 x.1 ≡ Some tos) × AllByRecursion (IsAhead us pc) tos
     ahead_of pc fact x e at j =
         let is = instruction_is (slice_get us pc) x at in
         leads_ahead sound.bytes us sound.reads pc x.0 is.0 sound.forward x.1 is.1 (judged_is (length us) pc terms fact x.0 (upper_of us pc) x.1 e j).0
 
-    behind_by : (pc q : ℕ) (fact : Fact) (x : Inst × Form) (r : Result Effect Flaw) → q ≤ pc → instruction_at us pc ≡ Some x → ruled us terms pc fact x ≡ r → (old : Option Fact) → passed_by q fact r (leads pc x.0 x.1) old ≡ old
+    behind_by : (pc q : ℕ) (fact : Fact) (x : Inst × Form) (r : Result Effect Flaw) → q ≤ pc → instruction_at us pc ≡ Some x → ruled us terms pc fact x ≡ r
+        → (old : Option Fact) → passed_by q fact r (leads pc x.0 x.1) old ≡ old
     behind_by pc q fact x (Err flaw) l at j old = refl
     behind_by pc q fact x (Ok e) l at j old =
         let a = ahead_of pc fact x e at j in
         ap (λ o. passed_by q fact (Ok e) o old) a.1 ∙ behind us pc q (fact_after fact e) l a.0 a.2 old
 
-    behind_from : (pc q : ℕ) (fact : Fact) (o : Option (Inst × Form)) → q ≤ pc → instruction_at us pc ≡ o → (old : Option Fact) → passed_from us terms pc fact o q old ≡ old
+    behind_from : (pc q : ℕ) (fact : Fact) (o : Option (Inst × Form)) → q ≤ pc → instruction_at us pc ≡ o → (old : Option Fact)
+        → passed_from us terms pc fact o q old ≡ old
     behind_from pc q fact None l at old = refl
     behind_from pc q fact (Some x) l at old = behind_by pc q fact x (ruled us terms pc fact x) l at refl old
 
@@ -186,7 +195,8 @@ module _ (us : List ProgramUnit) (terms : Terms) where
     -- ---- each reached unit is well typed
 
     -- what is known of unit q past a unit whose instruction is accepted
-    past_is : (pc q : ℕ) (fact : Fact) (x : Inst × Form) (e : Effect) (tos : List ℕ) → inferred us terms pc ≡ Some fact → instruction_at us pc ≡ Some x → ruled us terms pc fact x ≡ Ok e → leads pc x.0 x.1 ≡ Some tos → known us terms (suc pc) q ≡ arrived_all q (fact_after fact e) tos (known us terms pc q)
+    past_is : (pc q : ℕ) (fact : Fact) (x : Inst × Form) (e : Effect) (tos : List ℕ) → inferred us terms pc ≡ Some fact → instruction_at us pc ≡ Some x
+        → ruled us terms pc fact x ≡ Ok e → leads pc x.0 x.1 ≡ Some tos → known us terms (suc pc) q ≡ arrived_all q (fact_after fact e) tos (known us terms pc q)
     unfolding known
     past_is pc q fact x e tos h at j to =
         ap (λ o. passed us terms pc o q (known us terms pc q)) h
@@ -197,7 +207,9 @@ module _ (us : List ProgramUnit) (terms : Terms) where
     enters_from : (fact : Fact) (to : ℕ) → IsWider (Some fact) (inferred us terms to) → Enters (inferred us terms) fact to
     enters_from fact to w = record { wider = w.0; is = w.1; below = w.2 }
 
-    all_enter : (pc : ℕ) (after : Fact) (known_past : ℕ → Option Fact) (tos : List ℕ) → AllByRecursion (IsAhead us pc) tos → ((q : ℕ) → known us terms (suc pc) q ≡ known_past q) → AllByRecursion (λ to. IsWider (Some after) (known_past to)) tos → AllByRecursion (Enters (inferred us terms) after) tos
+    all_enter : (pc : ℕ) (after : Fact) (known_past : ℕ → Option Fact) (tos : List ℕ) → AllByRecursion (IsAhead us pc) tos
+        → ((q : ℕ) → known us terms (suc pc) q ≡ known_past q) → AllByRecursion (λ to. IsWider (Some after) (known_past to)) tos
+        → AllByRecursion (Enters (inferred us terms) after) tos
     all_enter pc after known_past [] ahead same come = tt
     all_enter pc after known_past (to ∷ tos) ahead same come = (
       let further = ahead.0.ahead in
@@ -207,7 +219,8 @@ module _ (us : List ProgramUnit) (terms : Terms) where
       all_enter pc after known_past tos ahead.1 same come.1,
     )
 
-    typed_at : (pc : ℕ) (i : Inst) (fact : Fact) (form : Form) (e : Effect) → inferred us terms pc ≡ Some fact → slice_get us pc ≡ Some (First i) → form_of i.opcode ≡ Some form → ruled us terms pc fact (i, form) ≡ Ok e → IsTyped us terms (inferred us terms) pc i fact
+    typed_at : (pc : ℕ) (i : Inst) (fact : Fact) (form : Form) (e : Effect) → inferred us terms pc ≡ Some fact → slice_get us pc ≡ Some (First i)
+        → form_of i.opcode ≡ Some form → ruled us terms pc fact (i, form) ≡ Ok e → IsTyped us terms (inferred us terms) pc i fact
     typed_at pc i fact form e h at is j =
         let x = instruction_from us pc i form at is in
         let a = ahead_of pc fact (i, form) e x j in
@@ -222,10 +235,12 @@ module _ (us : List ProgramUnit) (terms : Terms) where
           tos = a.0;
           leads_to = a.1;
           ahead = a.2;
-          enters = all_enter pc (fact_after fact e) (λ q. arrived_all q (fact_after fact e) a.0 (old q)) a.0 a.2 (λ q. past_is pc q fact (i, form) e a.0 h x j a.1) (all_come (fact_after fact e) a.0 old);
+          enters = all_enter pc (fact_after fact e) (λ q. arrived_all q (fact_after fact e) a.0 (old q)) a.0 a.2
+              (λ q. past_is pc q fact (i, form) e a.0 h x j a.1) (all_come (fact_after fact e) a.0 old);
         }
 
-    typed_flawless : (pc : ℕ) (i : Inst) (fact : Fact) → slice_get us pc ≡ Some (First i) → inferred us terms pc ≡ Some fact → flaw_under us terms pc (inferred us terms pc) ≡ None → IsTyped us terms (inferred us terms) pc i fact
+    typed_flawless : (pc : ℕ) (i : Inst) (fact : Fact) → slice_get us pc ≡ Some (First i) → inferred us terms pc ≡ Some fact
+        → flaw_under us terms pc (inferred us terms pc) ≡ None → IsTyped us terms (inferred us terms) pc i fact
     typed_flawless pc i fact at h none =
         let f = some_is (form_of i.opcode) (there sound.bytes us pc i sound.reads at).form in
         let x = instruction_from us pc i f.0 at f.1 in
@@ -252,9 +267,11 @@ module _ (us : List ProgramUnit) (terms : Terms) where
               (no_flaw_below (length us) pc none (there sound.bytes us pc i sound.reads at).inside);
         }
 
-pub covered_by : (bytes : List ℕ) (terms : Terms) (us : List ProgramUnit) → units bytes ≡ Some us → GoesForward us → first_flaw us terms ≡ None → IsCovered bytes terms us
+pub covered_by : (bytes : List ℕ) (terms : Terms) (us : List ProgramUnit) → units bytes ≡ Some us → GoesForward us → first_flaw us terms ≡ None
+    → IsCovered bytes terms us
 covered_by bytes terms us reads forward none =
     record { reads = reads; facts = inferred us terms; covers = accepted_covers us terms (record { bytes = bytes; reads = reads; forward = forward }) none }
 
-pub good_by : (bytes : List ℕ) (terms : Terms) (us : List ProgramUnit) → units bytes ≡ Some us → GoesForward us → first_flaw us terms ≡ None → IsGood (loaded_on bytes terms)
+pub good_by : (bytes : List ℕ) (terms : Terms) (us : List ProgramUnit) → units bytes ≡ Some us → GoesForward us → first_flaw us terms ≡ None
+    → IsGood (loaded_on bytes terms)
 good_by bytes terms us reads forward none = good bytes us terms (covered_by bytes terms us reads forward none)

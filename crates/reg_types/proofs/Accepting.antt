@@ -1,5 +1,6 @@
 -- The rules accept plain programs.
-use Rattle.std.proofs.Common.{◌≡◌, ℕ, zero, suc, ◌+◌, ◌-◌, ◌*◌, ◌^◌, ◌<◌, ◌≤◌, List, [], ◌∷◌, Option, Some, None, Bool, true, false, refl, sym, ap, ◌∙◌, subst, inl, inr, arith, length}
+use Rattle.std.proofs.Common.{◌≡◌, ℕ, zero, suc, ◌+◌, ◌-◌, ◌*◌, ◌^◌, ◌<◌, ◌≤◌, List, [], ◌∷◌, Option, Some, None, Bool, true, false, refl, sym, ap, ◌∙◌, subst}
+use Rattle.std.proofs.Common.{inl, inr, arith, length}
 use Rattle.std.specs.Prelude.{Result, Ok, Err, IsSome, ℤ, nat_le, slice_get, slice_set, ◌==◌, cond, ⊤}
 use Rattle.std.specs.Int.{cast_unsigned, w32}
 use Rattle.std.proofs.lemmas.Bool.{cond_both, eqb-true}
@@ -16,7 +17,8 @@ use Rattle.bpf_model.specs.declared.instruction.Operator.{Operator}
 use Rattle.bpf_model.specs.declared.instruction.Operator.TheVariants.{Sum, Difference, Negate, Move, SwapBytes}
 use Rattle.bpf_model.specs.declared.instruction.Size.{Size}
 use Rattle.bpf_model.specs.declared.instruction.Form.{Form}
-use Rattle.bpf_model.specs.declared.instruction.Form.TheVariants.{Arithmetic, Wide, Load, LoadSigned, StoreImmediate, StoreRegister, Goto, GotoLong, Branch, Call, Exit}
+use Rattle.bpf_model.specs.declared.instruction.Form.TheVariants.{Arithmetic, Wide, Load, LoadSigned, StoreImmediate, StoreRegister, Goto, GotoLong, Branch}
+use Rattle.bpf_model.specs.declared.instruction.Form.TheVariants.{Call, Exit}
 use Rattle.bpf_model.specs.Reading.{bytes_in, form_of, units}
 use Rattle.bpf_model.specs.Arithmetic.{low}
 use Rattle.bpf_model.specs.Machine.{shifted, immediate}
@@ -30,8 +32,10 @@ use Rattle.reg_types.specs.declared.types.Flaw.{Flaw}
 use Rattle.reg_types.specs.declared.types.Flaw.TheVariants.{FallsOff, NotANumber}
 use Rattle.reg_types.specs.declared.types.Fact.{Fact}
 use Rattle.reg_types.specs.Effects.{Effect}
-use Rattle.reg_types.specs.Rules.{type_at, is_numeric, is_plain, one_number, two_numbers, alu_type, unmarked, set_type, load_type, loaded_type, number_at, compared, exited, effect, falls_off, judged, join_type}
-use Rattle.reg_types.specs.Inference.{leads, join_types, entry_fact, fact_after, instruction_at, ruled, flaw_in, flaw_of, flaw_under, taken_in, arrived, arrived_all, passed_by, passed_from, passed, known, inferred, or_else, first_flaw_below}
+use Rattle.reg_types.specs.Rules.{type_at, is_numeric, is_plain, one_number, two_numbers, alu_type, unmarked, set_type, load_type, loaded_type, number_at}
+use Rattle.reg_types.specs.Rules.{compared, exited, effect, falls_off, judged, join_type}
+use Rattle.reg_types.specs.Inference.{leads, join_types, entry_fact, fact_after, instruction_at, ruled, flaw_in, flaw_of, flaw_under, taken_in, arrived}
+use Rattle.reg_types.specs.Inference.{arrived_all, passed_by, passed_from, passed, known, inferred, or_else, first_flaw_below}
 use Rattle.operations.specs.Operations.{upper_of}
 use Rattle.reg_types.specs.Plain.{IsPlainForm, SetsFirst, LoadsArgument, ArePlainUnits}
 use Rattle.reg_types.specs.Accepting.{ArePlain, PlainOption, PlainTypesAt, AcceptsAll}
@@ -70,7 +74,8 @@ plain_move false n = refl
 gives : (o : Typed) → o ≡ Ok Num → GivesNumber o
 gives o e = subst GivesNumber (sym e) refl
 
-numbers_ok : (layout : Layout) (op : Operator) (w : Width) (i : Inst) (a : RegType) (n : ℕ) → is_numeric a ≡ true → GivesNumber (alu_type layout op w Immediate i a (Const n))
+numbers_ok : (layout : Layout) (op : Operator) (w : Width) (i : Inst) (a : RegType) (n : ℕ) → is_numeric a ≡ true
+    → GivesNumber (alu_type layout op w Immediate i a (Const n))
 numbers_ok layout Sum Full i Num n h = refl
 numbers_ok layout Sum Narrow i Num n h = refl
 numbers_ok layout Sum Full i (Const c) n h = refl
@@ -115,16 +120,20 @@ load_ok None h = absurd (cc)
 load_ok (Some at) h = refl
 
 -- a load from the context through R1, at which no pointer is noted
-loaded_first : (layout : Layout) (fact : Fact) (i : Inst) (size : Size) → LoadsArgument layout i size → 2 ≤ length fact.types → type_at fact.types 1 ≡ Ctx 0 → Accepted (set_type fact.types i.dst (loaded_type layout fact.stack fact.notes (type_at fact.types i.src) i (bytes_in size)))
+loaded_first : (layout : Layout) (fact : Fact) (i : Inst) (size : Size) → LoadsArgument layout i size → 2 ≤ length fact.types → type_at fact.types 1 ≡ Ctx 0
+    → Accepted (set_type fact.types i.dst (loaded_type layout fact.stack fact.notes (type_at fact.types i.src) i (bytes_in size)))
 loaded_first layout fact i size f l b =
     let o = loaded_type layout fact.stack fact.notes (type_at fact.types i.src) i (bytes_in size) in
-    let same : loaded_type layout fact.stack fact.notes (Ctx 0) i (bytes_in size) ≡ o = ap (λ t. loaded_type layout fact.stack fact.notes t i (bytes_in size)) (sym (ap (type_at fact.types) f.1 ∙ b)) in
+    let same : loaded_type layout fact.stack fact.notes (Ctx 0) i (bytes_in size) ≡ o =
+    ap (λ t. loaded_type layout fact.stack fact.notes t i (bytes_in size)) (sym (ap (type_at fact.types) f.1 ∙ b)) in
     set_dst fact.types i.dst o f.0 l b (subst GivesNumber same (load_ok (shifted 0 i.offset (context_len layout - bytes_in size)) f.2))
 
-load_first : (layout : Layout) (fact : Fact) (i : Inst) (size : Size) → LoadsArgument layout i size → 2 ≤ length fact.types → type_at fact.types 1 ≡ Ctx 0 → Accepted (set_type fact.types i.dst (load_type layout fact.stack (type_at fact.types i.src) i (bytes_in size)))
+load_first : (layout : Layout) (fact : Fact) (i : Inst) (size : Size) → LoadsArgument layout i size → 2 ≤ length fact.types → type_at fact.types 1 ≡ Ctx 0
+    → Accepted (set_type fact.types i.dst (load_type layout fact.stack (type_at fact.types i.src) i (bytes_in size)))
 load_first layout fact i size f l b =
     let o = load_type layout fact.stack (type_at fact.types i.src) i (bytes_in size) in
-    let same : load_type layout fact.stack (Ctx 0) i (bytes_in size) ≡ o = ap (λ t. load_type layout fact.stack t i (bytes_in size)) (sym (ap (type_at fact.types) f.1 ∙ b)) in
+    let same : load_type layout fact.stack (Ctx 0) i (bytes_in size) ≡ o =
+    ap (λ t. load_type layout fact.stack t i (bytes_in size)) (sym (ap (type_at fact.types) f.1 ∙ b)) in
     set_dst fact.types i.dst o f.0 l b (subst GivesNumber same (load_ok (shifted 0 i.offset (context_len layout - bytes_in size)) f.2))
 
 compare_ok : (types : List RegType) (dst src n : ℕ) (a : RegType) → is_numeric a ≡ true → ArePlain types → Accepted (compared types dst src a (Const n))
@@ -135,7 +144,8 @@ exit_ok : (types : List RegType) → ArePlain types → Accepted (exited types (
 exit_ok types p = (unmarked types, ap (λ b. cond b (ok_of (unmarked types)) (Err (NotANumber 0))) p.number, p)
 
 -- a plain instruction is accepted where R0 has a number
-plain_effect : (terms : Terms) (fact : Fact) (i : Inst) (upper : ℤ) (form : Form) → ArePlain fact.types → IsPlainForm terms.layout i form → Accepted (effect terms fact i upper form)
+plain_effect : (terms : Terms) (fact : Fact) (i : Inst) (upper : ℤ) (form : Form) → ArePlain fact.types → IsPlainForm terms.layout i form
+    → Accepted (effect terms fact i upper form)
 plain_effect terms fact i upper Goto p f = (unmarked fact.types, refl, p)
 plain_effect terms fact i upper GotoLong p f = (unmarked fact.types, refl, p)
 plain_effect terms fact i upper Exit p f = exit_ok fact.types p
@@ -146,10 +156,12 @@ plain_effect terms fact i upper (Branch c w Immediate) p f =
     compare_ok fact.types i.dst i.src (immediate w i.imm) (type_at fact.types i.dst) (ap (λ d. is_numeric (type_at fact.types d)) f ∙ p.number) p
 plain_effect terms fact i upper (Arithmetic SwapBytes w s) p f =
     let h = ap (λ d. is_numeric (type_at fact.types d)) f ∙ p.number in
-    set_dst fact.types i.dst (one_number i.dst (type_at fact.types i.dst)) f p.long p.base (gives (one_number i.dst (type_at fact.types i.dst)) (one_ok i.dst (type_at fact.types i.dst) h))
+    set_dst fact.types i.dst (one_number i.dst (type_at fact.types i.dst)) f p.long p.base
+    (gives (one_number i.dst (type_at fact.types i.dst)) (one_ok i.dst (type_at fact.types i.dst) h))
 plain_effect terms fact i upper (Arithmetic op w Immediate) p f =
     let h = ap (λ d. is_numeric (type_at fact.types d)) f ∙ p.number in
-    set_dst fact.types i.dst (alu_type terms.layout op w Immediate i (type_at fact.types i.dst) (Const (immediate w i.imm))) f p.long p.base (numbers_ok terms.layout op w i (type_at fact.types i.dst) (immediate w i.imm) h)
+    set_dst fact.types i.dst (alu_type terms.layout op w Immediate i (type_at fact.types i.dst) (Const (immediate w i.imm))) f p.long p.base
+    (numbers_ok terms.layout op w i (type_at fact.types i.dst) (immediate w i.imm) h)
 plain_effect terms fact i upper (Load size) p f = loaded_first terms.layout fact i size f p.long p.base
 plain_effect terms fact i upper (LoadSigned size) p f = load_first terms.layout fact i size f p.long p.base
 plain_effect terms fact i upper (Arithmetic op w Register) p f = absurd f
@@ -159,13 +171,15 @@ plain_effect terms fact i upper (StoreRegister size) p f = absurd f
 plain_effect terms fact i upper Call p f = absurd f
 
 -- the first instruction sets R0, and R1 points to the context there
-first_effect : (terms : Terms) (fact : Fact) (i : Inst) (upper : ℤ) (form : Form) → 2 ≤ length fact.types → type_at fact.types 1 ≡ Ctx 0 → IsPlainForm terms.layout i form → SetsFirst form → Accepted (effect terms fact i upper form)
+first_effect : (terms : Terms) (fact : Fact) (i : Inst) (upper : ℤ) (form : Form) → 2 ≤ length fact.types → type_at fact.types 1 ≡ Ctx 0
+    → IsPlainForm terms.layout i form → SetsFirst form → Accepted (effect terms fact i upper form)
 first_effect terms fact i upper Wide l b f s =
     let o : Typed = Ok (Const (cast_unsigned w32 upper * 2 ^ 32 + cast_unsigned w32 i.imm)) in set_dst fact.types i.dst o f l b refl
 first_effect terms fact i upper (Load size) l b f s = loaded_first terms.layout fact i size f l b
 first_effect terms fact i upper (LoadSigned size) l b f s = load_first terms.layout fact i size f l b
 first_effect terms fact i upper (Arithmetic Move w Immediate) l b f s =
-    set_dst fact.types i.dst (alu_type terms.layout Move w Immediate i (type_at fact.types i.dst) (Const (immediate w i.imm))) f l b (plain_move (is_plain i.offset) (low w (immediate w i.imm)))
+    set_dst fact.types i.dst (alu_type terms.layout Move w Immediate i (type_at fact.types i.dst) (Const (immediate w i.imm))) f l b
+    (plain_move (is_plain i.offset) (low w (immediate w i.imm)))
 first_effect terms fact i upper (Arithmetic Move w Register) l b f s = absurd s
 first_effect terms fact i upper (Arithmetic op w source) l b f s = absurd s
 first_effect terms fact i upper Goto l b f s = absurd s
@@ -209,7 +223,8 @@ is_exit : Form → Bool
 is_exit Exit = true
 is_exit form = false
 
-module _ (bytes : List ℕ) (us : List ProgramUnit) (terms : Terms) (reads : units bytes ≡ Some us) (plain : ArePlainUnits terms.layout us) (pc : ℕ) (i : Inst) (at : slice_get us pc ≡ Some (First i)) where
+module _ (bytes : List ℕ) (us : List ProgramUnit) (terms : Terms) (reads : units bytes ≡ Some us) (plain : ArePlainUnits terms.layout us) (pc : ℕ) (i : Inst)
+    (at : slice_get us pc ≡ Some (First i)) where
   -- the last unit is an exit
   exits_last : (form : Form) → form_of i.opcode ≡ Some form → length us ≤ pc + 1 → Exit ≡ form
   exits_last form is l =
@@ -252,11 +267,13 @@ module _ (bytes : List ℕ) (us : List ProgramUnit) (terms : Terms) (reads : uni
   stays_on (Branch c w s) is = no_exit (Branch c w s) is (λ e. cc)
   stays_on Call is = no_exit Call is (λ e. cc)
 
-  accepted : (fact : Fact) (upper : ℤ) (form : Form) → form_of i.opcode ≡ Some form → Accepted (effect terms fact i upper form) → Accepted (judged (length us) pc terms fact i upper form)
+  accepted : (fact : Fact) (upper : ℤ) (form : Form) → form_of i.opcode ≡ Some form → Accepted (effect terms fact i upper form)
+      → Accepted (judged (length us) pc terms fact i upper form)
   accepted fact upper form is x =
       (x.0, ap (λ b. cond b (Err FallsOff) (effect terms fact i upper form)) (stays_on form is) ∙ x.1, x.2)
 
-  plain_here : (fact : Fact) (upper : ℤ) (form : Form) → form_of i.opcode ≡ Some form → PlainTypesAt pc fact.types → Accepted (judged (length us) pc terms fact i upper form)
+  plain_here : (fact : Fact) (upper : ℤ) (form : Form) → form_of i.opcode ≡ Some form → PlainTypesAt pc fact.types
+      → Accepted (judged (length us) pc terms fact i upper form)
   plain_here fact upper form is (inr p) =
       accepted fact upper form is (plain_effect terms fact i upper form p (plain.each pc i form at is))
   plain_here fact upper form is (inl z) =
@@ -290,7 +307,8 @@ plain_all : (q : ℕ) (fact : Fact) (tos : List ℕ) (o : Option Fact) → ArePl
 plain_all q fact [] o plain p = p
 plain_all q fact (to ∷ tos) o plain p = plain_all q fact tos (arrived q fact to o) plain (plain_arrived q to fact o plain p)
 
-plain_by : (q : ℕ) (fact : Fact) (e : Effect) (tos : Option (List ℕ)) (o : Option Fact) → ArePlain e.types → PlainOption o → PlainOption (passed_by q fact (Ok e) tos o)
+plain_by : (q : ℕ) (fact : Fact) (e : Effect) (tos : Option (List ℕ)) (o : Option Fact) → ArePlain e.types → PlainOption o
+    → PlainOption (passed_by q fact (Ok e) tos o)
 plain_by q fact e None o plain p = p
 plain_by q fact e (Some tos) o plain p = plain_all q (fact_after fact e) tos o plain p
 
@@ -317,7 +335,8 @@ module _ (us : List ProgramUnit) (terms : Terms) (all : AcceptsAll us terms) whe
       let is = instruction_is (slice_get us pc) x at in
       all.each pc x.0 fact is.0 p (upper_of us pc) x.1 is.1
 
-  passed_plain : (pc q : ℕ) (fact : Fact) (o : Option (Inst × Form)) (old : Option Fact) → PlainTypesAt pc fact.types → instruction_at us pc ≡ o → PlainOption old → PlainOption (passed_from us terms pc fact o q old)
+  passed_plain : (pc q : ℕ) (fact : Fact) (o : Option (Inst × Form)) (old : Option Fact) → PlainTypesAt pc fact.types → instruction_at us pc ≡ o
+      → PlainOption old → PlainOption (passed_from us terms pc fact o q old)
   passed_plain pc q fact None old p at before = before
   passed_plain pc q fact (Some x) old p at before =
       let r = ruled_plain pc fact x p at in
@@ -336,7 +355,8 @@ module _ (us : List ProgramUnit) (terms : Terms) (all : AcceptsAll us terms) whe
   plain_known zero q l = plain_start q
   plain_known (suc n) q l =
       known_option q (known us terms (suc n) q)
-      (plain_past n q (known us terms n n) (known us terms n q) (plain_known n n (omega arith)) (plain_option n q (known us terms n q) (omega arith) (plain_known n q (omega arith))))
+      (plain_past n q (known us terms n n) (known us terms n q) (plain_known n n (omega arith))
+      (plain_option n q (known us terms n q) (omega arith) (plain_known n q (omega arith))))
 
   no_flaw_of : (pc : ℕ) (fact : Fact) (o : Option (Inst × Form)) → PlainTypesAt pc fact.types → instruction_at us pc ≡ o → flaw_of us terms pc fact o ≡ None
   no_flaw_of pc fact None p at = refl
@@ -350,4 +370,5 @@ module _ (us : List ProgramUnit) (terms : Terms) (all : AcceptsAll us terms) whe
   unfolding first_flaw_below
   plain_flawless zero = refl
   plain_flawless (suc n) =
-      ap (λ o. or_else o (flaw_under us terms n (inferred us terms n))) (plain_flawless n) ∙ no_flaw_under n (inferred us terms n) (plain_known n n (omega arith))
+      ap (λ o. or_else o (flaw_under us terms n (inferred us terms n))) (plain_flawless n)
+      ∙ no_flaw_under n (inferred us terms n) (plain_known n n (omega arith))

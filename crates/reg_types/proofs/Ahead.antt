@@ -8,7 +8,8 @@ use Rattle.bpf_model.specs.declared.instruction.Inst.{Inst}
 use Rattle.bpf_model.specs.declared.instruction.Unit.{Unit as ProgramUnit}
 use Rattle.bpf_model.specs.declared.instruction.Unit.TheVariants.{First, Second}
 use Rattle.bpf_model.specs.declared.instruction.Form.{Form}
-use Rattle.bpf_model.specs.declared.instruction.Form.TheVariants.{Arithmetic, Wide, Load, LoadSigned, StoreImmediate, StoreRegister, Goto, GotoLong, Branch, Call, Exit}
+use Rattle.bpf_model.specs.declared.instruction.Form.TheVariants.{Arithmetic, Wide, Load, LoadSigned, StoreImmediate, StoreRegister, Goto, GotoLong, Branch}
+use Rattle.bpf_model.specs.declared.instruction.Form.TheVariants.{Call, Exit}
 use Rattle.bpf_model.specs.Reading.{form_of, units, begins, fields_at, imm_at, opcode_at, is_wide}
 use Rattle.bpf_model.specs.Machine.{and_then}
 use Rattle.bpf_model.specs.Flow.{IsAhead, GoesForward, distance_at, distance_of, distance_by}
@@ -26,7 +27,8 @@ get_inside (u ∷ us) zero l = (u, refl)
 get_inside (u ∷ us) (suc pc) l = get_inside us pc (omega arith)
 
 -- a unit at which an instruction begins
-begins_first : (bytes : List ℕ) (us : List ProgramUnit) (pc : ℕ) → units bytes ≡ Some us → begins bytes pc ≡ true → pc < length us → (i : Inst) × (slice_get us pc ≡ Some (First i))
+begins_first : (bytes : List ℕ) (us : List ProgramUnit) (pc : ℕ) → units bytes ≡ Some us → begins bytes pc ≡ true → pc < length us
+    → (i : Inst) × (slice_get us pc ≡ Some (First i))
 begins_first bytes us pc reads b l =
     let x = get_inside us pc l in
     let u = units_at bytes us pc x.0 reads x.1 in
@@ -64,7 +66,8 @@ module _ (bytes : List ℕ) (us : List ProgramUnit) (reads : units bytes ≡ Som
   distance_is form z is h = ap (λ o. and_then o distance_of) at ∙ ap (λ o. distance_by o i) is ∙ h
 
   -- where each form leads
-  pub leads_ahead : GoesForward us → (form : Form) → form_of i.opcode ≡ Some form → falls_off (length us) pc form ≡ false → (tos : List ℕ) × (leads pc i form ≡ Some tos) × AllByRecursion (IsAhead us pc) tos
+  pub leads_ahead : GoesForward us → (form : Form) → form_of i.opcode ≡ Some form → falls_off (length us) pc form ≡ false
+      → (tos : List ℕ) × (leads pc i form ≡ Some tos) × AllByRecursion (IsAhead us pc) tos
   leads_ahead f Exit is more = ([], refl, tt)
   leads_ahead f Goto is more =
       let j = f.jumps pc i.offset (distance_is Goto i.offset is refl) in

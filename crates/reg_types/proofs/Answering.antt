@@ -26,7 +26,8 @@ use Rattle.reg_types.specs.Refusals.{located}
 use Rattle.reg_types.specs.Inference.{instruction_at, ruled, flaw_in, flaw_of, flaw_under, inferred, or_else, first_flaw_below, first_flaw}
 use Rattle.operations.specs.Operations.{upper_of}
 use Rattle.reg_types.specs.Passing.{IsPassRefused, IsToldAlone, decode_told}
-use Rattle.reg_types.specs.Shown.{IsTypeShown, IsRefused, IsRefusal, unit_refusal, decode_refusal, flow_refusal, type_refusal, code_refusal, or_refused, refusal_of, OneAnswer}
+use Rattle.reg_types.specs.Shown.{IsTypeShown, IsRefused, IsRefusal, unit_refusal, decode_refusal, flow_refusal, type_refusal, code_refusal, or_refused}
+use Rattle.reg_types.specs.Shown.{refusal_of, OneAnswer}
 use Rattle.reg_types.specs.Plain.{IsPlain}
 use Rattle.reg_types.proofs.Accepting.{plain_accepts, plain_flawless}
 use Rattle.reg_types.proofs.Accepted.{instruction_is}
@@ -38,7 +39,8 @@ one_of_two : (a b : Option TypeFault) (fault : TypeFault) → or_else a b ≡ So
 one_of_two None b fault e = inr e
 one_of_two (Some f) b fault e = inl e
 
-flaw_at : (us : List ProgramUnit) (terms : Terms) (n : ℕ) (fault : TypeFault) → first_flaw_below us terms n ≡ Some fault → (k : ℕ) × (flaw_under us terms k (inferred us terms k) ≡ Some fault)
+flaw_at : (us : List ProgramUnit) (terms : Terms) (n : ℕ) (fault : TypeFault) → first_flaw_below us terms n ≡ Some fault
+    → (k : ℕ) × (flaw_under us terms k (inferred us terms k) ≡ Some fault)
 unfolding first_flaw_below
 flaw_at us terms zero fault e = absurd (cc)
 flaw_at us terms (suc n) fault e =
@@ -51,18 +53,32 @@ flaw_from : (pc : ℕ) (r : Result Effect Flaw) (fault : TypeFault) → flaw_in 
 flaw_from pc (Ok e) fault h = absurd (cc)
 flaw_from pc (Err flaw) fault h = (flaw, refl, cc)
 
-decoded_by : (us : List ProgramUnit) (right : Bool) (o : Option (ℕ × UnitFault)) (below : List ProgramUnit) → cond (right && is_none o) (Some below) None ≡ Some us → cond right (unit_refusal o) (Some (Decode Length)) ≡ None
+decoded_by : (us : List ProgramUnit) (right : Bool) (o : Option (ℕ × UnitFault)) (below : List ProgramUnit)
+    → cond (right && is_none o) (Some below) None ≡ Some us → cond right (unit_refusal o) (Some (Decode Length)) ≡ None
 decoded_by us true None below e = refl
 decoded_by us true (Some x) below e = absurd (cc)
 decoded_by us false o below e = absurd (cc)
 
 module _ (bytes : List ℕ) (us : List ProgramUnit) (terms : Terms) (reads : units bytes ≡ Some us) (flows : flow_fault us ≡ None) where
-  shown_of : (pc : ℕ) (fact : Fact) (o : Option (Inst × Form)) (fault : TypeFault) → instruction_at us pc ≡ o → flaw_of us terms pc fact o ≡ Some fault → IsTypeShown bytes fault
+  shown_of : (pc : ℕ) (fact : Fact) (o : Option (Inst × Form)) (fault : TypeFault) → instruction_at us pc ≡ o → flaw_of us terms pc fact o ≡ Some fault
+      → IsTypeShown bytes fault
   shown_of pc fact None fault at e = absurd (cc)
   shown_of pc fact (Some x) fault at e =
       let is = instruction_is (slice_get us pc) x at in
       let f = flaw_from pc (ruled us terms pc fact x) fault e in
-      record { code = us; reads = reads; flows = flows; pc = pc; unit = x.0; begins = is.0; form = x.1; form_is = is.1; flaw = f.0; shows = judged_shows (length us) pc terms fact x.0 (upper_of us pc) x.1 f.0 f.1; fault_is = f.2 }
+      record {
+        code = us;
+        reads = reads;
+        flows = flows;
+        pc = pc;
+        unit = x.0;
+        begins = is.0;
+        form = x.1;
+        form_is = is.1;
+        flaw = f.0;
+        shows = judged_shows (length us) pc terms fact x.0 (upper_of us pc) x.1 f.0 f.1;
+        fault_is = f.2;
+      }
 
   shown_under : (pc : ℕ) (o : Option Fact) (fault : TypeFault) → flaw_under us terms pc o ≡ Some fault → IsTypeShown bytes fault
   shown_under pc None fault e = absurd (cc)
@@ -130,14 +146,17 @@ module _ (bytes : List ℕ) (terms : Terms) where
   decode_shown (HalfWide pc) h = h
   decode_shown NoMemoryToDecode h = tt
 
-  flow_is : (us : List ProgramUnit) (x : ℕ × JumpFault) → units bytes ≡ Some us → flow_fault us ≡ Some x → refusal_of (loaded_on bytes terms) ≡ flow_refusal (Some x)
+  flow_is : (us : List ProgramUnit) (x : ℕ × JumpFault) → units bytes ≡ Some us → flow_fault us ≡ Some x
+      → refusal_of (loaded_on bytes terms) ≡ flow_refusal (Some x)
   unfolding refusal_of
   flow_is us x reads e =
-      ap (λ r. or_refused r (code_refusal terms (units bytes))) (decoded_by us (has_right_length bytes) (fault_below bytes (length bytes / 8)) (units_below bytes (length bytes / 8)) reads)
+      ap (λ r. or_refused r (code_refusal terms (units bytes)))
+      (decoded_by us (has_right_length bytes) (fault_below bytes (length bytes / 8)) (units_below bytes (length bytes / 8)) reads)
       ∙ ap (code_refusal terms) reads
       ∙ ap (λ f. or_refused (flow_refusal f) (type_refusal (first_flaw us terms))) e
 
-  pub flow_exact : (us : List ProgramUnit) (fault : FlowFault) → units bytes ≡ Some us → IsFlowShown us fault → refusal_of (loaded_on bytes terms) ≡ Some (Flow fault)
+  pub flow_exact : (us : List ProgramUnit) (fault : FlowFault) → units bytes ≡ Some us → IsFlowShown us fault
+      → refusal_of (loaded_on bytes terms) ≡ Some (Flow fault)
   flow_exact us (BackwardJump pc) reads h = flow_is us _ reads h
   flow_exact us (JumpOut pc) reads h = flow_is us _ reads h
   flow_exact us (JumpIntoWide pc) reads h = flow_is us _ reads h
@@ -146,7 +165,8 @@ module _ (bytes : List ℕ) (terms : Terms) where
   -- ---- plain programs are refused for want of memory alone
 
   plain_accepted : IsPlain (loaded_on bytes terms) → refusal_of (loaded_on bytes terms) ≡ None
-  plain_accepted p = accepted bytes p.code terms p.reads p.flows (plain_flawless p.code terms (plain_accepts bytes p.code terms p.reads p.plain) (length p.code))
+  plain_accepted p =
+      accepted bytes p.code terms p.reads p.flows (plain_flawless p.code terms (plain_accepts bytes p.code terms p.reads p.plain) (length p.code))
 
   other_refusal : (refusal : Refusal) → refusal_of (loaded_on bytes terms) ≡ Some refusal → IsPlain (loaded_on bytes terms) → refusal ≡ OutOfMemory
   other_refusal refusal e p = let never : None ≡ Some refusal = sym (plain_accepted p) ∙ e in absurd (cc)

@@ -1,5 +1,6 @@
 -- How many facts are stored.
-use Rattle.std.proofs.Common.{◌≡◌, ◌≢◌, ℕ, zero, suc, ◌+◌, ◌<◌, ◌≤◌, ◌⊎◌, List, [], ◌∷◌, Option, Some, None, Bool, true, false, refl, sym, ap, ◌∙◌, subst, inl, inr, arith, length}
+use Rattle.std.proofs.Common.{◌≡◌, ◌≢◌, ℕ, zero, suc, ◌+◌, ◌<◌, ◌≤◌, ◌⊎◌, List, [], ◌∷◌, Option, Some, None, Bool, true, false, refl, sym, ap, ◌∙◌, subst, inl}
+use Rattle.std.proofs.Common.{inr, arith, length}
 use Rattle.std.specs.Prelude.{ℤ, ◌==◌, ◌&&◌, ◌||◌, cond, is_some}
 use Rattle.std.proofs.lemmas.Bool.{cases_eq, eq-eqb, ne_eqb, eqb-true, cond-true, cond-false}
 use Rattle.bpf_model.specs.declared.instruction.Unit.{Unit as ProgramUnit}
@@ -95,12 +96,14 @@ stored_if : (t : Bool) (f : Fact) (o : Option Fact) → t ≡ false → is_some 
 stored_if t f o e = ap is_some (cond-false t (Some f) o e)
 
 -- each stored fact is of a unit of its own
-pub count_of_stored : (n : ℕ) (facts : List Stored) → AreDistinct facts → ((q : ℕ) → is_some (stored facts q) ≡ true → q < n) → length facts ≡ count_below n (λ q. is_some (stored facts q))
+pub count_of_stored : (n : ℕ) (facts : List Stored) → AreDistinct facts → ((q : ℕ) → is_some (stored facts q) ≡ true → q < n)
+    → length facts ≡ count_below n (λ q. is_some (stored facts q))
 unfolding AreDistinct
 count_of_stored n [] d inside = sym (nothing_counted n)
 count_of_stored n (s ∷ rest) d inside =
     let here : is_some (stored (s ∷ rest) s.at) ≡ true = ap is_some (cond-true (s.at == s.at) (Some s.fact) (stored rest s.at) (eq-eqb s.at s.at refl)) in
-    let elsewhere : (q : ℕ) → q ≢ s.at → is_some (stored (s ∷ rest) q) ≡ is_some (stored rest q) = λ q other. stored_if (q == s.at) s.fact (stored rest q) (ne_eqb q s.at other) in
+    let elsewhere : (q : ℕ) → q ≢ s.at → is_some (stored (s ∷ rest) q) ≡ is_some (stored rest q) =
+    λ q other. stored_if (q == s.at) s.fact (stored rest q) (ne_eqb q s.at other) in
     let also : (q : ℕ) → is_some (stored rest q) ≡ true → q < n =
     λ q e. elim (cases_eq q s.at) [ inl same ↦ inside q (ap (λ k. is_some (stored (s ∷ rest) k)) same ∙ here) | inr other ↦ inside q (elsewhere q other ∙ e) ]
     in
@@ -181,10 +184,12 @@ module _ (bytes : List ℕ) (us : List ProgramUnit) (terms : Terms) (facts : Lis
       ∙ count_same (length us) (λ q. is_some (stored facts q)) (is_entered us terms (length us)) (λ q l. is.inferred_are.kept q)
 
   pub facts_few : length facts ≤ 1 + targets_in us
-  facts_few = let e = facts_are in let l = one_less (length us) (is_entered us terms (length us)) (is_target us (length us)) (entered_target us terms (length us)) in omega (arith, e, l)
+  facts_few = let e = facts_are in let l =
+      one_less (length us) (is_entered us terms (length us)) (is_target us (length us)) (entered_target us terms (length us)) in omega (arith, e, l)
 
   pub facts_small : length facts ≤ 512
-  facts_small = let e = facts_are in let l = count_at_most (length us) (is_entered us terms (length us)) in let n = (count_of_units bytes us is.reads).1 in omega (arith, e, l, n)
+  facts_small = let e = facts_are in let l = count_at_most (length us) (is_entered us terms (length us)) in let n =
+      (count_of_units bytes us is.reads).1 in omega (arith, e, l, n)
 
   same_units : (other : List ProgramUnit) → units bytes ≡ Some other → us ≡ other
   same_units other reads = let e : Some us ≡ Some other = sym is.reads ∙ reads in cc

@@ -1,5 +1,6 @@
 -- Facts that say the same are treated alike.
-use Rattle.std.proofs.Common.{◌≡◌, ℕ, zero, suc, ◌-◌, ◌⊎◌, ◌↔◌, List, [], ◌∷◌, Option, Some, None, Bool, true, false, refl, sym, ap, ◌∙◌, subst, inl, inr, arith, length}
+use Rattle.std.proofs.Common.{◌≡◌, ℕ, zero, suc, ◌-◌, ◌⊎◌, ◌↔◌, List, [], ◌∷◌, Option, Some, None, Bool, true, false, refl, sym, ap, ◌∙◌, subst, inl, inr}
+use Rattle.std.proofs.Common.{arith, length}
 use Rattle.std.specs.Prelude.{Result, Ok, Err, ℤ, ◌==◌, ◌&&◌, cond, drop, slice_index_or}
 use Rattle.std.proofs.lemmas.Bool.{and_parts, and_from}
 use Rattle.std.proofs.lemmas.List.{ext_get_or}
@@ -18,9 +19,11 @@ use Rattle.reg_types.specs.declared.types.Fact.{Fact}
 use Rattle.reg_types.specs.Effects.{Effect}
 use Rattle.reg_types.specs.declared.types.Flaw.{Flaw}
 use Rattle.reg_types.specs.declared.types.Flaw.TheVariants.{FallsOff, UnsetBytes}
-use Rattle.reg_types.specs.Rules.{type_at, join_type, all_in, load_type, number_set, lowest, set_type, kept_type, kept_or, note_of, is_unset, effect, falls_off, judged}
+use Rattle.reg_types.specs.Rules.{type_at, join_type, all_in, load_type, number_set, lowest, set_type, kept_type, kept_or, note_of, is_unset, effect, falls_off}
+use Rattle.reg_types.specs.Rules.{judged}
 use Rattle.reg_types.specs.Facts.{HasAfter, IsAfter, IsEntry}
-use Rattle.reg_types.specs.Inference.{leads, common, marked, cleared, join_types, join_notes, renoted, set_after, join_fact, entry_fact, fact_after, instruction_at, ruled, flaw_in, flaw_of, flaw_under, taken_in, arrived, arrived_all, passed_by, passed_from, passed}
+use Rattle.reg_types.specs.Inference.{leads, common, marked, cleared, join_types, join_notes, renoted, set_after, join_fact, entry_fact, fact_after}
+use Rattle.reg_types.specs.Inference.{instruction_at, ruled, flaw_in, flaw_of, flaw_under, taken_in, arrived, arrived_all, passed_by, passed_from, passed}
 use Rattle.operations.specs.Operations.{upper_of}
 use Rattle.reg_types.specs.Passing.{IsSame, AreSame}
 
@@ -38,13 +41,15 @@ dropped [] zero = refl
 dropped [] (suc p) = refl
 dropped (b ∷ set) p = refl
 
-past_one : (b : Bool) (xs : List Bool) (set : List Bool) (at len p : ℕ) → (Has xs p ↔ (Has (drop 1 set) p ⊎ Within at len p)) → Has (b ∷ xs) (suc p) ↔ (Has set (suc p) ⊎ Within (suc at) len (suc p))
+past_one : (b : Bool) (xs : List Bool) (set : List Bool) (at len p : ℕ) → (Has xs p ↔ (Has (drop 1 set) p ⊎ Within at len p))
+    → Has (b ∷ xs) (suc p) ↔ (Has set (suc p) ⊎ Within (suc at) len (suc p))
 past_one b xs set at len p h = (
   λ has. elim (h.0 has) [ inl old ↦ inl (sym (dropped set p) ∙ old) | inr w ↦ inr (omega (arith, w.0), omega (arith, w.1)) ],
   λ e. elim e [ inl old ↦ h.1 (inl (dropped set p ∙ old)) | inr w ↦ h.1 (inr (omega (arith, w.0), omega (arith, w.1))) ],
 )
 
-past_none : (xs : List Bool) (set : List Bool) (len p : ℕ) → (Has xs p ↔ (Has (drop 1 set) p ⊎ Within 0 len p)) → Has (true ∷ xs) (suc p) ↔ (Has set (suc p) ⊎ Within 0 (suc len) (suc p))
+past_none : (xs : List Bool) (set : List Bool) (len p : ℕ) → (Has xs p ↔ (Has (drop 1 set) p ⊎ Within 0 len p))
+    → Has (true ∷ xs) (suc p) ↔ (Has set (suc p) ⊎ Within 0 (suc len) (suc p))
 past_none xs set len p h = (
   λ has. elim (h.0 has) [ inl old ↦ inl (sym (dropped set p) ∙ old) | inr w ↦ inr (omega arith, omega (arith, w.1)) ],
   λ e. elim e [ inl old ↦ h.1 (inl (dropped set p ∙ old)) | inr w ↦ h.1 (inr (omega arith, omega (arith, w.1))) ],
@@ -60,13 +65,15 @@ marked_has zero (suc len) set (suc p) = past_none (marked zero len (drop 1 set))
 marked_has (suc at) len set zero = lowest_has set (marked at len (drop 1 set)) at len
 marked_has (suc at) len set (suc p) = past_one (slice_index_or set 0 false) (marked at len (drop 1 set)) set at len p (marked_has at len (drop 1 set) p)
 
-apart_one : (b : Bool) (xs : List Bool) (set : List Bool) (at len p : ℕ) → (Has xs p ↔ (Has (drop 1 set) p × ¬ (Within at len p))) → Has (b ∷ xs) (suc p) ↔ (Has set (suc p) × ¬ (Within (suc at) len (suc p)))
+apart_one : (b : Bool) (xs : List Bool) (set : List Bool) (at len p : ℕ) → (Has xs p ↔ (Has (drop 1 set) p × ¬ (Within at len p)))
+    → Has (b ∷ xs) (suc p) ↔ (Has set (suc p) × ¬ (Within (suc at) len (suc p)))
 apart_one b xs set at len p h = (
   λ has. let x = h.0 has in (sym (dropped set p) ∙ x.0, λ w. x.1 (omega (arith, w.0), omega (arith, w.1))),
   λ e. h.1 (dropped set p ∙ e.0, λ w. e.1 (omega (arith, w.0), omega (arith, w.1))),
 )
 
-apart_none : (xs : List Bool) (set : List Bool) (len p : ℕ) → (Has xs p ↔ (Has (drop 1 set) p × ¬ (Within 0 len p))) → Has (false ∷ xs) (suc p) ↔ (Has set (suc p) × ¬ (Within 0 (suc len) (suc p)))
+apart_none : (xs : List Bool) (set : List Bool) (len p : ℕ) → (Has xs p ↔ (Has (drop 1 set) p × ¬ (Within 0 len p)))
+    → Has (false ∷ xs) (suc p) ↔ (Has set (suc p) × ¬ (Within 0 (suc len) (suc p)))
 apart_none xs set len p h = (
   λ has. let x = h.0 has in (sym (dropped set p) ∙ x.0, λ w. x.1 (omega arith, omega (arith, w.1))),
   λ e. h.1 (dropped set p ∙ e.0, λ w. e.1 (omega arith, omega (arith, w.1))),
@@ -112,7 +119,8 @@ length-joined [] (y ∷ b) e = absurd (omega (arith, e))
 length-joined (x ∷ a) [] e = absurd (omega (arith, e))
 length-joined (x ∷ a) (y ∷ b) e = ap suc (length-joined a b (omega (arith, e)))
 
-pub joined_types : (a b j : List RegType) → length a ≡ length b → length j ≡ length b → ((r : ℕ) → type_at j r ≡ join_type (type_at a r) (type_at b r)) → j ≡ join_types a b
+pub joined_types : (a b j : List RegType) → length a ≡ length b → length j ≡ length b → ((r : ℕ) → type_at j r ≡ join_type (type_at a r) (type_at b r))
+    → j ≡ join_types a b
 joined_types a b j la lj e =
     ext_get_or Unset j (join_types a b) (lj ∙ sym (length-joined a b la)) (λ r l. e r ∙ sym (type_at-joined a b r))
 
@@ -166,7 +174,8 @@ arrived_by false a b c d f g = f
 pub arrived_same : (q to : ℕ) (a b : Option Fact) (c d : Fact) → AreSame a b → IsSame c d → AreSame (arrived q c to a) (arrived q d to b)
 arrived_same q to a b c d f g = arrived_by (q == to) a b c d f g
 
-pub arrived_all_same : (q : ℕ) (tos : List ℕ) (a b : Option Fact) (c d : Fact) → AreSame a b → IsSame c d → AreSame (arrived_all q c tos a) (arrived_all q d tos b)
+pub arrived_all_same : (q : ℕ) (tos : List ℕ) (a b : Option Fact) (c d : Fact) → AreSame a b → IsSame c d
+    → AreSame (arrived_all q c tos a) (arrived_all q d tos b)
 arrived_all_same q [] a b c d f g = f
 arrived_all_same q (to ∷ tos) a b c d f g = arrived_all_same q tos (arrived q c to a) (arrived q d to b) c d (arrived_same q to a b c d f g) g
 
@@ -177,7 +186,8 @@ after_same a b e f =
       places =
           λ p. (
             λ h. (after_has e b.stack p).1 (has_after_same (is_unset e.kept) e.at e.len p a.stack b.stack (f.places p) ((after_has e a.stack p).0 h)),
-            λ h. (after_has e a.stack p).1 (has_after_same (is_unset e.kept) e.at e.len p b.stack a.stack ((f.places p).1, (f.places p).0) ((after_has e b.stack p).0 h)),
+            λ h. (after_has e a.stack p).1 (has_after_same (is_unset e.kept) e.at e.len p b.stack a.stack ((f.places p).1, (f.places p).0)
+                ((after_has e b.stack p).0 h)),
           );
       notes = ap (renoted (note_of e.kept) e.at e.len 0) f.notes;
     }
@@ -200,7 +210,9 @@ same_entry fact is = record { types = is.types; places = λ p. (λ h. absurd (is
 pub entry_is : IsEntry entry_fact
 entry_is = record { types = refl; places = λ p h. absurd (cc); notes = refl }
 
-pub same_join : (a b j : Fact) → length a.types ≡ length b.types → length j.types ≡ length b.types → ((r : ℕ) → type_at j.types r ≡ join_type (type_at a.types r) (type_at b.types r)) → ((p : ℕ) → Has j.stack p ↔ (Has a.stack p × Has b.stack p)) → j.notes ≡ join_notes a.notes b.notes → IsSame j (join_fact a b)
+pub same_join : (a b j : Fact) → length a.types ≡ length b.types → length j.types ≡ length b.types
+    → ((r : ℕ) → type_at j.types r ≡ join_type (type_at a.types r) (type_at b.types r)) → ((p : ℕ) → Has j.stack p ↔ (Has a.stack p × Has b.stack p))
+    → j.notes ≡ join_notes a.notes b.notes → IsSame j (join_fact a b)
 same_join a b j la lj e h n =
     record {
       types = joined_types a.types b.types j.types la lj e;
@@ -226,15 +238,22 @@ number_same : (a b : List Bool) → ((p : ℕ) → Has a p ↔ Has b p) → (siz
 number_same a b h size None = refl
 number_same a b h size (Some at) = ap (λ t. cond t (Ok Num) (Err UnsetBytes)) (all_in_same a b h at size)
 
-load_same : (layout : Layout) (a b : List Bool) → ((p : ℕ) → Has a p ↔ Has b p) → (base : RegType) (i : Inst) (size : ℕ) → load_type layout a base i size ≡ load_type layout b base i size
+load_same : (layout : Layout) (a b : List Bool) → ((p : ℕ) → Has a p ↔ Has b p) → (base : RegType) (i : Inst) (size : ℕ)
+    → load_type layout a base i size ≡ load_type layout b base i size
 load_same layout a b h Unset i size = refl
 load_same layout a b h Num i size = refl
 load_same layout a b h (Const c) i size = refl
 load_same layout a b h (Ctx k) i size = refl
 load_same layout a b h (Stk k) i size = number_same a b h size (shifted (lowest k) i.offset (512 - size))
 
-set_same : (terms : Terms) (types : List RegType) (a b : List Bool) (notes : List ℕ) → ((p : ℕ) → Has a p ↔ Has b p) → (i : Inst) (upper : ℤ) (form : Form) → effect terms (record { types = types; stack = a; notes = notes }) i upper form ≡ effect terms (record { types = types; stack = b; notes = notes }) i upper form
-set_same terms types a b notes h i upper (Load size) = ap (λ r. set_type types i.dst (kept_or (kept_type notes (type_at types i.src) i (bytes_in size)) r)) (load_same terms.layout a b h (type_at types i.src) i (bytes_in size))
+set_same : (terms : Terms) (types : List RegType) (a b : List Bool) (notes : List ℕ) → ((p : ℕ) → Has a p ↔ Has b p) → (i : Inst) (upper : ℤ) (form : Form)
+    → effect terms (record { types = types; stack = a; notes = notes }) i upper form ≡ effect terms (record {
+      types = types;
+      stack = b;
+      notes = notes;
+    }) i upper form
+set_same terms types a b notes h i upper (Load size) = ap (λ r. set_type types i.dst (kept_or (kept_type notes (type_at types i.src) i (bytes_in size)) r))
+    (load_same terms.layout a b h (type_at types i.src) i (bytes_in size))
 set_same terms types a b notes h i upper (LoadSigned size) = ap (set_type types i.dst) (load_same terms.layout a b h (type_at types i.src) i (bytes_in size))
 set_same terms types a b notes h i upper form = refl
 
@@ -244,12 +263,14 @@ effect_same terms a b f i upper form =
     ∙ ap (λ types. effect terms (record { types = types; stack = b.stack; notes = a.notes }) i upper form) f.types
     ∙ ap (λ notes. effect terms (record { types = b.types; stack = b.stack; notes = notes }) i upper form) f.notes
 
-pub judged_same : (count pc : ℕ) (terms : Terms) (a b : Fact) → IsSame a b → (i : Inst) (upper : ℤ) (form : Form) → judged count pc terms a i upper form ≡ judged count pc terms b i upper form
+pub judged_same : (count pc : ℕ) (terms : Terms) (a b : Fact) → IsSame a b → (i : Inst) (upper : ℤ) (form : Form)
+    → judged count pc terms a i upper form ≡ judged count pc terms b i upper form
 judged_same count pc terms a b f i upper form = ap (λ r. cond (falls_off count pc form) (Err FallsOff) r) (effect_same terms a b f i upper form)
 
 -- ---- one unit
 
-passed_by_same : (q : ℕ) (a b : Fact) (r : Result Effect Flaw) (tos : Option (List ℕ)) (x y : Option Fact) → IsSame a b → AreSame x y → AreSame (passed_by q a r tos x) (passed_by q b r tos y)
+passed_by_same : (q : ℕ) (a b : Fact) (r : Result Effect Flaw) (tos : Option (List ℕ)) (x y : Option Fact) → IsSame a b → AreSame x y
+    → AreSame (passed_by q a r tos x) (passed_by q b r tos y)
 passed_by_same q a b (Err flaw) tos x y f g = g
 passed_by_same q a b (Ok e) None x y f g = g
 passed_by_same q a b (Ok e) (Some tos) x y f g = arrived_all_same q tos x y (fact_after a e) (fact_after b e) g (after_same a b e f)
@@ -258,7 +279,8 @@ module _ (us : List ProgramUnit) (terms : Terms) (pc : ℕ) where
   ruled_same : (a b : Fact) → IsSame a b → (x : Inst × Form) → ruled us terms pc a x ≡ ruled us terms pc b x
   ruled_same a b f x = judged_same (length us) pc terms a b f x.0 (upper_of us pc) x.1
 
-  passed_from_same : (a b : Fact) (o : Option (Inst × Form)) (q : ℕ) (x y : Option Fact) → IsSame a b → AreSame x y → AreSame (passed_from us terms pc a o q x) (passed_from us terms pc b o q y)
+  passed_from_same : (a b : Fact) (o : Option (Inst × Form)) (q : ℕ) (x y : Option Fact) → IsSame a b → AreSame x y
+      → AreSame (passed_from us terms pc a o q x) (passed_from us terms pc b o q y)
   passed_from_same a b None q x y f g = g
   passed_from_same a b (Some i) q x y f g =
       subst (λ r. AreSame (passed_by q a (ruled us terms pc a i) (leads pc i.0 i.1) x) (passed_by q b r (leads pc i.0 i.1) y)) (ruled_same a b f i)

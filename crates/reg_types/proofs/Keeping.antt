@@ -1,5 +1,6 @@
 -- Pointers kept on the stack: what stores do to them, and what notes say of them.
-use Rattle.std.proofs.Common.{◌≡◌, ◌≢◌, ℕ, zero, suc, ◌+◌, ◌-◌, ◌*◌, ◌<◌, ◌≤◌, ◌⊎◌, ◌↔◌, List, [], ◌∷◌, Option, Some, None, Bool, true, false, refl, sym, ap, ◌∙◌, subst, inl, inr, arith, length}
+use Rattle.std.proofs.Common.{◌≡◌, ◌≢◌, ℕ, zero, suc, ◌+◌, ◌-◌, ◌*◌, ◌<◌, ◌≤◌, ◌⊎◌, ◌↔◌, List, [], ◌∷◌, Option, Some, None, Bool, true, false, refl, sym, ap}
+use Rattle.std.proofs.Common.{◌∙◌, subst, inl, inr, arith, length}
 use Rattle.std.specs.Prelude.{pos, negsuc, ◌+ℤ◌, ◌/◌, ◌%◌, ◌==◌, ◌&&◌, cond, nat_le, nat_lt, slice_set, slice_index, ⊤}
 use Rattle.std.proofs.lemmas.Bool.{cases_lt, cases_eq, eqb-true, eq-eqb, and_parts, and_from}
 use Rattle.std.proofs.lemmas.Bool.Decides.{nat_tests}
@@ -25,7 +26,8 @@ apart : (at n p : ℕ) → (p < at) ⊎ (at + suc n ≤ p) → ((p < suc at) ⊎
 apart at n p (inl l) = (inl (omega (arith, l)), omega (arith, l))
 apart at n p (inr l) = (inr (omega (arith, l)), omega (arith, l))
 
-pub written_other : (stack : List Cell) (at : ℕ) (bytes : List ℕ) (p : ℕ) → (p < at) ⊎ (at + length bytes ≤ p) → cell_at (written stack at bytes) p ≡ cell_at stack p
+pub written_other : (stack : List Cell) (at : ℕ) (bytes : List ℕ) (p : ℕ) → (p < at) ⊎ (at + length bytes ≤ p)
+    → cell_at (written stack at bytes) p ≡ cell_at stack p
 written_other stack at [] p o = refl
 written_other stack at (b ∷ bytes) p o =
     let x = apart at (length bytes) p o in
@@ -43,7 +45,8 @@ length-pieces stack at v i (suc n) = length-pieces (slice_set stack at (Piece v 
 
 -- ---- a pointer is kept by its eight cells
 
-has_pieces_same : (a b : List Cell) (v : Value) (at i n : ℕ) → ((p : ℕ) → at ≤ p → p < at + n → cell_at a p ≡ cell_at b p) → has_pieces a at v i n ≡ has_pieces b at v i n
+has_pieces_same : (a b : List Cell) (v : Value) (at i n : ℕ) → ((p : ℕ) → at ≤ p → p < at + n → cell_at a p ≡ cell_at b p)
+    → has_pieces a at v i n ≡ has_pieces b at v i n
 has_pieces_same a b v at i zero h = refl
 has_pieces_same a b v at i (suc n) h =
     ap (λ c. is_piece c v i && has_pieces a (suc at) v (suc i) n) (h at (omega arith) (omega arith))
@@ -76,13 +79,15 @@ first_piece : (stack : List Cell) (at : ℕ) (v : Value) (i n : ℕ) → at < le
 first_piece stack at v i n l =
     pieces_other (slice_set stack at (Piece v i)) (suc at) v (suc i) n at (inl (omega arith)) ∙ get_or-set_same stack at (Piece v i) Empty l
 
-pieces_there : (stack : List Cell) (at : ℕ) (v : Value) (i n : ℕ) → IsPointer v → at + n ≤ length stack → has_pieces (pieces_written stack at v i n) at v i n ≡ true
+pieces_there : (stack : List Cell) (at : ℕ) (v : Value) (i n : ℕ) → IsPointer v → at + n ≤ length stack
+    → has_pieces (pieces_written stack at v i n) at v i n ≡ true
 pieces_there stack at v i zero p l = refl
 pieces_there stack at v i (suc n) p l =
     let next = slice_set stack at (Piece v i) in
     let long = length-set stack at (Piece v i) in
     let all = pieces_written next (suc at) v (suc i) n in
-    and_from (is_piece (cell_at all at) v i) (has_pieces all (suc at) v (suc i) n) (ap (λ c. is_piece c v i) (first_piece stack at v i n (omega (arith, l))) ∙ piece_self v i p) (pieces_there next (suc at) v (suc i) n p (omega (arith, l, long)))
+    and_from (is_piece (cell_at all at) v i) (has_pieces all (suc at) v (suc i) n) (ap (λ c. is_piece c v i) (first_piece stack at v i n (omega (arith, l)))
+    ∙ piece_self v i p) (pieces_there next (suc at) v (suc i) n p (omega (arith, l, long)))
 
 pub kept_there : (stack : List Cell) (at : ℕ) (v : Value) → IsPointer v → at + 8 ≤ length stack → kept_at (pieces_written stack at v 0 8) at ≡ Some v
 kept_there stack at v p l =
@@ -150,7 +155,8 @@ noted_stack m =
 pub back_again : (m : ℕ) → pos m ≡ ((pos m +ℤ negsuc 511) +ℤ pos 512)
 back_again m = omega (arith, ints)
 
-context_note : (b : Bool) (k n : ℕ) → (b ≡ true → k ≤ 80) → n ≡ k → is_unset (noted_type (cond b (k + 1) 0)) ≡ false → FitsType (noted_type (cond b (k + 1) 0)) (Context n)
+context_note : (b : Bool) (k n : ℕ) → (b ≡ true → k ≤ 80) → n ≡ k → is_unset (noted_type (cond b (k + 1) 0)) ≡ false
+    → FitsType (noted_type (cond b (k + 1) 0)) (Context n)
 context_note true k n l e u = subst (λ t. FitsType t (Context n)) (sym (noted_context k (l refl))) e
 context_note false k n l e u = absurd (cc)
 
@@ -191,7 +197,8 @@ join_if : (a b : ℕ) (t : Bool) → (t ≡ true → a ≡ b) → ((cond t a 0 �
 join_if a b true e = inl (refl, e refl)
 join_if a b false e = inr refl
 
-pub joined_note : (a b : List ℕ) (k : ℕ) → ((slice_index (join_notes a b) k ≡ slice_index a k) × (slice_index (join_notes a b) k ≡ slice_index b k)) ⊎ (slice_index (join_notes a b) k ≡ 0)
+pub joined_note : (a b : List ℕ) (k : ℕ) → ((slice_index (join_notes a b) k ≡ slice_index a k) × (slice_index (join_notes a b) k ≡ slice_index b k))
+    ⊎ (slice_index (join_notes a b) k ≡ 0)
 joined_note [] b k = inr refl
 joined_note (x ∷ a) [] k = inr refl
 joined_note (x ∷ a) (y ∷ b) zero = join_if x y (x == y) (eqb-true x y)
@@ -205,7 +212,8 @@ renoted_if : (b : Bool) (n m : ℕ) → IsRenoted b n m (cond b n m)
 renoted_if true n m = inr (inr (refl, refl))
 renoted_if false n m = inr (inl (refl, refl))
 
-renoted_is : (n at len j : ℕ) (notes : List ℕ) (k q : ℕ) → q ≡ j + k → IsRenoted (touches at len q) n (slice_index notes k) (slice_index (renoted n at len j notes) k)
+renoted_is : (n at len j : ℕ) (notes : List ℕ) (k q : ℕ) → q ≡ j + k
+    → IsRenoted (touches at len q) n (slice_index notes k) (slice_index (renoted n at len j notes) k)
 renoted_is n at len j [] k q e = inl refl
 renoted_is n at len j (m ∷ rest) zero q e =
     let same : j ≡ q = omega (arith, e) in
@@ -234,7 +242,8 @@ abbrev AllKept : List ℕ → List Cell → Type 0
 AllKept notes stack = (k : ℕ) → IsKept (noted_type (slice_index notes k)) stack (8 * k)
 
 -- after a store of bytes
-pub kept_after_bytes : (notes after : List ℕ) (stack : List Cell) (at : ℕ) (bytes : List ℕ) → after ≡ renoted 0 at (length bytes) 0 notes → AllKept notes stack → AllKept after (written stack at bytes)
+pub kept_after_bytes : (notes after : List ℕ) (stack : List Cell) (at : ℕ) (bytes : List ℕ) → after ≡ renoted 0 at (length bytes) 0 notes → AllKept notes stack
+    → AllKept after (written stack at bytes)
 kept_after_bytes notes after stack at bytes e all k =
     let new = slice_index (renoted 0 at (length bytes) 0 notes) k in
     subst (λ ns. IsKept (noted_type (slice_index ns k)) (written stack at bytes) (8 * k)) (sym e)
@@ -250,7 +259,8 @@ kept_after_bytes notes after stack at bytes e all k =
     ])
 
 -- after a store of a pointer
-pub kept_after_pointer : (notes after : List ℕ) (stack : List Cell) (at : ℕ) (t : RegType) (v : Value) → after ≡ renoted (note_of t) at 8 0 notes → at % 8 ≡ 0 → at + 8 ≤ length stack → IsPointer v → FitsType t v → AllKept notes stack → AllKept after (pieces_written stack at v 0 8)
+pub kept_after_pointer : (notes after : List ℕ) (stack : List Cell) (at : ℕ) (t : RegType) (v : Value) → after ≡ renoted (note_of t) at 8 0 notes → at % 8 ≡ 0
+    → at + 8 ≤ length stack → IsPointer v → FitsType t v → AllKept notes stack → AllKept after (pieces_written stack at v 0 8)
 kept_after_pointer notes after stack at t v e z inside p f all k =
     let new = slice_index (renoted (note_of t) at 8 0 notes) k in
     let cells = pieces_written stack at v 0 8 in
@@ -293,22 +303,28 @@ length-joined_notes (x ∷ a) [] e = absurd (omega (arith, e))
 length-joined_notes (x ∷ a) (y ∷ b) e = ap suc (length-joined_notes a b (omega (arith, e)))
 
 -- one note more is joined
-pub note_step : (ts a b : List ℕ) (r v : ℕ) → r < length ts → v ≡ both_note (slice_index ts r) (slice_index b r) → slice_index ts r ≡ slice_index a r → ((k : ℕ) → k < r → slice_index ts k ≡ both_note (slice_index a k) (slice_index b k)) → (k : ℕ) → k < r + 1 → slice_index (slice_set ts r v) k ≡ both_note (slice_index a k) (slice_index b k)
+pub note_step : (ts a b : List ℕ) (r v : ℕ) → r < length ts → v ≡ both_note (slice_index ts r) (slice_index b r) → slice_index ts r ≡ slice_index a r
+    → ((k : ℕ) → k < r → slice_index ts k ≡ both_note (slice_index a k) (slice_index b k)) → (k : ℕ) → k < r + 1
+    → slice_index (slice_set ts r v) k ≡ both_note (slice_index a k) (slice_index b k)
 note_step ts a b r v l e same below k h =
     elim (cases_eq k r) [
-      | inl at ↦ subst (λ q. slice_index (slice_set ts r v) q ≡ both_note (slice_index a q) (slice_index b q)) (sym at) (get_or-set_same ts r v 0 l ∙ e ∙ ap (λ t. both_note t (slice_index b r)) same)
+      | inl at ↦ subst (λ q. slice_index (slice_set ts r v) q ≡ both_note (slice_index a q) (slice_index b q)) (sym at) (get_or-set_same ts r v 0 l ∙ e ∙ ap
+          (λ t. both_note t (slice_index b r)) same)
       | inr other ↦ get_or-set_other ts r k v 0 other ∙ below k (omega (arith, h, other))
     ]
 
-pub note_rest : (ts a : List ℕ) (r v : ℕ) → ((k : ℕ) → r ≤ k → slice_index ts k ≡ slice_index a k) → (k : ℕ) → r + 1 ≤ k → slice_index (slice_set ts r v) k ≡ slice_index a k
+pub note_rest : (ts a : List ℕ) (r v : ℕ) → ((k : ℕ) → r ≤ k → slice_index ts k ≡ slice_index a k) → (k : ℕ) → r + 1 ≤ k
+    → slice_index (slice_set ts r v) k ≡ slice_index a k
 note_rest ts a r v above k h = let other : k ≢ r = omega arith in get_or-set_other ts r k v 0 other ∙ above k (omega arith)
 
-pub notes_joined : (a b j : List ℕ) (n : ℕ) → length a ≡ 64 → length b ≡ 64 → length j ≡ 64 → 64 ≤ n → ((k : ℕ) → k < n → slice_index j k ≡ both_note (slice_index a k) (slice_index b k)) → j ≡ join_notes a b
+pub notes_joined : (a b j : List ℕ) (n : ℕ) → length a ≡ 64 → length b ≡ 64 → length j ≡ 64 → 64 ≤ n
+    → ((k : ℕ) → k < n → slice_index j k ≡ both_note (slice_index a k) (slice_index b k)) → j ≡ join_notes a b
 notes_joined a b j n la lb lj le h =
     let long = length-joined_notes a b (la ∙ sym lb) in
     ext_get_or 0 j (join_notes a b) (omega (arith, long, lb, lj)) (λ k l. h k (omega (arith, l, lj, le)) ∙ sym (note_at-joined a b k (la ∙ sym lb)))
 
-note_at-renoted : (n at len j : ℕ) (notes : List ℕ) (k q : ℕ) → q ≡ j + k → k < length notes → slice_index (renoted n at len j notes) k ≡ cond (touches at len q) n (slice_index notes k)
+note_at-renoted : (n at len j : ℕ) (notes : List ℕ) (k q : ℕ) → q ≡ j + k → k < length notes
+    → slice_index (renoted n at len j notes) k ≡ cond (touches at len q) n (slice_index notes k)
 note_at-renoted n at len j [] k q e l = absurd (omega (arith, l))
 note_at-renoted n at len j (m ∷ rest) zero q e l = let same : j ≡ q = omega (arith, e) in ap (λ x. cond (touches at len x) n m) same
 note_at-renoted n at len j (m ∷ rest) (suc k) q e l = note_at-renoted n at len (suc j) rest k q (omega (arith, e)) (omega (arith, l))
@@ -344,7 +360,8 @@ put_if : (b : Bool) (n m new : ℕ) → (b ≡ true → new ≡ n) → (b ≡ fa
 put_if true n m new f g = f refl
 put_if false n m new f g = g refl
 
-pub all_put : (n at len k : ℕ) (old new : List ℕ) → length old ≡ 64 → at + len ≤ 8 * k → 8 * k < at + len + 8 → ArePut n at k old new → new ≡ renoted n at len 0 old
+pub all_put : (n at len k : ℕ) (old new : List ℕ) → length old ≡ 64 → at + len ≤ 8 * k → 8 * k < at + len + 8 → ArePut n at k old new
+    → new ≡ renoted n at len 0 old
 all_put n at len k old new lo enough least h =
     let long = length-renoted n at len 0 old in
     let room = h.long in
@@ -377,7 +394,8 @@ pub after_none : (b : Bool) (set : List Bool) (p : ℕ) → Has set p ↔ HasAft
 after_none true set p = (λ h. inl h, λ h. elim h [ inl old ↦ old | inr w ↦ absurd (omega (arith, w.1)) ])
 after_none false set p = (λ h. (h, λ w. omega (arith, w.1)), λ h. h.0)
 
-pub unwritten : (fact after : Fact) (e : Effect) → e.at ≡ 0 → e.len ≡ 0 → after.types ≡ e.types → after.stack ≡ fact.stack → after.notes ≡ fact.notes → IsAfter fact e after
+pub unwritten : (fact after : Fact) (e : Effect) → e.at ≡ 0 → e.len ≡ 0 → after.types ≡ e.types → after.stack ≡ fact.stack
+    → after.notes ≡ fact.notes → IsAfter fact e after
 unwritten fact after e at len types stack notes =
     record {
       types = types;

@@ -38,16 +38,19 @@ unfolding refusal_of known first_flaw_below
 constant = refl
 
 -- an answer on one edge alone
-half_an_answer : refusal_of (on_one (0x61120c0000000000 ∷ 0x1502010004000000 ∷ 0xb700000001000000 ∷ 0x9500000000000000 ∷ [])) ≡ Some (TypeRefusal (NotANumber 3 0))
+half_an_answer : refusal_of (on_one (0x61120c0000000000 ∷ 0x1502010004000000 ∷ 0xb700000001000000 ∷ 0x9500000000000000 ∷ []))
+    ≡ Some (TypeRefusal (NotANumber 3 0))
 unfolding refusal_of known first_flaw_below
 half_an_answer = refl
 
 -- bytes that both edges set, and bytes that one sets
-stored_before : refusal_of (on_one (0xb700000000000000 ∷ 0x620af8ff07000000 ∷ 0x1500010001000000 ∷ 0xb700000005000000 ∷ 0x61a0f8ff00000000 ∷ 0x9500000000000000 ∷ [])) ≡ None
+stored_before : refusal_of (on_one (0xb700000000000000 ∷ 0x620af8ff07000000 ∷ 0x1500010001000000 ∷ 0xb700000005000000 ∷ 0x61a0f8ff00000000
+    ∷ 0x9500000000000000 ∷ [])) ≡ None
 unfolding refusal_of known first_flaw_below
 stored_before = refl
 
-stored_on_one_edge : refusal_of (on_one (0xb700000000000000 ∷ 0x1500010001000000 ∷ 0x620af8ff07000000 ∷ 0x61a0f8ff00000000 ∷ 0x9500000000000000 ∷ [])) ≡ Some (TypeRefusal (UnsetBytes 3))
+stored_on_one_edge : refusal_of (on_one (0xb700000000000000 ∷ 0x1500010001000000 ∷ 0x620af8ff07000000 ∷ 0x61a0f8ff00000000 ∷ 0x9500000000000000 ∷ []))
+    ≡ Some (TypeRefusal (UnsetBytes 3))
 unfolding refusal_of known first_flaw_below
 stored_on_one_edge = refl
 
@@ -66,7 +69,8 @@ pointer_found_again : refusal_of (on_one (0x7b1af8ff00000000 ∷ 0x79a2f8ff00000
 unfolding refusal_of known first_flaw_below
 pointer_found_again = refl
 
-pointer_found_after_a_call : refusal_of (on_one (0x7b1af8ff00000000 ∷ 0xb701000001000000 ∷ 0x8500000004000000 ∷ 0x79a2f8ff00000000 ∷ 0x7920180000000000 ∷ 0x9500000000000000 ∷ [])) ≡ None
+pointer_found_after_a_call : refusal_of (on_one (0x7b1af8ff00000000 ∷ 0xb701000001000000 ∷ 0x8500000004000000 ∷ 0x79a2f8ff00000000 ∷ 0x7920180000000000
+    ∷ 0x9500000000000000 ∷ [])) ≡ None
 unfolding refusal_of known first_flaw_below
 pointer_found_after_a_call = refl
 
@@ -86,11 +90,13 @@ half_a_place_loaded : refusal_of (on_one (0x7b1af8ff00000000 ∷ 0x61a0f8ff00000
 unfolding refusal_of known first_flaw_below
 half_a_place_loaded = refl
 
-byte_over_a_pointer : refusal_of (on_one (0x7b1af8ff00000000 ∷ 0x720af8ff00000000 ∷ 0x79a2f8ff00000000 ∷ 0x9500000000000000 ∷ [])) ≡ Some (TypeRefusal (UnsetBytes 2))
+byte_over_a_pointer : refusal_of (on_one (0x7b1af8ff00000000 ∷ 0x720af8ff00000000 ∷ 0x79a2f8ff00000000 ∷ 0x9500000000000000 ∷ []))
+    ≡ Some (TypeRefusal (UnsetBytes 2))
 unfolding refusal_of known first_flaw_below
 byte_over_a_pointer = refl
 
-two_pointers_meet : refusal_of (on_one (0x61120c0000000000 ∷ 0x7b1af8ff00000000 ∷ 0x1502010004000000 ∷ 0x7baaf8ff00000000 ∷ 0x79a3f8ff00000000 ∷ 0x9500000000000000 ∷ [])) ≡ Some (TypeRefusal (UnsetBytes 4))
+two_pointers_meet : refusal_of (on_one (0x61120c0000000000 ∷ 0x7b1af8ff00000000 ∷ 0x1502010004000000 ∷ 0x7baaf8ff00000000 ∷ 0x79a3f8ff00000000
+    ∷ 0x9500000000000000 ∷ [])) ≡ Some (TypeRefusal (UnsetBytes 4))
 unfolding refusal_of known first_flaw_below
 two_pointers_meet = refl
 

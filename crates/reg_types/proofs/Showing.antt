@@ -11,7 +11,8 @@ use Rattle.bpf_model.specs.declared.instruction.Source.TheVariants.{Immediate, R
 use Rattle.bpf_model.specs.declared.instruction.Operator.{Operator}
 use Rattle.bpf_model.specs.declared.instruction.Operator.TheVariants.{Sum, Difference, Negate, Move, SwapBytes}
 use Rattle.bpf_model.specs.declared.instruction.Form.{Form}
-use Rattle.bpf_model.specs.declared.instruction.Form.TheVariants.{Arithmetic, Wide, Load, LoadSigned, StoreImmediate, StoreRegister, Goto, GotoLong, Branch, Call, Exit}
+use Rattle.bpf_model.specs.declared.instruction.Form.TheVariants.{Arithmetic, Wide, Load, LoadSigned, StoreImmediate, StoreRegister, Goto, GotoLong, Branch}
+use Rattle.bpf_model.specs.declared.instruction.Form.TheVariants.{Call, Exit}
 use Rattle.bpf_model.specs.declared.machine.Helper.{Helper}
 use Rattle.bpf_model.specs.declared.machine.Helper.TheVariants.{CounterGet, CounterAdd, CounterTake, PointState, PointRecord, PriceOf}
 use Rattle.bpf_model.specs.Reading.{bytes_in}
@@ -26,8 +27,12 @@ use Rattle.reg_types.specs.declared.types.RegType.TheVariants.{Unset, Num, Const
 use Rattle.reg_types.specs.declared.types.Fact.{Fact}
 use Rattle.reg_types.specs.Effects.{Effect}
 use Rattle.reg_types.specs.declared.types.Flaw.{Flaw}
-use Rattle.reg_types.specs.declared.types.Flaw.TheVariants.{FallsOff, WriteR10, NotANumber, NotAPointer, OutOfRange, UnsetBytes, StoreToContext, StorePointer, PointerArithmetic, NoSuchHelper, BadArgument, UndeclaredCounter}
-use Rattle.reg_types.specs.Rules.{type_at, is_unset, is_pointer, is_numeric, is_plain, one_number, two_numbers, ctx_at, sum_type, copied_type, alu_type, operand_type, put_type, all_in, lowest, number_at, number_set, load_type, kept_type, loaded_type, marks, store_type, keeps_pointer, fits_kind, is_declared, call_with, call_type, kind_at, unmarked, marks_record, record_at, after_call, effect, falls_off, judged}
+use Rattle.reg_types.specs.declared.types.Flaw.TheVariants.{FallsOff, WriteR10, NotANumber, NotAPointer, OutOfRange, UnsetBytes, StoreToContext, StorePointer}
+use Rattle.reg_types.specs.declared.types.Flaw.TheVariants.{PointerArithmetic, NoSuchHelper, BadArgument, UndeclaredCounter}
+use Rattle.reg_types.specs.Rules.{type_at, is_unset, is_pointer, is_numeric, is_plain, one_number, two_numbers, ctx_at, sum_type, copied_type, alu_type}
+use Rattle.reg_types.specs.Rules.{operand_type, put_type, all_in, lowest, number_at, number_set, load_type, kept_type, loaded_type, marks, store_type}
+use Rattle.reg_types.specs.Rules.{keeps_pointer, fits_kind, is_declared, call_with, call_type, kind_at, unmarked, marks_record, record_at, after_call, effect}
+use Rattle.reg_types.specs.Rules.{falls_off, judged}
 use Rattle.reg_types.specs.Shown.{FallsOffEnd, IsOperand, NoHelper, HasArgument, UsesCounter, MayHave}
 
 abbrev Typed : Type 0
@@ -58,12 +63,14 @@ module _ (P : Flaw → Type 0) (flaw : Flaw) where
   no_effect : (x : Effect) → Ok x ≡ wrong flaw → P flaw
   no_effect x e = absurd (cc)
 
-  one_shown : (r : ℕ) (a b : Bool) → P (NotANumber r) → P PointerArithmetic → cond a (bad (NotANumber r)) (cond b (bad PointerArithmetic) (Ok Num)) ≡ bad flaw → P flaw
+  one_shown : (r : ℕ) (a b : Bool) → P (NotANumber r) → P PointerArithmetic → cond a (bad (NotANumber r)) (cond b (bad PointerArithmetic) (Ok Num)) ≡ bad flaw
+      → P flaw
   one_shown r true b p q e = this (NotANumber r) e p
   one_shown r false true p q e = this PointerArithmetic e q
   one_shown r false false p q e = no_flaw Num e
 
-  two_shown : (dst src : ℕ) (a b c : Bool) → P (NotANumber dst) → (b ≡ true → P (NotANumber src)) → P PointerArithmetic → cond a (bad (NotANumber dst)) (cond b (bad (NotANumber src)) (cond c (bad PointerArithmetic) (Ok Num))) ≡ bad flaw → P flaw
+  two_shown : (dst src : ℕ) (a b c : Bool) → P (NotANumber dst) → (b ≡ true → P (NotANumber src)) → P PointerArithmetic
+      → cond a (bad (NotANumber dst)) (cond b (bad (NotANumber src)) (cond c (bad PointerArithmetic) (Ok Num))) ≡ bad flaw → P flaw
   two_shown dst src true b c p q r e = this (NotANumber dst) e p
   two_shown dst src false true c p q r e = this (NotANumber src) e (q refl)
   two_shown dst src false false true p q r e = this PointerArithmetic e r
@@ -85,7 +92,8 @@ module _ (P : Flaw → Type 0) (flaw : Flaw) where
   put_shown types dst (Err f) all e = this_effect f e (all f refl)
   put_shown types dst (Ok t) all e = no_effect (unmarked _) e
 
-  set_shown : (b : Bool) (types : List RegType) (dst : ℕ) (r : Typed) → (b ≡ true → P WriteR10) → ((f : Flaw) → r ≡ bad f → P f) → cond b (wrong WriteR10) (put_type types dst r) ≡ wrong flaw → P flaw
+  set_shown : (b : Bool) (types : List RegType) (dst : ℕ) (r : Typed) → (b ≡ true → P WriteR10) → ((f : Flaw) → r ≡ bad f → P f)
+      → cond b (wrong WriteR10) (put_type types dst r) ≡ wrong flaw → P flaw
   set_shown true types dst r p all e = this_effect WriteR10 e (p refl)
   set_shown false types dst r p all e = put_shown types dst r all e
 
@@ -101,7 +109,8 @@ module _ (P : Flaw → Type 0) (flaw : Flaw) where
   set_place_shown set size None p q e = this OutOfRange e p
   set_place_shown set size (Some at) p q e = bytes_shown (all_in set at size) q e
 
-  load_shown : (layout : Layout) (set : List Bool) (base : RegType) (i : Inst) (size : ℕ) → P NotAPointer → P OutOfRange → P UnsetBytes → load_type layout set base i size ≡ bad flaw → P flaw
+  load_shown : (layout : Layout) (set : List Bool) (base : RegType) (i : Inst) (size : ℕ) → P NotAPointer → P OutOfRange → P UnsetBytes
+      → load_type layout set base i size ≡ bad flaw → P flaw
   load_shown layout set Unset i size p q r e = this NotAPointer e p
   load_shown layout set Num i size p q r e = this NotAPointer e p
   load_shown layout set (Const c) i size p q r e = this NotAPointer e p
@@ -112,15 +121,18 @@ module _ (P : Flaw → Type 0) (flaw : Flaw) where
   kept_shown true t r all e = all e
   kept_shown false t r all e = no_flaw t e
 
-  loaded_shown : (layout : Layout) (set : List Bool) (notes : List ℕ) (base : RegType) (i : Inst) (size : ℕ) → P NotAPointer → P OutOfRange → P UnsetBytes → loaded_type layout set notes base i size ≡ bad flaw → P flaw
+  loaded_shown : (layout : Layout) (set : List Bool) (notes : List ℕ) (base : RegType) (i : Inst) (size : ℕ) → P NotAPointer → P OutOfRange → P UnsetBytes
+      → loaded_type layout set notes base i size ≡ bad flaw → P flaw
   loaded_shown layout set notes base i size p q r e =
-      kept_shown (is_unset (kept_type notes base i size)) (kept_type notes base i size) (load_type layout set base i size) (λ h. load_shown layout set base i size p q r h) e
+      kept_shown (is_unset (kept_type notes base i size)) (kept_type notes base i size) (load_type layout set base i size)
+      (λ h. load_shown layout set base i size p q r h) e
 
   marks_shown : (types : List RegType) (size : ℕ) (o : Option ℕ) → P OutOfRange → marks types size o ≡ wrong flaw → P flaw
   marks_shown types size None p e = this_effect OutOfRange e p
   marks_shown types size (Some at) p e = no_effect _ e
 
-  store_shown : (types : List RegType) (base : RegType) (i : Inst) (size : ℕ) → P NotAPointer → P OutOfRange → P StoreToContext → store_type types base i size ≡ wrong flaw → P flaw
+  store_shown : (types : List RegType) (base : RegType) (i : Inst) (size : ℕ) → P NotAPointer → P OutOfRange → P StoreToContext
+      → store_type types base i size ≡ wrong flaw → P flaw
   store_shown types Unset i size p q r e = this_effect NotAPointer e p
   store_shown types Num i size p q r e = this_effect NotAPointer e p
   store_shown types (Const c) i size p q r e = this_effect NotAPointer e p
@@ -140,7 +152,8 @@ module _ (P : Flaw → Type 0) (flaw : Flaw) where
   unset_shown true src r p all e = this_effect (NotANumber src) e p
   unset_shown false src r p all e = all e
 
-  compared_shown : (dst src : ℕ) (a b : Bool) (x : Effect) → P (NotANumber dst) → (b ≡ false → P (NotANumber src)) → cond a (cond b (Ok x) (wrong (NotANumber src))) (wrong (NotANumber dst)) ≡ wrong flaw → P flaw
+  compared_shown : (dst src : ℕ) (a b : Bool) (x : Effect) → P (NotANumber dst) → (b ≡ false → P (NotANumber src))
+      → cond a (cond b (Ok x) (wrong (NotANumber src))) (wrong (NotANumber dst)) ≡ wrong flaw → P flaw
   compared_shown dst src true true x p q e = no_effect x e
   compared_shown dst src true false x p q e = this_effect (NotANumber src) e (q refl)
   compared_shown dst src false b x p q e = this_effect (NotANumber dst) e p
@@ -149,7 +162,8 @@ module _ (P : Flaw → Type 0) (flaw : Flaw) where
   exited_shown true x p e = no_effect x e
   exited_shown false x p e = this_effect (NotANumber 0) e p
 
-  call_shown : (p q d : Bool) (x : Effect) → (p ≡ false → P (BadArgument 1)) → (q ≡ false → P (BadArgument 2)) → (d ≡ false → P UndeclaredCounter) → cond p (cond q (cond d (Ok x) (wrong UndeclaredCounter)) (wrong (BadArgument 2))) (wrong (BadArgument 1)) ≡ wrong flaw → P flaw
+  call_shown : (p q d : Bool) (x : Effect) → (p ≡ false → P (BadArgument 1)) → (q ≡ false → P (BadArgument 2)) → (d ≡ false → P UndeclaredCounter)
+      → cond p (cond q (cond d (Ok x) (wrong UndeclaredCounter)) (wrong (BadArgument 2))) (wrong (BadArgument 1)) ≡ wrong flaw → P flaw
   call_shown true true true x a b c e = no_effect x e
   call_shown true true false x a b c e = this_effect UndeclaredCounter e (c refl)
   call_shown true false d x a b c e = this_effect (BadArgument 2) e (b refl)
@@ -162,7 +176,8 @@ never false p q = absurd (cc)
 not_plain : (o : ℤ) → is_plain o ≡ false → ¬ (o ≡ pos 0)
 not_plain o h e = let t : is_plain o ≡ true = ap is_plain e in never (is_plain o) t h
 
-plain_or : (b : Bool) (x y : Typed) (flaw : Flaw) (P : Flaw → Type 0) → cond b x y ≡ bad flaw → (x ≡ bad flaw → P flaw) → (b ≡ false → y ≡ bad flaw → P flaw) → P flaw
+plain_or : (b : Bool) (x y : Typed) (flaw : Flaw) (P : Flaw → Type 0) → cond b x y ≡ bad flaw → (x ≡ bad flaw → P flaw)
+    → (b ≡ false → y ≡ bad flaw → P flaw) → P flaw
 plain_or true x y flaw P e p q = p e
 plain_or false x y flaw P e p q = q refl e
 
@@ -186,19 +201,26 @@ first_by Register i = inl refl
 first_by Immediate i = refl
 
 module _ (count pc : ℕ) (i : Inst) (types : List RegType) (flaw : Flaw) where
-  numbers_shows : (form : Form) (s : Source) (w : Width) (a : RegType) → MayHave count pc i form (NotANumber i.dst) → (IsOperand i s i.src → MayHave count pc i form (NotANumber i.src)) → MayHave count pc i form PointerArithmetic → two_numbers i.dst i.src a (operand_type s w i types) ≡ bad flaw → MayHave count pc i form flaw
+  numbers_shows : (form : Form) (s : Source) (w : Width) (a : RegType) → MayHave count pc i form (NotANumber i.dst)
+      → (IsOperand i s i.src → MayHave count pc i form (NotANumber i.src)) → MayHave count pc i form PointerArithmetic
+      → two_numbers i.dst i.src a (operand_type s w i types) ≡ bad flaw → MayHave count pc i form flaw
   numbers_shows form s w a p q r e =
-      two_shown (MayHave count pc i form) flaw i.dst i.src (is_unset a) (is_unset (operand_type s w i types)) (is_pointer a || is_pointer (operand_type s w i types)) p (λ u. q (second_by s w i types u)) r e
+      two_shown (MayHave count pc i form) flaw i.dst i.src (is_unset a) (is_unset (operand_type s w i types))
+      (is_pointer a || is_pointer (operand_type s w i types)) p (λ u. q (second_by s w i types u)) r e
 
   -- ADD and SUB
-  moved_shows : (layout : Layout) (op : Operator) → MayHave count pc i (Arithmetic op Full Immediate) OutOfRange → MayHave count pc i (Arithmetic op Full Immediate) (NotANumber i.dst) → (z : ℤ) (a : RegType) → sum_type layout Full Immediate i z a (operand_type Immediate Full i types) ≡ bad flaw → MayHave count pc i (Arithmetic op Full Immediate) flaw
+  moved_shows : (layout : Layout) (op : Operator) → MayHave count pc i (Arithmetic op Full Immediate) OutOfRange
+      → MayHave count pc i (Arithmetic op Full Immediate) (NotANumber i.dst) → (z : ℤ) (a : RegType)
+      → sum_type layout Full Immediate i z a (operand_type Immediate Full i types) ≡ bad flaw → MayHave count pc i (Arithmetic op Full Immediate) flaw
   moved_shows layout op p q z (Ctx k) e = ctx_shown (MayHave count pc i (Arithmetic op Full Immediate)) flaw (shifted k z (context_len layout)) p e
-  moved_shows layout op p q z (Stk k) e = stk_shown (MayHave count pc i (Arithmetic op Full Immediate)) flaw (int_le (negsuc 511) (k +ℤ z) && int_le (k +ℤ z) (pos 0)) (k +ℤ z) p e
+  moved_shows layout op p q z (Stk k) e =
+      stk_shown (MayHave count pc i (Arithmetic op Full Immediate)) flaw (int_le (negsuc 511) (k +ℤ z) && int_le (k +ℤ z) (pos 0)) (k +ℤ z) p e
   moved_shows layout op p q z Unset e = this (MayHave count pc i (Arithmetic op Full Immediate)) flaw (NotANumber i.dst) e q
   moved_shows layout op p q z Num e = no_flaw (MayHave count pc i (Arithmetic op Full Immediate)) flaw Num e
   moved_shows layout op p q z (Const c) e = no_flaw (MayHave count pc i (Arithmetic op Full Immediate)) flaw Num e
 
-  alu_shows : (layout : Layout) (op : Operator) (w : Width) (s : Source) (a : RegType) → alu_type layout op w s i a (operand_type s w i types) ≡ bad flaw → MayHave count pc i (Arithmetic op w s) flaw
+  alu_shows : (layout : Layout) (op : Operator) (w : Width) (s : Source) (a : RegType) → alu_type layout op w s i a (operand_type s w i types) ≡ bad flaw
+      → MayHave count pc i (Arithmetic op w s) flaw
   alu_shows layout Sum Full Immediate a e = moved_shows layout Sum (inr tt) refl i.imm a e
   alu_shows layout Sum Full Register a e = numbers_shows (Arithmetic Sum Full Register) Register Full a (inl refl) (λ h. h) tt e
   alu_shows layout Sum Narrow s a e = numbers_shows (Arithmetic Sum Narrow s) s Narrow a (first_by s i) (λ h. h) tt e
@@ -206,11 +228,14 @@ module _ (count pc : ℕ) (i : Inst) (types : List RegType) (flaw : Flaw) where
   alu_shows layout Difference Full Register a e = numbers_shows (Arithmetic Difference Full Register) Register Full a (inl refl) (λ h. h) tt e
   alu_shows layout Difference Narrow s a e = numbers_shows (Arithmetic Difference Narrow s) s Narrow a (first_by s i) (λ h. h) tt e
   alu_shows layout Move w Immediate a e = no_flaw (MayHave count pc i (Arithmetic Move w Immediate)) flaw _ e
-  alu_shows layout Move Narrow Register a e = one_shown (MayHave count pc i (Arithmetic Move Narrow Register)) flaw i.src (is_unset (type_at types i.src)) (is_pointer (type_at types i.src)) refl tt e
+  alu_shows layout Move Narrow Register a e =
+      one_shown (MayHave count pc i (Arithmetic Move Narrow Register)) flaw i.src (is_unset (type_at types i.src)) (is_pointer (type_at types i.src)) refl tt e
   alu_shows layout Move Full Register a e =
-      plain_or (is_plain i.offset) (copied_type i.src (type_at types i.src)) (one_number i.src (type_at types i.src)) flaw (MayHave count pc i (Arithmetic Move Full Register)) e
+      plain_or (is_plain i.offset) (copied_type i.src (type_at types i.src)) (one_number i.src (type_at types i.src)) flaw
+      (MayHave count pc i (Arithmetic Move Full Register)) e
       (λ g. copied_shown (MayHave count pc i (Arithmetic Move Full Register)) flaw i.src (is_unset (type_at types i.src)) (type_at types i.src) refl g)
-      (λ no g. one_shown (MayHave count pc i (Arithmetic Move Full Register)) flaw i.src (is_unset (type_at types i.src)) (is_pointer (type_at types i.src)) refl (not_plain i.offset no) g)
+      (λ no g. one_shown (MayHave count pc i (Arithmetic Move Full Register)) flaw i.src (is_unset (type_at types i.src)) (is_pointer (type_at types i.src))
+      refl (not_plain i.offset no) g)
   alu_shows layout Negate w s a e = one_shown (MayHave count pc i (Arithmetic Negate w s)) flaw i.dst (is_unset a) (is_pointer a) refl tt e
   alu_shows layout SwapBytes w s a e = one_shown (MayHave count pc i (Arithmetic SwapBytes w s)) flaw i.dst (is_unset a) (is_pointer a) refl tt e
   alu_shows layout op w s a e = numbers_shows (Arithmetic op w s) s w a (first_by s i) (λ h. h) tt e
@@ -223,19 +248,27 @@ module _ (count pc : ℕ) (i : Inst) (types : List RegType) (flaw : Flaw) where
   CallShown o UndeclaredCounter = UsesCounter o
   CallShown o f = ⊥
 
-  call_by : (h : Helper) (declared : ℕ) (a b : RegType) → call_with declared types (kind_at (kinds h) 0) (kind_at (kinds h) 1) a b ≡ wrong flaw → CallShown (Some h) flaw
-  call_by CounterGet declared a b e = call_shown (CallShown (Some CounterGet)) flaw (fits_kind Counter a) true (is_declared declared Counter a) (marks_record (after_call types) (record_at Nothing b)) (λ h. refl) (λ h. absurd (cc)) (λ h. tt) e
-  call_by CounterAdd declared a b e = call_shown (CallShown (Some CounterAdd)) flaw (fits_kind Counter a) (fits_kind Number b) (is_declared declared Counter a) (marks_record (after_call types) (record_at Number b)) (λ h. inl refl) (λ h. inr refl) (λ h. tt) e
-  call_by CounterTake declared a b e = call_shown (CallShown (Some CounterTake)) flaw (fits_kind Counter a) (fits_kind Number b) (is_declared declared Counter a) (marks_record (after_call types) (record_at Number b)) (λ h. inl refl) (λ h. inr refl) (λ h. tt) e
-  call_by PointState declared a b e = call_shown (CallShown (Some PointState)) flaw (fits_kind Number a) true true (marks_record (after_call types) (record_at Nothing b)) (λ h. refl) (λ h. absurd (cc)) (λ h. absurd (cc)) e
-  call_by PointRecord declared a b e = call_shown (CallShown (Some PointRecord)) flaw (fits_kind Number a) (fits_kind Place b) true (marks_record (after_call types) (record_at Place b)) (λ h. inl refl) (λ h. inr refl) (λ h. absurd (cc)) e
-  call_by PriceOf declared a b e = call_shown (CallShown (Some PriceOf)) flaw (fits_kind Number a) true true (marks_record (after_call types) (record_at Nothing b)) (λ h. refl) (λ h. absurd (cc)) (λ h. absurd (cc)) e
+  call_by : (h : Helper) (declared : ℕ) (a b : RegType) → call_with declared types (kind_at (kinds h) 0) (kind_at (kinds h) 1) a b ≡ wrong flaw
+      → CallShown (Some h) flaw
+  call_by CounterGet declared a b e = call_shown (CallShown (Some CounterGet)) flaw (fits_kind Counter a) true (is_declared declared Counter a)
+      (marks_record (after_call types) (record_at Nothing b)) (λ h. refl) (λ h. absurd (cc)) (λ h. tt) e
+  call_by CounterAdd declared a b e = call_shown (CallShown (Some CounterAdd)) flaw (fits_kind Counter a) (fits_kind Number b) (is_declared declared Counter a)
+      (marks_record (after_call types) (record_at Number b)) (λ h. inl refl) (λ h. inr refl) (λ h. tt) e
+  call_by CounterTake declared a b e = call_shown (CallShown (Some CounterTake)) flaw (fits_kind Counter a) (fits_kind Number b)
+      (is_declared declared Counter a) (marks_record (after_call types) (record_at Number b)) (λ h. inl refl) (λ h. inr refl) (λ h. tt) e
+  call_by PointState declared a b e = call_shown (CallShown (Some PointState)) flaw (fits_kind Number a) true true (marks_record (after_call types)
+      (record_at Nothing b)) (λ h. refl) (λ h. absurd (cc)) (λ h. absurd (cc)) e
+  call_by PointRecord declared a b e = call_shown (CallShown (Some PointRecord)) flaw (fits_kind Number a) (fits_kind Place b) true
+      (marks_record (after_call types) (record_at Place b)) (λ h. inl refl) (λ h. inr refl) (λ h. absurd (cc)) e
+  call_by PriceOf declared a b e = call_shown (CallShown (Some PriceOf)) flaw (fits_kind Number a) true true (marks_record (after_call types)
+      (record_at Nothing b)) (λ h. refl) (λ h. absurd (cc)) (λ h. absurd (cc)) e
 
   calls : (o : Option Helper) (declared : ℕ) → call_type declared types (map_option kinds o) ≡ wrong flaw → CallShown o flaw
   calls None declared e = this_effect (CallShown None) flaw NoSuchHelper e tt
   calls (Some h) declared e = call_by h declared (type_at types 1) (type_at types 2) e
 
-call_shows : (count pc : ℕ) (i : Inst) (types : List RegType) (flaw : Flaw) → CallShown count pc i types flaw (helper_of i.imm) flaw → MayHave count pc i Call flaw
+call_shows : (count pc : ℕ) (i : Inst) (types : List RegType) (flaw : Flaw) → CallShown count pc i types flaw (helper_of i.imm) flaw
+    → MayHave count pc i Call flaw
 call_shows count pc i types NoSuchHelper h = h
 call_shows count pc i types (BadArgument n) h = h
 call_shows count pc i types UndeclaredCounter h = h
@@ -251,29 +284,37 @@ call_shows count pc i types PointerArithmetic h = absurd h
 
 -- ---- one instruction
 
-effect_shows : (count pc : ℕ) (terms : Terms) (fact : Fact) (i : Inst) (upper : ℤ) (form : Form) (flaw : Flaw) → effect terms fact i upper form ≡ wrong flaw → MayHave count pc i form flaw
+effect_shows : (count pc : ℕ) (terms : Terms) (fact : Fact) (i : Inst) (upper : ℤ) (form : Form) (flaw : Flaw) → effect terms fact i upper form ≡ wrong flaw
+    → MayHave count pc i form flaw
 effect_shows count pc terms fact i upper (Arithmetic op w s) flaw e =
-    set_shown (MayHave count pc i (Arithmetic op w s)) flaw (i.dst == 10) fact.types i.dst (alu_type terms.layout op w s i (type_at fact.types i.dst) (operand_type s w i fact.types)) (ten i.dst)
+    set_shown (MayHave count pc i (Arithmetic op w s)) flaw (i.dst == 10) fact.types i.dst
+    (alu_type terms.layout op w s i (type_at fact.types i.dst) (operand_type s w i fact.types)) (ten i.dst)
     (λ f h. alu_shows count pc i fact.types f terms.layout op w s (type_at fact.types i.dst) h) e
 effect_shows count pc terms fact i upper Wide flaw e =
     set_shown (MayHave count pc i Wide) flaw (i.dst == 10) fact.types i.dst (Ok (Const _)) (ten i.dst) (λ f h. no_flaw (MayHave count pc i Wide) f _ h) e
 effect_shows count pc terms fact i upper (Load size) flaw e =
-    set_shown (MayHave count pc i (Load size)) flaw (i.dst == 10) fact.types i.dst (loaded_type terms.layout fact.stack fact.notes (type_at fact.types i.src) i (bytes_in size)) (ten i.dst)
-    (λ f h. loaded_shown (MayHave count pc i (Load size)) f terms.layout fact.stack fact.notes (type_at fact.types i.src) i (bytes_in size) (inl tt) (inl (inl tt)) tt h) e
+    set_shown (MayHave count pc i (Load size)) flaw (i.dst == 10) fact.types i.dst
+    (loaded_type terms.layout fact.stack fact.notes (type_at fact.types i.src) i (bytes_in size)) (ten i.dst)
+    (λ f h. loaded_shown (MayHave count pc i (Load size)) f terms.layout fact.stack fact.notes (type_at fact.types i.src) i (bytes_in size)
+    (inl tt) (inl (inl tt)) tt h) e
 effect_shows count pc terms fact i upper (LoadSigned size) flaw e =
-    set_shown (MayHave count pc i (LoadSigned size)) flaw (i.dst == 10) fact.types i.dst (load_type terms.layout fact.stack (type_at fact.types i.src) i (bytes_in size)) (ten i.dst)
-    (λ f h. load_shown (MayHave count pc i (LoadSigned size)) f terms.layout fact.stack (type_at fact.types i.src) i (bytes_in size) (inl tt) (inl (inl tt)) tt h) e
+    set_shown (MayHave count pc i (LoadSigned size)) flaw (i.dst == 10) fact.types i.dst
+    (load_type terms.layout fact.stack (type_at fact.types i.src) i (bytes_in size)) (ten i.dst)
+    (λ f h. load_shown (MayHave count pc i (LoadSigned size)) f terms.layout fact.stack (type_at fact.types i.src) i (bytes_in size)
+    (inl tt) (inl (inl tt)) tt h) e
 effect_shows count pc terms fact i upper (StoreImmediate size) flaw e =
     store_shown (MayHave count pc i (StoreImmediate size)) flaw fact.types (type_at fact.types i.dst) i (bytes_in size) (inr tt) (inl (inr tt)) tt e
 effect_shows count pc terms fact i upper (StoreRegister size) flaw e =
     let stored = store_type fact.types (type_at fact.types i.dst) i (bytes_in size) in
-    unset_shown (MayHave count pc i (StoreRegister size)) flaw (is_unset (type_at fact.types i.src)) i.src (keeps_pointer (type_at fact.types i.src) stored) refl
+    unset_shown (MayHave count pc i (StoreRegister size)) flaw (is_unset (type_at fact.types i.src)) i.src (keeps_pointer (type_at fact.types i.src) stored)
+    refl
     (λ g. pointer_shown (MayHave count pc i (StoreRegister size)) flaw (type_at fact.types i.src) stored tt
     (λ h. store_shown (MayHave count pc i (StoreRegister size)) flaw fact.types (type_at fact.types i.dst) i (bytes_in size) (inr tt) (inl (inr tt)) tt h) g) e
 effect_shows count pc terms fact i upper Goto flaw e = no_effect (MayHave count pc i Goto) flaw _ e
 effect_shows count pc terms fact i upper GotoLong flaw e = no_effect (MayHave count pc i GotoLong) flaw _ e
 effect_shows count pc terms fact i upper (Branch c w s) flaw e =
-    compared_shown (MayHave count pc i (Branch c w s)) flaw i.dst i.src (is_numeric (type_at fact.types i.dst)) (is_numeric (operand_type s w i fact.types)) (unmarked fact.types) (first_by s i) (second_counted s w i fact.types) e
+    compared_shown (MayHave count pc i (Branch c w s)) flaw i.dst i.src (is_numeric (type_at fact.types i.dst)) (is_numeric (operand_type s w i fact.types))
+    (unmarked fact.types) (first_by s i) (second_counted s w i fact.types) e
 effect_shows count pc terms fact i upper Exit flaw e =
     exited_shown (MayHave count pc i Exit) flaw (is_numeric (type_at fact.types 0)) (unmarked fact.types) refl e
 effect_shows count pc terms fact i upper Call flaw e = call_shows count pc i fact.types flaw (calls count pc i fact.types flaw (helper_of i.imm) terms.mask e)
@@ -285,11 +326,14 @@ falls_shows count pc GotoLong e = absurd (cc)
 falls_shows count pc Wide e = le_from count (pc + 2) e
 falls_shows count pc form e = le_from count (pc + 1) e
 
-judged_shown : (P : Flaw → Type 0) (b : Bool) (r : Effects) (flaw : Flaw) → (b ≡ true → P FallsOff) → (r ≡ wrong flaw → P flaw) → cond b (wrong FallsOff) r ≡ wrong flaw → P flaw
+judged_shown : (P : Flaw → Type 0) (b : Bool) (r : Effects) (flaw : Flaw) → (b ≡ true → P FallsOff) → (r ≡ wrong flaw → P flaw)
+    → cond b (wrong FallsOff) r ≡ wrong flaw → P flaw
 judged_shown P true r flaw p q e = is_wrong P FallsOff flaw e (p refl)
 judged_shown P false r flaw p q e = q e
 
 -- where the rules find a flaw, the form can have it
-pub judged_shows : (count pc : ℕ) (terms : Terms) (fact : Fact) (i : Inst) (upper : ℤ) (form : Form) (flaw : Flaw) → judged count pc terms fact i upper form ≡ wrong flaw → MayHave count pc i form flaw
+pub judged_shows : (count pc : ℕ) (terms : Terms) (fact : Fact) (i : Inst) (upper : ℤ) (form : Form) (flaw : Flaw)
+    → judged count pc terms fact i upper form ≡ wrong flaw → MayHave count pc i form flaw
 judged_shows count pc terms fact i upper form flaw e =
-    judged_shown (MayHave count pc i form) (falls_off count pc form) (effect terms fact i upper form) flaw (falls_shows count pc form) (effect_shows count pc terms fact i upper form flaw) e
+    judged_shown (MayHave count pc i form) (falls_off count pc form) (effect terms fact i upper form) flaw (falls_shows count pc form)
+    (effect_shows count pc terms fact i upper form flaw) e

@@ -1,5 +1,6 @@
 -- Stack bytes: what a set of places says of cells, before and after a store.
-use Rattle.std.proofs.Common.{◌≡◌, ℕ, zero, suc, ◌+◌, ◌-◌, ◌*◌, ◌<◌, ◌≤◌, List, [], ◌∷◌, Option, Some, None, Bool, true, false, refl, sym, ap, ◌∙◌, subst, inl, inr, arith, length}
+use Rattle.std.proofs.Common.{◌≡◌, ℕ, zero, suc, ◌+◌, ◌-◌, ◌*◌, ◌<◌, ◌≤◌, List, [], ◌∷◌, Option, Some, None, Bool, true, false, refl, sym, ap, ◌∙◌, subst, inl}
+use Rattle.std.proofs.Common.{inr, arith, length}
 use Rattle.std.specs.Prelude.{ℤ, pos, negsuc, ◌&&◌, cond, nat_le, nat_lt, slice_set, slice_index_or}
 use Rattle.std.specs.Int.{bytes_low_first}
 use Rattle.std.proofs.lemmas.Bool.{cases_eq}
@@ -44,19 +45,22 @@ keeps_one stack at b p l h =
     ]
 
 -- a store keeps the bytes that are set
-pub keeps_bytes : (stack : List Cell) (at : ℕ) (bytes : List ℕ) (p : ℕ) → at + length bytes ≤ length stack → HasByte (cell_at stack p) → HasByte (cell_at (written stack at bytes) p)
+pub keeps_bytes : (stack : List Cell) (at : ℕ) (bytes : List ℕ) (p : ℕ) → at + length bytes ≤ length stack → HasByte (cell_at stack p)
+    → HasByte (cell_at (written stack at bytes) p)
 keeps_bytes stack at [] p l h = h
 keeps_bytes stack at (b ∷ bytes) p l h =
     let e = length-set stack at (Byte b) in
     keeps_bytes (slice_set stack at (Byte b)) (suc at) bytes p (omega (arith, e)) (keeps_one stack at b p (omega arith) h)
 
 -- a store sets its own bytes
-pub sets_bytes : (stack : List Cell) (at : ℕ) (bytes : List ℕ) (p : ℕ) → at + length bytes ≤ length stack → Within at (length bytes) p → HasByte (cell_at (written stack at bytes) p)
+pub sets_bytes : (stack : List Cell) (at : ℕ) (bytes : List ℕ) (p : ℕ) → at + length bytes ≤ length stack → Within at (length bytes) p
+    → HasByte (cell_at (written stack at bytes) p)
 sets_bytes stack at [] p l w = absurd (omega (arith, w.0, w.1))
 sets_bytes stack at (b ∷ bytes) p l w =
     let e = length-set stack at (Byte b) in
     elim (cases_eq p at) [
-      | inl same ↦ keeps_bytes (slice_set stack at (Byte b)) (suc at) bytes p (omega (arith, e)) (subst (λ q. HasByte (cell_at (slice_set stack at (Byte b)) q)) (sym same) (b, get_or-set_same stack at (Byte b) Empty (omega arith)))
+      | inl same ↦ keeps_bytes (slice_set stack at (Byte b)) (suc at) bytes p (omega (arith, e))
+          (subst (λ q. HasByte (cell_at (slice_set stack at (Byte b)) q)) (sym same) (b, get_or-set_same stack at (Byte b) Empty (omega arith)))
       | inr other ↦ sets_bytes (slice_set stack at (Byte b)) (suc at) bytes p (omega (arith, e)) (omega (arith, w.0), omega (arith, w.1))
     ]
 
@@ -116,7 +120,9 @@ and_true false b p q = absurd (cc)
 all_to : (set : List Bool) (at len : ℕ) → ((p : ℕ) → Within at len p → Has set p) → all_in set at len ≡ true
 all_to set at zero h = refl
 all_to set at (suc n) h =
-    and_true (slice_index_or set at false) (all_in set (suc at) n) (h at (omega arith, omega arith)) (all_to set (suc at) n (λ p w. h p (omega (arith, w.0), omega (arith, w.1))))
+    and_true (slice_index_or set at false) (all_in set (suc at) n) (h at (omega arith, omega arith)) (all_to set (suc at) n
+    (λ p w. h p (omega (arith, w.0), omega (arith, w.1))))
 
-pub tells_all : (set : List Bool) (at len : ℕ) (b : Bool) → (b ≡ true → (p : ℕ) → Within at len p → Has set p) → (((p : ℕ) → Within at len p → Has set p) → b ≡ true) → b ≡ all_in set at len
+pub tells_all : (set : List Bool) (at len : ℕ) (b : Bool) → (b ≡ true → (p : ℕ) → Within at len p → Has set p)
+    → (((p : ℕ) → Within at len p → Has set p) → b ≡ true) → b ≡ all_in set at len
 tells_all set at len b f g = same_bool b (all_in set at len) (λ e. all_to set at len (f e)) (λ e. g (all_from set at len e))

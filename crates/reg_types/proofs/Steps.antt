@@ -1,5 +1,6 @@
 -- A well typed instruction isn't stuck, and leads to a state that fits its result.
-use Rattle.std.proofs.Common.{◌≡◌, ◌≢◌, ℕ, zero, suc, ◌+◌, ◌-◌, ◌*◌, ◌<◌, ◌≤◌, ◌⊎◌, List, [], ◌∷◌, Option, Some, None, Bool, true, false, refl, sym, ap, ◌∙◌, subst, inl, inr, arith, length}
+use Rattle.std.proofs.Common.{◌≡◌, ◌≢◌, ℕ, zero, suc, ◌+◌, ◌-◌, ◌*◌, ◌<◌, ◌≤◌, ◌⊎◌, List, [], ◌∷◌, Option, Some, None, Bool, true, false, refl, sym, ap, ◌∙◌}
+use Rattle.std.proofs.Common.{subst, inl, inr, arith, length}
 use Rattle.std.specs.Prelude.{Result, Ok, Err, ℤ, ◌^◌, ◌==◌, ◌/◌, ◌%◌, cond, drop, slice_set, slice_index}
 use Rattle.std.specs.Int.{cast_unsigned, w32, w64}
 use Rattle.std.proofs.lemmas.Bool.{cases_lt}
@@ -10,7 +11,8 @@ use Rattle.bpf_model.specs.declared.instruction.Width.{Width}
 use Rattle.bpf_model.specs.declared.instruction.Source.{Source}
 use Rattle.bpf_model.specs.declared.instruction.Source.TheVariants.{Immediate, Register}
 use Rattle.bpf_model.specs.declared.instruction.Form.{Form}
-use Rattle.bpf_model.specs.declared.instruction.Form.TheVariants.{Arithmetic, Wide, Load, LoadSigned, StoreImmediate, StoreRegister, Goto, GotoLong, Branch, Call, Exit}
+use Rattle.bpf_model.specs.declared.instruction.Form.TheVariants.{Arithmetic, Wide, Load, LoadSigned, StoreImmediate, StoreRegister, Goto, GotoLong, Branch}
+use Rattle.bpf_model.specs.declared.instruction.Form.TheVariants.{Call, Exit}
 use Rattle.bpf_model.specs.declared.machine.Value.{Value}
 use Rattle.bpf_model.specs.declared.machine.Value.TheVariants.{Unset, Number, Context, Stack}
 use Rattle.bpf_model.specs.declared.machine.View.{View}
@@ -18,7 +20,9 @@ use Rattle.bpf_model.specs.declared.machine.State.{State}
 use Rattle.bpf_model.specs.Reading.{bytes_in}
 use Rattle.bpf_model.specs.Layouts.{context_len}
 use Rattle.bpf_model.specs.Arithmetic.{holds, extended}
-use Rattle.bpf_model.specs.Machine.{Next, Goes, Exits, Stuck, Place, InContext, InStack, where_some, shifted, number, map_option, mem, read, register, operand, alu_value, sets, jumps, branches, stores, stores_value, keeps as keeps_value, stack_at, aligned_place, is_aligned, cell_at, kept_at, kept_in, number_in, loaded, number_or, written, pieces_written, after_call as call_state, Answer, helper_of, act}
+use Rattle.bpf_model.specs.Machine.{Next, Goes, Exits, Stuck, Place, InContext, InStack, where_some, shifted, number, map_option, mem, read, register, operand}
+use Rattle.bpf_model.specs.Machine.{alu_value, sets, jumps, branches, stores, stores_value, keeps as keeps_value, stack_at, aligned_place, is_aligned, cell_at}
+use Rattle.bpf_model.specs.Machine.{kept_at, kept_in, number_in, loaded, number_or, written, pieces_written, after_call as call_state, Answer, helper_of, act}
 use Rattle.reg_types.specs.declared.types.Terms.{Terms}
 use Rattle.reg_types.specs.declared.types.RegType.{RegType}
 use Rattle.reg_types.specs.declared.types.RegType.TheVariants.{Unset as Anything, Num, Const, Ctx, Stk}
@@ -26,13 +30,16 @@ use Rattle.reg_types.specs.declared.types.Fact.{Fact}
 use Rattle.reg_types.specs.Effects.{Effect}
 use Rattle.reg_types.specs.declared.types.Flaw.{Flaw}
 use Rattle.reg_types.specs.declared.types.Flaw.TheVariants.{WriteR10, NotANumber, UnsetBytes, StorePointer}
-use Rattle.reg_types.specs.Rules.{type_at, is_numeric, is_unset, is_pointer, operand_type, alu_type, unmarked, put_type, set_type, natural, lowest, number_at, number_set, all_in, load_type, noted_type, note_in, kept_type, loaded_type, marks, store_type, keeps, keeps_pointer, after_call, effect}
+use Rattle.reg_types.specs.Rules.{type_at, is_numeric, is_unset, is_pointer, operand_type, alu_type, unmarked, put_type, set_type, natural, lowest, number_at}
+use Rattle.reg_types.specs.Rules.{number_set, all_in, load_type, noted_type, note_in, kept_type, loaded_type, marks, store_type, keeps, keeps_pointer}
+use Rattle.reg_types.specs.Rules.{after_call, effect}
 use Rattle.reg_types.specs.Facts.{FitsType, HasByte, Covered, IsKept, Fits, Changes, HasAfter, IsAfter}
 use Rattle.reg_types.specs.Inference.{option_cons, leads}
 use Rattle.reg_types.proofs.Values.{Gives, arithmetic}
 use Rattle.reg_types.proofs.Stack.{covered_load, keeps_bytes, sets_bytes, length-written, length-little, store_inside, size_small}
 use Rattle.reg_types.proofs.Calls.{Changes-refl, called}
-use Rattle.reg_types.proofs.Keeping.{IsPointer, pieces_other, length-pieces, no_number, pointer_of, pointer_set, aligned, kept_after_bytes, kept_after_pointer, outside}
+use Rattle.reg_types.proofs.Keeping.{IsPointer, pieces_other, length-pieces, no_number, pointer_of, pointer_set, aligned, kept_after_bytes, kept_after_pointer}
+use Rattle.reg_types.proofs.Keeping.{outside}
 
 abbrev pub IsIn : ℕ → List ℕ → Type 0
 IsIn x [] = ⊥
@@ -60,11 +67,13 @@ write_test : (b : Bool) (r : Effects) (e : Effect) → cond b (Err WriteR10) r �
 write_test true r e h = absurd (cc)
 write_test false r e h = (refl, h)
 
-put_is : (types : List RegType) (dst : ℕ) (r : Result RegType Flaw) (e : Effect) → put_type types dst r ≡ ok_of e → (t : RegType) × (r ≡ typed_as t) × (unmarked (slice_set types dst t) ≡ e)
+put_is : (types : List RegType) (dst : ℕ) (r : Result RegType Flaw) (e : Effect) → put_type types dst r ≡ ok_of e
+    → (t : RegType) × (r ≡ typed_as t) × (unmarked (slice_set types dst t) ≡ e)
 put_is types dst (Err f) e h = absurd (cc)
 put_is types dst (Ok t) e h = (t, refl, same_effect h)
 
-pub set_is : (types : List RegType) (dst : ℕ) (r : Result RegType Flaw) (e : Effect) → set_type types dst r ≡ ok_of e → (t : RegType) × (r ≡ typed_as t) × ((dst == 10) ≡ false) × (unmarked (slice_set types dst t) ≡ e)
+pub set_is : (types : List RegType) (dst : ℕ) (r : Result RegType Flaw) (e : Effect) → set_type types dst r ≡ ok_of e
+    → (t : RegType) × (r ≡ typed_as t) × ((dst == 10) ≡ false) × (unmarked (slice_set types dst t) ≡ e)
 set_is types dst r e h =
     let x = write_test (dst == 10) (put_type types dst r) e h in
     let y = put_is types dst r e x.1 in
@@ -118,7 +127,12 @@ set_test : (b : Bool) (t : RegType) → cond b (typed_as Num) (Err UnsetBytes) �
 set_test true t h = (refl, cc)
 set_test false t h = absurd (cc)
 
-mark_is : (types : List RegType) (size : ℕ) (o : Option ℕ) (e : Effect) → marks types size o ≡ ok_of e → (at : ℕ) × (o ≡ Some at) × (record { types = types; at = at; len = size; kept = Anything } ≡ e)
+mark_is : (types : List RegType) (size : ℕ) (o : Option ℕ) (e : Effect) → marks types size o ≡ ok_of e → (at : ℕ) × (o ≡ Some at) × (record {
+  types = types;
+  at = at;
+  len = size;
+  kept = Anything;
+} ≡ e)
 mark_is types size None e h = absurd (cc)
 mark_is types size (Some at) e h = (at, refl, same_effect h)
 
@@ -134,12 +148,14 @@ by_pointer : (pointer : Bool) (value : RegType) (x e : Effect) → cond pointer 
 by_pointer false value x e h = inl (refl, same_effect h)
 by_pointer true value x e h = let t = keeps_test (is_aligned x.len x.at) (record x { kept = value }) e h in inr (refl, t.0, t.1)
 
-pointer_is : (value : RegType) (r : Effects) (e : Effect) → keeps_pointer value r ≡ ok_of e → (x : Effect) × (r ≡ ok_of x) × KeepsOrNot value (is_pointer value) x e
+pointer_is : (value : RegType) (r : Effects) (e : Effect) → keeps_pointer value r ≡ ok_of e
+    → (x : Effect) × (r ≡ ok_of x) × KeepsOrNot value (is_pointer value) x e
 pointer_is value (Err f) e h = absurd (cc)
 pointer_is value (Ok x) e h = (x, refl, by_pointer (is_pointer value) value x e h)
 
 -- a load finds a number, or the pointer that is noted
-kept_cases : (k : RegType) (b : Bool) (r : Result RegType Flaw) (t : RegType) → is_unset k ≡ b → cond b r (typed_as k) ≡ typed_as t → ((b ≡ true) × (r ≡ typed_as t)) ⊎ ((is_unset k ≡ false) × (typed_as k ≡ typed_as t))
+kept_cases : (k : RegType) (b : Bool) (r : Result RegType Flaw) (t : RegType) → is_unset k ≡ b → cond b r (typed_as k) ≡ typed_as t
+    → ((b ≡ true) × (r ≡ typed_as t)) ⊎ ((is_unset k ≡ false) × (typed_as k ≡ typed_as t))
 kept_cases k true r t u h = inl (refl, h)
 kept_cases k false r t u h = inr (u, h)
 
@@ -155,7 +171,8 @@ neither (Ctx k) a b = absurd (cc)
 neither (Stk k) a b = absurd (cc)
 
 -- a store's pointer is into the stack, and its bytes lie inside
-pub store_is : (types : List RegType) (base : RegType) (v : Value) (i : Inst) (size : ℕ) (e : Effect) → FitsType base v → store_type types base i size ≡ ok_of e → (at : ℕ) × (stack_at v i.offset size ≡ Some at) × (record { types = types; at = at; len = size; kept = Anything } ≡ e)
+pub store_is : (types : List RegType) (base : RegType) (v : Value) (i : Inst) (size : ℕ) (e : Effect) → FitsType base v → store_type types base i size ≡ ok_of e
+    → (at : ℕ) × (stack_at v i.offset size ≡ Some at) × (record { types = types; at = at; len = size; kept = Anything } ≡ e)
 store_is types (Stk k) (Stack n) i size e h g =
     let x = mark_is types size (shifted (lowest k) i.offset (512 - size)) e g in
     let there : lowest k ≡ n = ap natural (sym h) in
@@ -172,7 +189,8 @@ abbrev marked_by : List RegType → ℕ → ℕ → Effect
 marked_by types at len = record { types = types; at = at; len = len; kept = Anything }
 
 -- the types and values of R6 to R10 stay over a call
-called_fits : (types : List RegType) (values : List Value) (n r : ℕ) → ((q : ℕ) → FitsType (type_at types q) (register values q)) → FitsType (type_at (after_call types) r) (register (Number n ∷ Unset ∷ Unset ∷ Unset ∷ Unset ∷ Unset ∷ drop 6 values) r)
+called_fits : (types : List RegType) (values : List Value) (n r : ℕ) → ((q : ℕ) → FitsType (type_at types q) (register values q))
+    → FitsType (type_at (after_call types) r) (register (Number n ∷ Unset ∷ Unset ∷ Unset ∷ Unset ∷ Unset ∷ drop 6 values) r)
 called_fits types values n zero h = tt
 called_fits types values n (suc zero) h = tt
 called_fits types values n (suc (suc zero)) h = tt
@@ -196,20 +214,25 @@ module _ (terms : Terms) (fact after : Fact) (s : State) (fits : Fits fact s) wh
       let is = as_effect e (unmarked types) h same in
       record { bytes = λ p has. elim ((is.places p).0 has) [ inl old ↦ fits.stack.bytes p old | inr w ↦ absurd (omega (arith, w.0, w.1)) ] }
 
-  notes_stay : (e : Effect) (types : List RegType) → IsAfter fact e after → unmarked types ≡ e → (k : ℕ) → IsKept (noted_type (slice_index after.notes k)) s.stack (8 * k)
+  notes_stay : (e : Effect) (types : List RegType) → IsAfter fact e after → unmarked types ≡ e → (k : ℕ)
+      → IsKept (noted_type (slice_index after.notes k)) s.stack (8 * k)
   notes_stay e types h same =
       let is = as_effect e (unmarked types) h same in kept_after_bytes fact.notes after.notes s.stack 0 [] is.notes fits.notes
 
-  fits_written : (e : Effect) (dst : ℕ) (t : RegType) (v : Value) (pc : ℕ) → IsAfter fact e after → unmarked (slice_set fact.types dst t) ≡ e → dst ≤ 10 → FitsType t v → Fits after (record s { pc = pc; registers = slice_set s.registers dst v })
+  fits_written : (e : Effect) (dst : ℕ) (t : RegType) (v : Value) (pc : ℕ) → IsAfter fact e after → unmarked (slice_set fact.types dst t) ≡ e → dst ≤ 10
+      → FitsType t v → Fits after (record s { pc = pc; registers = slice_set s.registers dst v })
   fits_written e dst t v pc is same small h =
       let types = fact.types in
       let lt : dst < length s.registers = omega (arith, fits.many) in
       record {
         registers =
-            λ r. subst (λ ts. FitsType (type_at ts r) (register (slice_set s.registers dst v) r)) (sym (after_types e (unmarked (slice_set types dst t)) is same))
+            λ r. subst (λ ts. FitsType (type_at ts r) (register (slice_set s.registers dst v) r))
+            (sym (after_types e (unmarked (slice_set types dst t)) is same))
             (elim (same_or_other r dst) [
-              | inl at ↦ subst (λ q. FitsType (type_at (slice_set types dst t) q) (register (slice_set s.registers dst v) q)) (sym at) (subst (FitsType (type_at (slice_set types dst t) dst)) (sym (written_value s.registers dst v lt)) (written_type types dst t v h))
-              | inr other ↦ subst (λ w. FitsType (type_at (slice_set types dst t) r) w) (sym (get_or-set_other s.registers dst r v Unset other)) (subst (λ u. FitsType u (register s.registers r)) (sym (get_or-set_other types dst r t Anything other)) (fits.registers r))
+              | inl at ↦ subst (λ q. FitsType (type_at (slice_set types dst t) q) (register (slice_set s.registers dst v) q)) (sym at)
+                  (subst (FitsType (type_at (slice_set types dst t) dst)) (sym (written_value s.registers dst v lt)) (written_type types dst t v h))
+              | inr other ↦ subst (λ w. FitsType (type_at (slice_set types dst t) r) w) (sym (get_or-set_other s.registers dst r v Unset other))
+                  (subst (λ u. FitsType u (register s.registers r)) (sym (get_or-set_other types dst r t Anything other)) (fits.registers r))
             ]);
         many = length-set s.registers dst v ∙ fits.many;
         stack = stays e (slice_set types dst t) is same;
@@ -227,19 +250,24 @@ module _ (terms : Terms) (fact after : Fact) (s : State) (fits : Fits fact s) wh
         notes = notes_stay e fact.types is same;
       }
 
-  sets_follow : (e : Effect) (dst : ℕ) (r : Result RegType Flaw) (o : Option Value) → IsAfter fact e after → dst ≤ 10 → set_type fact.types dst r ≡ ok_of e → ((t : RegType) → r ≡ typed_as t → Gives o t) → Follows terms.mask after ((s.pc + 1) ∷ []) s (where_some o (λ v. sets s dst v))
+  sets_follow : (e : Effect) (dst : ℕ) (r : Result RegType Flaw) (o : Option Value) → IsAfter fact e after → dst ≤ 10 → set_type fact.types dst r ≡ ok_of e
+      → ((t : RegType) → r ≡ typed_as t → Gives o t) → Follows terms.mask after ((s.pc + 1) ∷ []) s (where_some o (λ v. sets s dst v))
   sets_follow e dst r None is small h g = let x = set_is fact.types dst r e h in absurd (g x.0 x.1)
   sets_follow e dst r (Some v) is small h g =
       let x = set_is fact.types dst r e h in
       let fit = fits_written e dst x.0 v (s.pc + 1) is x.3 small (g x.0 x.1) in
-      subst (λ b. Follows terms.mask after ((s.pc + 1) ∷ []) s (cond b Stuck (Goes (record s { pc = s.pc + 1; registers = slice_set s.registers dst v })))) (sym x.2)
+      subst (λ b. Follows terms.mask after ((s.pc + 1) ∷ []) s (cond b Stuck (Goes (record s { pc = s.pc + 1; registers = slice_set s.registers dst v }))))
+      (sym x.2)
       (inl refl, fit, Changes-refl terms.mask s.counters)
 
-  wide_follows : (e : Effect) (dst n : ℕ) → IsAfter fact e after → dst ≤ 10 → set_type fact.types dst (Ok (Const n)) ≡ ok_of e → Follows terms.mask after ((s.pc + 2) ∷ []) s (cond (dst == 10) Stuck (Goes (record s { pc = s.pc + 2; registers = slice_set s.registers dst (Number n) })))
+  wide_follows : (e : Effect) (dst n : ℕ) → IsAfter fact e after → dst ≤ 10 → set_type fact.types dst (Ok (Const n)) ≡ ok_of e
+      → Follows terms.mask after ((s.pc + 2) ∷ []) s
+      (cond (dst == 10) Stuck (Goes (record s { pc = s.pc + 2; registers = slice_set s.registers dst (Number n) })))
   wide_follows e dst n is small h =
       let x = write_test (dst == 10) (put_type fact.types dst (Ok (Const n))) e h in
       let fit = fits_written e dst (Const n) (Number n) (s.pc + 2) is (same_effect x.1) small refl in
-      subst (λ b. Follows terms.mask after ((s.pc + 2) ∷ []) s (cond b Stuck (Goes (record s { pc = s.pc + 2; registers = slice_set s.registers dst (Number n) })))) (sym x.0)
+      subst (λ b. Follows terms.mask after ((s.pc + 2) ∷ []) s
+      (cond b Stuck (Goes (record s { pc = s.pc + 2; registers = slice_set s.registers dst (Number n) })))) (sym x.0)
       (inl refl, fit, Changes-refl terms.mask s.counters)
 
   operand_fits : (source : Source) (w : Width) (i : Inst) → FitsType (operand_type source w i fact.types) (operand source w i s.registers)
@@ -252,11 +280,14 @@ module _ (terms : Terms) (fact after : Fact) (s : State) (fits : Fits fact s) wh
   context_is None t e = absurd (cc)
   context_is (Some at) t e = (at, refl, cc)
 
-  stack_is : (size : ℕ) (o : Option ℕ) (t : RegType) → number_set fact.stack size o ≡ typed_as t → (at : ℕ) × (o ≡ Some at) × (all_in fact.stack at size ≡ true) × (Num ≡ t)
+  stack_is : (size : ℕ) (o : Option ℕ) (t : RegType) → number_set fact.stack size o ≡ typed_as t
+      → (at : ℕ) × (o ≡ Some at) × (all_in fact.stack at size ≡ true) × (Num ≡ t)
   stack_is size None t e = absurd (cc)
   stack_is size (Some at) t e = let x = set_test (all_in fact.stack at size) t e in (at, refl, x.0, x.1)
 
-  load_gives : (context : List ℕ) → length context ≡ context_len terms.layout → (a : RegType) (v : Value) (i : Inst) (size : ℕ) (t : RegType) → FitsType a v → load_type terms.layout fact.stack a i size ≡ typed_as t → (n : ℕ) × (at : Place) × (mem (length context) v i.offset size ≡ Some at) × (read at size context s.stack ≡ Some n) × (Num ≡ t)
+  load_gives : (context : List ℕ) → length context ≡ context_len terms.layout → (a : RegType) (v : Value) (i : Inst) (size : ℕ) (t : RegType) → FitsType a v
+      → load_type terms.layout fact.stack a i size ≡ typed_as t → (n : ℕ) × (at : Place) × (mem (length context) v i.offset size ≡ Some at)
+      × (read at size context s.stack ≡ Some n) × (Num ≡ t)
   load_gives context long (Ctx k) (Context n) i size t h e =
       let x = context_is (shifted k i.offset (context_len terms.layout - size)) t e in
       let here = ap (λ m. map_option InContext (shifted m i.offset (length context - size))) h in
@@ -280,17 +311,22 @@ module _ (terms : Terms) (fact after : Fact) (s : State) (fits : Fits fact s) wh
   same_type : (x y : RegType) → typed_as x ≡ typed_as y → x ≡ y
   same_type x y e = cc
 
-  loads_follow : (context : List ℕ) → length context ≡ context_len terms.layout → (f : ℕ → ℕ) (i : Inst) (size : ℕ) (e : Effect) → IsAfter fact e after → i.dst ≤ 10 → set_type fact.types i.dst (load_type terms.layout fact.stack (type_at fact.types i.src) i size) ≡ ok_of e → Follows terms.mask after ((s.pc + 1) ∷ []) s (where_some (mem (length context) (register s.registers i.src) i.offset size) (λ at. where_some (read at size context s.stack) (λ n. sets s i.dst (Number (f n)))))
+  loads_follow : (context : List ℕ) → length context ≡ context_len terms.layout → (f : ℕ → ℕ) (i : Inst) (size : ℕ) (e : Effect) → IsAfter fact e after
+      → i.dst ≤ 10 → set_type fact.types i.dst (load_type terms.layout fact.stack (type_at fact.types i.src) i size) ≡ ok_of e
+      → Follows terms.mask after ((s.pc + 1) ∷ []) s (where_some (mem (length context) (register s.registers i.src) i.offset size)
+      (λ at. where_some (read at size context s.stack) (λ n. sets s i.dst (Number (f n)))))
   loads_follow context long f i size e is small h =
       let r = load_type terms.layout fact.stack (type_at fact.types i.src) i size in
       let x = set_is fact.types i.dst r e h in
       let g = load_gives context long (type_at fact.types i.src) (register s.registers i.src) i size x.0 (fits.registers i.src) x.1 in
-      subst (λ o. Follows terms.mask after ((s.pc + 1) ∷ []) s (where_some o (λ at. where_some (read at size context s.stack) (λ n. sets s i.dst (Number (f n)))))) (sym g.2)
+      subst (λ o. Follows terms.mask after ((s.pc + 1) ∷ []) s (where_some o
+      (λ at. where_some (read at size context s.stack) (λ n. sets s i.dst (Number (f n)))))) (sym g.2)
       (subst (λ o. Follows terms.mask after ((s.pc + 1) ∷ []) s (where_some o (λ n. sets s i.dst (Number (f n))))) (sym g.3)
       (sets_follow e i.dst r (Some (Number (f g.0))) is small h (λ t k. subst (λ u. FitsType u (Number (f g.0))) (g.4 ∙ same_type x.0 t (sym x.1 ∙ k)) tt)))
 
   -- the pointer that is noted at a place
-  note_test : (size at : ℕ) (b : Bool) → is_aligned size at ≡ b → is_unset (cond b (noted_type (slice_index fact.notes (at / 8))) Anything) ≡ false → (w : Value) × (is_aligned size at ≡ true) × (kept_at s.stack at ≡ Some w) × FitsType (cond b (noted_type (slice_index fact.notes (at / 8))) Anything) w
+  note_test : (size at : ℕ) (b : Bool) → is_aligned size at ≡ b → is_unset (cond b (noted_type (slice_index fact.notes (at / 8))) Anything) ≡ false
+      → (w : Value) × (is_aligned size at ≡ true) × (kept_at s.stack at ≡ Some w) × FitsType (cond b (noted_type (slice_index fact.notes (at / 8))) Anything) w
   note_test size at true a u =
       let h = aligned size at a in
       let place : 8 * (at / 8) ≡ at = omega (arith, h.1) in
@@ -298,7 +334,8 @@ module _ (terms : Terms) (fact after : Fact) (s : State) (fits : Fits fact s) wh
       (x.0, a, ap (kept_at s.stack) (sym place) ∙ x.2, x.1)
   note_test size at false a u = absurd (cc)
 
-  note_gives : (size : ℕ) (o : Option ℕ) → is_unset (note_in fact.notes size o) ≡ false → (at : ℕ) × (w : Value) × (o ≡ Some at) × (is_aligned size at ≡ true) × (kept_at s.stack at ≡ Some w) × FitsType (note_in fact.notes size o) w
+  note_gives : (size : ℕ) (o : Option ℕ) → is_unset (note_in fact.notes size o) ≡ false → (at : ℕ) × (w : Value) × (o ≡ Some at) × (is_aligned size at ≡ true)
+      × (kept_at s.stack at ≡ Some w) × FitsType (note_in fact.notes size o) w
   note_gives size None u = absurd (cc)
   note_gives size (Some at) u = let x = note_test size at (is_aligned size at) refl u in (at, x.0, refl, x.1, x.2, x.3)
 
@@ -308,7 +345,9 @@ module _ (terms : Terms) (fact after : Fact) (s : State) (fits : Fits fact s) wh
       ap (number_in s.stack at) h.0 ∙ no_number (cell_at s.stack at) s.stack at w (number_in s.stack (suc at) 7) e
 
   -- what a load through a pointer with a note reads
-  kept_gives : (context : List ℕ) (a : RegType) (v : Value) (i : Inst) (size : ℕ) → FitsType a v → is_unset (kept_type fact.notes a i size) ≡ false → (at : Place) × (w : Value) × (mem (length context) v i.offset size ≡ Some at) × (loaded at size context s.stack ≡ Some w) × FitsType (kept_type fact.notes a i size) w
+  kept_gives : (context : List ℕ) (a : RegType) (v : Value) (i : Inst) (size : ℕ) → FitsType a v → is_unset (kept_type fact.notes a i size) ≡ false
+      → (at : Place) × (w : Value) × (mem (length context) v i.offset size ≡ Some at) × (loaded at size context s.stack ≡ Some w)
+      × FitsType (kept_type fact.notes a i size) w
   kept_gives context (Stk k) (Stack n) i size h u =
       let x = note_gives size (shifted (lowest k) i.offset (512 - size)) u in
       let there : lowest k ≡ n = ap natural (sym h) in
@@ -327,7 +366,10 @@ module _ (terms : Terms) (fact after : Fact) (s : State) (fits : Fits fact s) wh
   kept_gives context (Stk k) (Number n) i size h u = absurd h
   kept_gives context (Stk k) (Context n) i size h u = absurd h
 
-  loaded_follow : (context : List ℕ) → length context ≡ context_len terms.layout → (i : Inst) (size : ℕ) (e : Effect) → IsAfter fact e after → i.dst ≤ 10 → set_type fact.types i.dst (loaded_type terms.layout fact.stack fact.notes (type_at fact.types i.src) i size) ≡ ok_of e → Follows terms.mask after ((s.pc + 1) ∷ []) s (where_some (mem (length context) (register s.registers i.src) i.offset size) (λ at. where_some (loaded at size context s.stack) (λ v. sets s i.dst v)))
+  loaded_follow : (context : List ℕ) → length context ≡ context_len terms.layout → (i : Inst) (size : ℕ) (e : Effect) → IsAfter fact e after → i.dst ≤ 10
+      → set_type fact.types i.dst (loaded_type terms.layout fact.stack fact.notes (type_at fact.types i.src) i size) ≡ ok_of e
+      → Follows terms.mask after ((s.pc + 1) ∷ []) s (where_some (mem (length context) (register s.registers i.src) i.offset size)
+      (λ at. where_some (loaded at size context s.stack) (λ v. sets s i.dst v)))
   loaded_follow context long i size e is small h =
       let base = type_at fact.types i.src in
       let value = register s.registers i.src in
@@ -338,19 +380,22 @@ module _ (terms : Terms) (fact after : Fact) (s : State) (fits : Fits fact s) wh
         | inl number ↦
             let g = load_gives context long base value i size x.0 (fits.registers i.src) number.1 in
             let got : loaded g.1 size context s.stack ≡ Some (Number g.0) = ap (λ o. number_or o (kept_in g.1 size s.stack)) g.3 in
-            subst (λ o. Follows terms.mask after ((s.pc + 1) ∷ []) s (where_some o (λ at. where_some (loaded at size context s.stack) (λ v. sets s i.dst v)))) (sym g.2)
+            subst (λ o. Follows terms.mask after ((s.pc + 1) ∷ []) s (where_some o (λ at. where_some (loaded at size context s.stack) (λ v. sets s i.dst v))))
+            (sym g.2)
             (subst (λ o. Follows terms.mask after ((s.pc + 1) ∷ []) s (where_some o (λ v. sets s i.dst v))) (sym got)
             (sets_follow e i.dst r (Some (Number g.0)) is small h (λ t k. subst (λ u. FitsType u (Number g.0)) (g.4 ∙ same_type x.0 t (sym x.1 ∙ k)) tt)))
         | inr pointer ↦
             let g = kept_gives context base value i size (fits.registers i.src) pointer.0 in
-            subst (λ o. Follows terms.mask after ((s.pc + 1) ∷ []) s (where_some o (λ at. where_some (loaded at size context s.stack) (λ v. sets s i.dst v)))) (sym g.2)
+            subst (λ o. Follows terms.mask after ((s.pc + 1) ∷ []) s (where_some o (λ at. where_some (loaded at size context s.stack) (λ v. sets s i.dst v))))
+            (sym g.2)
             (subst (λ o. Follows terms.mask after ((s.pc + 1) ∷ []) s (where_some o (λ v. sets s i.dst v))) (sym g.3)
             (sets_follow e i.dst r (Some g.1) is small h (λ t k. subst (λ u. FitsType u g.1) (same_type kept t (pointer.1 ∙ sym x.1 ∙ k)) g.4)))
       ]
 
   -- ---- stores
 
-  fits_stored : (e : Effect) (at : ℕ) (bytes : List ℕ) (pc : ℕ) → IsAfter fact e after → marked_by fact.types at (length bytes) ≡ e → at + length bytes ≤ 512 → Fits after (record s { pc = pc; stack = written s.stack at bytes })
+  fits_stored : (e : Effect) (at : ℕ) (bytes : List ℕ) (pc : ℕ) → IsAfter fact e after → marked_by fact.types at (length bytes) ≡ e → at + length bytes ≤ 512
+      → Fits after (record s { pc = pc; stack = written s.stack at bytes })
   fits_stored e at bytes pc is same inside =
       let now = as_effect e (marked_by fact.types at (length bytes)) is same in
       record {
@@ -374,7 +419,8 @@ module _ (terms : Terms) (fact after : Fact) (s : State) (fits : Fits fact s) wh
   abbrev kept_by : ℕ → RegType → Effect
   kept_by at t = record { types = fact.types; at = at; len = 8; kept = t }
 
-  fits_kept : (e : Effect) (at : ℕ) (t : RegType) (v : Value) (pc : ℕ) → IsAfter fact e after → kept_by at t ≡ e → at % 8 ≡ 0 → at + 8 ≤ 512 → is_pointer t ≡ true → FitsType t v → Fits after (record s { pc = pc; stack = pieces_written s.stack at v 0 8 })
+  fits_kept : (e : Effect) (at : ℕ) (t : RegType) (v : Value) (pc : ℕ) → IsAfter fact e after → kept_by at t ≡ e → at % 8 ≡ 0 → at + 8 ≤ 512
+      → is_pointer t ≡ true → FitsType t v → Fits after (record s { pc = pc; stack = pieces_written s.stack at v 0 8 })
   fits_kept e at t v pc is same multiple inside pointer f =
       let now = as_effect e (kept_by at t) is same in
       record {
@@ -387,7 +433,8 @@ module _ (terms : Terms) (fact after : Fact) (s : State) (fits : Fits fact s) wh
                   subst HasByte (sym (pieces_other s.stack at v 0 8 p (outside at 8 p old.1))) (fits.stack.bytes p old.0);
             };
         long = length-pieces s.stack at v 0 8 ∙ fits.long;
-        notes = kept_after_pointer fact.notes after.notes s.stack at t v now.notes multiple (omega (arith, inside, fits.long)) (pointer_of t v f pointer) f fits.notes;
+        notes = kept_after_pointer fact.notes after.notes s.stack at t v now.notes multiple (omega (arith, inside, fits.long))
+            (pointer_of t v f pointer) f fits.notes;
       }
 
   stored_pointer : (i : Inst) (size : ℕ) (v : Value) → IsPointer v → stores_value s i size v ≡ keeps_value s i size v
@@ -397,25 +444,31 @@ module _ (terms : Terms) (fact after : Fact) (s : State) (fits : Fits fact s) wh
   stored_pointer i size (Number n) p = absurd p
 
   -- a pointer that can be kept is kept
-  keeps_follow : (i : Inst) (size : ℕ) (x e : Effect) (t : RegType) (v : Value) → IsAfter fact e after → size ≤ 8 → store_type fact.types (type_at fact.types i.dst) i size ≡ ok_of x → is_aligned x.len x.at ≡ true → record x { kept = t } ≡ e → is_pointer t ≡ true → FitsType t v → Follows terms.mask after ((s.pc + 1) ∷ []) s (stores_value s i size v)
+  keeps_follow : (i : Inst) (size : ℕ) (x e : Effect) (t : RegType) (v : Value) → IsAfter fact e after → size ≤ 8
+      → store_type fact.types (type_at fact.types i.dst) i size ≡ ok_of x → is_aligned x.len x.at ≡ true → record x { kept = t } ≡ e → is_pointer t ≡ true
+      → FitsType t v → Follows terms.mask after ((s.pc + 1) ∷ []) s (stores_value s i size v)
   keeps_follow i size x e t v is small h whole same pointer f =
       let y = store_is fact.types (type_at fact.types i.dst) (register s.registers i.dst) i size x (fits.registers i.dst) h in
       let inside : y.0 + size ≤ 512 = store_inside (register s.registers i.dst) i size y.0 small y.1 in
       let aligned_here : is_aligned size y.0 ≡ true = subst (λ z. is_aligned z.len z.at ≡ true) (sym y.2) whole in
       let parts = aligned size y.0 aligned_here in
       let effect_is : kept_by y.0 t ≡ e = ap (λ n. keeping t (marked_by fact.types y.0 n)) (sym parts.0) ∙ ap (keeping t) y.2 ∙ same in
-      let place : aligned_place size (stack_at (register s.registers i.dst) i.offset size) ≡ Some y.0 = ap (aligned_place size) y.1 ∙ ap (λ b. cond b (Some y.0) None) aligned_here in
+      let place : aligned_place size (stack_at (register s.registers i.dst) i.offset size) ≡ Some y.0 =
+      ap (aligned_place size) y.1 ∙ ap (λ b. cond b (Some y.0) None) aligned_here in
       subst (Follows terms.mask after ((s.pc + 1) ∷ []) s) (sym (stored_pointer i size v (pointer_of t v f pointer)))
-      (subst (λ o. Follows terms.mask after ((s.pc + 1) ∷ []) s (where_some o (λ at. Goes (record s { pc = s.pc + 1; stack = pieces_written s.stack at v 0 8 })))) (sym place)
+      (subst (λ o. Follows terms.mask after ((s.pc + 1) ∷ []) s (where_some o
+      (λ at. Goes (record s { pc = s.pc + 1; stack = pieces_written s.stack at v 0 8 })))) (sym place)
       (inl refl, fits_kept e y.0 t v (s.pc + 1) is effect_is parts.1 (omega (arith, inside, parts.0)) pointer f, Changes-refl terms.mask s.counters))
 
-  stores_follow : (i : Inst) (size n : ℕ) (e : Effect) → IsAfter fact e after → size ≤ 8 → store_type fact.types (type_at fact.types i.dst) i size ≡ ok_of e → Follows terms.mask after ((s.pc + 1) ∷ []) s (stores s i size n)
+  stores_follow : (i : Inst) (size n : ℕ) (e : Effect) → IsAfter fact e after → size ≤ 8 → store_type fact.types (type_at fact.types i.dst) i size ≡ ok_of e
+      → Follows terms.mask after ((s.pc + 1) ∷ []) s (stores s i size n)
   stores_follow i size n e is small h =
       let x = store_is fact.types (type_at fact.types i.dst) (register s.registers i.dst) i size e (fits.registers i.dst) h in
       let long = length-little 0 size n in
       let inside : x.0 + size ≤ 512 = store_inside (register s.registers i.dst) i size x.0 small x.1 in
       let same : marked_by fact.types x.0 (length (little_bytes size n)) ≡ e = ap (λ l. marked_by fact.types x.0 l) long ∙ x.2 in
-      subst (λ o. Follows terms.mask after ((s.pc + 1) ∷ []) s (where_some o (λ at. Goes (record s { pc = s.pc + 1; stack = written s.stack at (little_bytes size n) })))) (sym x.1)
+      subst (λ o. Follows terms.mask after ((s.pc + 1) ∷ []) s (where_some o
+      (λ at. Goes (record s { pc = s.pc + 1; stack = written s.stack at (little_bytes size n) })))) (sym x.1)
       (inl refl, fits_stored e x.0 (little_bytes size n) (s.pc + 1) is same (omega (arith, long, inside)), Changes-refl terms.mask s.counters)
 
   -- ---- jumps
@@ -424,18 +477,21 @@ module _ (terms : Terms) (fact after : Fact) (s : State) (fits : Fits fact s) wh
   cons_is None rest tos e = absurd (cc)
   cons_is (Some to) rest tos e = (to, refl, cc)
 
-  jumps_follow : (e : Effect) (z : ℤ) (rest tos : List ℕ) → IsAfter fact e after → unmarked fact.types ≡ e → option_cons (shifted (s.pc + 1) z 512) rest ≡ Some tos → Follows terms.mask after tos s (jumps s z)
+  jumps_follow : (e : Effect) (z : ℤ) (rest tos : List ℕ) → IsAfter fact e after → unmarked fact.types ≡ e
+      → option_cons (shifted (s.pc + 1) z 512) rest ≡ Some tos → Follows terms.mask after tos s (jumps s z)
   jumps_follow e z rest tos is same h =
       let x = cons_is (shifted (s.pc + 1) z 512) rest tos h in
       subst (λ o. Follows terms.mask after tos s (where_some o (λ to. Goes (record s { pc = to })))) (sym x.1)
       (subst (IsIn x.0) x.2 (inl refl), fits_moved e x.0 is same, Changes-refl terms.mask s.counters)
 
-  falls_through : (e : Effect) (z : ℤ) (tos : List ℕ) → IsAfter fact e after → unmarked fact.types ≡ e → option_cons (shifted (s.pc + 1) z 512) ((s.pc + 1) ∷ []) ≡ Some tos → Follows terms.mask after tos s (Goes (record s { pc = s.pc + 1 }))
+  falls_through : (e : Effect) (z : ℤ) (tos : List ℕ) → IsAfter fact e after → unmarked fact.types ≡ e
+      → option_cons (shifted (s.pc + 1) z 512) ((s.pc + 1) ∷ []) ≡ Some tos → Follows terms.mask after tos s (Goes (record s { pc = s.pc + 1 }))
   falls_through e z tos is same h =
       let x = cons_is (shifted (s.pc + 1) z 512) ((s.pc + 1) ∷ []) tos h in
       (subst (IsIn (s.pc + 1)) x.2 (inr (inl refl)), fits_moved e (s.pc + 1) is same, Changes-refl terms.mask s.counters)
 
-  branches_follow : (b : Bool) (e : Effect) (z : ℤ) (tos : List ℕ) → IsAfter fact e after → unmarked fact.types ≡ e → option_cons (shifted (s.pc + 1) z 512) ((s.pc + 1) ∷ []) ≡ Some tos → Follows terms.mask after tos s (branches s b z)
+  branches_follow : (b : Bool) (e : Effect) (z : ℤ) (tos : List ℕ) → IsAfter fact e after → unmarked fact.types ≡ e
+      → option_cons (shifted (s.pc + 1) z 512) ((s.pc + 1) ∷ []) ≡ Some tos → Follows terms.mask after tos s (branches s b z)
   branches_follow true e z tos is same h = jumps_follow e z ((s.pc + 1) ∷ []) tos is same h
   branches_follow false e z tos is same h = falls_through e z tos is same h
 
@@ -444,12 +500,20 @@ module _ (terms : Terms) (fact after : Fact) (s : State) (fits : Fits fact s) wh
 
   -- ---- calls
 
-  call_fits : (e : Effect) → IsAfter fact e after → (a : Answer) (at : ℕ) (bytes : List ℕ) → marked_by (after_call fact.types) at (length bytes) ≡ e → a.stack ≡ written s.stack at bytes → at + length bytes ≤ 512 → Fits after (record s { pc = s.pc + 1; registers = Number a.value ∷ Unset ∷ Unset ∷ Unset ∷ Unset ∷ Unset ∷ drop 6 s.registers; stack = a.stack; counters = a.counters })
+  call_fits : (e : Effect) → IsAfter fact e after → (a : Answer) (at : ℕ) (bytes : List ℕ) → marked_by (after_call fact.types) at (length bytes) ≡ e
+      → a.stack ≡ written s.stack at bytes → at + length bytes ≤ 512
+      → Fits after (record s {
+        pc = s.pc + 1;
+        registers = Number a.value ∷ Unset ∷ Unset ∷ Unset ∷ Unset ∷ Unset ∷ drop 6 s.registers;
+        stack = a.stack;
+        counters = a.counters;
+      })
   call_fits e is a at bytes same stack inside =
       let long = length-drop 6 s.registers in
       let now = as_effect e (marked_by (after_call fact.types) at (length bytes)) is same in
       record {
-        registers = λ r. subst (λ ts. FitsType (type_at ts r) (register (Number a.value ∷ Unset ∷ Unset ∷ Unset ∷ Unset ∷ Unset ∷ drop 6 s.registers) r)) (sym now.types) (called_fits fact.types s.registers a.value r fits.registers);
+        registers = λ r. subst (λ ts. FitsType (type_at ts r) (register (Number a.value ∷ Unset ∷ Unset ∷ Unset ∷ Unset ∷ Unset ∷ drop 6 s.registers) r))
+            (sym now.types) (called_fits fact.types s.registers a.value r fits.registers);
         many = omega (arith, long, fits.many);
         stack =
             record {
@@ -460,15 +524,20 @@ module _ (terms : Terms) (fact after : Fact) (s : State) (fits : Fits fact s) wh
                   ]);
             };
         long = ap length stack ∙ length-written s.stack at bytes ∙ fits.long;
-        notes = λ k. subst (λ st. IsKept (noted_type (slice_index after.notes k)) st (8 * k)) (sym stack) (kept_after_bytes fact.notes after.notes s.stack at bytes now.notes fits.notes k);
+        notes = λ k. subst (λ st. IsKept (noted_type (slice_index after.notes k)) st (8 * k)) (sym stack)
+            (kept_after_bytes fact.notes after.notes s.stack at bytes now.notes fits.notes k);
       }
 
   -- one instruction
-  pub step_follows : (context : List ℕ) → length context ≡ context_len terms.layout → (view : View) (i : Inst) (upper : ℤ) (form : Form) (e : Effect) (tos : List ℕ) → i.dst ≤ 10 → IsAfter fact e after → effect terms fact i upper form ≡ ok_of e → leads s.pc i form ≡ Some tos → Follows terms.mask after tos s (act terms.mask context view s i upper form)
+  pub step_follows : (context : List ℕ) → length context ≡ context_len terms.layout
+      → (view : View) (i : Inst) (upper : ℤ) (form : Form) (e : Effect) (tos : List ℕ) → i.dst ≤ 10 → IsAfter fact e after
+      → effect terms fact i upper form ≡ ok_of e → leads s.pc i form ≡ Some tos → Follows terms.mask after tos s (act terms.mask context view s i upper form)
   step_follows context long view i upper (Arithmetic op w source) e tos small is h l =
       subst (λ ts. Follows terms.mask after ts s (act terms.mask context view s i upper (Arithmetic op w source))) (some_list _ tos l)
-      (sets_follow e i.dst (alu_type terms.layout op w source i (type_at fact.types i.dst) (operand_type source w i fact.types)) (alu_value (length context) op w source i (register s.registers i.dst) (operand source w i s.registers)) is small h
-      (λ t g. arithmetic terms.layout (length context) long op w source i s.registers (type_at fact.types i.dst) (operand_type source w i fact.types) (register s.registers i.dst) t (fits.registers i.dst) (operand_fits source w i) g))
+      (sets_follow e i.dst (alu_type terms.layout op w source i (type_at fact.types i.dst) (operand_type source w i fact.types))
+      (alu_value (length context) op w source i (register s.registers i.dst) (operand source w i s.registers)) is small h
+      (λ t g. arithmetic terms.layout (length context) long op w source i s.registers (type_at fact.types i.dst) (operand_type source w i fact.types)
+      (register s.registers i.dst) t (fits.registers i.dst) (operand_fits source w i) g))
   step_follows context long view i upper Wide e tos small is h l =
       subst (λ ts. Follows terms.mask after ts s (act terms.mask context view s i upper Wide)) (some_list _ tos l)
       (wide_follows e i.dst (cast_unsigned w32 upper * 2 ^ 32 + cast_unsigned w32 i.imm) is small h)
@@ -492,7 +561,8 @@ module _ (terms : Terms) (fact after : Fact) (s : State) (fits : Fits fact s) wh
             let n = numeric value (register s.registers i.src) (fits.registers i.src) (neither value u.0 plain.0) in
             subst (λ v. Follows terms.mask after ((s.pc + 1) ∷ []) s (stores_value s i (bytes_in size) v)) (sym n.1)
             (stores_follow i (bytes_in size) n.0 e is (size_small size) (p.1 ∙ ap ok_of plain.1))
-        | inr pointer ↦ keeps_follow i (bytes_in size) p.0 e value (register s.registers i.src) is (size_small size) p.1 pointer.1 pointer.2 pointer.0 (fits.registers i.src)
+        | inr pointer ↦ keeps_follow i (bytes_in size) p.0 e value (register s.registers i.src) is (size_small size) p.1 pointer.1 pointer.2
+            pointer.0 (fits.registers i.src)
       ])
   step_follows context long view i upper Goto e tos small is h l = jumps_follow e i.offset [] tos is (same_effect h) l
   step_follows context long view i upper GotoLong e tos small is h l = jumps_follow e i.imm [] tos is (same_effect h) l
@@ -502,7 +572,8 @@ module _ (terms : Terms) (fact after : Fact) (s : State) (fits : Fits fact s) wh
       let x = compare_test (is_numeric a) (is_numeric b) (NotANumber i.dst) (NotANumber i.src) (unmarked fact.types) e h in
       let m = numeric a (register s.registers i.dst) (fits.registers i.dst) x.0 in
       let n = numeric b (operand source w i s.registers) (operand_fits source w i) x.1 in
-      subst (λ v. Follows terms.mask after tos s (where_some (number v) (λ a. where_some (number (operand source w i s.registers)) (λ b. branches s (holds c w a b) i.offset)))) (sym m.1)
+      subst (λ v. Follows terms.mask after tos s (where_some (number v)
+      (λ a. where_some (number (operand source w i s.registers)) (λ b. branches s (holds c w a b) i.offset)))) (sym m.1)
       (subst (λ v. Follows terms.mask after tos s (where_some (number v) (λ b. branches s (holds c w m.0 b) i.offset))) (sym n.1)
       (branches_follow (holds c w m.0 n.0) e i.offset tos is x.2 l))
   step_follows context long view i upper Exit e tos small is h l =
@@ -510,7 +581,8 @@ module _ (terms : Terms) (fact after : Fact) (s : State) (fits : Fits fact s) wh
       let n = numeric (type_at fact.types 0) (register s.registers 0) (fits.registers 0) t in
       subst (λ v. Follows terms.mask after tos s (where_some (number v) (λ r. Exits r s.counters))) (sym n.1) refl
   step_follows context long view i upper Call e tos small is h l =
-      let x = called terms.mask fact.types view (register s.registers 1) (register s.registers 2) s.counters s.stack (type_at fact.types 1) (type_at fact.types 2) (fits.registers 1) (fits.registers 2) (helper_of i.imm) e refl refl h in
+      let x = called terms.mask fact.types view (register s.registers 1) (register s.registers 2) s.counters s.stack (type_at fact.types 1)
+      (type_at fact.types 2) (fits.registers 1) (fits.registers 2) (helper_of i.imm) e refl refl h in
       subst (λ ts. Follows terms.mask after ts s (act terms.mask context view s i upper Call)) (some_list _ tos l)
       (subst (λ o. Follows terms.mask after ((s.pc + 1) ∷ []) s (where_some o (λ a. call_state s a))) (sym x.there)
       (inl refl, call_fits e is x.reply x.at x.bytes x.marks x.stack_is x.inside, x.changes))

@@ -1,7 +1,9 @@
 -- Stored facts: where they are found, changed and added.
-use Rattle.std.proofs.Common.{◌≡◌, ◌≢◌, ℕ, zero, suc, ◌+◌, ◌<◌, ◌≤◌, List, [], ◌∷◌, ◌++◌, Option, Some, None, Bool, true, false, refl, sym, ap, ◌∙◌, subst, inl, inr, arith, length}
+use Rattle.std.proofs.Common.{◌≡◌, ◌≢◌, ℕ, zero, suc, ◌+◌, ◌<◌, ◌≤◌, List, [], ◌∷◌, ◌++◌, Option, Some, None, Bool, true, false, refl, sym, ap, ◌∙◌, subst, inl}
+use Rattle.std.proofs.Common.{inr, arith, length}
 use Rattle.std.specs.Prelude.{◌==◌, cond, slice_index, slice_index_or, slice_set, is_some, replicate, IfSome, IsTrue}
-use Rattle.std.proofs.lemmas.List.{get_or-set_other, get_or-set_same, get_or_append_left, get_or_past, get_or-replicate, length-set, length-append, length-replicate}
+use Rattle.std.proofs.lemmas.List.{get_or-set_other, get_or-set_same, get_or_append_left, get_or_past, get_or-replicate, length-set, length-append}
+use Rattle.std.proofs.lemmas.List.{length-replicate}
 use Rattle.std.proofs.Math.Seq.{get_or-append_seam}
 use Rattle.std.proofs.lemmas.Bool.{cases_eq, cases_lt, eq-eqb, ne_eqb, cond-true, cond-false}
 use Rattle.reg_types.specs.declared.types.Fact.{Fact}
@@ -54,7 +56,8 @@ twice : (t : Bool) (a b c : Option Fact) → cond t a b ≡ cond t a (cond t c b
 twice true a b c = refl
 twice false a b c = refl
 
-pub stored_set : (facts : List Stored) (at k : ℕ) (f : Fact) → IsPlace facts at k → (q : ℕ) → stored (slice_set facts k (stored_fact at f)) q ≡ cond (q == at) (Some f) (stored facts q)
+pub stored_set : (facts : List Stored) (at k : ℕ) (f : Fact) → IsPlace facts at k → (q : ℕ) → stored (slice_set facts k (stored_fact at f)) q
+    ≡ cond (q == at) (Some f) (stored facts q)
 stored_set [] at k f p q = absurd (let l = p.inside in omega (arith, l))
 stored_set (s ∷ rest) at zero f p q =
     twice (q == at) (Some f) (stored rest q) (Some s.fact)
@@ -77,7 +80,8 @@ none_of : (t : Bool) (a : Fact) (b : Option Fact) → cond t (Some a) b ≡ None
 none_of true a b e = absurd (cc)
 none_of false a b e = (refl, e)
 
-pub stored_pushed : (facts : List Stored) (at : ℕ) (f : Fact) → stored facts at ≡ None → (q : ℕ) → stored (facts ++ stored_fact at f ∷ []) q ≡ arrived q f at (stored facts q)
+pub stored_pushed : (facts : List Stored) (at : ℕ) (f : Fact) → stored facts at ≡ None → (q : ℕ)
+    → stored (facts ++ stored_fact at f ∷ []) q ≡ arrived q f at (stored facts q)
 stored_pushed [] at f none q = refl
 stored_pushed (s ∷ rest) at f none q =
     let both = none_of (at == s.at) s.fact (stored rest at) none in
@@ -98,7 +102,8 @@ pub stored_here : (facts : List Stored) (at k : ℕ) (f : Fact) → IsPlace fact
 stored_here facts at k f p = stored_set facts at k f p at ∙ cond-true (at == at) (Some f) (stored facts at) (eq-eqb at at refl)
 
 -- the first stored fact of the unit takes one in
-module _ (facts : List Stored) (at k : ℕ) (d : Stored) (f fact : Fact) (p : IsPlace facts at k) (same : IsSame f (join_fact (slice_index_or facts k d).fact fact)) where
+module _ (facts : List Stored) (at k : ℕ) (d : Stored) (f fact : Fact) (p : IsPlace facts at k)
+    (same : IsSame f (join_fact (slice_index_or facts k d).fact fact)) where
   set_here : (q : ℕ) → q ≡ at → stored (slice_set facts k (stored_fact at f)) q ≡ Some f
   set_here q e = stored_set facts at k f p q ∙ cond-true (q == at) (Some f) (stored facts q) (eq-eqb q at e)
 
@@ -112,10 +117,12 @@ module _ (facts : List Stored) (at k : ℕ) (d : Stored) (f fact : Fact) (p : Is
   joined_each q =
       elim (cases_eq q at) [
         | inl e ↦
-            let to : arrived q fact at (stored facts q) ≡ Some (join_fact (slice_index_or facts k d).fact fact) = cond-true (q == at) (Some (taken_in (stored facts q) fact)) (stored facts q) (eq-eqb q at e) ∙ ap (λ o. Some (taken_in o fact)) (held_here q e) in
+            let to : arrived q fact at (stored facts q) ≡ Some (join_fact (slice_index_or facts k d).fact fact) =
+            cond-true (q == at) (Some (taken_in (stored facts q) fact)) (stored facts q) (eq-eqb q at e) ∙ ap (λ o. Some (taken_in o fact)) (held_here q e) in
             subst (λ o. AreSame o (arrived q fact at (stored facts q))) (sym (set_here q e)) (subst (λ o. AreSame (Some f) o) (sym to) same)
         | inr n ↦
-            same_by (stored (slice_set facts k (stored_fact at f)) q) (arrived q fact at (stored facts q)) (set_elsewhere q n ∙ sym (not_arrived q at fact (stored facts q) n))
+            same_by (stored (slice_set facts k (stored_fact at f)) q) (arrived q fact at (stored facts q))
+            (set_elsewhere q n ∙ sym (not_arrived q at fact (stored facts q) n))
       ]
 
   pub joined_is : IsJoined at fact (stored facts) (stored (slice_set facts k (stored_fact at f)))
@@ -126,20 +133,25 @@ module _ (facts : List Stored) (at k : ℕ) (d : Stored) (f fact : Fact) (p : Is
       }
 
 -- where a unit's fact is stored, what enters there is taken in
-pub entered_at : (facts new : List Stored) (at : ℕ) (fact : Fact) (o : Option ℕ) (b : Bool) → is_some o ≡ true → IfSome o (λ k. IsPlace facts at k) → (IsTrue b → IsJoined at fact (stored facts) (stored new)) → (b ≡ false → stored facts at ≡ None) → (q : ℕ) → AreSame (stored new q) (arrived q fact at (stored facts q))
+pub entered_at : (facts new : List Stored) (at : ℕ) (fact : Fact) (o : Option ℕ) (b : Bool) → is_some o ≡ true → IfSome o (λ k. IsPlace facts at k)
+    → (IsTrue b → IsJoined at fact (stored facts) (stored new)) → (b ≡ false → stored facts at ≡ None) → (q : ℕ)
+    → AreSame (stored new q) (arrived q fact at (stored facts q))
 entered_at facts new at fact None b some place joined none q = absurd (no_some (sym some))
 entered_at facts new at fact (Some k) true some place joined none q = (joined refl).each q
-entered_at facts new at fact (Some k) false some place joined none q = absurd (no_some (ap is_some (sym (stored_at facts at k (stored_fact at fact) place) ∙ none refl)))
+entered_at facts new at fact (Some k) false some place joined none q =
+    absurd (no_some (ap is_some (sym (stored_at facts at k (stored_fact at fact) place) ∙ none refl)))
 
 -- ---- where each is found
 
 none_stored : (facts : List Stored) (at : ℕ) → stored facts at ≡ None → (j : ℕ) (d : Stored) → j < length facts → (slice_index_or facts j d).at ≢ at
 none_stored [] at none j d l = absurd (omega (arith, l))
-none_stored (s ∷ rest) at none zero d l = λ e. no_some (ap is_some (sym (cond-true (at == s.at) (Some s.fact) (stored rest at) (eq-eqb at s.at (sym e))) ∙ none))
+none_stored (s ∷ rest) at none zero d l =
+    λ e. no_some (ap is_some (sym (cond-true (at == s.at) (Some s.fact) (stored rest at) (eq-eqb at s.at (sym e))) ∙ none))
 none_stored (s ∷ rest) at none (suc j) d l = none_stored rest at (none_of (at == s.at) s.fact (stored rest at) none).1 j d (omega (arith, l))
 
 -- a changed fact stands at the place of the old one
-at_kept : (facts : List Stored) (at k : ℕ) (f : Fact) → IsPlace facts at k → (j : ℕ) (d : Stored) → (slice_index_or (slice_set facts k (stored_fact at f)) j d).at ≡ (slice_index_or facts j d).at
+at_kept : (facts : List Stored) (at k : ℕ) (f : Fact) → IsPlace facts at k → (j : ℕ) (d : Stored)
+    → (slice_index_or (slice_set facts k (stored_fact at f)) j d).at ≡ (slice_index_or facts j d).at
 at_kept facts at k f p j d =
     elim (cases_eq j k) [
       | inl e ↦
@@ -149,7 +161,8 @@ at_kept facts at k f p j d =
       | inr n ↦ ap (λ s. s.at) (get_or-set_other facts k j (stored_fact at f) d n)
     ]
 
-place_kept : (facts : List Stored) (at k : ℕ) (f : Fact) → IsPlace facts at k → (q j : ℕ) → IsPlace facts q j → IsPlace (slice_set facts k (stored_fact at f)) q j
+place_kept : (facts : List Stored) (at k : ℕ) (f : Fact) → IsPlace facts at k → (q j : ℕ) → IsPlace facts q j
+    → IsPlace (slice_set facts k (stored_fact at f)) q j
 place_kept facts at k f p q j is =
     record {
       inside = let n = length-set facts k (stored_fact at f) in let l = is.inside in omega (arith, n, l);
@@ -162,11 +175,13 @@ unfolding AreDistinct
 distinct_kept [] at k f p h = absurd (let l = p.inside in omega (arith, l))
 distinct_kept (s ∷ rest) at zero f p h = (ap (stored rest) (sym (p.here s)) ∙ h.0, h.1)
 distinct_kept (s ∷ rest) at (suc k) f p h = (
-  stored_set rest at k f (later s rest at k p) s.at ∙ cond-false (s.at == at) (Some f) (stored rest s.at) (ne_eqb s.at at (λ e. not_first s rest at k p (sym e))) ∙ h.0,
+  stored_set rest at k f (later s rest at k p) s.at
+      ∙ cond-false (s.at == at) (Some f) (stored rest s.at) (ne_eqb s.at at (λ e. not_first s rest at k p (sym e))) ∙ h.0,
   distinct_kept rest at k f (later s rest at k p) h.1,
 )
 
-pub indexed_joined : (facts : List Stored) (places : List ℕ) (at k : ℕ) (f : Fact) → IsPlace facts at k → IsIndexed facts places → IsIndexed (slice_set facts k (stored_fact at f)) places
+pub indexed_joined : (facts : List Stored) (places : List ℕ) (at k : ℕ) (f : Fact) → IsPlace facts at k → IsIndexed facts places
+    → IsIndexed (slice_set facts k (stored_fact at f)) places
 indexed_joined facts places at k f p is =
     record {
       many = is.many;
@@ -203,7 +218,8 @@ place_new facts at f none =
       here = λ d. ap (λ s. s.at) (get_or-append_seam facts (stored_fact at f) [] d);
     }
 
-pub indexed_pushed : (facts : List Stored) (places : List ℕ) (at : ℕ) (f : Fact) → at ≤ 512 → stored facts at ≡ None → IsIndexed facts places → IsIndexed (facts ++ stored_fact at f ∷ []) (slice_set places at (length facts + 1))
+pub indexed_pushed : (facts : List Stored) (places : List ℕ) (at : ℕ) (f : Fact) → at ≤ 512 → stored facts at ≡ None → IsIndexed facts places
+    → IsIndexed (facts ++ stored_fact at f ∷ []) (slice_set places at (length facts + 1))
 indexed_pushed facts places at f l none is =
     let long = is.many in
     let set = slice_set places at (length facts + 1) in
@@ -219,7 +235,8 @@ indexed_pushed facts places at f l none is =
         | inl same ↦
             let h = ap (slice_index set) (sym same) ∙ e in
             let last : length facts ≡ k = omega (arith, h, here) in
-            subst (λ j. IsPlace (facts ++ stored_fact at f ∷ []) q j) last (subst (λ u. IsPlace (facts ++ stored_fact at f ∷ []) u (length facts)) (sym same) (place_new facts at f none))
+            subst (λ j. IsPlace (facts ++ stored_fact at f ∷ []) q j) last
+            (subst (λ u. IsPlace (facts ++ stored_fact at f ∷ []) u (length facts)) (sym same) (place_new facts at f none))
         | inr other ↦ place_pushed facts (stored_fact at f) q k (is.some q k (sym (elsewhere q other) ∙ e))
       ];
       distinct = distinct_pushed facts at f none is.distinct;
@@ -243,5 +260,6 @@ nowhere q =
 pub indexed_start : (f : Fact) → IsIndexed (stored_fact 0 f ∷ []) (slice_set (replicate 513 0) 0 1)
 unfolding no_places
 indexed_start f =
-    let empty : IsIndexed [] no_places = record { many = no_places_long; none = λ q l e. refl; some = λ q k e. absurd (let n = nowhere q in omega (arith, n, e)); distinct = nothing_twice } in
+    let empty : IsIndexed [] no_places =
+    record { many = no_places_long; none = λ q l e. refl; some = λ q k e. absurd (let n = nowhere q in omega (arith, n, e)); distinct = nothing_twice } in
     indexed_pushed [] no_places 0 f (omega arith) refl empty

@@ -70,14 +70,16 @@ join_right (Stk k) (Stk m) v h = kept_right (int_eq k m) (Stk k) (Stk m) v (λ e
 join_right a b v h = tt
 
 -- what notes say, the join's say
-notes_left : (a b j : List ℕ) (stack : List Cell) (k : ℕ) → j ≡ join_notes a b → IsKept (noted_type (slice_index a k)) stack (8 * k) → IsKept (noted_type (slice_index j k)) stack (8 * k)
+notes_left : (a b j : List ℕ) (stack : List Cell) (k : ℕ) → j ≡ join_notes a b → IsKept (noted_type (slice_index a k)) stack (8 * k)
+    → IsKept (noted_type (slice_index j k)) stack (8 * k)
 notes_left a b j stack k e h =
     subst (λ ns. IsKept (noted_type (slice_index ns k)) stack (8 * k)) (sym e) (elim (joined_note a b k) [
       | inl same ↦ subst (λ m. IsKept (noted_type m) stack (8 * k)) (sym same.0) h
       | inr none ↦ nothing_kept (slice_index (join_notes a b) k) stack (8 * k) none
     ])
 
-notes_right : (a b j : List ℕ) (stack : List Cell) (k : ℕ) → j ≡ join_notes a b → IsKept (noted_type (slice_index b k)) stack (8 * k) → IsKept (noted_type (slice_index j k)) stack (8 * k)
+notes_right : (a b j : List ℕ) (stack : List Cell) (k : ℕ) → j ≡ join_notes a b → IsKept (noted_type (slice_index b k)) stack (8 * k)
+    → IsKept (noted_type (slice_index j k)) stack (8 * k)
 notes_right a b j stack k e h =
     subst (λ ns. IsKept (noted_type (slice_index ns k)) stack (8 * k)) (sym e) (elim (joined_note a b k) [
       | inl same ↦ subst (λ m. IsKept (noted_type m) stack (8 * k)) (sym same.1) h
@@ -85,12 +87,15 @@ notes_right a b j stack k e h =
     ])
 
 -- the join, register by register, and place by place
-pub below_left : (a b j : Fact) → ((r : ℕ) → type_at j.types r ≡ join_type (type_at a.types r) (type_at b.types r)) → ((p : ℕ) → Has j.stack p → Has a.stack p) → j.notes ≡ join_notes a.notes b.notes → IsBelow a j
+pub below_left : (a b j : Fact) → ((r : ℕ) → type_at j.types r ≡ join_type (type_at a.types r) (type_at b.types r)) → ((p : ℕ) → Has j.stack p → Has a.stack p)
+    → j.notes ≡ join_notes a.notes b.notes → IsBelow a j
 below_left a b j e h n =
     record {
       weakens =
           λ s f. record {
-            registers = λ r. subst (λ t. FitsType t (register s.registers r)) (sym (e r)) (join_left (type_at a.types r) (type_at b.types r) (register s.registers r) (f.registers r));
+            registers = λ r. subst
+                (λ t. FitsType t (register s.registers r)) (sym (e r))
+                (join_left (type_at a.types r) (type_at b.types r) (register s.registers r) (f.registers r));
             many = f.many;
             stack = record { bytes = λ p has. f.stack.bytes p (h p has) };
             long = f.long;
@@ -98,12 +103,15 @@ below_left a b j e h n =
           };
     }
 
-pub below_right : (a b j : Fact) → ((r : ℕ) → type_at j.types r ≡ join_type (type_at a.types r) (type_at b.types r)) → ((p : ℕ) → Has j.stack p → Has b.stack p) → j.notes ≡ join_notes a.notes b.notes → IsBelow b j
+pub below_right : (a b j : Fact) → ((r : ℕ) → type_at j.types r ≡ join_type (type_at a.types r) (type_at b.types r)) → ((p : ℕ) → Has j.stack p → Has b.stack p)
+    → j.notes ≡ join_notes a.notes b.notes → IsBelow b j
 below_right a b j e h n =
     record {
       weakens =
           λ s f. record {
-            registers = λ r. subst (λ t. FitsType t (register s.registers r)) (sym (e r)) (join_right (type_at a.types r) (type_at b.types r) (register s.registers r) (f.registers r));
+            registers = λ r. subst
+                (λ t. FitsType t (register s.registers r)) (sym (e r))
+                (join_right (type_at a.types r) (type_at b.types r) (register s.registers r) (f.registers r));
             many = f.many;
             stack = record { bytes = λ p has. f.stack.bytes p (h p has) };
             long = f.long;
@@ -112,19 +120,24 @@ below_right a b j e h n =
     }
 
 -- one register more is joined
-pub join_step : (ts a b : List RegType) (r : ℕ) (v : RegType) → r < length ts → v ≡ join_type (type_at a r) (type_at b r) → ((k : ℕ) → k < r → type_at ts k ≡ join_type (type_at a k) (type_at b k)) → (k : ℕ) → k < r + 1 → type_at (slice_set ts r v) k ≡ join_type (type_at a k) (type_at b k)
+pub join_step : (ts a b : List RegType) (r : ℕ) (v : RegType) → r < length ts → v ≡ join_type (type_at a r) (type_at b r)
+    → ((k : ℕ) → k < r → type_at ts k ≡ join_type (type_at a k) (type_at b k)) → (k : ℕ) → k < r + 1
+    → type_at (slice_set ts r v) k ≡ join_type (type_at a k) (type_at b k)
 join_step ts a b r v l e below k h =
     elim (cases_eq k r) [
       | inl at ↦ subst (λ q. type_at (slice_set ts r v) q ≡ join_type (type_at a q) (type_at b q)) (sym at) (get_or-set_same ts r v Anything l ∙ e)
       | inr other ↦ get_or-set_other ts r k v Anything other ∙ below k (omega arith)
     ]
 
-pub others_step : (ts a : List RegType) (r : ℕ) (v : RegType) → ((k : ℕ) → r ≤ k → type_at ts k ≡ type_at a k) → (k : ℕ) → r + 1 ≤ k → type_at (slice_set ts r v) k ≡ type_at a k
+pub others_step : (ts a : List RegType) (r : ℕ) (v : RegType) → ((k : ℕ) → r ≤ k → type_at ts k ≡ type_at a k) → (k : ℕ) → r + 1 ≤ k
+    → type_at (slice_set ts r v) k ≡ type_at a k
 others_step ts a r v above k h = let other : k ≢ r = omega arith in get_or-set_other ts r k v Anything other ∙ above k (omega arith)
 
-pub joined_all : (a b j : List RegType) (n : ℕ) → length a ≡ 11 → length b ≡ 11 → length j ≡ 11 → 11 ≤ n → ((k : ℕ) → k < n → type_at j k ≡ join_type (type_at a k) (type_at b k)) → (k : ℕ) → type_at j k ≡ join_type (type_at a k) (type_at b k)
+pub joined_all : (a b j : List RegType) (n : ℕ) → length a ≡ 11 → length b ≡ 11 → length j ≡ 11 → 11 ≤ n
+    → ((k : ℕ) → k < n → type_at j k ≡ join_type (type_at a k) (type_at b k)) → (k : ℕ) → type_at j k ≡ join_type (type_at a k) (type_at b k)
 joined_all a b j n la lb lj le h k =
     elim (cases_lt k n) [
       | inl l ↦ h k l
-      | inr g ↦ let pa : length a ≤ k = omega arith in let pb : length b ≤ k = omega arith in let pj : length j ≤ k = omega arith in get_or_past j k Anything pj ∙ sym (ap (λ t. join_type t (type_at b k)) (get_or_past a k Anything pa) ∙ ap (join_type Anything) (get_or_past b k Anything pb))
+      | inr g ↦ let pa : length a ≤ k = omega arith in let pb : length b ≤ k = omega arith in let pj : length j ≤ k = omega arith in get_or_past j k Anything pj
+          ∙ sym (ap (λ t. join_type t (type_at b k)) (get_or_past a k Anything pa) ∙ ap (join_type Anything) (get_or_past b k Anything pb))
     ]

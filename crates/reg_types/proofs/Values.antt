@@ -55,12 +55,14 @@ is_number (Const c) Unset h a b = absurd h
 is_number (Const c) (Context n) h a b = absurd h
 is_number (Const c) (Stack n) h a b = absurd h
 
-one_test : (r : ℕ) (a b : Bool) (t : RegType) → cond a (Err (NotANumber r)) (cond b (Err PointerArithmetic) (Ok Num)) ≡ Ok t → (a ≡ false) × (b ≡ false) × (Num ≡ t)
+one_test : (r : ℕ) (a b : Bool) (t : RegType) → cond a (Err (NotANumber r)) (cond b (Err PointerArithmetic) (Ok Num)) ≡ Ok t
+    → (a ≡ false) × (b ≡ false) × (Num ≡ t)
 one_test r true b t e = absurd (cc)
 one_test r false true t e = absurd (cc)
 one_test r false false t e = (refl, refl, ok_inj e)
 
-two_test : (r q : ℕ) (a b c : Bool) (t : RegType) → cond a (Err (NotANumber r)) (cond b (Err (NotANumber q)) (cond c (Err PointerArithmetic) (Ok Num))) ≡ Ok t → (a ≡ false) × (b ≡ false) × (c ≡ false) × (Num ≡ t)
+two_test : (r q : ℕ) (a b c : Bool) (t : RegType) → cond a (Err (NotANumber r)) (cond b (Err (NotANumber q)) (cond c (Err PointerArithmetic) (Ok Num))) ≡ Ok t
+    → (a ≡ false) × (b ≡ false) × (c ≡ false) × (Num ≡ t)
 two_test r q true b c t e = absurd (cc)
 two_test r q false true c t e = absurd (cc)
 two_test r q false false true t e = absurd (cc)
@@ -73,20 +75,23 @@ either_false false b e = (refl, e)
 pub one : (r : ℕ) (a : RegType) (va : Value) (t : RegType) → FitsType a va → one_number r a ≡ Ok t → HasNumber va × (Num ≡ t)
 one r a va t h e = let x = one_test r (is_unset a) (is_pointer a) t e in (is_number a va h x.0 x.1, x.2)
 
-pub two : (r q : ℕ) (a b : RegType) (va vb : Value) (t : RegType) → FitsType a va → FitsType b vb → two_numbers r q a b ≡ Ok t → HasNumber va × HasNumber vb × (Num ≡ t)
+pub two : (r q : ℕ) (a b : RegType) (va vb : Value) (t : RegType) → FitsType a va → FitsType b vb → two_numbers r q a b ≡ Ok t
+    → HasNumber va × HasNumber vb × (Num ≡ t)
 two r q a b va vb t h k e =
     let x = two_test r q (is_unset a) (is_unset b) (is_pointer a || is_pointer b) t e in
     let p = either_false (is_pointer a) (is_pointer b) x.2 in
     (is_number a va h x.0 p.0, is_number b vb k x.1 p.1, x.3)
 
 -- an operator on two numbers
-on_two : (f : ℕ → ℕ → ℕ) (r q : ℕ) (a b : RegType) (va vb : Value) (t : RegType) → FitsType a va → FitsType b vb → two_numbers r q a b ≡ Ok t → Gives (on_numbers f va vb) t
+on_two : (f : ℕ → ℕ → ℕ) (r q : ℕ) (a b : RegType) (va vb : Value) (t : RegType) → FitsType a va → FitsType b vb → two_numbers r q a b ≡ Ok t
+    → Gives (on_numbers f va vb) t
 on_two f r q a b va vb t h k e =
     let x = two r q a b va vb t h k e in
     subst (λ w. Gives (on_numbers f w vb) t) (sym x.0.1)
     (subst (λ w. Gives (on_numbers f (Number x.0.0) w) t) (sym x.1.1) (subst (λ u. FitsType u (Number (f x.0.0 x.1.0))) x.2 tt))
 
-on_one : (f : ℕ → ℕ) (r : ℕ) (a : RegType) (va : Value) (t : RegType) → FitsType a va → one_number r a ≡ Ok t → Gives (map_option (λ x. Number (f x)) (number va)) t
+on_one : (f : ℕ → ℕ) (r : ℕ) (a : RegType) (va : Value) (t : RegType) → FitsType a va → one_number r a ≡ Ok t
+    → Gives (map_option (λ x. Number (f x)) (number va)) t
 on_one f r a va t h e =
     let x = one r a va t h e in
     subst (λ w. Gives (map_option (λ x. Number (f x)) (number w)) t) (sym x.0.1) (subst (λ u. FitsType u (Number (f x.0.0))) x.1 tt)
@@ -113,7 +118,8 @@ up_fits n m k h a = grind (arith, ints, nat_tests)
 up_is : (n m : ℕ) (k : ℤ) → pos n ≡ (k +ℤ pos 512) → pos (n + m) ≡ ((k +ℤ pos m) +ℤ pos 512)
 up_is n m k h = omega (arith, ints)
 
-down_fits : (n m : ℕ) (k : ℤ) → pos n ≡ (k +ℤ pos 512) → int_le (negsuc 511) (k +ℤ negsuc m) ≡ true → int_le (k +ℤ negsuc m) (pos 0) ≡ true → (nat_lt m n ≡ true) × (nat_le (n - suc m) 512 ≡ true)
+down_fits : (n m : ℕ) (k : ℤ) → pos n ≡ (k +ℤ pos 512) → int_le (negsuc 511) (k +ℤ negsuc m) ≡ true → int_le (k +ℤ negsuc m) (pos 0) ≡ true
+    → (nat_lt m n ≡ true) × (nat_le (n - suc m) 512 ≡ true)
 down_fits n m k h a b = (grind (arith, ints, nat_tests), grind (arith, ints, nat_tests))
 
 down_is : (n m : ℕ) (k : ℤ) → m < n → pos n ≡ (k +ℤ pos 512) → pos (n - suc m) ≡ ((k +ℤ negsuc m) +ℤ pos 512)
@@ -130,9 +136,12 @@ stk_moved n k (negsuc m) t h e =
     let y = two_true (int_le (negsuc 511) (k +ℤ negsuc m)) (int_le (k +ℤ negsuc m) (pos 0)) x.0 in
     let d = down_fits n m k h y.0 y.1 in
     let l : m < n = grind (arith, nat_tests, d.0) in
-    gives_if (nat_lt m n && nat_le (n - suc m) 512) (n - suc m) t (ap (λ b. b && nat_le (n - suc m) 512) d.0 ∙ d.1) (subst (λ u. FitsType u (Stack (n - suc m))) x.1 (down_is n m k l h))
+    gives_if (nat_lt m n && nat_le (n - suc m) 512) (n - suc m) t (ap (λ b. b && nat_le (n - suc m) 512) d.0 ∙ d.1)
+    (subst (λ u. FitsType u (Stack (n - suc m))) x.1 (down_is n m k l h))
 
-sum : (layout : Layout) (room : ℕ) → room ≡ context_len layout → (op : Operator) (w : Width) (s : Source) (i : Inst) (z : ℤ) (a b : RegType) (va vb : Value) (t : RegType) → FitsType a va → FitsType b vb → sum_type layout w s i z a b ≡ Ok t → Gives (sum_value room op w s z i.offset va vb) t
+sum : (layout : Layout) (room : ℕ) → room ≡ context_len layout
+    → (op : Operator) (w : Width) (s : Source) (i : Inst) (z : ℤ) (a b : RegType) (va vb : Value) (t : RegType) → FitsType a va → FitsType b vb
+    → sum_type layout w s i z a b ≡ Ok t → Gives (sum_value room op w s z i.offset va vb) t
 sum layout room long op Narrow s i z a b va vb t h g e = on_two (alu op Narrow i.offset) i.dst i.src a b va vb t h g e
 sum layout room long op Full Register i z a b va vb t h g e = on_two (alu op Full i.offset) i.dst i.src a b va vb t h g e
 sum layout room long op Full Immediate i z (Ctx k) b (Context n) vb t h g e =
@@ -171,7 +180,8 @@ copied src b vb t g e =
     let x = copy_test (is_unset b) src b t e in
     subst (λ u. Gives (set_value vb) u) x.1 (set_fits b vb x.0 g)
 
-move_fits : (w : Width) (i : Inst) (o : ℤ) (t : RegType) → ok_of (cond (is_plain o) (Const (low w (immediate w i.imm))) Num) ≡ ok_of t → Gives (move_value w Immediate o (Number (immediate w i.imm))) t
+move_fits : (w : Width) (i : Inst) (o : ℤ) (t : RegType) → ok_of (cond (is_plain o) (Const (low w (immediate w i.imm))) Num) ≡ ok_of t
+    → Gives (move_value w Immediate o (Number (immediate w i.imm))) t
 move_fits Narrow i (pos zero) t e = subst (λ u. Gives (move_value Narrow Immediate (pos zero) (Number (immediate Narrow i.imm))) u) (ok_inj e) refl
 move_fits Narrow i (pos (suc n)) t e = subst (λ u. Gives (move_value Narrow Immediate (pos (suc n)) (Number (immediate Narrow i.imm))) u) (ok_inj e) tt
 move_fits Narrow i (negsuc n) t e = subst (λ u. Gives (move_value Narrow Immediate (negsuc n) (Number (immediate Narrow i.imm))) u) (ok_inj e) tt
@@ -179,17 +189,22 @@ move_fits Full i (pos zero) t e = subst (λ u. Gives (move_value Full Immediate 
 move_fits Full i (pos (suc n)) t e = subst (λ u. Gives (move_value Full Immediate (pos (suc n)) (Number (immediate Full i.imm))) u) (ok_inj e) tt
 move_fits Full i (negsuc n) t e = subst (λ u. Gives (move_value Full Immediate (negsuc n) (Number (immediate Full i.imm))) u) (ok_inj e) tt
 
-moved : (o : ℤ) (src : ℕ) (b : RegType) (vb : Value) (t : RegType) → FitsType b vb → cond (is_plain o) (copied_type src b) (one_number src b) ≡ Ok t → Gives (move_value Full Register o vb) t
+moved : (o : ℤ) (src : ℕ) (b : RegType) (vb : Value) (t : RegType) → FitsType b vb → cond (is_plain o) (copied_type src b) (one_number src b) ≡ Ok t
+    → Gives (move_value Full Register o vb) t
 moved (pos zero) src b vb t g e = copied src b vb t g e
 moved (pos (suc n)) src b vb t g e = on_one (alu Move Full (pos (suc n)) 0) src b vb t g e
 moved (negsuc n) src b vb t g e = on_one (alu Move Full (negsuc n) 0) src b vb t g e
 
 -- what arithmetic gives fits the type that the rules give
-pub arithmetic : (layout : Layout) (room : ℕ) → room ≡ context_len layout → (op : Operator) (w : Width) (s : Source) (i : Inst) (registers : List Value) (a b : RegType) (va : Value) (t : RegType) → FitsType a va → FitsType b (operand s w i registers) → alu_type layout op w s i a b ≡ Ok t → Gives (alu_value room op w s i va (operand s w i registers)) t
+pub arithmetic : (layout : Layout) (room : ℕ) → room ≡ context_len layout
+    → (op : Operator) (w : Width) (s : Source) (i : Inst) (registers : List Value) (a b : RegType) (va : Value) (t : RegType) → FitsType a va
+    → FitsType b (operand s w i registers) → alu_type layout op w s i a b ≡ Ok t → Gives (alu_value room op w s i va (operand s w i registers)) t
 arithmetic layout room long Sum w s i registers a b va t h g e = sum layout room long Sum w s i i.imm a b va (operand s w i registers) t h g e
-arithmetic layout room long Difference w s i registers a b va t h g e = sum layout room long Difference w s i (neg_ℤ i.imm) a b va (operand s w i registers) t h g e
+arithmetic layout room long Difference w s i registers a b va t h g e =
+    sum layout room long Difference w s i (neg_ℤ i.imm) a b va (operand s w i registers) t h g e
 arithmetic layout room long Move w Immediate i registers a b va t h g e = move_fits w i i.offset t e
-arithmetic layout room long Move Narrow Register i registers a b va t h g e = on_one (alu Move Narrow i.offset 0) i.src b (operand Register Narrow i registers) t g e
+arithmetic layout room long Move Narrow Register i registers a b va t h g e =
+    on_one (alu Move Narrow i.offset 0) i.src b (operand Register Narrow i registers) t g e
 arithmetic layout room long Move Full Register i registers a b va t h g e = moved i.offset i.src b (operand Register Full i registers) t g e
 arithmetic layout room long Negate w s i registers a b va t h g e = on_one (λ x. alu Negate w i.offset x 0) i.dst a va t h e
 arithmetic layout room long SwapBytes w s i registers a b va t h g e = on_one (swapped w s (cast_unsigned w32 i.imm)) i.dst a va t h e

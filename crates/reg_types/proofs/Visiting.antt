@@ -1,5 +1,6 @@
 -- One unit of the pass, and the whole of it.
-use Rattle.std.proofs.Common.{◌≡◌, ◌≢◌, ℕ, suc, ◌+◌, ◌<◌, ◌≤◌, List, [], ◌∷◌, Option, Some, None, Bool, true, false, refl, sym, ap, ◌∙◌, subst, inl, inr, arith, add-one, length}
+use Rattle.std.proofs.Common.{◌≡◌, ◌≢◌, ℕ, suc, ◌+◌, ◌<◌, ◌≤◌, List, [], ◌∷◌, Option, Some, None, Bool, true, false, refl, sym, ap, ◌∙◌, subst, inl, inr, arith}
+use Rattle.std.proofs.Common.{add-one, length}
 use Rattle.std.specs.Prelude.{Result, Ok, Err, OnOk, IfErr, IfSome, IsSome, is_some, ◌&&◌, ◌||◌, ℤ, slice_get, ◌==◌, cond}
 use Rattle.std.proofs.lemmas.Bool.{cases_eq, eq-eqb, cond-true}
 use Rattle.std.specs.List.{AllByRecursion}
@@ -24,9 +25,11 @@ use Rattle.reg_types.specs.declared.refusal.Refusal.TheVariants.{Decode, Flow as
 use Rattle.reg_types.specs.Refusals.{located}
 use Rattle.reg_types.specs.Rules.{judged}
 use Rattle.reg_types.specs.Facts.{Facts, IsSound, IsAfter, IsEntry, IsNext, stored, list_of, jumps_of, jump_of, carried_of}
-use Rattle.reg_types.specs.Inference.{leads, entry_fact, fact_after, instruction_of, instruction_at, flaw_in, flaw_of, flaw_under, taken_in, arrived, arrived_all, passed_by, passed_from, passed, known, inferred, or_else, first_flaw_below, first_flaw, goes, is_entered}
+use Rattle.reg_types.specs.Inference.{leads, entry_fact, fact_after, instruction_of, instruction_at, flaw_in, flaw_of, flaw_under, taken_in, arrived}
+use Rattle.reg_types.specs.Inference.{arrived_all, passed_by, passed_from, passed, known, inferred, or_else, first_flaw_below, first_flaw, goes, is_entered}
 use Rattle.operations.specs.Operations.{upper_of}
-use Rattle.reg_types.specs.Passing.{IsSame, AreSame, AreStored, IsCarriedTo, IsCarriedAt, IsJoined, IsSettled, IsVisited, IsPassed, IsUnitRefused, IsPassRefused, AreInferred, brought, seen}
+use Rattle.reg_types.specs.Passing.{IsSame, AreSame, AreStored, IsCarriedTo, IsCarriedAt, IsJoined, IsSettled, IsVisited, IsPassed, IsUnitRefused}
+use Rattle.reg_types.specs.Passing.{IsPassRefused, AreInferred, brought, seen}
 use Rattle.operations.specs.Operations.{target_by}
 use Rattle.reg_types.proofs.Good.{judged_is}
 use Rattle.reg_types.proofs.Ahead.{leads_ahead}
@@ -78,14 +81,16 @@ entered_if true f o = or_yes (is_some o)
 entered_if false f o = or_no (is_some o)
 
 -- a jump's target has a fact afterwards, and no other unit has one that had none
-jumped_some : (q : ℕ) (fact : Fact) (next : Successors) (old : Option Fact) → is_some (arrived_all q fact (jumps_of next) old) ≡ (is_some old || goes (jump_of next) q)
+jumped_some : (q : ℕ) (fact : Fact) (next : Successors) (old : Option Fact) → is_some (arrived_all q fact (jumps_of next) old)
+    ≡ (is_some old || goes (jump_of next) q)
 jumped_some q fact End old = or_no (is_some old)
 jumped_some q fact (Next to) old = or_no (is_some old)
 jumped_some q fact (Jump to) old = entered_if (q == to) (taken_in old fact) old
 jumped_some q fact (Either to next) old = entered_if (q == to) (taken_in old fact) old
 
 -- jumps and the rest together lead where the instruction does
-seen_led : (q : ℕ) (fact : Fact) (next : Successors) (old new : Option Fact) → AreSame new (arrived_all q fact (jumps_of next) old) → AreSame (brought q (carried_of fact next) new) (arrived_all q fact (list_of next) old)
+seen_led : (q : ℕ) (fact : Fact) (next : Successors) (old new : Option Fact) → AreSame new (arrived_all q fact (jumps_of next) old)
+    → AreSame (brought q (carried_of fact next) new) (arrived_all q fact (list_of next) old)
 seen_led q fact End old new h = h
 seen_led q fact (Next to) old new h = arrived_same q to new old fact fact h (IsSame-refl fact)
 seen_led q fact (Jump to) old new h = h
@@ -95,32 +100,41 @@ entry_by : (t : Bool) (f : Fact) → IsSame f entry_fact → AreSame (cond t (So
 entry_by true f h = h
 entry_by false f h = tt
 
-module _ (us : List ProgramUnit) (terms : Terms) (pc : ℕ) (i : Inst) (fact : Fact) (form : Form) (upper : ℤ) (sound : IsSound us) (at : slice_get us pc ≡ Some (First i)) (is : form_of i.opcode ≡ Some form) where
-  ahead_of : (e : Effect) → ok_of e ≡ judged (length us) pc terms fact i upper form → (tos : List ℕ) × (leads pc i form ≡ Some tos) × AllByRecursion (IsAhead us pc) tos
+module _ (us : List ProgramUnit) (terms : Terms) (pc : ℕ) (i : Inst) (fact : Fact) (form : Form) (upper : ℤ) (sound : IsSound us)
+    (at : slice_get us pc ≡ Some (First i)) (is : form_of i.opcode ≡ Some form) where
+  ahead_of : (e : Effect) → ok_of e ≡ judged (length us) pc terms fact i upper form → (tos : List ℕ) × (leads pc i form ≡ Some tos)
+      × AllByRecursion (IsAhead us pc) tos
   ahead_of e j = leads_ahead sound.bytes us sound.reads pc i at sound.forward form is (judged_is (length us) pc terms fact i upper form e (sym j)).0
 
   -- the instruction leads somewhere
   pub leads_somewhere : (e : Effect) → ok_of e ≡ judged (length us) pc terms fact i upper form → None ≡ leads pc i form → ⊥
   leads_somewhere e j none = let a = ahead_of e j in never_none (leads pc i form) a.0 none a.1
 
-  pub next_ahead : (e : Effect) (next : Successors) → ok_of e ≡ judged (length us) pc terms fact i upper form → some_of (list_of next) ≡ leads pc i form → AllByRecursion (IsAhead us pc) (list_of next)
+  pub next_ahead : (e : Effect) (next : Successors) → ok_of e ≡ judged (length us) pc terms fact i upper form → some_of (list_of next) ≡ leads pc i form
+      → AllByRecursion (IsAhead us pc) (list_of next)
   next_ahead e next j to = let a = ahead_of e j in subst (AllByRecursion (IsAhead us pc)) (same_tos (leads pc i form) (list_of next) a.0 to a.1) a.2
 
-  passed_is : (e : Effect) (next : Successors) → upper ≡ upper_of us pc → ok_of e ≡ judged (length us) pc terms fact i upper form → some_of (list_of next) ≡ leads pc i form → (q : ℕ) (old : Option Fact) → passed us terms pc (Some fact) q old ≡ arrived_all q (fact_after fact e) (list_of next) old
+  passed_is : (e : Effect) (next : Successors) → upper ≡ upper_of us pc → ok_of e ≡ judged (length us) pc terms fact i upper form
+      → some_of (list_of next) ≡ leads pc i form → (q : ℕ) (old : Option Fact)
+      → passed us terms pc (Some fact) q old ≡ arrived_all q (fact_after fact e) (list_of next) old
   passed_is e next up j to q old =
       ap (λ o. passed_from us terms pc fact o q old) (instruction_from us pc i form at is)
       ∙ ap (λ r. passed_by q fact r (leads pc i form) old) (sym (j ∙ ap (λ u. judged (length us) pc terms fact i u form) up))
       ∙ ap (λ o. passed_by q fact (Ok e) o old) (sym to)
 
   -- what an accepted instruction does to what is known of each unit
-  passed_to : (e : Effect) (after : Fact) (next : Successors) → upper ≡ upper_of us pc → ok_of e ≡ judged (length us) pc terms fact i upper form → IsAfter fact e after → some_of (list_of next) ≡ leads pc i form → (q : ℕ) (old new : Option Fact) → AreSame new (arrived_all q after (list_of next) old) → AreSame new (passed us terms pc (Some fact) q old)
+  passed_to : (e : Effect) (after : Fact) (next : Successors) → upper ≡ upper_of us pc → ok_of e ≡ judged (length us) pc terms fact i upper form
+      → IsAfter fact e after → some_of (list_of next) ≡ leads pc i form → (q : ℕ) (old new : Option Fact) → AreSame new (arrived_all q after (list_of next) old)
+      → AreSame new (passed us terms pc (Some fact) q old)
   passed_to e after next up j after_is to q old new same =
       subst (AreSame new) (sym (passed_is e next up j to q old))
       (AreSame-trans new (arrived_all q after (list_of next) old) (arrived_all q (fact_after fact e) (list_of next) old) same
       (arrived_all_same q (list_of next) old old after (fact_after fact e) (AreSame-refl old) (same_after fact e after after_is)))
 
-  flaw_is : (r : Result Effect Flaw) → upper ≡ upper_of us pc → r ≡ judged (length us) pc terms fact i upper form → flaw_under us terms pc (Some fact) ≡ flaw_in pc r
-  flaw_is r up j = ap (flaw_of us terms pc fact) (instruction_from us pc i form at is) ∙ ap (flaw_in pc) (sym (j ∙ ap (λ u. judged (length us) pc terms fact i u form) up))
+  flaw_is : (r : Result Effect Flaw) → upper ≡ upper_of us pc → r ≡ judged (length us) pc terms fact i upper form
+      → flaw_under us terms pc (Some fact) ≡ flaw_in pc r
+  flaw_is r up j =
+      ap (flaw_of us terms pc fact) (instruction_from us pc i form at is) ∙ ap (flaw_in pc) (sym (j ∙ ap (λ u. judged (length us) pc terms fact i u form) up))
 
   jumps_ahead : (next : Successors) → AllByRecursion (IsAhead us pc) (list_of next) → AllByRecursion (IsAhead us pc) (jumps_of next)
   jumps_ahead End h = tt
@@ -129,7 +143,8 @@ module _ (us : List ProgramUnit) (terms : Terms) (pc : ℕ) (i : Inst) (fact : F
   jumps_ahead (Either to next) h = (h.0, tt)
 
   -- where the rest is carried an instruction begins
-  goes_to : (after : Fact) (next : Successors) → IsNext pc form next → AllByRecursion (IsAhead us pc) (list_of next) → IsCarriedTo us (pc + 1) (carried_of after next)
+  goes_to : (after : Fact) (next : Successors) → IsNext pc form next → AllByRecursion (IsAhead us pc) (list_of next)
+      → IsCarriedTo us (pc + 1) (carried_of after next)
   goes_to after End n h = tt
   goes_to after (Jump to) n h = tt
   goes_to after (Either to next) n h = (h.1.0.first, inl n)
@@ -153,11 +168,15 @@ module _ (us : List ProgramUnit) (terms : Terms) (pc : ℕ) (i : Inst) (fact : F
   small_jump (Jump to) h = let l = h.0.inside in let n = (count_of_units sound.bytes us sound.reads).1 in omega (arith, l, n)
   small_jump (Either to next) h = let l = h.0.inside in let n = (count_of_units sound.bytes us sound.reads).1 in omega (arith, l, n)
 
-  pub jump_small : (e : Effect) (next : Successors) → ok_of e ≡ judged (length us) pc terms fact i upper form → some_of (list_of next) ≡ leads pc i form → IfSome (jump_of next) (λ to. to ≤ 512)
+  pub jump_small : (e : Effect) (next : Successors) → ok_of e ≡ judged (length us) pc terms fact i upper form → some_of (list_of next) ≡ leads pc i form
+      → IfSome (jump_of next) (λ to. to ≤ 512)
   jump_small e next j to = small_jump next (jumps_ahead next (next_ahead e next j to))
 
   -- the stored facts afterwards, and the one that is carried on
-  pub visited : (e : Effect) (after : Fact) (next : Successors) (carried : Option Stored) (old new : Facts) → upper ≡ upper_of us pc → ok_of e ≡ judged (length us) pc terms fact i upper form → IsAfter fact e after → some_of (list_of next) ≡ leads pc i form → IsNext pc form next → jump_of next ≡ target_by pc form i → carried ≡ carried_of after next → ((q : ℕ) → AreSame (new q) (arrived_all q after (jumps_of next) (old q))) → IsVisited us terms pc fact carried old new
+  pub visited : (e : Effect) (after : Fact) (next : Successors) (carried : Option Stored) (old new : Facts) → upper ≡ upper_of us pc
+      → ok_of e ≡ judged (length us) pc terms fact i upper form → IsAfter fact e after → some_of (list_of next) ≡ leads pc i form → IsNext pc form next
+      → jump_of next ≡ target_by pc form i → carried ≡ carried_of after next → ((q : ℕ) → AreSame (new q) (arrived_all q after (jumps_of next) (old q)))
+      → IsVisited us terms pc fact carried old new
   visited e after next carried old new up j after_is to n jump is_carried same =
       let ahead = next_ahead e next j to in
       subst (λ c. IsVisited us terms pc fact c old new) (sym is_carried) (record {
@@ -171,7 +190,8 @@ module _ (us : List ProgramUnit) (terms : Terms) (pc : ℕ) (i : Inst) (fact : F
             ∙ ap (λ o. is_some (old q) || goes o q) (jump ∙ sym target_is);
       })
 
-  pub refused_here : (flaw : Flaw) → upper ≡ upper_of us pc → err_of flaw ≡ judged (length us) pc terms fact i upper form → flaw_under us terms pc (Some fact) ≡ Some (located pc flaw)
+  pub refused_here : (flaw : Flaw) → upper ≡ upper_of us pc → err_of flaw ≡ judged (length us) pc terms fact i upper form
+      → flaw_under us terms pc (Some fact) ≡ Some (located pc flaw)
   refused_here flaw up j = flaw_is (Err flaw) up j
 
 -- ---- one unit
@@ -202,13 +222,16 @@ at_first us pc i None first c = tt
 at_first us pc i (Some s) first c = elim c.1 [ inl e ↦ e | inr w ↦ absurd (no_two i w.1.0 (slice_get us pc) first w.1.1) ]
 
 module _ (us : List ProgramUnit) (terms : Terms) (pc : ℕ) (carried : Option Stored) (old : Facts) where
-  pub passes : (fact : Fact) (next : Option Stored) (settled new : Facts) → IsCarriedAt pc carried → IsSettled pc carried (Some fact) old settled → IsVisited us terms pc fact next settled new → IsPassed us terms pc carried next old new
+  pub passes : (fact : Fact) (next : Option Stored) (settled new : Facts) → IsCarriedAt pc carried → IsSettled pc carried (Some fact) old settled
+      → IsVisited us terms pc fact next settled new → IsPassed us terms pc carried next old new
   passes fact next settled new at s v =
       record {
         flawless = sym (flaw_same us terms pc (Some fact) (seen carried old pc) s.is) ∙ v.flawless;
         ahead = λ q l. let other : q ≢ pc = omega (arith, l) in
-            AreSame-trans (seen next new q) (passed us terms pc (Some fact) q (settled q)) (passed us terms pc (seen carried old pc) q (seen carried old q)) (v.ahead q l)
-            (passed_same us terms pc (Some fact) (seen carried old pc) q (settled q) (seen carried old q) s.is (subst (AreSame (settled q)) (sym (brought_elsewhere q pc carried at other (old q))) (s.others q other)));
+            AreSame-trans (seen next new q) (passed us terms pc (Some fact) q (settled q)) (passed us terms pc (seen carried old pc) q (seen carried old q))
+            (v.ahead q l)
+            (passed_same us terms pc (Some fact) (seen carried old pc) q (settled q) (seen carried old q) s.is
+            (subst (AreSame (settled q)) (sym (brought_elsewhere q pc carried at other (old q))) (s.others q other)));
         behind = λ q l. AreSame-trans (new q) (settled q) (old q) (v.behind q (omega (arith, l))) (s.others q (omega (arith, l)));
         here = stored_trans (new pc) (settled pc) (Some fact) (seen carried old pc) (v.behind pc (omega arith)) s.here s.is;
         goes_on = v.goes_on;
@@ -218,17 +241,20 @@ module _ (us : List ProgramUnit) (terms : Terms) (pc : ℕ) (carried : Option St
             ∙ ap (λ b. is_some (old q) || (b && goes (target us pc) q)) (same_some (Some fact) (seen carried old pc) s.is);
       }
 
-  pub passes_if : (r : Result Unit Refusal) (fact : Fact) (next : Option Stored) (settled new : Facts) → IsCarriedAt pc carried → IsSettled pc carried (Some fact) old settled → OnOk r (IsVisited us terms pc fact next settled new) → OnOk r (IsPassed us terms pc carried next old new)
+  pub passes_if : (r : Result Unit Refusal) (fact : Fact) (next : Option Stored) (settled new : Facts) → IsCarriedAt pc carried
+      → IsSettled pc carried (Some fact) old settled → OnOk r (IsVisited us terms pc fact next settled new) → OnOk r (IsPassed us terms pc carried next old new)
   passes_if (Ok done) fact next settled new at s v = passes fact next settled new at s v
   passes_if (Err refusal) fact next settled new at s v = tt
 
-  refused_as : (refusal : Refusal) (fact : Fact) → AreSame (Some fact) (seen carried old pc) → IsUnitRefused us terms pc (Some fact) refusal → IsUnitRefused us terms pc (seen carried old pc) refusal
+  refused_as : (refusal : Refusal) (fact : Fact) → AreSame (Some fact) (seen carried old pc) → IsUnitRefused us terms pc (Some fact) refusal
+      → IsUnitRefused us terms pc (seen carried old pc) refusal
   refused_as (Decode fault) fact same h = h
   refused_as (FlowRefusal fault) fact same h = h
   refused_as (TypeRefusal fault) fact same h = sym (flaw_same us terms pc (Some fact) (seen carried old pc) same) ∙ h
   refused_as OutOfMemory fact same h = tt
 
-  pub refused_if : (r : Result Unit Refusal) (fact : Fact) → AreSame (Some fact) (seen carried old pc) → IfErr r (λ refusal. IsUnitRefused us terms pc (Some fact) refusal) → IfErr r (λ refusal. IsUnitRefused us terms pc (seen carried old pc) refusal)
+  pub refused_if : (r : Result Unit Refusal) (fact : Fact) → AreSame (Some fact) (seen carried old pc)
+      → IfErr r (λ refusal. IsUnitRefused us terms pc (Some fact) refusal) → IfErr r (λ refusal. IsUnitRefused us terms pc (seen carried old pc) refusal)
   refused_if (Ok next) fact same h = tt
   refused_if (Err refusal) fact same h = refused_as refusal fact same h
 
@@ -238,7 +264,8 @@ module _ (us : List ProgramUnit) (terms : Terms) (pc : ℕ) (carried : Option St
       record {
         flawless = ap (flaw_under us terms pc) none;
         ahead = λ q l. let other : q ≢ pc = omega (arith, l) in
-            subst (λ o. AreSame (new q) (passed us terms pc o q (seen carried old q))) (sym none) (subst (AreSame (new q)) (sym (brought_elsewhere q pc carried at other (old q))) (s.others q other));
+            subst (λ o. AreSame (new q) (passed us terms pc o q (seen carried old q))) (sym none)
+            (subst (AreSame (new q)) (sym (brought_elsewhere q pc carried at other (old q))) (s.others q other));
         behind = λ q l. s.others q (omega (arith, l));
         here = stored_trans (new pc) (new pc) None (seen carried old pc) (AreSame-refl (new pc)) s.here s.is;
         goes_on = tt;
@@ -273,7 +300,8 @@ module _ (us : List ProgramUnit) (terms : Terms) (pc : ℕ) (carried : Option St
         let f = further carried c in
         record {
           flawless = no_flaw (seen carried old pc);
-          ahead = λ q l. same_by (seen carried old q) (passed us terms pc (seen carried old pc) q (seen carried old q)) (sym (no_edge (seen carried old pc) q (seen carried old q)));
+          ahead = λ q l. same_by (seen carried old q) (passed us terms pc (seen carried old pc) q (seen carried old q))
+              (sym (no_edge (seen carried old pc) q (seen carried old q)));
           behind = λ q l. AreSame-refl (old q);
           here = subst (AreStored (old pc)) (sym (f.1 (old pc))) (AreStored-refl (old pc));
           goes_on = f.0;
@@ -285,7 +313,8 @@ module _ (us : List ProgramUnit) (terms : Terms) (pc : ℕ) (carried : Option St
 
 -- ---- settling
 
-pub settled_by : (pc : ℕ) (s : Stored) (joined : Fact) (old new : Facts) → s.at ≡ pc → new pc ≡ Some joined → IsJoined pc s.fact old new → IsSettled pc (Some s) (Some joined) old new
+pub settled_by : (pc : ℕ) (s : Stored) (joined : Fact) (old new : Facts) → s.at ≡ pc → new pc ≡ Some joined → IsJoined pc s.fact old new
+    → IsSettled pc (Some s) (Some joined) old new
 settled_by pc s joined old new at is j =
     record {
       is = subst (λ o. AreSame o (brought pc (Some s) (old pc))) is (subst (λ k. AreSame (new pc) (arrived pc s.fact k (old pc))) (sym at) (j.each pc));
@@ -296,7 +325,8 @@ settled_by pc s joined old new at is j =
 
 pub settled_new : (pc : ℕ) (s : Stored) (old : Facts) → s.at ≡ pc → old pc ≡ None → IsSettled pc (Some s) (Some s.fact) old old
 settled_new pc s old at none =
-    let to : arrived pc s.fact s.at (old pc) ≡ Some (taken_in (old pc) s.fact) = cond-true (pc == s.at) (Some (taken_in (old pc) s.fact)) (old pc) (eq-eqb pc s.at (sym at)) in
+    let to : arrived pc s.fact s.at (old pc) ≡ Some (taken_in (old pc) s.fact) =
+    cond-true (pc == s.at) (Some (taken_in (old pc) s.fact)) (old pc) (eq-eqb pc s.at (sym at)) in
     record {
       is = same_by (Some s.fact) (brought pc (Some s) (old pc)) (sym (to ∙ ap (λ o. Some (taken_in o s.fact)) none));
       others = λ q n. AreSame-refl (old q);
@@ -315,7 +345,8 @@ settled_as pc fact old e =
 
 -- ---- the pass
 
-pub start_same : (us : List ProgramUnit) (terms : Terms) (f : Fact) → IsEntry f → (q : ℕ) → AreSame (stored (record { at = 0; fact = f } ∷ []) q) (known us terms 0 q)
+pub start_same : (us : List ProgramUnit) (terms : Terms) (f : Fact) → IsEntry f → (q : ℕ)
+    → AreSame (stored (record { at = 0; fact = f } ∷ []) q) (known us terms 0 q)
 unfolding known
 start_same us terms f entry q = entry_by (q == 0) f (same_entry f entry)
 
@@ -350,34 +381,43 @@ module _ (us : List ProgramUnit) (terms : Terms) where
         kept = λ q. same_some (facts q) (known us terms 0 q) (same q) ∙ known_first q;
       }
 
-  entered_more : (pc q : ℕ) (o : Option Fact) → is_some o ≡ is_some (inferred us terms pc) → (is_entered us terms pc q || (is_some o && goes (target us pc) q)) ≡ is_entered us terms (suc pc) q
+  entered_more : (pc q : ℕ) (o : Option Fact) → is_some o ≡ is_some (inferred us terms pc) → (is_entered us terms pc q || (is_some o && goes (target us pc) q))
+      ≡ is_entered us terms (suc pc) q
   unfolding is_entered
   entered_more pc q o e = ap (λ b. is_entered us terms pc q || (b && goes (target us pc) q)) e
 
-  flaw_here : (carried : Option Stored) (facts : Facts) (pc : ℕ) → IsReached us terms carried facts pc → flaw_under us terms pc (seen carried facts pc) ≡ flaw_under us terms pc (inferred us terms pc)
+  flaw_here : (carried : Option Stored) (facts : Facts) (pc : ℕ) → IsReached us terms carried facts pc → flaw_under us terms pc (seen carried facts pc)
+      ≡ flaw_under us terms pc (inferred us terms pc)
   flaw_here carried facts pc r = flaw_same us terms pc (seen carried facts pc) (inferred us terms pc) (r.ahead pc (omega arith))
 
   still_none : (pc : ℕ) → first_flaw_below us terms pc ≡ None → flaw_under us terms pc (inferred us terms pc) ≡ None → first_flaw_below us terms (suc pc) ≡ None
   unfolding first_flaw_below
   still_none pc none here = ap (λ o. or_else o (flaw_under us terms pc (inferred us terms pc))) none ∙ here
 
-  first_here : (pc : ℕ) (fault : TypeFault) → first_flaw_below us terms pc ≡ None → flaw_under us terms pc (inferred us terms pc) ≡ Some fault → first_flaw_below us terms (suc pc) ≡ Some fault
+  first_here : (pc : ℕ) (fault : TypeFault) → first_flaw_below us terms pc ≡ None → flaw_under us terms pc (inferred us terms pc) ≡ Some fault
+      → first_flaw_below us terms (suc pc) ≡ Some fault
   unfolding first_flaw_below
   first_here pc fault none here = ap (λ o. or_else o (flaw_under us terms pc (inferred us terms pc))) none ∙ here
 
-  known_more : (pc q : ℕ) (carried next : Option Stored) (old new : Facts) → IsReached us terms carried old pc → pc ≤ q → AreSame (seen next new q) (passed us terms pc (seen carried old pc) q (seen carried old q)) → AreSame (seen next new q) (known us terms (suc pc) q)
+  known_more : (pc q : ℕ) (carried next : Option Stored) (old new : Facts) → IsReached us terms carried old pc → pc ≤ q
+      → AreSame (seen next new q) (passed us terms pc (seen carried old pc) q (seen carried old q)) → AreSame (seen next new q) (known us terms (suc pc) q)
   unfolding known
   known_more pc q carried next old new r l same =
       AreSame-trans (seen next new q) (passed us terms pc (seen carried old pc) q (seen carried old q)) (known us terms (suc pc) q) same
-      (passed_same us terms pc (seen carried old pc) (known us terms pc pc) q (seen carried old q) (known us terms pc q) (r.ahead pc (omega arith)) (r.ahead q l))
+      (passed_same us terms pc (seen carried old pc) (known us terms pc pc) q (seen carried old q) (known us terms pc q)
+      (r.ahead pc (omega arith)) (r.ahead q l))
 
-  reached_suc : (carried next : Option Stored) (old new : Facts) (pc : ℕ) → IsReached us terms carried old pc → IsPassed us terms pc carried next old new → IsReached us terms next new (suc pc)
+  reached_suc : (carried next : Option Stored) (old new : Facts) (pc : ℕ) → IsReached us terms carried old pc → IsPassed us terms pc carried next old new
+      → IsReached us terms next new (suc pc)
   reached_suc carried next old new pc r p =
       record {
         behind =
             λ q l. elim (cases_eq q pc) [
-              | inl same ↦ subst (λ k. AreStored (new k) (inferred us terms k)) (sym same) (stored_trans (new pc) (new pc) (seen carried old pc) (inferred us terms pc) (AreSame-refl (new pc)) p.here (r.ahead pc (omega arith)))
-              | inr other ↦ stored_trans (new q) (old q) (inferred us terms q) (inferred us terms q) (p.behind q (omega arith)) (r.behind q (omega arith)) (AreSame-refl (inferred us terms q))
+              | inl same ↦ subst
+                  (λ k. AreStored (new k) (inferred us terms k)) (sym same)
+                  (stored_trans (new pc) (new pc) (seen carried old pc) (inferred us terms pc) (AreSame-refl (new pc)) p.here (r.ahead pc (omega arith)))
+              | inr other ↦ stored_trans (new q) (old q) (inferred us terms q) (inferred us terms q) (p.behind q (omega arith)) (r.behind q (omega arith))
+                  (AreSame-refl (inferred us terms q))
             ];
         ahead = λ q l. known_more pc q carried next old new r (omega arith) (p.ahead q (omega arith));
         flawless = still_none pc r.flawless (sym (flaw_here carried old pc r) ∙ p.flawless);
@@ -388,14 +428,17 @@ module _ (us : List ProgramUnit) (terms : Terms) where
             ∙ entered_more pc q (seen carried old pc) (same_some (seen carried old pc) (inferred us terms pc) (r.ahead pc (omega arith)));
       }
 
-  pub reached_more : (carried next : Option Stored) (old new : Facts) (pc : ℕ) → IsReached us terms carried old pc → IsPassed us terms pc carried next old new → IsReached us terms next new (pc + 1)
+  pub reached_more : (carried next : Option Stored) (old new : Facts) (pc : ℕ) → IsReached us terms carried old pc → IsPassed us terms pc carried next old new
+      → IsReached us terms next new (pc + 1)
   reached_more carried next old new pc r p = subst (IsReached us terms next new) (sym (add-one pc)) (reached_suc carried next old new pc r p)
 
-  pub flaw_found : (carried : Option Stored) (facts : Facts) (pc : ℕ) (fault : TypeFault) → pc < length us → IsReached us terms carried facts pc → flaw_under us terms pc (seen carried facts pc) ≡ Some fault → first_flaw us terms ≡ Some fault
+  pub flaw_found : (carried : Option Stored) (facts : Facts) (pc : ℕ) (fault : TypeFault) → pc < length us → IsReached us terms carried facts pc
+      → flaw_under us terms pc (seen carried facts pc) ≡ Some fault → first_flaw us terms ≡ Some fault
   flaw_found carried facts pc fault l r here =
       flaw_stays us terms (suc pc) (length us) fault (first_here pc fault r.flawless (sym (flaw_here carried facts pc r) ∙ here)) (omega arith)
 
-  pub refused_at : (carried : Option Stored) (facts : Facts) (pc : ℕ) (refusal : Refusal) → pc < length us → IsReached us terms carried facts pc → IsUnitRefused us terms pc (seen carried facts pc) refusal → IsPassRefused us terms refusal
+  pub refused_at : (carried : Option Stored) (facts : Facts) (pc : ℕ) (refusal : Refusal) → pc < length us → IsReached us terms carried facts pc
+      → IsUnitRefused us terms pc (seen carried facts pc) refusal → IsPassRefused us terms refusal
   refused_at carried facts pc (Decode fault) l r h = h
   refused_at carried facts pc (FlowRefusal fault) l r h = h
   refused_at carried facts pc (TypeRefusal fault) l r h = flaw_found carried facts pc fault l r h

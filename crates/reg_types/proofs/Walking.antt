@@ -1,10 +1,12 @@
 -- A unit that isn't entered is reached from the instruction in front of it alone.
-use Rattle.std.proofs.Common.{◌≡◌, ◌≢◌, ℕ, zero, suc, ◌+◌, ◌<◌, ◌⊎◌, List, [], ◌∷◌, Option, Some, None, true, false, refl, sym, ap, ◌∙◌, subst, inl, inr, arith, length}
+use Rattle.std.proofs.Common.{◌≡◌, ◌≢◌, ℕ, zero, suc, ◌+◌, ◌<◌, ◌⊎◌, List, [], ◌∷◌, Option, Some, None, true, false, refl, sym, ap, ◌∙◌, subst, inl, inr, arith}
+use Rattle.std.proofs.Common.{length}
 use Rattle.std.specs.Prelude.{Result, Ok, Err, ◌==◌, ◌&&◌, ◌-◌, is_some, slice_get}
 use Rattle.std.proofs.lemmas.Bool.{cases_eq, eq-eqb, or_parts, cond-false}
 use Rattle.bpf_model.specs.declared.instruction.Inst.{Inst}
 use Rattle.bpf_model.specs.declared.instruction.Form.{Form}
-use Rattle.bpf_model.specs.declared.instruction.Form.TheVariants.{Arithmetic, Wide, Load, LoadSigned, StoreImmediate, StoreRegister, Goto, GotoLong, Branch, Call, Exit}
+use Rattle.bpf_model.specs.declared.instruction.Form.TheVariants.{Arithmetic, Wide, Load, LoadSigned, StoreImmediate, StoreRegister, Goto, GotoLong, Branch}
+use Rattle.bpf_model.specs.declared.instruction.Form.TheVariants.{Call, Exit}
 use Rattle.bpf_model.specs.declared.instruction.Unit.{Unit as ProgramUnit}
 use Rattle.bpf_model.specs.Reading.{units}
 use Rattle.bpf_model.specs.Machine.{and_then, shifted}
@@ -14,7 +16,8 @@ use Rattle.reg_types.specs.declared.types.Terms.{Terms}
 use Rattle.reg_types.specs.declared.types.Fact.{Fact}
 use Rattle.reg_types.specs.Effects.{Effect}
 use Rattle.reg_types.specs.declared.types.Flaw.{Flaw}
-use Rattle.reg_types.specs.Inference.{known, inferred, entry_fact, leads, option_cons, instruction_of, instruction_at, ruled, arrived_all, fact_after, passed_by, passed_from, passed, goes, is_entered}
+use Rattle.reg_types.specs.Inference.{known, inferred, entry_fact, leads, option_cons, instruction_of, instruction_at, ruled, arrived_all, fact_after}
+use Rattle.reg_types.specs.Inference.{passed_by, passed_from, passed, goes, is_entered}
 use Rattle.reg_types.specs.Passing.{following, IsBrought, AreWalked}
 use Rattle.operations.specs.Operations.{target_by}
 use Rattle.reg_types.proofs.Storing.{not_arrived}
@@ -33,7 +36,8 @@ led q fact None o = o
 led q fact (Some tos) o = arrived_all q fact tos o
 
 -- a jump that goes elsewhere, and then the next instruction or none
-jump_elsewhere : (q : ℕ) (fact : Fact) (to : Option ℕ) (tos : List ℕ) (o : Option Fact) → to ≢ Some q → ((p : Option Fact) → arrived_all q fact tos p ≡ p) → led q fact (option_cons to tos) o ≡ o
+jump_elsewhere : (q : ℕ) (fact : Fact) (to : Option ℕ) (tos : List ℕ) (o : Option Fact) → to ≢ Some q → ((p : Option Fact) → arrived_all q fact tos p ≡ p)
+    → led q fact (option_cons to tos) o ≡ o
 jump_elsewhere q fact None tos o n rest = refl
 jump_elsewhere q fact (Some to) tos o n rest =
     let other : q ≢ to = λ e. n (ap Some (sym e)) in
@@ -43,7 +47,8 @@ elsewhere : (pc q : ℕ) (i : Inst) (form : Form) (fact : Fact) (o : Option Fact
 elsewhere pc q i Exit fact o e = refl
 elsewhere pc q i Goto fact o e = jump_elsewhere q fact (shifted (pc + 1) i.offset 512) [] o e.jump (λ p. refl)
 elsewhere pc q i GotoLong fact o e = jump_elsewhere q fact (shifted (pc + 1) i.imm 512) [] o e.jump (λ p. refl)
-elsewhere pc q i (Branch c w s) fact o e = jump_elsewhere q fact (shifted (pc + 1) i.offset 512) ((pc + 1) ∷ []) o e.jump (λ p. not_arrived q (pc + 1) fact p e.next)
+elsewhere pc q i (Branch c w s) fact o e =
+    jump_elsewhere q fact (shifted (pc + 1) i.offset 512) ((pc + 1) ∷ []) o e.jump (λ p. not_arrived q (pc + 1) fact p e.next)
 elsewhere pc q i Wide fact o e = not_arrived q (pc + 2) fact o e.next
 elsewhere pc q i (Arithmetic op w s) fact o e = not_arrived q (pc + 1) fact o e.next
 elsewhere pc q i (Load size) fact o e = not_arrived q (pc + 1) fact o e.next
@@ -52,7 +57,8 @@ elsewhere pc q i (StoreImmediate size) fact o e = not_arrived q (pc + 1) fact o 
 elsewhere pc q i (StoreRegister size) fact o e = not_arrived q (pc + 1) fact o e.next
 elsewhere pc q i Call fact o e = not_arrived q (pc + 1) fact o e.next
 
-by_led : (q : ℕ) (fact : Fact) (r : Result Effect Flaw) (tos : Option (List ℕ)) (o : Option Fact) → ((f : Fact) → led q f tos o ≡ o) → passed_by q fact r tos o ≡ o
+by_led : (q : ℕ) (fact : Fact) (r : Result Effect Flaw) (tos : Option (List ℕ)) (o : Option Fact) → ((f : Fact) → led q f tos o ≡ o)
+    → passed_by q fact r tos o ≡ o
 by_led q fact (Err flaw) tos o h = refl
 by_led q fact (Ok e) None o h = refl
 by_led q fact (Ok e) (Some tos) o h = h (fact_after fact e)
@@ -64,7 +70,8 @@ module _ (us : List ProgramUnit) (terms : Terms) (pc q : ℕ) (no_jump : target 
       ap (λ o. and_then (and_then o distance_of) (λ z. shifted (pc + 1) z 512)) is.0 ∙ ap (λ o. and_then (distance_by o x.0) (λ z. shifted (pc + 1) z 512)) is.1
 
   -- what the unit brings to one that its jump doesn't go to and that isn't next
-  from_elsewhere : (fact : Fact) (o : Option (Inst × Form)) (old : Option Fact) → instruction_at us pc ≡ o → ((x : Inst × Form) → o ≡ Some x → q ≢ following pc x.1) → passed_from us terms pc fact o q old ≡ old
+  from_elsewhere : (fact : Fact) (o : Option (Inst × Form)) (old : Option Fact) → instruction_at us pc ≡ o
+      → ((x : Inst × Form) → o ≡ Some x → q ≢ following pc x.1) → passed_from us terms pc fact o q old ≡ old
   from_elsewhere fact None old at n = refl
   from_elsewhere fact (Some x) old at n =
       by_led q fact (ruled us terms pc fact x) _ old
@@ -107,11 +114,19 @@ module _ (us : List ProgramUnit) (terms : Terms) (q : ℕ) where
     next : q ≡ following before instruction.1
     is : known us terms n q ≡ passed us terms before (inferred us terms before) q None
 
-  still_last : (n : ℕ) → known us terms (suc n) q ≡ known us terms n q → (known us terms n q ≡ None) ⊎ IsLast n → (known us terms (suc n) q ≡ None) ⊎ IsLast (suc n)
+  still_last : (n : ℕ) → known us terms (suc n) q ≡ known us terms n q → (known us terms n q ≡ None) ⊎ IsLast n
+      → (known us terms (suc n) q ≡ None) ⊎ IsLast (suc n)
   still_last n e h =
       elim h [
         | inl none ↦ inl (e ∙ none)
-        | inr l ↦ inr (record { before = l.before; below = (let b = l.below in omega (arith, b)); instruction = l.instruction; stands = l.stands; next = l.next; is = e ∙ l.is })
+        | inr l ↦ inr (record {
+          before = l.before;
+          below = (let b = l.below in omega (arith, b));
+          instruction = l.instruction;
+          stands = l.stands;
+          next = l.next;
+          is = e ∙ l.is;
+        })
       ]
 
   known_is : (n : ℕ) → known us terms (suc n) q ≡ passed us terms n (inferred us terms n) q (known us terms n q)
@@ -139,14 +154,22 @@ module _ (us : List ProgramUnit) (terms : Terms) (q : ℕ) where
               not_both y (instruction_at us n) second (ap (instruction_at us) (sym there) ∙ ap instruction_of is_second)
         ]
 
-    here_or_not : (n : ℕ) (fact : Option Fact) → inferred us terms n ≡ fact → (is_some fact && goes (target us n) q) ≡ false → (o : Option (Inst × Form)) → instruction_at us n ≡ o → (known us terms n q ≡ None) ⊎ IsLast n → (known us terms (suc n) q ≡ None) ⊎ IsLast (suc n)
+    here_or_not : (n : ℕ) (fact : Option Fact) → inferred us terms n ≡ fact → (is_some fact && goes (target us n) q) ≡ false → (o : Option (Inst × Form))
+        → instruction_at us n ≡ o → (known us terms n q ≡ None) ⊎ IsLast n → (known us terms (suc n) q ≡ None) ⊎ IsLast (suc n)
     here_or_not n None at e o i h = still_last n (known_is n ∙ ap (λ f. passed us terms n f q (known us terms n q)) at) h
     here_or_not n (Some fact) at e None i h =
         still_last n (known_is n ∙ ap (λ f. passed us terms n f q (known us terms n q)) at ∙ ap (λ x. passed_from us terms n fact x q (known us terms n q)) i) h
     here_or_not n (Some fact) at e (Some x) i h =
         elim (cases_eq q (following n x.1)) [
           | inl next ↦ elim h [
-            | inl none ↦ inr (record { before = n; below = omega arith; instruction = x; stands = i; next = next; is = known_is n ∙ ap (passed us terms n (inferred us terms n) q) none })
+            | inl none ↦ inr (record {
+              before = n;
+              below = omega arith;
+              instruction = x;
+              stands = i;
+              next = next;
+              is = known_is n ∙ ap (passed us terms n (inferred us terms n) q) none;
+            })
             | inr l ↦ absurd (apart l.before n l.instruction x l.below l.stands i (sym l.next ∙ next))
           ]
           | inr other ↦

@@ -1,6 +1,7 @@
 -- Definitions: what is known before each unit of a program, and the first unit that the rules refuse (this profile,
 -- type rules).
-use Rattle.std.specs.Prelude.{ℕ, zero, suc, ◌+◌, pos, ◌==◌, ◌&&◌, ◌||◌, is_some, if◌then◌else◌, Bool, true, false, List, [], ◌∷◌, length, drop, replicate, slice_get, slice_index_or, nat_lt, ◌*◌, Option, Some, None, Result, Ok, Err}
+use Rattle.std.specs.Prelude.{ℕ, zero, suc, ◌+◌, pos, ◌==◌, ◌&&◌, ◌||◌, is_some, if◌then◌else◌, Bool, true, false, List, [], ◌∷◌, length, drop, replicate}
+use Rattle.std.specs.Prelude.{slice_get, slice_index_or, nat_lt, ◌*◌, Option, Some, None, Result, Ok, Err}
 use Rattle.bpf_model.specs.declared.instruction.Inst.{Inst}
 use Rattle.bpf_model.specs.declared.instruction.Form.{Form}
 use Rattle.bpf_model.specs.declared.instruction.Form.TheVariants.{Wide, Goto, GotoLong, Branch, Exit}

@@ -55,7 +55,8 @@ seen carried facts q = brought q carried (facts q)
 -- the fact is carried to the unit pc, or past it where that is a wide load's second
 abbrev pub IsCarriedTo : List ProgramUnit → ℕ → Option Stored → Type 0
 IsCarriedTo us pc None = ⊤
-IsCarriedTo us pc (Some s) = ((i : Inst) × (slice_get us s.at ≡ Some (First i))) × ((s.at ≡ pc) ⊎ ((s.at ≡ pc + 1) × ((v : ℤ) × (slice_get us pc ≡ Some (Second v)))))
+IsCarriedTo us pc (Some s) =
+    ((i : Inst) × (slice_get us s.at ≡ Some (First i))) × ((s.at ≡ pc) ⊎ ((s.at ≡ pc + 1) × ((v : ℤ) × (slice_get us pc ≡ Some (Second v)))))
 
 abbrev pub IsCarriedAt : ℕ → Option Stored → Type 0
 IsCarriedAt pc None = ⊤

@@ -7,7 +7,8 @@ use Rattle.flow_check.specs.declared.FlowFault.TheVariants.{BackwardJump, JumpOu
 use Rattle.reg_types.specs.declared.types.Flaw.{Flaw}
 use Rattle.reg_types.specs.declared.types.Flaw.TheVariants as flaw
 use Rattle.reg_types.specs.declared.refusal.TypeFault.{TypeFault}
-use Rattle.reg_types.specs.declared.refusal.TypeFault.TheVariants.{FallsOff, WriteR10, NotANumber, NotAPointer, OutOfRange, UnsetBytes, StoreToContext, StorePointer, PointerArithmetic, NoSuchHelper, BadArgument, UndeclaredCounter}
+use Rattle.reg_types.specs.declared.refusal.TypeFault.TheVariants.{FallsOff, WriteR10, NotANumber, NotAPointer, OutOfRange, UnsetBytes, StoreToContext}
+use Rattle.reg_types.specs.declared.refusal.TypeFault.TheVariants.{StorePointer, PointerArithmetic, NoSuchHelper, BadArgument, UndeclaredCounter}
 use Rattle.reg_types.specs.declared.refusal.Refusal.{Refusal}
 use Rattle.reg_types.specs.declared.refusal.Refusal.TheVariants.{Decode, Flow, «Type» as TypeRefusal, OutOfMemory}
 

@@ -1,5 +1,6 @@
 -- Definitions: the typing rules, as functions (this profile, type rules). A program which they accept is good.
-use Rattle.std.specs.Prelude.{ℕ, zero, suc, ◌+◌, ◌*◌, ◌/◌, ◌%◌, ◌-◌, ◌^◌, ◌==◌, nat_le, Bool, true, false, ◌&&◌, ◌||◌, if◌then◌else◌, ℤ, pos, negsuc, neg_ℤ, ◌+ℤ◌, int_le, List, ◌∷◌, drop, slice_set, slice_index, slice_index_or, Option, Some, None, is_some, Result, Ok, Err}
+use Rattle.std.specs.Prelude.{ℕ, zero, suc, ◌+◌, ◌*◌, ◌/◌, ◌%◌, ◌-◌, ◌^◌, ◌==◌, nat_le, Bool, true, false, ◌&&◌, ◌||◌, if◌then◌else◌, ℤ, pos, negsuc, neg_ℤ}
+use Rattle.std.specs.Prelude.{◌+ℤ◌, int_le, List, ◌∷◌, drop, slice_set, slice_index, slice_index_or, Option, Some, None, is_some, Result, Ok, Err}
 use Rattle.std.specs.Ordering.{int_eq}
 use Rattle.std.specs.Int.{cast_unsigned, w32}
 use Rattle.bpf_model.specs.declared.instruction.Inst.{Inst}
@@ -10,7 +11,8 @@ use Rattle.bpf_model.specs.declared.instruction.Source.TheVariants.{Immediate, R
 use Rattle.bpf_model.specs.declared.instruction.Operator.{Operator}
 use Rattle.bpf_model.specs.declared.instruction.Operator.TheVariants.{Sum, Difference, Negate, Move, SwapBytes}
 use Rattle.bpf_model.specs.declared.instruction.Form.{Form}
-use Rattle.bpf_model.specs.declared.instruction.Form.TheVariants.{Arithmetic, Wide, Load, LoadSigned, StoreImmediate, StoreRegister, Goto, GotoLong, Branch, Call, Exit}
+use Rattle.bpf_model.specs.declared.instruction.Form.TheVariants.{Arithmetic, Wide, Load, LoadSigned, StoreImmediate, StoreRegister, Goto, GotoLong, Branch}
+use Rattle.bpf_model.specs.declared.instruction.Form.TheVariants.{Call, Exit}
 use Rattle.bpf_model.specs.Reading.{bytes_in}
 use Rattle.bpf_model.specs.Arithmetic.{low}
 use Rattle.bpf_model.specs.Machine.{shifted, immediate, is_aligned}
@@ -25,7 +27,8 @@ use Rattle.reg_types.specs.declared.types.RegType.TheVariants.{Unset, Num, Const
 use Rattle.reg_types.specs.declared.types.Fact.{Fact}
 use Rattle.reg_types.specs.Effects.{Effect}
 use Rattle.reg_types.specs.declared.types.Flaw.{Flaw}
-use Rattle.reg_types.specs.declared.types.Flaw.TheVariants.{FallsOff, WriteR10, NotANumber, NotAPointer, OutOfRange, UnsetBytes, StoreToContext, StorePointer, PointerArithmetic, NoSuchHelper, BadArgument, UndeclaredCounter}
+use Rattle.reg_types.specs.declared.types.Flaw.TheVariants.{FallsOff, WriteR10, NotANumber, NotAPointer, OutOfRange, UnsetBytes, StoreToContext, StorePointer}
+use Rattle.reg_types.specs.declared.types.Flaw.TheVariants.{PointerArithmetic, NoSuchHelper, BadArgument, UndeclaredCounter}
 
 abbrev pub type_at : List RegType → ℕ → RegType
 type_at types r = slice_index_or types r Unset

@@ -194,7 +194,8 @@ impl Fact {
     fn write(&mut self, mark: Mark)
         requires { mark.at + mark.len ≤ 512 }
         ensures types { self.new.types ≡ self.old.types }
-        ensures places { (p : ℕ) → Has self.new.stack p ↔ HasAfter (is_unset mark.kept) self.old.stack mark.at mark.len p }
+        ensures places { (p : ℕ)
+            → Has self.new.stack p ↔ HasAfter (is_unset mark.kept) self.old.stack mark.at mark.len p }
         ensures notes { self.new.notes ≡ renoted (note_by mark.kept) mark.at mark.len 0 self.old.notes }
     {
         if mark.kept.is_nothing() {

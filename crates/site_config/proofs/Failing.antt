@@ -15,4 +15,5 @@ fails_on OutOfMemory r g e = tt
 pub fails_front : (f : ConfigFault) (front : List ℕ) (low high : ℕ) (zs : List ℤ) (z : ℤ) (rest : List ℤ) (whole : Result (List ℕ) ConfigFault)
     → with_front front (all_ranged low high zs) ≡ whole → zs ≡ z ∷ rest → Fails f (ranged low high z) → Fails f whole
 fails_front f front low high zs z rest whole read split e =
-    rw (sym read, split) (fails_on f (all_ranged low high (z ∷ rest)) (λ xs. Ok (front ++ xs)) (fails_on f (ranged low high z) (λ n. all_ranged low high rest >>= (λ ns. Ok (n ∷ ns))) e))
+    rw (sym read, split) (fails_on f (all_ranged low high (z ∷ rest))
+    (λ xs. Ok (front ++ xs)) (fails_on f (ranged low high z) (λ n. all_ranged low high rest >>= (λ ns. Ok (n ∷ ns))) e))

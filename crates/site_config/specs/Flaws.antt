@@ -3,7 +3,8 @@ use Rattle.std.specs.Prelude.{◌≡◌, ℕ, List, Bool, Option, Some, None, Re
 use Rattle.site_config.specs.declared.fault.ConfigFault.{ConfigFault}
 use Rattle.site_config.specs.declared.fault.ConfigFault.TheVariants as fault
 use Rattle.site_config.specs.declared.flaw.ConfigFlaw.{ConfigFlaw}
-use Rattle.site_config.specs.declared.flaw.ConfigFlaw.TheVariants.{NotUtf8, NotToml, UnknownKey, Missing, WrongType, OutOfRange, WrongCount, OverBound, SamePort, OutOfMemory}
+use Rattle.site_config.specs.declared.flaw.ConfigFlaw.TheVariants.{NotUtf8, NotToml, UnknownKey, Missing, WrongType, OutOfRange, WrongCount, OverBound}
+use Rattle.site_config.specs.declared.flaw.ConfigFlaw.TheVariants.{SamePort, OutOfMemory}
 use Rattle.site_config.specs.declared.flaw.Section.{Section}
 use Rattle.site_config.specs.declared.flaw.Section.TheVariants.{Top, Point, Counter, Serve}
 use Rattle.site_config.specs.Document.{Fails}

@@ -1,5 +1,6 @@
 -- Definitions: a document by its keys and types.
-use Rattle.std.specs.Prelude.{◌==◌, ◌&&◌, ◌||◌, ℕ, ℤ, List, [], ◌∷◌, codes, Bool, true, false, Option, Some, None, Result, Ok, Err, option_and_then, if◌then◌else◌}
+use Rattle.std.specs.Prelude.{◌==◌, ◌&&◌, ◌||◌, ℕ, ℤ, List, [], ◌∷◌, codes, Bool, true, false, Option, Some, None, Result, Ok, Err, option_and_then}
+use Rattle.std.specs.Prelude.{if◌then◌else◌}
 use Rattle.std.specs.Str.{bytes_eq}
 use Rattle.toml.specs.Data.{Data, Items, Members, no_items, item, no_members, member, table, get_member, as_integer, as_array, as_table}
 use Rattle.site_config.specs.declared.fault.ConfigFault.{ConfigFault}
@@ -10,7 +11,10 @@ use Rattle.site_config.specs.Document.{or_fault, ◌>>=◌}
 
 -- the keys of each kind of table
 unfoldable pub is_top_key : List ℕ → Bool
-is_top_key k = bytes_eq k (codes "tills") || (bytes_eq k (codes "price_slot") || (bytes_eq k (codes "prices") || (bytes_eq k (codes "point") || (bytes_eq k (codes "counter") || bytes_eq k (codes "serve")))))
+is_top_key k =
+    bytes_eq k (codes "tills")
+    || (bytes_eq k (codes "price_slot")
+    || (bytes_eq k (codes "prices") || (bytes_eq k (codes "point") || (bytes_eq k (codes "counter") || bytes_eq k (codes "serve")))))
 
 unfoldable pub is_point_key : List ℕ → Bool
 is_point_key k = bytes_eq k (codes "release") || bytes_eq k (codes "preset")
@@ -24,7 +28,10 @@ unfoldable pub is_counter_key : List ℕ → Bool
 is_counter_key k = bytes_eq k (codes "value") || bytes_eq k (codes "bound")
 
 unfoldable pub is_serve_key : List ℕ → Bool
-is_serve_key k = bytes_eq k (codes "till_port") || (bytes_eq k (codes "dispenser_port") || (bytes_eq k (codes "owner_port") || (bytes_eq k (codes "till_workers") || (bytes_eq k (codes "dispenser_workers") || bytes_eq k (codes "connections")))))
+is_serve_key k =
+    bytes_eq k (codes "till_port")
+    || (bytes_eq k (codes "dispenser_port")
+    || (bytes_eq k (codes "owner_port") || (bytes_eq k (codes "till_workers") || (bytes_eq k (codes "dispenser_workers") || bytes_eq k (codes "connections")))))
 
 abbrev pub require : Bool → Result (Unit {0}) ConfigFault
 require true = Ok tt

@@ -5,7 +5,8 @@ ghost use Rattle.site_core.specs.Limits.{IsCounter};
 ghost use Rattle.site_config.specs.Document.{Gives};
 ghost use Rattle.site_config.specs.Flaws.{Finds};
 ghost use Rattle.site_config.specs.Typed.{seen};
-ghost use Rattle.site_config.specs.Ranges.{ranged, all_ranged, point_of, counter_of, each_of, prices_of, points_of, counters_of, serve_of, serve_from, told_of, told, config_of};
+ghost use Rattle.site_config.specs.Ranges.{ranged, all_ranged, point_of, counter_of, each_of, prices_of, points_of};
+ghost use Rattle.site_config.specs.Ranges.{counters_of, serve_of, serve_from, told_of, told, config_of};
 
 use crate::document::read_document;
 use crate::fault::ConfigFault;

@@ -36,7 +36,8 @@ fn where_to_serve_is_kept(rt: HostRuntime) -> Result<(), Fail> {
 price_slot = 15
 prices = [0, 0, 0, 0, 0, 0, 0, 9999999]
 point = [{ release = 15, preset = 15 }]
-serve = { till_port = 65535, dispenser_port = 1, owner_port = 7003, till_workers = 64, dispenser_workers = 31, connections = 1000000 }
+serve = { till_port = 65535, dispenser_port = 1, owner_port = 7003, till_workers = 64,
+    dispenser_workers = 31, connections = 1000000 }
 ";
     let settings = read_config(rt.alloc(), text.as_bytes())?;
     let serve = Serve {

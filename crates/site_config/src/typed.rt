@@ -8,7 +8,10 @@ ghost use Rattle.site_config.specs.Document.{or_fault};
 ghost use Rattle.site_config.specs.Flaws.{Finds, is_key_of};
 ghost use Rattle.site_config.specs.Keys.{name_of};
 ghost use Rattle.site_config.specs.declared.fault.ConfigFault.TheVariants.{K2};
-ghost use Rattle.site_config.specs.Typed.{is_top_key, is_point_key, is_counter_key, is_serve_key, has_only, integer_at, integers, pair_in, point_in, counter_in, each_in, integers_at, points_at, counters_from, counters_at, served_in, served_from, served_at, typed_of, seen};
+ghost use Rattle.site_config.specs.Typed.{is_top_key, is_point_key, is_counter_key, is_serve_key, has_only, integer_at};
+ghost use Rattle.site_config.specs.Typed.{integers, pair_in, point_in, counter_in, each_in, integers_at, points_at};
+ghost use Rattle.site_config.specs.Typed.{counters_from, counters_at, served_in, served_from, served_at, typed_of};
+ghost use Rattle.site_config.specs.Typed.{seen};
 
 use crate::flaw::{ConfigFlaw, Key, Place, Section, Type};
 use crate::raw::{Raw, Served};
@@ -257,7 +260,9 @@ fn read_counters(alloc: Global, values: &[Value]) -> Result<Vec<(i64, i64)>, Con
 
 /// The array at a key.
 fn find_array(table: &Table, key: Key) -> Result<&Vec<Value>, ConfigFlaw>
-    ensures { Finds (λ v. items_view v.now.items) result (or_fault K2 (option_and_then as_array (get_member (name_of key) (table_view table.now)))) }
+    ensures { Finds
+        (λ v. items_view v.now.items) result
+        (or_fault K2 (option_and_then as_array (get_member (name_of key) (table_view table.now)))) }
 {
     let place = Place::At(Section::Top, key);
     match find_value(table, key.name()) {

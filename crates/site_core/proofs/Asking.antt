@@ -17,7 +17,8 @@ use Rattle.site_core.specs.declared.question.Question.{Question}
 use Rattle.site_core.specs.Limits.{ConfigValue}
 use Rattle.site_core.specs.State.{SiteState, at_number, first_busy}
 use Rattle.site_core.specs.Context.{context}
-use Rattle.site_core.specs.Decide.{is_till, is_within, need, bad_amount, wrong_state, no_such_point, slots_of, release_question, preset_question, price_question, price_at, WellAsked}
+use Rattle.site_core.specs.Decide.{is_till, is_within, need, bad_amount, wrong_state, no_such_point, slots_of, release_question, preset_question}
+use Rattle.site_core.specs.Decide.{price_question, price_at, WellAsked}
 use Rattle.site_core.specs.Draft.{routed, routed_request, at_point}
 use Rattle.site_core.specs.Asked.{asked_question, question_of, FitsContext}
 use Rattle.site_core.proofs.Points.{release-some, preset-none, preset-some}
@@ -49,11 +50,13 @@ two-ok true true x y p q h = (refl, refl, ok-same p q h)
 two-ok true false x y p q h = absurd (err-ok y q h)
 two-ok false b x y p q h = absurd (err-ok x q h)
 
-asks-preset : (config : ConfigValue) (s : SiteState) (n amount : ℕ) (q : Question) (o : Option PointState) → at_number s.points n ≡ o → preset_question config s n amount ≡ Ok q → AsksPreset config s n amount q
+asks-preset : (config : ConfigValue) (s : SiteState) (n amount : ℕ) (q : Question) (o : Option PointState) → at_number s.points n ≡ o
+    → preset_question config s n amount ≡ Ok q → AsksPreset config s n amount q
 asks-preset config s n amount q None at h = absurd (err-ok no_such_point q (sym (preset-none config s n amount at) ∙ h))
 asks-preset config s n amount q (Some p) at h =
     let asked : Question = record { kind = kind.Preset; point = n; product = 0; asked = amount; slot = (slots_of config n).1 } in
-    let all = two-ok (is_within 1 amount 999999999) (is_ready p.state) bad_amount (wrong_state p.state) asked q (sym (preset-some config s n amount p at) ∙ h) in
+    let all = two-ok (is_within 1 amount 999999999) (is_ready p.state) bad_amount (wrong_state p.state) asked q (sym (preset-some config s n amount p at) ∙ h)
+    in
     record { point = p; is_point = at; question = all.2; within = all.0; ready = all.1 }
 
 -- a price that was asked is in its range, and no point was busy
@@ -62,12 +65,14 @@ record AsksPrice (config : ConfigValue) (s : SiteState) (product price : ℕ) (q
   within : (is_within 1 product 8 && is_within 1 price 9999999) ≡ true
   free : first_busy s ≡ None
 
-price-ok : (b : Bool) (x : Reply) (busy : Option State) (p q : Question) → need b x (elim busy as (λ _. Asked) [ Some state ↦ Err (wrong_state state) | None ↦ Ok p ]) ≡ Ok q → (b ≡ true) × (busy ≡ None) × (q ≡ p)
+price-ok : (b : Bool) (x : Reply) (busy : Option State) (p q : Question)
+    → need b x (elim busy as (λ _. Asked) [ Some state ↦ Err (wrong_state state) | None ↦ Ok p ]) ≡ Ok q → (b ≡ true) × (busy ≡ None) × (q ≡ p)
 price-ok true x None p q h = (refl, refl, ok-same p q h)
 price-ok true x (Some state) p q h = absurd (err-ok (wrong_state state) q h)
 price-ok false x busy p q h = absurd (err-ok x q h)
 
-asks-price : (config : ConfigValue) (s : SiteState) (product price : ℕ) (q : Question) → price_question config s product price ≡ Ok q → AsksPrice config s product price q
+asks-price : (config : ConfigValue) (s : SiteState) (product price : ℕ) (q : Question) → price_question config s product price ≡ Ok q
+    → AsksPrice config s product price q
 asks-price config s product price q h =
     let asked : Question = record { kind = kind.Price; point = 0; product = product; asked = price; slot = config.price_slot } in
     let all = price-ok (is_within 1 product 8 && is_within 1 price 9999999) bad_amount (first_busy s) asked q h in
@@ -94,44 +99,74 @@ routes s n asked q None at h = absurd (none-some q (sym (at-none s n asked at) �
 routes s n asked q (Some p) at h = record { point = p; is_point = at; question = sym (some-same asked q (sym (at-some s n asked p at) ∙ h)) }
 
 -- what is asked is what is routed
-asked-routed-request : (config : ConfigValue) (s : SiteState) (r : Request) (q : Question) → question_of config s r ≡ Some q → routed_request config s r ≡ Some q
+asked-routed-request : (config : ConfigValue) (s : SiteState) (r : Request) (q : Question) → question_of config s r ≡ Some q
+    → routed_request config s r ≡ Some q
 asked-routed-request config s (request.Release n amount) q h =
     let a : Asks config s n amount q = asks config s n amount q (at_number s.points n) refl (ok-is (release_question config s n amount) q h) in
-    at-some s n (record { kind = kind.Release; point = n; product = 0; asked = amount; slot = (slots_of config n).0 }) a.point a.is_point ∙ ap (λ x. Some x) (sym a.question)
+    at-some s n (record { kind = kind.Release; point = n; product = 0; asked = amount; slot = (slots_of config n).0 }) a.point a.is_point ∙ ap
+    (λ x. Some x) (sym a.question)
 asked-routed-request config s (request.Preset n amount) q h =
     let a : AsksPreset config s n amount q = asks-preset config s n amount q (at_number s.points n) refl (ok-is (preset_question config s n amount) q h) in
-    at-some s n (record { kind = kind.Preset; point = n; product = 0; asked = amount; slot = (slots_of config n).1 }) a.point a.is_point ∙ ap (λ x. Some x) (sym a.question)
+    at-some s n (record { kind = kind.Preset; point = n; product = 0; asked = amount; slot = (slots_of config n).1 }) a.point a.is_point ∙ ap
+    (λ x. Some x) (sym a.question)
 asked-routed-request config s (request.Price product price) q h =
     ap (λ x. Some x) (sym (asks-price config s product price q (ok-is (price_question config s product price) q h)).question)
 asked-routed-request config s _ q h = absurd (none-some q h)
 
-asked-routed-till : (config : ConfigValue) (s : SiteState) (r : Request) (q : Question) (b : Bool) → (if b then question_of config s r else None) ≡ Some q → (if b then routed_request config s r else None) ≡ Some q
+asked-routed-till : (config : ConfigValue) (s : SiteState) (r : Request) (q : Question) (b : Bool) → (if b then question_of config s r else None) ≡ Some q
+    → (if b then routed_request config s r else None) ≡ Some q
 asked-routed-till config s r q true h = asked-routed-request config s r q h
 asked-routed-till config s r q false h = absurd (none-some q h)
 
-pub asked-routed : (config : ConfigValue) (s : SiteState) (till : ℕ) (r : Request) (q : Question) → asked_question config s till r ≡ Some q → routed config s till r ≡ Some q
+pub asked-routed : (config : ConfigValue) (s : SiteState) (till : ℕ) (r : Request) (q : Question) → asked_question config s till r ≡ Some q
+    → routed config s till r ≡ Some q
 asked-routed config s till r q h = asked-routed-till config s r q (is_till config till) h
 
 -- ---- the same context
 
-release-again : (config : ConfigValue) (s : SiteState) (n amount : ℕ) (p : PointState) → at_number s.points n ≡ Some p → is_within 1 amount 999999999 ≡ true → is_ready p.state ≡ true → nat_lt (length p.unpaid) 2 ≡ true → release_question config s n amount ≡ Ok (record { kind = kind.Release; point = n; product = 0; asked = amount; slot = (slots_of config n).0 })
+release-again : (config : ConfigValue) (s : SiteState) (n amount : ℕ) (p : PointState) → at_number s.points n ≡ Some p → is_within 1 amount 999999999 ≡ true
+    → is_ready p.state ≡ true → nat_lt (length p.unpaid) 2 ≡ true → release_question config s n amount ≡ Ok (record {
+      kind = kind.Release;
+      point = n;
+      product = 0;
+      asked = amount;
+      slot = (slots_of config n).0;
+    })
 release-again config s n amount p at within ready room = release-some config s n amount p at ∙ rw (within, ready, room) refl
 
-preset-again : (config : ConfigValue) (s : SiteState) (n amount : ℕ) (p : PointState) → at_number s.points n ≡ Some p → is_within 1 amount 999999999 ≡ true → is_ready p.state ≡ true → preset_question config s n amount ≡ Ok (record { kind = kind.Preset; point = n; product = 0; asked = amount; slot = (slots_of config n).1 })
+preset-again : (config : ConfigValue) (s : SiteState) (n amount : ℕ) (p : PointState) → at_number s.points n ≡ Some p → is_within 1 amount 999999999 ≡ true
+    → is_ready p.state ≡ true → preset_question config s n amount ≡ Ok (record {
+      kind = kind.Preset;
+      point = n;
+      product = 0;
+      asked = amount;
+      slot = (slots_of config n).1;
+    })
 preset-again config s n amount p at within ready = preset-some config s n amount p at ∙ rw (within, ready) refl
 
-price-again : (config : ConfigValue) (product price : ℕ) (b : Bool) (busy : Option State) → (is_within 1 product 8 && is_within 1 price 9999999) ≡ true → busy ≡ None → price_at busy product price config.price_slot ≡ Ok (record { kind = kind.Price; point = 0; product = product; asked = price; slot = config.price_slot })
+price-again : (config : ConfigValue) (product price : ℕ) (b : Bool) (busy : Option State) → (is_within 1 product 8 && is_within 1 price 9999999) ≡ true
+    → busy ≡ None → price_at busy product price config.price_slot ≡ Ok (record {
+      kind = kind.Price;
+      point = 0;
+      product = product;
+      asked = price;
+      slot = config.price_slot;
+    })
 price-again config product price b busy within free = rw (within, free) refl
 
-by-request : (layout : Layout) (config other : ConfigValue) (s t : SiteState) (till moment : ℕ) (r : Request) (q was : Question) → question_of other t r ≡ Some was → routed_request config s r ≡ Some q → FitsContext s q → bytes_of (context layout s till moment q) ≡ bytes_of (context layout t till moment was) → question_of config s r ≡ Some q
+by-request : (layout : Layout) (config other : ConfigValue) (s t : SiteState) (till moment : ℕ) (r : Request) (q was : Question)
+    → question_of other t r ≡ Some was → routed_request config s r ≡ Some q → FitsContext s q
+    → bytes_of (context layout s till moment q) ≡ bytes_of (context layout t till moment was) → question_of config s r ≡ Some q
 by-request layout config other s t till moment (request.Release n amount) q was h routed fits same =
     let asked : Question = record { kind = kind.Release; point = n; product = 0; asked = amount; slot = (slots_of config n).0 } in
     let a : Asks other t n amount was = asks other t n amount was (at_number t.points n) refl (ok-is (release_question other t n amount) was h) in
     let to : Routes s n asked q = routes s n asked q (at_number s.points n) refl routed in
     let here : q.point ≡ n = ap (λ (x : Question). x.point) to.question in
     let there : was.point ≡ n = ap (λ (x : Question). x.point) a.question in
-    let ready : is_ready to.point.state ≡ true = same-ready layout s t till moment n n q was to.point a.point here to.is_point there a.is_point same ∙ a.ready in
-    let few : length to.point.unpaid ≡ length a.point.unpaid = same-unpaid layout s t till moment n n q was to.point a.point here to.is_point there a.is_point fits.unpaid a.room same in
+    let ready : is_ready to.point.state ≡ true =
+    same-ready layout s t till moment n n q was to.point a.point here to.is_point there a.is_point same ∙ a.ready in
+    let few : length to.point.unpaid ≡ length a.point.unpaid =
+    same-unpaid layout s t till moment n n q was to.point a.point here to.is_point there a.is_point fits.unpaid a.room same in
     let room : nat_lt (length to.point.unpaid) 2 ≡ true = lt-ltb (length to.point.unpaid) 2 (omega (arith, few, a.room)) in
     ap result_ok (release-again config s n amount to.point to.is_point a.within ready room) ∙ ap (λ x. Some x) (sym to.question)
 by-request layout config other s t till moment (request.Preset n amount) q was h routed fits same =
@@ -140,7 +175,8 @@ by-request layout config other s t till moment (request.Preset n amount) q was h
     let to : Routes s n asked q = routes s n asked q (at_number s.points n) refl routed in
     let here : q.point ≡ n = ap (λ (x : Question). x.point) to.question in
     let there : was.point ≡ n = ap (λ (x : Question). x.point) a.question in
-    let ready : is_ready to.point.state ≡ true = same-ready layout s t till moment n n q was to.point a.point here to.is_point there a.is_point same ∙ a.ready in
+    let ready : is_ready to.point.state ≡ true =
+    same-ready layout s t till moment n n q was to.point a.point here to.is_point there a.is_point same ∙ a.ready in
     ap result_ok (preset-again config s n amount to.point to.is_point a.within ready) ∙ ap (λ x. Some x) (sym to.question)
 by-request layout config other s t till moment (request.Price product price) q was h routed fits same =
     let a : AsksPrice other t product price was = asks-price other t product price was (ok-is (price_question other t product price) was h) in
@@ -148,12 +184,16 @@ by-request layout config other s t till moment (request.Price product price) q w
     ap result_ok (price-again config product price true (first_busy s) a.within free) ∙ routed
 by-request layout config other s t till moment _ q was h routed fits same = absurd (none-some was h)
 
-by-till : (layout : Layout) (config other : ConfigValue) (s t : SiteState) (till moment : ℕ) (r : Request) (q was : Question) (b c : Bool) → (if c then question_of other t r else None) ≡ Some was → (if b then routed_request config s r else None) ≡ Some q → FitsContext s q → bytes_of (context layout s till moment q) ≡ bytes_of (context layout t till moment was) → (if b then question_of config s r else None) ≡ Some q
+by-till : (layout : Layout) (config other : ConfigValue) (s t : SiteState) (till moment : ℕ) (r : Request) (q was : Question) (b c : Bool)
+    → (if c then question_of other t r else None) ≡ Some was → (if b then routed_request config s r else None) ≡ Some q → FitsContext s q
+    → bytes_of (context layout s till moment q) ≡ bytes_of (context layout t till moment was) → (if b then question_of config s r else None) ≡ Some q
 by-till layout config other s t till moment r q was true true h routed fits same = by-request layout config other s t till moment r q was h routed fits same
 by-till layout config other s t till moment r q was true false h routed fits same = absurd (none-some was h)
 by-till layout config other s t till moment r q was false c h routed fits same = absurd (none-some q routed)
 
-pub asked-again : (layout : Layout) (config other : ConfigValue) (s t : SiteState) (till moment : ℕ) (r : Request) (q was : Question) → asked_question other t till r ≡ Some was → routed config s till r ≡ Some q → FitsContext s q → bytes_of (context layout s till moment q) ≡ bytes_of (context layout t till moment was) → asked_question config s till r ≡ Some q
+pub asked-again : (layout : Layout) (config other : ConfigValue) (s t : SiteState) (till moment : ℕ) (r : Request) (q was : Question)
+    → asked_question other t till r ≡ Some was → routed config s till r ≡ Some q → FitsContext s q
+    → bytes_of (context layout s till moment q) ≡ bytes_of (context layout t till moment was) → asked_question config s till r ≡ Some q
 asked-again layout config other s t till moment r q was h routed fits same =
     by-till layout config other s t till moment r q was (is_till config till) (is_till other till) h routed fits same
 
@@ -177,7 +217,8 @@ well-request config s (request.Price product price) q h = λ none.
     rw a.question (in-range product price a.within)
 well-request config s _ q h = absurd (none-some q h)
 
-well-till : (config : ConfigValue) (s : SiteState) (r : Request) (q : Question) (b : Bool) → (if b then question_of config s r else None) ≡ Some q → WellAsked s q
+well-till : (config : ConfigValue) (s : SiteState) (r : Request) (q : Question) (b : Bool) → (if b then question_of config s r else None) ≡ Some q
+    → WellAsked s q
 well-till config s r q true h = well-request config s r q h
 well-till config s r q false h = absurd (none-some q h)
 

@@ -1,5 +1,6 @@
 -- What two equal contexts say of the states that they were made in.
-use Rattle.std.proofs.Common.{◌≡◌, ℕ, ◌+◌, ◌%◌, ◌<◌, Bool, true, false, List, [], ◌∷◌, ◌++◌, length, take, map, replicate, Option, Some, None, refl, ap, ◌∙◌, sym, arith, get_or, zero, suc, cond}
+use Rattle.std.proofs.Common.{◌≡◌, ℕ, ◌+◌, ◌%◌, ◌<◌, Bool, true, false, List, [], ◌∷◌, ◌++◌, length, take, map, replicate, Option, Some, None, refl, ap, ◌∙◌}
+use Rattle.std.proofs.Common.{sym, arith, get_or, zero, suc, cond}
 use Rattle.std.specs.Prelude.{◌==◌, ◌||◌, ◌-◌, count_by, find, option_map}
 use Rattle.std.proofs.lemmas.List.Recursion.{is_count_by}
 use Rattle.fuelling_point.specs.Table.{PointState}
@@ -39,15 +40,18 @@ laid-state : (a b c x : ℕ) (rest : List Field) → get_or (laid (Four a ∷ Fo
 unfolding laid
 laid-state a b c x rest = refl
 
-laid-busy : (a b c d e f g h i x : ℕ) (rest : List Field) → four (laid (Four a ∷ Four b ∷ Four c ∷ Four d ∷ Four e ∷ Four f ∷ Eight g ∷ Eight h ∷ Four i ∷ Four x ∷ rest)) 44 ≡ little_bytes 4 x
+laid-busy : (a b c d e f g h i x : ℕ) (rest : List Field)
+    → four (laid (Four a ∷ Four b ∷ Four c ∷ Four d ∷ Four e ∷ Four f ∷ Eight g ∷ Eight h ∷ Four i ∷ Four x ∷ rest)) 44 ≡ little_bytes 4 x
 unfolding laid four
 laid-busy a b c d e f g h i x rest = refl
 
-laid-unpaid : (a b c d e f g h i j x : ℕ) (rest : List Field) → four (laid (Four a ∷ Four b ∷ Four c ∷ Four d ∷ Four e ∷ Four f ∷ Eight g ∷ Eight h ∷ Four i ∷ Four j ∷ Four x ∷ rest)) 48 ≡ little_bytes 4 x
+laid-unpaid : (a b c d e f g h i j x : ℕ) (rest : List Field)
+    → four (laid (Four a ∷ Four b ∷ Four c ∷ Four d ∷ Four e ∷ Four f ∷ Eight g ∷ Eight h ∷ Four i ∷ Four j ∷ Four x ∷ rest)) 48 ≡ little_bytes 4 x
 unfolding laid four
 laid-unpaid a b c d e f g h i j x rest = refl
 
-context-bytes : (layout : Layout) (s : SiteState) (till moment : ℕ) (q : Question) → bytes_of (context layout s till moment q) ≡ laid (fields layout s till moment q)
+context-bytes : (layout : Layout) (s : SiteState) (till moment : ℕ) (q : Question)
+    → bytes_of (context layout s till moment q) ≡ laid (fields layout s till moment q)
 unfolding context
 context-bytes layouts.One s till moment q = refl
 context-bytes layouts.Two s till moment q = refl
@@ -64,25 +68,31 @@ same-context (contexts.Two x) (contexts.Two y) l h = ap (λ bytes. contexts.Two 
 same-context (contexts.One x) (contexts.Two y) l h = absurd (cc)
 same-context (contexts.Two x) (contexts.One y) l h = absurd (cc)
 
-fields-state : (layout : Layout) (s : SiteState) (till moment : ℕ) (q : Question) → get_or (laid (fields layout s till moment q)) 12 0 ≡ of_point s q (λ p. state_number p.state) % 256
+fields-state : (layout : Layout) (s : SiteState) (till moment : ℕ) (q : Question) → get_or (laid (fields layout s till moment q)) 12 0 ≡ of_point s q
+    (λ p. state_number p.state) % 256
 fields-state layouts.One s till moment q = laid-state _ _ _ _ _
 fields-state layouts.Two s till moment q = laid-state _ _ _ _ _
 
-fields-busy : (layout : Layout) (s : SiteState) (till moment : ℕ) (q : Question) → four (laid (fields layout s till moment q)) 44 ≡ little_bytes 4 (busy_points s)
+fields-busy : (layout : Layout) (s : SiteState) (till moment : ℕ) (q : Question) → four (laid (fields layout s till moment q)) 44
+    ≡ little_bytes 4 (busy_points s)
 fields-busy layouts.One s till moment q = laid-busy _ _ _ _ _ _ _ _ _ _ _
 fields-busy layouts.Two s till moment q = laid-busy _ _ _ _ _ _ _ _ _ _ _
 
-fields-unpaid : (layout : Layout) (s : SiteState) (till moment : ℕ) (q : Question) → four (laid (fields layout s till moment q)) 48 ≡ little_bytes 4 (of_point s q (λ p. length p.unpaid))
+fields-unpaid : (layout : Layout) (s : SiteState) (till moment : ℕ) (q : Question) → four (laid (fields layout s till moment q)) 48
+    ≡ little_bytes 4 (of_point s q (λ p. length p.unpaid))
 fields-unpaid layouts.One s till moment q = laid-unpaid _ _ _ _ _ _ _ _ _ _ _ _
 fields-unpaid layouts.Two s till moment q = laid-unpaid _ _ _ _ _ _ _ _ _ _ _ _
 
-context-state : (layout : Layout) (s : SiteState) (till moment : ℕ) (q : Question) → get_or (bytes_of (context layout s till moment q)) 12 0 ≡ of_point s q (λ p. state_number p.state) % 256
+context-state : (layout : Layout) (s : SiteState) (till moment : ℕ) (q : Question) → get_or (bytes_of (context layout s till moment q)) 12 0 ≡ of_point s q
+    (λ p. state_number p.state) % 256
 context-state layout s till moment q = ap (λ bytes. get_or bytes 12 0) (context-bytes layout s till moment q) ∙ fields-state layout s till moment q
 
-context-busy : (layout : Layout) (s : SiteState) (till moment : ℕ) (q : Question) → four (bytes_of (context layout s till moment q)) 44 ≡ little_bytes 4 (busy_points s)
+context-busy : (layout : Layout) (s : SiteState) (till moment : ℕ) (q : Question) → four (bytes_of (context layout s till moment q)) 44
+    ≡ little_bytes 4 (busy_points s)
 context-busy layout s till moment q = ap (λ bytes. four bytes 44) (context-bytes layout s till moment q) ∙ fields-busy layout s till moment q
 
-context-unpaid : (layout : Layout) (s : SiteState) (till moment : ℕ) (q : Question) → four (bytes_of (context layout s till moment q)) 48 ≡ little_bytes 4 (of_point s q (λ p. length p.unpaid))
+context-unpaid : (layout : Layout) (s : SiteState) (till moment : ℕ) (q : Question) → four (bytes_of (context layout s till moment q)) 48
+    ≡ little_bytes 4 (of_point s q (λ p. length p.unpaid))
 context-unpaid layout s till moment q = ap (λ bytes. four bytes 48) (context-bytes layout s till moment q) ∙ fields-unpaid layout s till moment q
 
 -- ---- the question's point
@@ -102,22 +112,30 @@ by-byte state.SuspendedStarted = refl
 by-byte state.Fuelling = refl
 by-byte state.SuspendedFuelling = refl
 
-of-point : (s : SiteState) (q : Question) (n : ℕ) (p : PointState) (field : PointState → ℕ) → q.point ≡ n → at_number s.points n ≡ Some p → of_point s q field ≡ field p
+of-point : (s : SiteState) (q : Question) (n : ℕ) (p : PointState) (field : PointState → ℕ) → q.point ≡ n → at_number s.points n ≡ Some p
+    → of_point s q field ≡ field p
 of-point s q n p field is at = ap (λ m. told (at_number s.points m) field) is ∙ ap (λ o. told o field) at
 
 -- both points are ready, or none
-pub same-ready : (layout : Layout) (s t : SiteState) (till moment n m : ℕ) (q r : Question) (p o : PointState) → q.point ≡ n → at_number s.points n ≡ Some p → r.point ≡ m → at_number t.points m ≡ Some o → bytes_of (context layout s till moment q) ≡ bytes_of (context layout t till moment r) → is_ready p.state ≡ is_ready o.state
+pub same-ready : (layout : Layout) (s t : SiteState) (till moment n m : ℕ) (q r : Question) (p o : PointState) → q.point ≡ n → at_number s.points n ≡ Some p
+    → r.point ≡ m → at_number t.points m ≡ Some o → bytes_of (context layout s till moment q) ≡ bytes_of (context layout t till moment r)
+    → is_ready p.state ≡ is_ready o.state
 same-ready layout s t till moment n m q r p o at here there_at there same =
-    let mine : get_or (bytes_of (context layout s till moment q)) 12 0 ≡ state_number p.state % 256 = context-state layout s till moment q ∙ ap (λ x. x % 256) (of-point s q n p (λ x. state_number x.state) at here) in
-    let theirs : get_or (bytes_of (context layout t till moment r)) 12 0 ≡ state_number o.state % 256 = context-state layout t till moment r ∙ ap (λ x. x % 256) (of-point t r m o (λ x. state_number x.state) there_at there) in
+    let mine : get_or (bytes_of (context layout s till moment q)) 12 0 ≡ state_number p.state % 256 =
+    context-state layout s till moment q ∙ ap (λ x. x % 256) (of-point s q n p (λ x. state_number x.state) at here) in
+    let theirs : get_or (bytes_of (context layout t till moment r)) 12 0 ≡ state_number o.state % 256 =
+    context-state layout t till moment r ∙ ap (λ x. x % 256) (of-point t r m o (λ x. state_number x.state) there_at there) in
     by-byte p.state ∙ ap ready-byte (sym mine ∙ ap (λ bytes. get_or bytes 12 0) same ∙ theirs) ∙ sym (by-byte o.state)
 
 -- both have as many transactions
-pub same-unpaid : (layout : Layout) (s t : SiteState) (till moment n m : ℕ) (q r : Question) (p o : PointState) → q.point ≡ n → at_number s.points n ≡ Some p → r.point ≡ m → at_number t.points m ≡ Some o → of_point s q (λ x. length x.unpaid) < 4294967296 → length o.unpaid < 2 → bytes_of (context layout s till moment q) ≡ bytes_of (context layout t till moment r) → length p.unpaid ≡ length o.unpaid
+pub same-unpaid : (layout : Layout) (s t : SiteState) (till moment n m : ℕ) (q r : Question) (p o : PointState) → q.point ≡ n → at_number s.points n ≡ Some p
+    → r.point ≡ m → at_number t.points m ≡ Some o → of_point s q (λ x. length x.unpaid) < 4294967296 → length o.unpaid < 2
+    → bytes_of (context layout s till moment q) ≡ bytes_of (context layout t till moment r) → length p.unpaid ≡ length o.unpaid
 same-unpaid layout s t till moment n m q r p o at here there_at there fits few same =
     let mine : of_point s q (λ x. length x.unpaid) ≡ length p.unpaid = of-point s q n p (λ x. length x.unpaid) at here in
     let theirs : of_point t r (λ x. length x.unpaid) ≡ length o.unpaid = of-point t r m o (λ x. length x.unpaid) there_at there in
-    let bytes : little_bytes 4 (of_point s q (λ x. length x.unpaid)) ≡ little_bytes 4 (of_point t r (λ x. length x.unpaid)) = sym (context-unpaid layout s till moment q) ∙ ap (λ l. four l 48) same ∙ context-unpaid layout t till moment r in
+    let bytes : little_bytes 4 (of_point s q (λ x. length x.unpaid)) ≡ little_bytes 4 (of_point t r (λ x. length x.unpaid)) =
+    sym (context-unpaid layout s till moment q) ∙ ap (λ l. four l 48) same ∙ context-unpaid layout t till moment r in
     sym mine ∙ four-same (of_point s q (λ x. length x.unpaid)) (of_point t r (λ x. length x.unpaid)) fits (omega (arith, theirs)) bytes ∙ theirs
 
 -- ---- busy points
@@ -161,10 +179,12 @@ unfolding first_busy busy_points
 first-none s h = ap (option_map (λ (p : PointState). p.state)) (none-counted s.points (counted s.points ∙ h))
 
 -- no point is busy in either
-pub same-busy : (layout : Layout) (s t : SiteState) (till moment : ℕ) (q r : Question) → busy_points s < 4294967296 → first_busy t ≡ None → bytes_of (context layout s till moment q) ≡ bytes_of (context layout t till moment r) → first_busy s ≡ None
+pub same-busy : (layout : Layout) (s t : SiteState) (till moment : ℕ) (q r : Question) → busy_points s < 4294967296 → first_busy t ≡ None
+    → bytes_of (context layout s till moment q) ≡ bytes_of (context layout t till moment r) → first_busy s ≡ None
 same-busy layout s t till moment q r fits none same =
     let zero_there : busy_points t ≡ 0 = none-busy t none in
-    let bytes : little_bytes 4 (busy_points s) ≡ little_bytes 4 (busy_points t) = sym (context-busy layout s till moment q) ∙ ap (λ l. four l 44) same ∙ context-busy layout t till moment r in
+    let bytes : little_bytes 4 (busy_points s) ≡ little_bytes 4 (busy_points t) =
+    sym (context-busy layout s till moment q) ∙ ap (λ l. four l 44) same ∙ context-busy layout t till moment r in
     first-none s (four-same (busy_points s) (busy_points t) fits (omega (arith, zero_there)) bytes ∙ zero_there)
 
 -- ---- views
@@ -202,7 +222,8 @@ view-there s = there-seen s.points (32 - length s.points)
 pub same-view : (s t : SiteState) (now view : View) → now ≡ view_of s → view ≡ view_of t → now.points ≡ view.points → now.prices ≡ view.prices → now ≡ view
 same-view s t now view mine theirs points prices =
     let many : now.count ≡ view.count =
-    ap (λ (v : View). v.count) mine ∙ sym (view-there s) ∙ ap (λ (v : View). there v.points) (sym mine) ∙ ap there points ∙ ap (λ (v : View). there v.points) theirs ∙ view-there t ∙ ap (λ (v : View). v.count) (sym theirs) in
+    ap (λ (v : View). v.count) mine ∙ sym (view-there s) ∙ ap (λ (v : View). there v.points) (sym mine) ∙ ap there points ∙ ap
+    (λ (v : View). there v.points) theirs ∙ view-there t ∙ ap (λ (v : View). v.count) (sym theirs) in
     λ i. record { count = many i; points = points i; prices = prices i }
 
 -- ---- the context that is laid
@@ -218,10 +239,12 @@ pub two-long : (s : SiteState) (till moment : ℕ) (q : Question) → 80 ≡ len
 unfolding laid
 two-long s till moment q = refl
 
-pub laid-one-context : (s : SiteState) (till moment : ℕ) (q : Question) (bytes : List ℕ) → bytes ≡ laid (fields layouts.One s till moment q) → contexts.One bytes ≡ context layouts.One s till moment q
+pub laid-one-context : (s : SiteState) (till moment : ℕ) (q : Question) (bytes : List ℕ) → bytes ≡ laid (fields layouts.One s till moment q)
+    → contexts.One bytes ≡ context layouts.One s till moment q
 unfolding context
 laid-one-context s till moment q bytes h = ap (λ l. contexts.One l) h
 
-pub laid-two-context : (s : SiteState) (till moment : ℕ) (q : Question) (bytes : List ℕ) → bytes ≡ laid (fields layouts.Two s till moment q) → contexts.Two bytes ≡ context layouts.Two s till moment q
+pub laid-two-context : (s : SiteState) (till moment : ℕ) (q : Question) (bytes : List ℕ) → bytes ≡ laid (fields layouts.Two s till moment q)
+    → contexts.Two bytes ≡ context layouts.Two s till moment q
 unfolding context
 laid-two-context s till moment q bytes h = ap (λ l. contexts.Two l) h

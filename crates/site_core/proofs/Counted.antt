@@ -11,5 +11,6 @@ at-place : (a b : Counters) (k : ℕ) → length a ≡ 32 → length b ≡ 32 �
 at-place a b k la lb same (inl lt) = sym (same lt)
 at-place a b k la lb same (inr le) = get_or_past b k (0, 0) (omega (arith, lb)) ∙ sym (get_or_past a k (0, 0) (omega (arith, la)))
 
-pub all-agree : (declared : ℕ) (a b : Counters) → length a ≡ 32 → length b ≡ 32 → ((k : ℕ) → k < 32 → IsTrue (is_declared declared k) → counter a k ≡ counter b k) → Agrees declared b a
+pub all-agree : (declared : ℕ) (a b : Counters) → length a ≡ 32 → length b ≡ 32
+    → ((k : ℕ) → k < 32 → IsTrue (is_declared declared k) → counter a k ≡ counter b k) → Agrees declared b a
 all-agree declared a b la lb same = λ k bit. at-place a b k la lb (λ lt. same k lt (eq-eqb (declared / 2 ^ k % 2) 1 bit)) (cases_lt k 32)

@@ -17,13 +17,20 @@ pub decided-refused : (past : List Entry) (s : SiteState) (till moment : ℕ) (r
 unfolding decided
 decided-refused past s till moment r = refl
 
-pub decided-none : (past : List Entry) (s : SiteState) (till moment : ℕ) (q : Question) → in_force q.slot past ≡ None → decided past s till moment (Ok q) ≡ replied (no_program q.slot) s
+pub decided-none : (past : List Entry) (s : SiteState) (till moment : ℕ) (q : Question) → in_force q.slot past ≡ None
+    → decided past s till moment (Ok q) ≡ replied (no_program q.slot) s
 unfolding decided
 decided-none past s till moment q none = rw (none, decided)
 
-pub decided-some : (past : List Entry) (s : SiteState) (till moment : ℕ) (q : Question) (v : Version) → in_force q.slot past ≡ Some v → decided past s till moment (Ok q) ≡ (let r : ℕ × Counters = ran (outcome v.program (bytes_of (context v.program.layout s till moment q)) (view_of s) s.counters) s.counters in verdict s till moment q v r.0 r.1)
+pub decided-some : (past : List Entry) (s : SiteState) (till moment : ℕ) (q : Question) (v : Version) → in_force q.slot past ≡ Some v
+    → decided past s till moment (Ok q)
+    ≡ (let r : ℕ × Counters = ran (outcome v.program (bytes_of (context v.program.layout s till moment q)) (view_of s) s.counters) s.counters in
+    verdict s till moment q v r.0 r.1)
 unfolding decided
 decided-some past s till moment q v some = rw (some, decided)
 
-pub decided-ended : (past : List Entry) (s : SiteState) (till moment : ℕ) (q : Question) (v : Version) (r : ℕ) (counters : Counters) → in_force q.slot past ≡ Some v → outcome v.program (bytes_of (context v.program.layout s till moment q)) (view_of s) s.counters ≡ Ended r counters → decided past s till moment (Ok q) ≡ verdict s till moment q v r counters
-decided-ended past s till moment q v r counters some ended = decided-some past s till moment q v some ∙ ap (λ o. verdict s till moment q v (ran o s.counters).0 (ran o s.counters).1) ended
+pub decided-ended : (past : List Entry) (s : SiteState) (till moment : ℕ) (q : Question) (v : Version) (r : ℕ) (counters : Counters)
+    → in_force q.slot past ≡ Some v → outcome v.program (bytes_of (context v.program.layout s till moment q)) (view_of s) s.counters ≡ Ended r counters
+    → decided past s till moment (Ok q) ≡ verdict s till moment q v r counters
+decided-ended past s till moment q v r counters some ended =
+    decided-some past s till moment q v some ∙ ap (λ o. verdict s till moment q v (ran o s.counters).0 (ran o s.counters).1) ended

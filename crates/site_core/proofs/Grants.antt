@@ -1,5 +1,6 @@
 -- What a grant does to the site.
-use Rattle.std.proofs.Common.{◌≡◌, ℕ, ◌+◌, ◌-◌, ◌*◌, ◌≤◌, true, false, length, Option, Some, None, Result, Ok, Err, slice_set, arith, ap, ◌∙◌, sym, subst, get_or}
+use Rattle.std.proofs.Common.{◌≡◌, ℕ, ◌+◌, ◌-◌, ◌*◌, ◌≤◌, true, false, length, Option, Some, None, Result, Ok, Err, slice_set, arith, ap, ◌∙◌, sym, subst}
+use Rattle.std.proofs.Common.{get_or}
 use Rattle.std.specs.Prelude.{◌==◌}
 use Rattle.std.proofs.lemmas.List.Elements.{All-set}
 use Rattle.fuelling_point.specs.Table.{PointState, Answer, command_step}
@@ -16,37 +17,68 @@ use Rattle.site_core.specs.Decide.{denied, grant, granted_point, command_of, aft
 use Rattle.site_core.proofs.Points.{at_number-read}
 
 -- what the point became
-after-is : (a : Answer (Option ℕ)) (p new : PointState) (outcome : Result (Option ℕ) PointFault) → FollowsTable a p outcome new → (elim a as (λ _. PointState) [ Ok o ↦ o.0 | Err f ↦ p ]) ≡ new
+after-is : (a : Answer (Option ℕ)) (p new : PointState) (outcome : Result (Option ℕ) PointFault) → FollowsTable a p outcome new
+    → (elim a as (λ _. PointState) [ Ok o ↦ o.0 | Err f ↦ p ]) ≡ new
 after-is (Ok (q, given)) p new outcome h = sym h.1
 after-is (Err f) p new outcome h = sym h.1
 
-grant-some : (s : SiteState) (till r : ℕ) (q : Question) (p : PointState) → at_number s.points q.point ≡ Some p → grant s till q r ≡ (let g : ℕ = granted_point q.kind q.asked r p.preset in (g, with_point s q.point (after_command p till (command_of q.kind g))))
+grant-some : (s : SiteState) (till r : ℕ) (q : Question) (p : PointState) → at_number s.points q.point ≡ Some p
+    → grant s till q r ≡ (let g : ℕ = granted_point q.kind q.asked r p.preset in (g, with_point s q.point (after_command p till (command_of q.kind g))))
 unfolding grant
 grant-some s till r q p at = rw (at, grant)
 
-pub grant-none : (s : SiteState) (till r : ℕ) (q : Question) → at_number s.points q.point ≡ None → grant s till q r ≡ (q.asked, record s { prices = slice_set s.prices (q.product - 1) q.asked })
+pub grant-none : (s : SiteState) (till r : ℕ) (q : Question) → at_number s.points q.point ≡ None
+    → grant s till q r ≡ (q.asked, record s { prices = slice_set s.prices (q.product - 1) q.asked })
 unfolding grant
 grant-none s till r q none = rw (none, grant)
 
-pub grant-is : (s : SiteState) (till r : ℕ) (q : Question) (p new : PointState) (outcome : Result (Option ℕ) PointFault) → 1 ≤ q.point → q.point ≤ length s.points → p ≡ get_or s.points (q.point - 1) p → FollowsTable (command_step p till (command_of q.kind (granted_point q.kind q.asked r p.preset))) p outcome new → grant s till q r ≡ (granted_point q.kind q.asked r p.preset, with_point s q.point new)
+pub grant-is : (s : SiteState) (till r : ℕ) (q : Question) (p new : PointState) (outcome : Result (Option ℕ) PointFault) → 1 ≤ q.point
+    → q.point ≤ length s.points → p ≡ get_or s.points (q.point - 1) p
+    → FollowsTable (command_step p till (command_of q.kind (granted_point q.kind q.asked r p.preset))) p outcome new
+    → grant s till q r ≡ (granted_point q.kind q.asked r p.preset, with_point s q.point new)
 grant-is s till r q p new outcome one le is answers =
     let g : ℕ = granted_point q.kind q.asked r p.preset in
-    grant-some s till r q p (at_number-read s.points q.point p one le is) ∙ ap (λ x. (g, with_point s q.point x)) (after-is (command_step p till (command_of q.kind g)) p new outcome answers)
+    grant-some s till r q p (at_number-read s.points q.point p one le is) ∙ ap
+    (λ x. (g, with_point s q.point x)) (after-is (command_step p till (command_of q.kind g)) p new outcome answers)
 
 -- one more transaction at one point
-pub bounded-with : (k : ℕ) (s : SiteState) (n : ℕ) (p new : PointState) → Bounded k s → n ≤ length s.points → 1 ≤ n → p ≡ get_or s.points (n - 1) p → new.last ≤ p.last + 1 → Bounded (k + 1) (with_point s n new)
+pub bounded-with : (k : ℕ) (s : SiteState) (n : ℕ) (p new : PointState) → Bounded k s → n ≤ length s.points → 1 ≤ n → p ≡ get_or s.points (n - 1) p
+    → new.last ≤ p.last + 1 → Bounded (k + 1) (with_point s n new)
 bounded-with k s n p new b le one is last =
     let small : p.last ≤ k = subst (λ (x : PointState). x.last ≤ k) (sym is) (b.last (n - 1) p (omega arith)) in
     record {
-      last = All-set (λ (x : PointState). x.last ≤ k + 1) s.points (n - 1) new (omega arith) (λ j d h. let l : (get_or s.points j d).last ≤ k = b.last j d h in omega (arith, l));
+      last = All-set (λ (x : PointState). x.last ≤ k + 1) s.points (n - 1) new (omega arith)
+          (λ j d h. let l : (get_or s.points j d).last ≤ k = b.last j d h in omega (arith, l));
       cleared = let c : s.cleared ≤ 999999999 * k = b.cleared in omega (arith, c);
       clears = let c : s.clears ≤ k = b.clears in omega (arith, c);
     }
 
-pub verdict-deny : (s : SiteState) (till moment r : ℕ) (q : Question) (v : Version) (c : Counters) → (r == 0) ≡ true → verdict s till moment q v r c ≡ record { reply = denied v.number; run = Some (record { slot = q.slot; version = v.number; r0 = r; context = context v.program.layout s till moment q; counts = counts v.program.declared s.counters c }); after = record s { counters = c } }
+pub verdict-deny : (s : SiteState) (till moment r : ℕ) (q : Question) (v : Version) (c : Counters) → (r == 0) ≡ true
+    → verdict s till moment q v r c ≡ record {
+      reply = denied v.number;
+      run = Some (record {
+        slot = q.slot;
+        version = v.number;
+        r0 = r;
+        context = context v.program.layout s till moment q;
+        counts = counts v.program.declared s.counters c;
+      });
+      after = record s { counters = c };
+    }
 unfolding verdict
 verdict-deny s till moment r q v c zero = rw (zero, verdict)
 
-pub verdict-grant : (s : SiteState) (till moment r g : ℕ) (q : Question) (v : Version) (c : Counters) (new : SiteState) → (r == 0) ≡ false → grant (record s { counters = c }) till q r ≡ (g, new) → verdict s till moment q v r c ≡ record { reply = reply.Granted g v.number; run = Some (record { slot = q.slot; version = v.number; r0 = r; context = context v.program.layout s till moment q; counts = counts v.program.declared s.counters c }); after = new }
+pub verdict-grant : (s : SiteState) (till moment r g : ℕ) (q : Question) (v : Version) (c : Counters) (new : SiteState) → (r == 0) ≡ false
+    → grant (record s { counters = c }) till q r ≡ (g, new) → verdict s till moment q v r c ≡ record {
+      reply = reply.Granted g v.number;
+      run = Some (record {
+        slot = q.slot;
+        version = v.number;
+        r0 = r;
+        context = context v.program.layout s till moment q;
+        counts = counts v.program.declared s.counters c;
+      });
+      after = new;
+    }
 unfolding verdict
 verdict-grant s till moment r g q v c new some given = rw (some, given, verdict)

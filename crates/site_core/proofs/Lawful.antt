@@ -21,7 +21,8 @@ use Rattle.site_core.specs.Limits.{ConfigValue}
 use Rattle.site_core.specs.State.{SiteState, at_number, view_of}
 use Rattle.site_core.specs.Context.{context}
 use Rattle.site_core.specs.History.{in_force}
-use Rattle.site_core.specs.Decide.{Effect, replied, no_such_point, no_such_till, denied, is_till, bad_amount, transactions_full, wrong_state, no_program, is_within, need, slots_of, release_question, decided, verdict, ran, grant, granted_point, is_decided}
+use Rattle.site_core.specs.Decide.{Effect, replied, no_such_point, no_such_till, denied, is_till, bad_amount, transactions_full, wrong_state, no_program}
+use Rattle.site_core.specs.Decide.{is_within, need, slots_of, release_question, decided, verdict, ran, grant, granted_point, is_decided}
 use Rattle.site_core.specs.Step.{effect}
 use Rattle.site_core.specs.Legal.{Legal, LawfulRelease, LawfulEntry, LawfulReleases}
 use Rattle.site_core.proofs.Points.{release-none, release-some}
@@ -58,28 +59,36 @@ three-ok true true false x y z p q h = absurd (err-ok z q h)
 three-ok true false c x y z p q h = absurd (err-ok y q h)
 three-ok false b c x y z p q h = absurd (err-ok x q h)
 
-pub asks : (config : ConfigValue) (s : SiteState) (n amount : ℕ) (q : Question) (o : Option PointState) → at_number s.points n ≡ o → release_question config s n amount ≡ Ok q → Asks config s n amount q
+pub asks : (config : ConfigValue) (s : SiteState) (n amount : ℕ) (q : Question) (o : Option PointState) → at_number s.points n ≡ o
+    → release_question config s n amount ≡ Ok q → Asks config s n amount q
 asks config s n amount q None at h = absurd (err-ok no_such_point q (sym (release-none config s n amount at) ∙ h))
 asks config s n amount q (Some p) at h =
     let asked : Question = record { kind = kind.Release; point = n; product = 0; asked = amount; slot = (slots_of config n).0 } in
-    let all = three-ok (is_within 1 amount 999999999) (is_ready p.state) (nat_lt (length p.unpaid) 2) bad_amount (wrong_state p.state) transactions_full asked q (sym (release-some config s n amount p at) ∙ h) in
+    let all = three-ok (is_within 1 amount 999999999) (is_ready p.state) (nat_lt (length p.unpaid) 2) bad_amount (wrong_state p.state) transactions_full asked q
+    (sym (release-some config s n amount p at) ∙ h) in
     record { point = p; is_point = at; question = all.3; within = all.0; ready = all.1; room = ltb-true (length p.unpaid) 2 all.2 }
 
 -- a grant comes of an answer that isn't 0
-verdict-denied : (s : SiteState) (till moment : ℕ) (q : Question) (v : Version) (r : ℕ) (c : Counters) → (r == 0) ≡ true → (verdict s till moment q v r c).reply ≡ denied v.number
+verdict-denied : (s : SiteState) (till moment : ℕ) (q : Question) (v : Version) (r : ℕ) (c : Counters) → (r == 0) ≡ true
+    → (verdict s till moment q v r c).reply ≡ denied v.number
 unfolding verdict
 verdict-denied s till moment q v r c zero = rw (zero, verdict)
 
-verdict-granted : (s : SiteState) (till moment : ℕ) (q : Question) (v : Version) (r : ℕ) (c : Counters) → (r == 0) ≡ false → (verdict s till moment q v r c).reply ≡ reply.Granted (grant (record s { counters = c }) till q r).0 v.number
+verdict-granted : (s : SiteState) (till moment : ℕ) (q : Question) (v : Version) (r : ℕ) (c : Counters) → (r == 0) ≡ false
+    → (verdict s till moment q v r c).reply ≡ reply.Granted (grant (record s { counters = c }) till q r).0 v.number
 unfolding verdict
 verdict-granted s till moment q v r c some = rw (some, verdict)
 
 -- the point's grant
-grant-release : (s : SiteState) (till n amount r slot : ℕ) (p : PointState) → at_number s.points n ≡ Some p → (grant s till (record { kind = kind.Release; point = n; product = 0; asked = amount; slot = slot }) r).0 ≡ granted_point kind.Release amount r p.preset
+grant-release : (s : SiteState) (till n amount r slot : ℕ) (p : PointState) → at_number s.points n ≡ Some p
+    → (grant s till (record { kind = kind.Release; point = n; product = 0; asked = amount; slot = slot }) r).0 ≡ granted_point kind.Release amount r p.preset
 unfolding grant
 grant-release s till n amount r slot p at = rw (at, grant)
 
-by-answer : (config : ConfigValue) (past : List Entry) (s : SiteState) (till moment n amount g v r : ℕ) (q : Question) (w : Version) (c : Counters) (zero : Bool) → (r == 0) ≡ zero → Asks config s n amount q → in_force q.slot past ≡ Some w → outcome w.program (bytes_of (context w.program.layout s till moment q)) (view_of s) s.counters ≡ Ended r c → reply.Granted g v ≡ (verdict s till moment q w r c).reply → LawfulRelease config past s till moment n amount g v
+by-answer : (config : ConfigValue) (past : List Entry) (s : SiteState) (till moment n amount g v r : ℕ) (q : Question) (w : Version) (c : Counters)
+    (zero : Bool) → (r == 0) ≡ zero → Asks config s n amount q → in_force q.slot past ≡ Some w
+    → outcome w.program (bytes_of (context w.program.layout s till moment q)) (view_of s) s.counters ≡ Ended r c
+    → reply.Granted g v ≡ (verdict s till moment q w r c).reply → LawfulRelease config past s till moment n amount g v
 by-answer config past s till moment n amount g v r q w c true zero a some exit h = absurd (let e = h ∙ verdict-denied s till moment q w r c zero in cc)
 by-answer config past s till moment n amount g v r q w c false zero a some exit h =
     let e : reply.Granted g v ≡ reply.Granted (grant (record s { counters = c }) till q r).0 w.number = h ∙ verdict-granted s till moment q w r c zero in
@@ -98,35 +107,48 @@ by-answer config past s till moment n amount g v r q w c false zero a some exit 
       allowed = eqb-false r 0 zero;
       ready = a.ready;
       room = a.room;
-      grant = given ∙ ap (λ x. (grant (record s { counters = c }) till x r).0) a.question ∙ grant-release (record s { counters = c }) till n amount r (slots_of config n).0 a.point a.is_point;
+      grant = given ∙ ap (λ x. (grant (record s { counters = c }) till x r).0) a.question ∙ grant-release
+          (record s { counters = c }) till n amount r (slots_of config n).0 a.point a.is_point;
     }
 
-by-outcome : (config : ConfigValue) (past : List Entry) (s : SiteState) (till moment n amount g v : ℕ) (q : Question) (w : Version) (o : Outcome) → Asks config s n amount q → in_force q.slot past ≡ Some w → outcome w.program (bytes_of (context w.program.layout s till moment q)) (view_of s) s.counters ≡ o → reply.Granted g v ≡ (verdict s till moment q w (ran o s.counters).0 (ran o s.counters).1).reply → LawfulRelease config past s till moment n amount g v
-by-outcome config past s till moment n amount g v q w (Ended r c) a some is h = by-answer config past s till moment n amount g v r q w c (r == 0) refl a some is h
+by-outcome : (config : ConfigValue) (past : List Entry) (s : SiteState) (till moment n amount g v : ℕ) (q : Question) (w : Version) (o : Outcome)
+    → Asks config s n amount q → in_force q.slot past ≡ Some w → outcome w.program (bytes_of (context w.program.layout s till moment q)) (view_of s) s.counters
+    ≡ o → reply.Granted g v ≡ (verdict s till moment q w (ran o s.counters).0 (ran o s.counters).1).reply → LawfulRelease config past s till moment n amount g v
+by-outcome config past s till moment n amount g v q w (Ended r c) a some is h =
+    by-answer config past s till moment n amount g v r q w c (r == 0) refl a some is h
 by-outcome config past s till moment n amount g v q w Halted a some is h = absurd (let e = h ∙ verdict-denied s till moment q w 0 s.counters refl in cc)
 by-outcome config past s till moment n amount g v q w (Running t) a some is h = absurd (let e = h ∙ verdict-denied s till moment q w 0 s.counters refl in cc)
 
-by-version : (config : ConfigValue) (past : List Entry) (s : SiteState) (till moment n amount g v : ℕ) (q : Question) (o : Option Version) → Asks config s n amount q → in_force q.slot past ≡ o → reply.Granted g v ≡ (decided past s till moment (Ok q)).reply → LawfulRelease config past s till moment n amount g v
+by-version : (config : ConfigValue) (past : List Entry) (s : SiteState) (till moment n amount g v : ℕ) (q : Question) (o : Option Version)
+    → Asks config s n amount q → in_force q.slot past ≡ o → reply.Granted g v ≡ (decided past s till moment (Ok q)).reply
+    → LawfulRelease config past s till moment n amount g v
 by-version config past s till moment n amount g v q None a none h =
     absurd (let e : reply.Granted g v ≡ no_program q.slot = h ∙ ap (λ (x : Effect). x.reply) (decided-none past s till moment q none) in cc)
 by-version config past s till moment n amount g v q (Some w) a some h =
-    by-outcome config past s till moment n amount g v q w (outcome w.program (bytes_of (context w.program.layout s till moment q)) (view_of s) s.counters) a some refl
+    by-outcome config past s till moment n amount g v q w (outcome w.program (bytes_of (context w.program.layout s till moment q)) (view_of s) s.counters) a
+    some refl
     (h ∙ ap (λ (x : Effect). x.reply) (decided-some past s till moment q w some))
 
-by-question : (config : ConfigValue) (past : List Entry) (s : SiteState) (till moment n amount g v : ℕ) (x : Result Question Reply) → release_question config s n amount ≡ x → reply.Granted g v ≡ (decided past s till moment x).reply → LawfulRelease config past s till moment n amount g v
-by-question config past s till moment n amount g v (Ok q) is h = by-version config past s till moment n amount g v q (in_force q.slot past) (asks config s n amount q (at_number s.points n) refl is) refl h
+by-question : (config : ConfigValue) (past : List Entry) (s : SiteState) (till moment n amount g v : ℕ) (x : Result Question Reply)
+    → release_question config s n amount ≡ x → reply.Granted g v ≡ (decided past s till moment x).reply → LawfulRelease config past s till moment n amount g v
+by-question config past s till moment n amount g v (Ok q) is h =
+    by-version config past s till moment n amount g v q (in_force q.slot past) (asks config s n amount q (at_number s.points n) refl is) refl h
 by-question config past s till moment n amount g v (Err r) is h =
     let same : reply.Granted g v ≡ r = h ∙ ap (λ (x : Effect). x.reply) (decided-refused past s till moment r) in
     let no : is_decided r ≡ false = sym (ap refuses is) ∙ release-no config s n amount (at_number s.points n) refl in
     let yes : true ≡ is_decided r = ap is_decided same in
     absurd (let e : true ≡ false = yes ∙ no in cc)
 
-by-till : (config : ConfigValue) (past : List Entry) (s : SiteState) (till moment n amount g v : ℕ) (b : Bool) → reply.Granted g v ≡ (if b then decided past s till moment (release_question config s n amount) else replied no_such_till s).reply → LawfulRelease config past s till moment n amount g v
+by-till : (config : ConfigValue) (past : List Entry) (s : SiteState) (till moment n amount g v : ℕ) (b : Bool)
+    → reply.Granted g v ≡ (if b then decided past s till moment (release_question config s n amount) else replied no_such_till s).reply
+    → LawfulRelease config past s till moment n amount g v
 by-till config past s till moment n amount g v true h = by-question config past s till moment n amount g v (release_question config s n amount) refl h
 by-till config past s till moment n amount g v false h = absurd (let e : reply.Granted g v ≡ no_such_till = h in cc)
 
-lawful-entry : (config : ConfigValue) (past : List Entry) (s : SiteState) (moment : ℕ) (act : Act) (r : Reply) → r ≡ (effect config past s moment act).reply → LawfulEntry config past s moment act r
-lawful-entry config past s moment (act.Till till (request.Release n amount)) (reply.Granted g v) h = by-till config past s till moment n amount g v (is_till config till) h
+lawful-entry : (config : ConfigValue) (past : List Entry) (s : SiteState) (moment : ℕ) (act : Act) (r : Reply) → r ≡ (effect config past s moment act).reply
+    → LawfulEntry config past s moment act r
+lawful-entry config past s moment (act.Till till (request.Release n amount)) (reply.Granted g v) h =
+    by-till config past s till moment n amount g v (is_till config till) h
 lawful-entry config past s moment _ _ h = tt
 
 pub lawful : (config : ConfigValue) (h : List Entry) (s : SiteState) → Legal config h s → LawfulReleases config h
@@ -134,7 +156,8 @@ lawful config [] s legal = tt
 lawful config (e ∷ past) s legal = (
   λ before l.
       let same = legal-unique config past before legal.0 l legal.1 in
-      let reply : e.reply ≡ (effect config past before e.moment e.act).reply = ap (λ (x : Entry). x.reply) legal.3.enters ∙ ap (λ b. (effect config past b e.moment e.act).reply) (sym same) in
+      let reply : e.reply ≡ (effect config past before e.moment e.act).reply =
+      ap (λ (x : Entry). x.reply) legal.3.enters ∙ ap (λ b. (effect config past b e.moment e.act).reply) (sym same) in
       lawful-entry config past before e.moment e.act e.reply reply,
   lawful config past legal.0 legal.1,
 )

@@ -42,7 +42,10 @@ laid-room fs i d lt =
     omega (arith, whole, two, more, one, size)
 
 -- a field is put behind those before it
-pub laid-put : (fs : List Field) (i at size : ℕ) (d : Field) (bytes ys : List ℕ) → i < length fs → at ≡ length (laid (take i fs)) → length bytes ≡ length (laid fs) → take at bytes ≡ laid (take i fs) → size ≡ size_of (get_or fs i d) → ys ≡ field_bytes (get_or fs i d) → (at + size ≡ length (laid (take (i + 1) fs))) × (length (put_mid at (at + size - at) bytes ys) ≡ length (laid fs)) × (take (at + size) (put_mid at (at + size - at) bytes ys) ≡ laid (take (i + 1) fs))
+pub laid-put : (fs : List Field) (i at size : ℕ) (d : Field) (bytes ys : List ℕ) → i < length fs → at ≡ length (laid (take i fs))
+    → length bytes ≡ length (laid fs) → take at bytes ≡ laid (take i fs) → size ≡ size_of (get_or fs i d) → ys ≡ field_bytes (get_or fs i d)
+    → (at + size ≡ length (laid (take (i + 1) fs))) × (length (put_mid at (at + size - at) bytes ys) ≡ length (laid fs))
+    × (take (at + size) (put_mid at (at + size - at) bytes ys) ≡ laid (take (i + 1) fs))
 laid-put fs i at size d bytes ys lt begins many front is put =
     let room = laid-room fs i d lt in
     let more = laid-more fs i d lt in
@@ -52,7 +55,8 @@ laid-put fs i at size d bytes ys lt begins many front is put =
     let next : at + size ≡ at + length ys = omega (arith, long) in
     let inside : at ≤ length bytes = omega (arith, room, begins, many) in
     let k = at + size - at in
-    let part : length (take k (drop at bytes)) ≡ k = length-take-le k (drop at bytes) (let rest = length-drop at bytes in omega (arith, rest, room, begins, many, is)) in (
+    let part : length (take k (drop at bytes)) ≡ k =
+    length-take-le k (drop at bytes) (let rest = length-drop at bytes in omega (arith, rest, room, begins, many, is)) in (
       omega (arith, all, wide, begins, is),
       same_len_mid at k bytes ys (omega (arith, part, long)) ∙ many,
       take-put_mid at k bytes ys (at + size) next inside ∙ ap (λ l. l ++ ys) front ∙ ap (λ l. laid (take i fs) ++ l) put ∙ sym more,

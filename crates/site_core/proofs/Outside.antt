@@ -23,7 +23,8 @@ use Rattle.site_core.specs.Limits.{ConfigValue}
 use Rattle.site_core.specs.State.{SiteState, at_number, view_of}
 use Rattle.site_core.specs.Context.{context}
 use Rattle.site_core.specs.History.{loaded, in_force, versions}
-use Rattle.site_core.specs.Decide.{Effect, replied, no_such_till, is_decided, is_till, decided, verdict, ran, grant, release_question, preset_question, price_question}
+use Rattle.site_core.specs.Decide.{Effect, replied, no_such_till, is_decided, is_till, decided, verdict, ran, grant, release_question, preset_question}
+use Rattle.site_core.specs.Decide.{price_question}
 use Rattle.site_core.specs.Step.{effect, asked, commanded, command_effect}
 use Rattle.site_core.specs.Keeping.{Agrees, Performs}
 use Rattle.site_core.specs.Draft.{context_for, DraftValue, basis_of, routed}
@@ -40,21 +41,26 @@ use Rattle.site_core.proofs.Asking.{ok-is, none-some, asked-routed}
 
 -- ---- the step of a request that asks a program
 
-asked-request : (config : ConfigValue) (past : List Entry) (s : SiteState) (till moment : ℕ) (r : Request) (q : Question) → question_of config s r ≡ Some q → asked config past s till moment r ≡ decided past s till moment (Ok q)
+asked-request : (config : ConfigValue) (past : List Entry) (s : SiteState) (till moment : ℕ) (r : Request) (q : Question) → question_of config s r ≡ Some q
+    → asked config past s till moment r ≡ decided past s till moment (Ok q)
 asked-request config past s till moment (request.Release n a) q h = ap (decided past s till moment) (ok-is (release_question config s n a) q h)
 asked-request config past s till moment (request.Preset n a) q h = ap (decided past s till moment) (ok-is (preset_question config s n a) q h)
 asked-request config past s till moment (request.Price n a) q h = ap (decided past s till moment) (ok-is (price_question config s n a) q h)
 asked-request config past s till moment _ q h = absurd (none-some q h)
 
-asked-till : (config : ConfigValue) (past : List Entry) (s : SiteState) (till moment : ℕ) (r : Request) (q : Question) (b : Bool) → (if b then question_of config s r else None) ≡ Some q → (if b then asked config past s till moment r else replied no_such_till s) ≡ decided past s till moment (Ok q)
+asked-till : (config : ConfigValue) (past : List Entry) (s : SiteState) (till moment : ℕ) (r : Request) (q : Question) (b : Bool)
+    → (if b then question_of config s r else None) ≡ Some q → (if b then asked config past s till moment r else replied no_such_till s)
+    ≡ decided past s till moment (Ok q)
 asked-till config past s till moment r q true h = asked-request config past s till moment r q h
 asked-till config past s till moment r q false h = absurd (none-some q h)
 
-pub effect-decided : (config : ConfigValue) (past : List Entry) (s : SiteState) (till moment : ℕ) (r : Request) (q : Question) → asked_question config s till r ≡ Some q → effect config past s moment (act.Till till r) ≡ decided past s till moment (Ok q)
+pub effect-decided : (config : ConfigValue) (past : List Entry) (s : SiteState) (till moment : ℕ) (r : Request) (q : Question)
+    → asked_question config s till r ≡ Some q → effect config past s moment (act.Till till r) ≡ decided past s till moment (Ok q)
 effect-decided config past s till moment r q h = asked-till config past s till moment r q (is_till config till) h
 
 -- a till's entry loads nothing
-pub agrees-till : (slots : SlotsValue) (past : List Entry) (entry : Entry) (till : ℕ) (r : Request) → Agrees slots past → entry.act ≡ act.Till till r → Agrees slots (entry ∷ past)
+pub agrees-till : (slots : SlotsValue) (past : List Entry) (entry : Entry) (till : ℕ) (r : Request) → Agrees slots past → entry.act ≡ act.Till till r
+    → Agrees slots (entry ∷ past)
 agrees-till slots past entry till r a is =
     let none : loaded entry.act entry.reply ≡ None = ap (λ x. loaded x entry.reply) is in
     record {
@@ -63,9 +69,14 @@ agrees-till slots past entry till r a is =
     }
 
 -- a settled run is the step's
-pub performs-settled : (config : ConfigValue) (past : List Entry) (s new : SiteState) (slots : SlotsValue) (draft : DraftValue) (q : Question) (r0 : ℕ) (after : Counters) (reply : Reply) (run : Run) → StillAsked config s slots draft q → Agrees slots past → outcome draft.version.program draft.context draft.view s.counters ≡ Ended r0 after → verdict s draft.till draft.moment q draft.version r0 after ≡ record { reply = reply; run = Some run; after = new } → Performs config past s draft.moment (act.Till draft.till draft.request) (record { moment = draft.moment; act = act.Till draft.till draft.request; reply = reply; run = Some run }) new slots
+pub performs-settled : (config : ConfigValue) (past : List Entry) (s new : SiteState) (slots : SlotsValue) (draft : DraftValue) (q : Question) (r0 : ℕ)
+    (after : Counters) (reply : Reply) (run : Run) → StillAsked config s slots draft q → Agrees slots past
+    → outcome draft.version.program draft.context draft.view s.counters ≡ Ended r0 after → verdict s draft.till draft.moment q draft.version r0 after
+    ≡ record { reply = reply; run = Some run; after = new } → Performs config past s draft.moment (act.Till draft.till draft.request)
+    (record { moment = draft.moment; act = act.Till draft.till draft.request; reply = reply; run = Some run }) new slots
 performs-settled config past s new slots draft q r0 after reply run still agrees ran settled =
-    let ended : outcome draft.version.program (bytes_of (context draft.version.program.layout s draft.till draft.moment q)) (view_of s) s.counters ≡ Ended r0 after =
+    let ended : outcome draft.version.program (bytes_of (context draft.version.program.layout s draft.till draft.moment q)) (view_of s) s.counters
+    ≡ Ended r0 after =
     (λ i. outcome draft.version.program (still.context_is i) (still.view_is i) s.counters) ∙ ran in
     record {
       act_is = refl;
@@ -96,7 +107,8 @@ refused-run : (past : List Entry) (s : SiteState) (till moment : ℕ) (x : Asked
 refused-run past s till moment (Ok q) h = absurd (none-some q (sym h))
 refused-run past s till moment (Err r) h = ap (λ (e : Effect). e.run) (decided-refused past s till moment r)
 
-request-run : (config : ConfigValue) (past : List Entry) (s : SiteState) (till moment : ℕ) (r : Request) → question_of config s r ≡ None → (asked config past s till moment r).run ≡ None
+request-run : (config : ConfigValue) (past : List Entry) (s : SiteState) (till moment : ℕ) (r : Request) → question_of config s r ≡ None
+    → (asked config past s till moment r).run ≡ None
 request-run config past s till moment (request.Release n a) h = refused-run past s till moment (release_question config s n a) h
 request-run config past s till moment (request.Preset n a) h = refused-run past s till moment (preset_question config s n a) h
 request-run config past s till moment (request.Price n a) h = refused-run past s till moment (price_question config s n a) h
@@ -110,50 +122,71 @@ request-run config past s till moment (request.Unlock n x) h = commanded-run s t
 request-run config past s till moment (request.Clear n x) h = commanded-run s till n (command.Clear x)
 request-run config past s till moment (request.Show n) h = refl
 
-till-run : (config : ConfigValue) (past : List Entry) (s : SiteState) (till moment : ℕ) (r : Request) (b : Bool) → (if b then question_of config s r else None) ≡ None → (if b then asked config past s till moment r else replied no_such_till s).run ≡ None
+till-run : (config : ConfigValue) (past : List Entry) (s : SiteState) (till moment : ℕ) (r : Request) (b : Bool)
+    → (if b then question_of config s r else None) ≡ None → (if b then asked config past s till moment r else replied no_such_till s).run ≡ None
 till-run config past s till moment r true h = request-run config past s till moment r h
 till-run config past s till moment r false h = refl
 
 -- no program is run where none is asked, or where none is installed
-pub runs-none : (config : ConfigValue) (past : List Entry) (s : SiteState) (till moment : ℕ) (r : Request) → (asked_question config s till r ≡ None) ⊎ ((q : Question) × (asked_question config s till r ≡ Some q) × (in_force q.slot past ≡ None)) → (effect config past s moment (act.Till till r)).run ≡ None
+pub runs-none : (config : ConfigValue) (past : List Entry) (s : SiteState) (till moment : ℕ) (r : Request)
+    → (asked_question config s till r ≡ None) ⊎ ((q : Question) × (asked_question config s till r ≡ Some q) × (in_force q.slot past ≡ None))
+    → (effect config past s moment (act.Till till r)).run ≡ None
 runs-none config past s till moment r (inl h) = till-run config past s till moment r (is_till config till) h
 runs-none config past s till moment r (inr h) =
     ap (λ (e : Effect). e.run) (effect-decided config past s till moment r h.0 h.1 ∙ decided-none past s till moment h.0 h.2)
 
-verdict-run : (s : SiteState) (till moment : ℕ) (q : Question) (v : Version) (r : ℕ) (c : Counters) (b : Bool) → (r == 0) ≡ b → IsSome (verdict s till moment q v r c).run
+verdict-run : (s : SiteState) (till moment : ℕ) (q : Question) (v : Version) (r : ℕ) (c : Counters) (b : Bool) → (r == 0) ≡ b
+    → IsSome (verdict s till moment q v r c).run
 verdict-run s till moment q v r c true zero = subst (λ (e : Effect). IsSome e.run) (sym (verdict-deny s till moment r q v c zero)) refl
 verdict-run s till moment q v r c false some =
     let g = grant (record s { counters = c }) till q r in
     subst (λ (e : Effect). IsSome e.run) (sym (verdict-grant s till moment r g.0 q v c g.1 some refl)) refl
 
 -- else the version in force is run
-pub runs-some : (config : ConfigValue) (past : List Entry) (s : SiteState) (till moment : ℕ) (r : Request) (q : Question) (v : Version) → asked_question config s till r ≡ Some q → in_force q.slot past ≡ Some v → IsSome (effect config past s moment (act.Till till r)).run
+pub runs-some : (config : ConfigValue) (past : List Entry) (s : SiteState) (till moment : ℕ) (r : Request) (q : Question) (v : Version)
+    → asked_question config s till r ≡ Some q → in_force q.slot past ≡ Some v → IsSome (effect config past s moment (act.Till till r)).run
 runs-some config past s till moment r q v h some =
     let x : ℕ × Counters = ran (outcome v.program (bytes_of (context v.program.layout s till moment q)) (view_of s) s.counters) s.counters in
-    subst (λ (e : Effect). IsSome e.run) (sym (effect-decided config past s till moment r q h ∙ decided-some past s till moment q v some)) (verdict-run s till moment q v x.0 x.1 (x.0 == 0) refl)
+    subst (λ (e : Effect). IsSome e.run) (sym (effect-decided config past s till moment r q h ∙ decided-some past s till moment q v some))
+    (verdict-run s till moment q v x.0 x.1 (x.0 == 0) refl)
 
 -- ---- a draft
 
 -- where no program is run, the reply is neither a grant nor S24
 undecided : (site : SiteValue) (till moment : ℕ) (r : Request) → run_now site till moment r ≡ None → is_decided (reply_now site till moment r) ≡ false
-undecided site till moment r none = effect-tells site.config (reverse site.history) site.state moment (act.Till till r) ∙ ap (λ (run : Option Run). is_some run) none
+undecided site till moment r none =
+    effect-tells site.config (reverse site.history) site.state moment (act.Till till r) ∙ ap (λ (run : Option Run). is_some run) none
 
-begins-undecided : (site : SiteValue) (till moment : ℕ) (r : Request) → run_now site till moment r ≡ None → (run_now site till moment r ≡ None) × (is_decided (reply_now site till moment r) ≡ false)
+begins-undecided : (site : SiteValue) (till moment : ℕ) (r : Request) → run_now site till moment r ≡ None
+    → (run_now site till moment r ≡ None) × (is_decided (reply_now site till moment r) ≡ false)
 begins-undecided site till moment r none = (none, undecided site till moment r none)
 
-pub begins-none : (config : ConfigValue) (history : List Entry) (s : SiteState) (slots : SlotsValue) (till moment : ℕ) (r : Request) → Agrees slots (reverse history) → Drafts config s slots till moment r None → (run_now (record { config = config; history = history; state = s }) till moment r ≡ None) × (is_decided (reply_now (record { config = config; history = history; state = s }) till moment r) ≡ false)
+pub begins-none : (config : ConfigValue) (history : List Entry) (s : SiteState) (slots : SlotsValue) (till moment : ℕ) (r : Request)
+    → Agrees slots (reverse history) → Drafts config s slots till moment r None
+    → (run_now (record { config = config; history = history; state = s }) till moment r ≡ None)
+    × (is_decided (reply_now (record { config = config; history = history; state = s }) till moment r) ≡ false)
 begins-none config history s slots till moment r agrees (inl h) =
     begins-undecided (record { config = config; history = history; state = s }) till moment r (runs-none config (reverse history) s till moment r (inl h))
 begins-none config history s slots till moment r agrees (inr h) =
-    begins-undecided (record { config = config; history = history; state = s }) till moment r (runs-none config (reverse history) s till moment r (inr (h.0, h.1, agrees.in_force h.0.slot ∙ h.2)))
+    begins-undecided (record {
+      config = config;
+      history = history;
+      state = s;
+    }) till moment r (runs-none config (reverse history) s till moment r (inr (h.0, h.1, agrees.in_force h.0.slot ∙ h.2)))
 
 -- what is entered after Direct, in the same state, is neither a grant nor S24
-pub direct-undecided : (old new : SiteValue) (pass till moment number : ℕ) (r : Request) (reply : Reply) → Begins old till moment r begin.Direct → length old.history < 1048576 → Enters old pass moment (act.Till till r) number reply new → is_decided reply ≡ false
+pub direct-undecided : (old new : SiteValue) (pass till moment number : ℕ) (r : Request) (reply : Reply) → Begins old till moment r begin.Direct
+    → length old.history < 1048576 → Enters old pass moment (act.Till till r) number reply new → is_decided reply ≡ false
 unfolding entered
 direct-undecided old new pass till moment number r reply (inl full) less enters = absurd (omega arith)
 direct-undecided old new pass till moment number r reply (inr direct) less enters = ap is_decided enters.reply_is ∙ direct.1
 
-pub begun : (config : ConfigValue) (history : List Entry) (s : SiteState) (slots : SlotsValue) (till moment : ℕ) (r : Request) (draft : DraftValue) → Agrees slots (reverse history) → IsDraft config s slots till moment r draft → Begun (record { config = config; history = history; state = s }) till moment r draft
+pub begun : (config : ConfigValue) (history : List Entry) (s : SiteState) (slots : SlotsValue) (till moment : ℕ) (r : Request) (draft : DraftValue)
+    → Agrees slots (reverse history) → IsDraft config s slots till moment r draft → Begun (record {
+      config = config;
+      history = history;
+      state = s;
+    }) till moment r draft
 begun config history s slots till moment r draft agrees d =
     let q = d.question in
     let some : in_force q.slot (reverse history) ≡ Some draft.version = agrees.in_force q.slot ∙ d.version_is in
@@ -176,6 +209,7 @@ begun config history s slots till moment r draft agrees d =
     }
 
 -- the slots show what the history shows
-pub basis-is : (config : ConfigValue) (history : List Entry) (s : SiteState) (slots : SlotsValue) (draft : DraftValue) → Agrees slots (reverse history) → basis_in config s slots draft ≡ basis (record { config = config; history = history; state = s }) draft
+pub basis-is : (config : ConfigValue) (history : List Entry) (s : SiteState) (slots : SlotsValue) (draft : DraftValue) → Agrees slots (reverse history)
+    → basis_in config s slots draft ≡ basis (record { config = config; history = history; state = s }) draft
 basis-is config history s slots draft agrees =
     λ i. basis_of (λ slot. sym (agrees.in_force slot) i) s draft.till draft.moment (routed config s draft.till draft.request)

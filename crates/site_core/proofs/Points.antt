@@ -1,5 +1,6 @@
 -- What a point's answer does to the site.
-use Rattle.std.proofs.Common.{◌≡◌, ℕ, ◌+◌, ◌-◌, ◌<◌, ◌≤◌, List, length, Option, Some, None, Result, Ok, Err, slice_set, refl, arith, ap, ◌∙◌, sym, get_or, suc, zero}
+use Rattle.std.proofs.Common.{◌≡◌, ℕ, ◌+◌, ◌-◌, ◌<◌, ◌≤◌, List, length, Option, Some, None, Result, Ok, Err, slice_set, refl, arith, ap, ◌∙◌, sym, get_or, suc}
+use Rattle.std.proofs.Common.{zero}
 use Rattle.std.specs.Prelude.{unwrap_or}
 use Rattle.std.proofs.lemmas.Bool.Decides.{nat_tests}
 use Rattle.std.proofs.lemmas.Option.{slice_get-get_or, slice_get_past}
@@ -41,15 +42,19 @@ unfolding commanded
 commanded-none s till n command none = rw (none, commanded)
 
 -- a command at a point
-pub commanded-some : (s : SiteState) (till n : ℕ) (command : Command) (p : PointState) → at_number s.points n ≡ Some p → commanded s till n command ≡ command_effect s n (command_step p till command)
+pub commanded-some : (s : SiteState) (till n : ℕ) (command : Command) (p : PointState) → at_number s.points n ≡ Some p
+    → commanded s till n command ≡ command_effect s n (command_step p till command)
 unfolding commanded
 commanded-some s till n command p some = rw (some, commanded)
 
-err_effect : (s : SiteState) (n : ℕ) (a : Answer (Option ℕ)) (p new : PointState) (fault : PointFault) → FollowsTable a p (Err fault) new → (command_effect s n a ≡ replied (fault_reply fault) s) × (new ≡ p)
+err_effect : (s : SiteState) (n : ℕ) (a : Answer (Option ℕ)) (p new : PointState) (fault : PointFault) → FollowsTable a p (Err fault) new
+    → (command_effect s n a ≡ replied (fault_reply fault) s) × (new ≡ p)
 err_effect s n (Ok o) p new fault h = absurd (let e : Err fault ≡ Ok o.1 = h.0 in cc)
 err_effect s n (Err f) p new fault h = (let e : Err fault ≡ Err f = h.0 in let same : f ≡ fault = cc in ap (λ x. replied (fault_reply x) s) same, h.1)
 
-ok_effect : (s : SiteState) (n : ℕ) (a : Answer (Option ℕ)) (p new : PointState) (cleared : Option ℕ) → FollowsTable a p (Ok cleared) new → command_effect s n a ≡ replied reply.Done (record (with_point s n new) { cleared = s.cleared + unwrap_or cleared 0; clears = s.clears + clears_by cleared })
+ok_effect : (s : SiteState) (n : ℕ) (a : Answer (Option ℕ)) (p new : PointState) (cleared : Option ℕ) → FollowsTable a p (Ok cleared) new
+    → command_effect s n a ≡ replied reply.Done
+    (record (with_point s n new) { cleared = s.cleared + unwrap_or cleared 0; clears = s.clears + clears_by cleared })
 ok_effect s n (Ok (q, given)) p new cleared h =
     let e : Ok cleared ≡ Ok given = h.0 in
     let same : cleared ≡ given = cc in
@@ -67,13 +72,18 @@ same_points s n p is =
     ap (λ (x : List PointState). record s { points = x }) (sym back)
 
 -- a refused command leaves the point as it was
-pub commanded-err : (s : SiteState) (till n : ℕ) (command : Command) (p new : PointState) (fault : PointFault) → 1 ≤ n → n ≤ length s.points → p ≡ get_or s.points (n - 1) p → FollowsTable (command_step p till command) p (Err fault) new → commanded s till n command ≡ replied (fault_reply fault) (with_point s n new)
+pub commanded-err : (s : SiteState) (till n : ℕ) (command : Command) (p new : PointState) (fault : PointFault) → 1 ≤ n → n ≤ length s.points
+    → p ≡ get_or s.points (n - 1) p → FollowsTable (command_step p till command) p (Err fault) new
+    → commanded s till n command ≡ replied (fault_reply fault) (with_point s n new)
 commanded-err s till n command p new fault one le is answers =
     let e = err_effect s n (command_step p till command) p new fault answers in
-    commanded-some s till n command p (at_number-read s.points n p one le is) ∙ e.0 ∙ ap (λ x. replied (fault_reply fault) x) (same_points s n p is ∙ ap (λ x. with_point s n x) (sym e.1))
+    commanded-some s till n command p (at_number-read s.points n p one le is) ∙ e.0 ∙ ap
+    (λ x. replied (fault_reply fault) x) (same_points s n p is ∙ ap (λ x. with_point s n x) (sym e.1))
 
 -- a command that was taken
-pub commanded-ok : (s : SiteState) (till n : ℕ) (command : Command) (p new : PointState) (cleared : Option ℕ) → 1 ≤ n → n ≤ length s.points → p ≡ get_or s.points (n - 1) p → FollowsTable (command_step p till command) p (Ok cleared) new → commanded s till n command ≡ replied reply.Done (record (with_point s n new) { cleared = s.cleared + unwrap_or cleared 0; clears = s.clears + clears_by cleared })
+pub commanded-ok : (s : SiteState) (till n : ℕ) (command : Command) (p new : PointState) (cleared : Option ℕ) → 1 ≤ n → n ≤ length s.points
+    → p ≡ get_or s.points (n - 1) p → FollowsTable (command_step p till command) p (Ok cleared) new → commanded s till n command ≡ replied reply.Done
+    (record (with_point s n new) { cleared = s.cleared + unwrap_or cleared 0; clears = s.clears + clears_by cleared })
 commanded-ok s till n command p new cleared one le is answers =
     commanded-some s till n command p (at_number-read s.points n p one le is) ∙ ok_effect s n (command_step p till command) p new cleared answers
 
@@ -82,27 +92,34 @@ pub reported-none : (s : SiteState) (n : ℕ) (event : DispenserEvent) → at_nu
 unfolding reported
 reported-none s n event none = rw (none, reported)
 
-pub reported-some : (s : SiteState) (n : ℕ) (event : DispenserEvent) (p : PointState) → at_number s.points n ≡ Some p → reported s n event ≡ event_effect s n (event_step p event)
+pub reported-some : (s : SiteState) (n : ℕ) (event : DispenserEvent) (p : PointState) → at_number s.points n ≡ Some p
+    → reported s n event ≡ event_effect s n (event_step p event)
 unfolding reported
 reported-some s n event p some = rw (some, reported)
 
-event_err : (s : SiteState) (n : ℕ) (a : Answer (Option Order)) (p new : PointState) (fault : PointFault) → FollowsTable a p (Err fault) new → (event_effect s n a ≡ replied (fault_reply fault) s) × (new ≡ p)
+event_err : (s : SiteState) (n : ℕ) (a : Answer (Option Order)) (p new : PointState) (fault : PointFault) → FollowsTable a p (Err fault) new
+    → (event_effect s n a ≡ replied (fault_reply fault) s) × (new ≡ p)
 event_err s n (Ok o) p new fault h = absurd (let e : Err fault ≡ Ok o.1 = h.0 in cc)
 event_err s n (Err f) p new fault h = (let e : Err fault ≡ Err f = h.0 in let same : f ≡ fault = cc in ap (λ x. replied (fault_reply x) s) same, h.1)
 
-event_ok : (s : SiteState) (n : ℕ) (a : Answer (Option Order)) (p new : PointState) (order : Option Order) → FollowsTable a p (Ok order) new → event_effect s n a ≡ replied (order_reply order) (with_point s n new)
+event_ok : (s : SiteState) (n : ℕ) (a : Answer (Option Order)) (p new : PointState) (order : Option Order) → FollowsTable a p (Ok order) new
+    → event_effect s n a ≡ replied (order_reply order) (with_point s n new)
 event_ok s n (Ok (q, given)) p new order h =
     let e : Ok order ≡ Ok given = h.0 in
     let same : order ≡ given = cc in
     rw (same, h.1) refl
 event_ok s n (Err f) p new order h = absurd (let e : Ok order ≡ Err f = h.0 in cc)
 
-pub reported-err : (s : SiteState) (n : ℕ) (event : DispenserEvent) (p new : PointState) (fault : PointFault) → 1 ≤ n → n ≤ length s.points → p ≡ get_or s.points (n - 1) p → FollowsTable (event_step p event) p (Err fault) new → reported s n event ≡ replied (fault_reply fault) (with_point s n new)
+pub reported-err : (s : SiteState) (n : ℕ) (event : DispenserEvent) (p new : PointState) (fault : PointFault) → 1 ≤ n → n ≤ length s.points
+    → p ≡ get_or s.points (n - 1) p → FollowsTable (event_step p event) p (Err fault) new
+    → reported s n event ≡ replied (fault_reply fault) (with_point s n new)
 reported-err s n event p new fault one le is answers =
     let e = event_err s n (event_step p event) p new fault answers in
-    reported-some s n event p (at_number-read s.points n p one le is) ∙ e.0 ∙ ap (λ x. replied (fault_reply fault) x) (same_points s n p is ∙ ap (λ x. with_point s n x) (sym e.1))
+    reported-some s n event p (at_number-read s.points n p one le is) ∙ e.0 ∙ ap
+    (λ x. replied (fault_reply fault) x) (same_points s n p is ∙ ap (λ x. with_point s n x) (sym e.1))
 
-pub reported-ok : (s : SiteState) (n : ℕ) (event : DispenserEvent) (p new : PointState) (order : Option Order) → 1 ≤ n → n ≤ length s.points → p ≡ get_or s.points (n - 1) p → FollowsTable (event_step p event) p (Ok order) new → reported s n event ≡ replied (order_reply order) (with_point s n new)
+pub reported-ok : (s : SiteState) (n : ℕ) (event : DispenserEvent) (p new : PointState) (order : Option Order) → 1 ≤ n → n ≤ length s.points
+    → p ≡ get_or s.points (n - 1) p → FollowsTable (event_step p event) p (Ok order) new → reported s n event ≡ replied (order_reply order) (with_point s n new)
 reported-ok s n event p new order one le is answers =
     reported-some s n event p (at_number-read s.points n p one le is) ∙ event_ok s n (event_step p event) p new order answers
 
@@ -115,7 +132,9 @@ unfolding show_reply
 show-some s n p one le is = let some = at_number-read s.points n p one le is in rw (some, show_reply)
 
 -- what a point answered to an event, refused or not
-pub reported-is : (s : SiteState) (n : ℕ) (event : DispenserEvent) (p new : PointState) (outcome : Result (Option Order) PointFault) → 1 ≤ n → n ≤ length s.points → p ≡ get_or s.points (n - 1) p → FollowsTable (event_step p event) p outcome new → reported s n event ≡ replied (event_reply outcome) (with_point s n new)
+pub reported-is : (s : SiteState) (n : ℕ) (event : DispenserEvent) (p new : PointState) (outcome : Result (Option Order) PointFault) → 1 ≤ n
+    → n ≤ length s.points → p ≡ get_or s.points (n - 1) p → FollowsTable (event_step p event) p outcome new
+    → reported s n event ≡ replied (event_reply outcome) (with_point s n new)
 reported-is s n event p new (Ok order) one le is answers = reported-ok s n event p new order one le is answers
 reported-is s n event p new (Err fault) one le is answers = reported-err s n event p new fault one le is answers
 
@@ -124,7 +143,8 @@ pub release-none : (config : ConfigValue) (s : SiteState) (n amount : ℕ) → a
 unfolding release_question
 release-none config s n amount none = rw (none, release_question)
 
-pub release-some : (config : ConfigValue) (s : SiteState) (n amount : ℕ) (p : PointState) → at_number s.points n ≡ Some p → release_question config s n amount ≡ release_at p n amount (slots_of config n).0
+pub release-some : (config : ConfigValue) (s : SiteState) (n amount : ℕ) (p : PointState) → at_number s.points n ≡ Some p
+    → release_question config s n amount ≡ release_at p n amount (slots_of config n).0
 unfolding release_question
 release-some config s n amount p some = rw (some, release_question)
 
@@ -132,6 +152,7 @@ pub preset-none : (config : ConfigValue) (s : SiteState) (n amount : ℕ) → at
 unfolding preset_question
 preset-none config s n amount none = rw (none, preset_question)
 
-pub preset-some : (config : ConfigValue) (s : SiteState) (n amount : ℕ) (p : PointState) → at_number s.points n ≡ Some p → preset_question config s n amount ≡ preset_at p n amount (slots_of config n).1
+pub preset-some : (config : ConfigValue) (s : SiteState) (n amount : ℕ) (p : PointState) → at_number s.points n ≡ Some p
+    → preset_question config s n amount ≡ preset_at p n amount (slots_of config n).1
 unfolding preset_question
 preset-some config s n amount p some = rw (some, preset_question)

@@ -25,22 +25,28 @@ pub record SameBasis (config : ConfigValue) (s : SiteState) (slots : SlotsValue)
   pub prices : (view_of s).prices ≡ draft.view.prices
   pub was : WasAsked draft
 
-view-is : (config : ConfigValue) (s : SiteState) (slots : SlotsValue) (draft : DraftValue) (q : Question) → SameBasis config s slots draft q → view_of s ≡ draft.view
+view-is : (config : ConfigValue) (s : SiteState) (slots : SlotsValue) (draft : DraftValue) (q : Question) → SameBasis config s slots draft q
+    → view_of s ≡ draft.view
 view-is config s slots draft q same =
     same-view s same.was.state (view_of s) draft.view (λ _. view_of s) same.was.view_is same.points same.prices
 
 -- the context that the version of now would be given is the draft's
-pub given : (config : ConfigValue) (s : SiteState) (slots : SlotsValue) (draft : DraftValue) (q : Question) → SameBasis config s slots draft q → context_for (version_in slots q.slot) s draft.till draft.moment q ≡ draft.context
+pub given : (config : ConfigValue) (s : SiteState) (slots : SlotsValue) (draft : DraftValue) (q : Question) → SameBasis config s slots draft q
+    → context_for (version_in slots q.slot) s draft.till draft.moment q ≡ draft.context
 given config s slots draft q same = ap (λ o. context_for o s draft.till draft.moment q) same.version ∙ same.context_is
 
-pub differs-counter : (config : ConfigValue) (s : SiteState) (slots : SlotsValue) (draft : DraftValue) (q : Question) (c value : ℕ) → SameBasis config s slots draft q → CounterDiffers draft.version.program.declared s.counters draft.counters c → value ≡ (counter s.counters c).0 → Differs (basis_in config s slots draft) draft (why.Counter c value)
+pub differs-counter : (config : ConfigValue) (s : SiteState) (slots : SlotsValue) (draft : DraftValue) (q : Question) (c value : ℕ)
+    → SameBasis config s slots draft q → CounterDiffers draft.version.program.declared s.counters draft.counters c → value ≡ (counter s.counters c).0
+    → Differs (basis_in config s slots draft) draft (why.Counter c value)
 differs-counter config s slots draft q c value same differs is =
     rw same.routed_is (same.version, given config s slots draft q same, view-is config s slots draft q same, differs, is)
 
-pub still-asked : (config : ConfigValue) (s : SiteState) (slots : SlotsValue) (draft : DraftValue) (q : Question) → SameBasis config s slots draft q → FitsContext s q → Agrees draft.version.program.declared draft.counters s.counters → StillAsked config s slots draft q
+pub still-asked : (config : ConfigValue) (s : SiteState) (slots : SlotsValue) (draft : DraftValue) (q : Question) → SameBasis config s slots draft q
+    → FitsContext s q → Agrees draft.version.program.declared draft.counters s.counters → StillAsked config s slots draft q
 still-asked config s slots draft q same fits counters =
     let was : WasAsked draft = same.was in
-    let asked = asked-again draft.version.program.layout config was.config s was.state draft.till draft.moment draft.request q was.question was.asked same.routed_is fits (same.context_is ∙ was.context_is) in
+    let asked = asked-again draft.version.program.layout config was.config s was.state draft.till draft.moment draft.request q was.question was.asked
+    same.routed_is fits (same.context_is ∙ was.context_is) in
     record {
       asked = asked;
       well = well-asked config s draft.till draft.request q asked;
@@ -48,5 +54,10 @@ still-asked config s slots draft q same fits counters =
       version_is = same.version;
       context_is = same.context_is;
       view_is = view-is config s slots draft q same;
-      fresh = rw same.routed_is (record { version = same.version; context = given config s slots draft q same; view = view-is config s slots draft q same; counters = counters });
+      fresh = rw same.routed_is (record {
+        version = same.version;
+        context = given config s slots draft q same;
+        view = view-is config s slots draft q same;
+        counters = counters;
+      });
     }

@@ -27,7 +27,8 @@ use Rattle.site_core.specs.Limits.{ConfigValue}
 use Rattle.site_core.specs.State.{SiteState, at_number, first_busy, view_of}
 use Rattle.site_core.specs.Context.{context}
 use Rattle.site_core.specs.History.{in_force, versions}
-use Rattle.site_core.specs.Decide.{Effect, replied, refused, no_such_till, is_decided, is_till, is_within, bad_amount, transactions_full, wrong_state, need, slots_of, release_question, preset_question, price_question, price_at, decided, verdict, ran, grant}
+use Rattle.site_core.specs.Decide.{Effect, replied, refused, no_such_till, is_decided, is_till, is_within, bad_amount, transactions_full, wrong_state, need}
+use Rattle.site_core.specs.Decide.{slots_of, release_question, preset_question, price_question, price_at, decided, verdict, ran, grant}
 use Rattle.site_core.specs.Step.{effect, asked, commanded, command_effect, reported, event_effect, order_reply, fault_reply, show_reply}
 use Rattle.site_core.proofs.Points.{release-none, release-some, preset-none, preset-some, commanded-none, commanded-some, reported-none, reported-some}
 use Rattle.site_core.proofs.Decisions.{decided-refused, decided-none, decided-some}
@@ -44,23 +45,28 @@ two-no true true x y p hx hy = refl
 two-no true false x y p hx hy = hy
 two-no false b x y p hx hy = hx
 
-three-no : (a b c : Bool) (x y z : Reply) (p : Question) → is_decided x ≡ false → is_decided y ≡ false → is_decided z ≡ false → refuses (need a x (need b y (need c z (Ok p)))) ≡ false
+three-no : (a b c : Bool) (x y z : Reply) (p : Question) → is_decided x ≡ false → is_decided y ≡ false → is_decided z ≡ false
+    → refuses (need a x (need b y (need c z (Ok p)))) ≡ false
 three-no true b c x y z p hx hy hz = two-no b c y z p hy hz
 three-no false b c x y z p hx hy hz = hx
 
-pub release-no : (config : ConfigValue) (s : SiteState) (n amount : ℕ) (o : Option PointState) → at_number s.points n ≡ o → refuses (release_question config s n amount) ≡ false
+pub release-no : (config : ConfigValue) (s : SiteState) (n amount : ℕ) (o : Option PointState) → at_number s.points n ≡ o
+    → refuses (release_question config s n amount) ≡ false
 release-no config s n amount None at = ap refuses (release-none config s n amount at)
 release-no config s n amount (Some p) at =
     let asked : Question = record { kind = kind.Release; point = n; product = 0; asked = amount; slot = (slots_of config n).0 } in
-    ap refuses (release-some config s n amount p at) ∙ three-no (is_within 1 amount 999999999) (is_ready p.state) (nat_lt (length p.unpaid) 2) bad_amount (wrong_state p.state) transactions_full asked refl refl refl
+    ap refuses (release-some config s n amount p at) ∙ three-no (is_within 1 amount 999999999) (is_ready p.state) (nat_lt (length p.unpaid) 2) bad_amount
+    (wrong_state p.state) transactions_full asked refl refl refl
 
-pub preset-no : (config : ConfigValue) (s : SiteState) (n amount : ℕ) (o : Option PointState) → at_number s.points n ≡ o → refuses (preset_question config s n amount) ≡ false
+pub preset-no : (config : ConfigValue) (s : SiteState) (n amount : ℕ) (o : Option PointState) → at_number s.points n ≡ o
+    → refuses (preset_question config s n amount) ≡ false
 preset-no config s n amount None at = ap refuses (preset-none config s n amount at)
 preset-no config s n amount (Some p) at =
     let asked : Question = record { kind = kind.Preset; point = n; product = 0; asked = amount; slot = (slots_of config n).1 } in
     ap refuses (preset-some config s n amount p at) ∙ two-no (is_within 1 amount 999999999) (is_ready p.state) bad_amount (wrong_state p.state) asked refl refl
 
-busy-no : (b : Bool) (busy : Option State) (p : Question) → refuses (need b bad_amount (elim busy as (λ _. Result Question Reply) [ Some state ↦ Err (wrong_state state) | None ↦ Ok p ])) ≡ false
+busy-no : (b : Bool) (busy : Option State) (p : Question)
+    → refuses (need b bad_amount (elim busy as (λ _. Result Question Reply) [ Some state ↦ Err (wrong_state state) | None ↦ Ok p ])) ≡ false
 busy-no true None p = refl
 busy-no true (Some state) p = refl
 busy-no false busy p = refl
@@ -74,13 +80,15 @@ price-no busy product price slot =
 abbrev Tells : Effect → Type 0
 Tells e = is_decided e.reply ≡ is_some e.run
 
-verdict-tells : (s : SiteState) (till moment : ℕ) (q : Question) (v : Version) (r : ℕ) (c : Counters) (b : Bool) → (r == 0) ≡ b → Tells (verdict s till moment q v r c)
+verdict-tells : (s : SiteState) (till moment : ℕ) (q : Question) (v : Version) (r : ℕ) (c : Counters) (b : Bool) → (r == 0) ≡ b
+    → Tells (verdict s till moment q v r c)
 verdict-tells s till moment q v r c true zero = subst Tells (sym (verdict-deny s till moment r q v c zero)) refl
 verdict-tells s till moment q v r c false some =
     let g = grant (record s { counters = c }) till q r in
     subst Tells (sym (verdict-grant s till moment r g.0 q v c g.1 some refl)) refl
 
-version-tells : (past : List Entry) (s : SiteState) (till moment : ℕ) (q : Question) (o : Option Version) → in_force q.slot past ≡ o → Tells (decided past s till moment (Ok q))
+version-tells : (past : List Entry) (s : SiteState) (till moment : ℕ) (q : Question) (o : Option Version) → in_force q.slot past ≡ o
+    → Tells (decided past s till moment (Ok q))
 version-tells past s till moment q None none = subst Tells (sym (decided-none past s till moment q none)) refl
 version-tells past s till moment q (Some v) some =
     let x : ℕ × Counters = ran (outcome v.program (bytes_of (context v.program.layout s till moment q)) (view_of s) s.counters) s.counters in
@@ -124,9 +132,12 @@ show-no s n None at = rw (at, show_reply) refl
 show-no s n (Some p) at = rw (at, show_reply) refl
 
 asked-tells : (config : ConfigValue) (past : List Entry) (s : SiteState) (till moment : ℕ) (r : Request) → Tells (asked config past s till moment r)
-asked-tells config past s till moment (request.Release n a) = decided-tells past s till moment (release_question config s n a) (release-no config s n a (at_number s.points n) refl)
-asked-tells config past s till moment (request.Preset n a) = decided-tells past s till moment (preset_question config s n a) (preset-no config s n a (at_number s.points n) refl)
-asked-tells config past s till moment (request.Price n a) = decided-tells past s till moment (price_question config s n a) (price-no (first_busy s) n a config.price_slot)
+asked-tells config past s till moment (request.Release n a) =
+    decided-tells past s till moment (release_question config s n a) (release-no config s n a (at_number s.points n) refl)
+asked-tells config past s till moment (request.Preset n a) =
+    decided-tells past s till moment (preset_question config s n a) (preset-no config s n a (at_number s.points n) refl)
+asked-tells config past s till moment (request.Price n a) =
+    decided-tells past s till moment (price_question config s n a) (price-no (first_busy s) n a config.price_slot)
 asked-tells config past s till moment (request.OpenPoint n) = commanded-tells s till n command.OpenPoint (at_number s.points n) refl
 asked-tells config past s till moment (request.ClosePoint n) = commanded-tells s till n command.ClosePoint (at_number s.points n) refl
 asked-tells config past s till moment (request.Suspend n) = commanded-tells s till n command.Suspend (at_number s.points n) refl
@@ -137,7 +148,8 @@ asked-tells config past s till moment (request.Unlock n x) = commanded-tells s t
 asked-tells config past s till moment (request.Clear n x) = commanded-tells s till n (command.Clear x) (at_number s.points n) refl
 asked-tells config past s till moment (request.Show n) = show-no s n (at_number s.points n) refl
 
-till-tells : (config : ConfigValue) (past : List Entry) (s : SiteState) (till moment : ℕ) (r : Request) (b : Bool) → Tells (if b then asked config past s till moment r else replied no_such_till s)
+till-tells : (config : ConfigValue) (past : List Entry) (s : SiteState) (till moment : ℕ) (r : Request) (b : Bool)
+    → Tells (if b then asked config past s till moment r else replied no_such_till s)
 till-tells config past s till moment r true = asked-tells config past s till moment r
 till-tells config past s till moment r false = refl
 
@@ -146,7 +158,8 @@ load-no true true v = refl
 load-no true false v = refl
 load-no false more v = refl
 
-pub effect-tells : (config : ConfigValue) (past : List Entry) (s : SiteState) (moment : ℕ) (a : Act) → is_decided (effect config past s moment a).reply ≡ is_some (effect config past s moment a).run
+pub effect-tells : (config : ConfigValue) (past : List Entry) (s : SiteState) (moment : ℕ) (a : Act) → is_decided (effect config past s moment a).reply
+    ≡ is_some (effect config past s moment a).run
 effect-tells config past s moment (act.Till till r) = till-tells config past s till moment r (is_till config till)
 effect-tells config past s moment (act.Dispenser n event) = reported-tells s n event (at_number s.points n) refl
 effect-tells config past s moment (act.Load slot mask layout bytes) = load-no (nat_le slot 15) (nat_lt (versions past) 4096) (versions past + 1)

@@ -1,5 +1,6 @@
 -- Definitions: how a release, a preset or a price is decided (this profile). In these definitions a history stands with its newest entry first.
-use Rattle.std.specs.Prelude.{◌≡◌, ◌≤◌, ℕ, ◌-◌, ◌/◌, ◌%◌, ◌^◌, min, Bool, true, false, ◌&&◌, ◌==◌, nat_lt, nat_le, if◌then◌else◌, List, length, map, slice_set, slice_index_or, Option, Some, None, Result, Ok, Err}
+use Rattle.std.specs.Prelude.{◌≡◌, ◌≤◌, ℕ, ◌-◌, ◌/◌, ◌%◌, ◌^◌, min, Bool, true, false, ◌&&◌, ◌==◌, nat_lt, nat_le, if◌then◌else◌, List, length, map, slice_set}
+use Rattle.std.specs.Prelude.{slice_index_or, Option, Some, None, Result, Ok, Err}
 use Rattle.std.specs.List.{range_with_len}
 use Rattle.fuelling_point.specs.Table.{PointState, command_step}
 use Rattle.fuelling_point.specs.States.{is_ready, state_number}
@@ -160,13 +161,20 @@ counts mask before after = map (λ c. count_of mask before after c) (range_with_
 unfoldable pub verdict : SiteState → ℕ → ℕ → Question → Version → ℕ → Counters → Effect
 verdict s till moment q v r counters =
     let counted : SiteState = record s { counters = counters } in
-    let run : Run = record { slot = q.slot; version = v.number; r0 = r; context = context v.program.layout s till moment q; counts = counts v.program.declared s.counters counters } in
+    let run : Run = record {
+      slot = q.slot;
+      version = v.number;
+      r0 = r;
+      context = context v.program.layout s till moment q;
+      counts = counts v.program.declared s.counters counters;
+    } in
     if r == 0 then record { reply = denied v.number; run = Some run; after = counted }
     else
     (let g : ℕ × SiteState = grant counted till q r in
     record { reply = reply.Granted g.0 v.number; run = Some run; after = g.1 })
 
--- r and the counters after a run. One that doesn't end counts as a denial, so that the step is a function; every program that is loaded is good, and so has no such run.
+-- r and the counters after a run. One that doesn't end counts as a denial, so that the step is a function; every
+-- program that is loaded is good, and so has no such run.
 abbrev pub ran : Outcome → Counters → ℕ × Counters
 ran (Ended r counters) before = (r, counters)
 ran _ before = (0, before)

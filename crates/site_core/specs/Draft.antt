@@ -68,4 +68,5 @@ context_for (Some v) s till moment q = bytes_of (context v.program.layout s till
 
 abbrev pub basis_of : (ℕ → Option Version) → SiteState → ℕ → ℕ → Option Question → Basis
 basis_of installed s till moment None = record { version = None; context = []; view = view_of s; counters = s.counters }
-basis_of installed s till moment (Some q) = record { version = installed q.slot; context = context_for (installed q.slot) s till moment q; view = view_of s; counters = s.counters }
+basis_of installed s till moment (Some q) =
+    record { version = installed q.slot; context = context_for (installed q.slot) s till moment q; view = view_of s; counters = s.counters }

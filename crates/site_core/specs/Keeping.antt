@@ -35,7 +35,8 @@ pub record Keeps (config : ConfigValue) (history : List Entry) (state : SiteStat
   pub bounded : Bounded (length history) state
 
 -- an event was performed as the step says, and the slots agree once its entry stands
-pub record Performs (config : ConfigValue) (past : List Entry) (old : SiteState) (moment : ℕ) (act : Act) (p : Performed) (new : SiteState) (slots : SlotsValue) : Type 0 where
+pub record Performs (config : ConfigValue) (past : List Entry) (old : SiteState) (moment : ℕ) (act : Act) (p : Performed) (new : SiteState)
+    (slots : SlotsValue) : Type 0 where
   pub act_is : p.act ≡ act
   pub moment_is : p.moment ≡ entered_moment act moment
   pub effect_is : effect config past old moment act ≡ record { reply = p.reply; run = p.run; after = new }

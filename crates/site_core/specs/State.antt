@@ -1,5 +1,6 @@
 -- Definitions: what a site is between two events, and what a program is shown of it.
-use Rattle.std.specs.Prelude.{ℕ, ◌-◌, List, ◌++◌, length, map, replicate, find, count_by, Option, None, option_map, Some, slice_get, slice_set, slice_index, nat_lt, nat_le, if◌then◌else◌}
+use Rattle.std.specs.Prelude.{ℕ, ◌-◌, List, ◌++◌, length, map, replicate, find, count_by, Option, None, option_map, Some, slice_get, slice_set, slice_index}
+use Rattle.std.specs.Prelude.{nat_lt, nat_le, if◌then◌else◌}
 use Rattle.fuelling_point.specs.Table.{PointState, fresh_point}
 use Rattle.fuelling_point.specs.declared.kinds.State.{State}
 use Rattle.fuelling_point.specs.States.{is_busy, state_number}

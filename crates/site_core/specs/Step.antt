@@ -18,7 +18,8 @@ use Rattle.till_request.specs.declared.act.Reply.TheVariants as reply
 use Rattle.site_core.specs.Limits.{ConfigValue}
 use Rattle.site_core.specs.State.{SiteState, at_number, with_point}
 use Rattle.site_core.specs.History.{versions}
-use Rattle.site_core.specs.Decide.{Effect, replied, refused, wrong_state, no_such_point, no_such_till, is_till, decided, release_question, preset_question, price_question}
+use Rattle.site_core.specs.Decide.{Effect, replied, refused, wrong_state, no_such_point, no_such_till, is_till, decided, release_question, preset_question}
+use Rattle.site_core.specs.Decide.{price_question}
 
 -- a point's refusal as a reply
 abbrev pub fault_reply : PointFault → Reply
@@ -44,7 +45,8 @@ clears_by (Some amount) = 1
 -- what a point answered to a till's command; what a Clear clears joins the total, and is counted
 abbrev pub command_effect : SiteState → ℕ → Answer (Option ℕ) → Effect
 command_effect s n (Err fault) = replied (fault_reply fault) s
-command_effect s n (Ok (point, cleared)) = replied reply.Done (record (with_point s n point) { cleared = s.cleared + unwrap_or cleared 0; clears = s.clears + clears_by cleared })
+command_effect s n (Ok (point, cleared)) =
+    replied reply.Done (record (with_point s n point) { cleared = s.cleared + unwrap_or cleared 0; clears = s.clears + clears_by cleared })
 
 -- a till's command that needs no decision
 unfoldable pub commanded : SiteState → ℕ → ℕ → Command → Effect

@@ -1,6 +1,7 @@
 //! The first places at which what a run is made on differs.
 
-ghost use Rattle.std.specs.Prelude.{◌≡◌, ◌≢◌, ◌↔◌, ◌<◌, IsTrue, ◌^◌, length, MatchOption, MatchResult, Some, None, option_map};
+ghost use Rattle.std.specs.Prelude.{◌≡◌, ◌≢◌, ◌↔◌, ◌<◌, IsTrue, ◌^◌, length, MatchOption, MatchResult, Some, None};
+ghost use Rattle.std.specs.Prelude.{option_map};
 ghost use Rattle.std.specs.Arc.{arc_value};
 ghost use Rattle.interp.specs.Depends.{Agrees};
 ghost use Rattle.program_slots.specs.Slots.{Version, version_in};
@@ -16,7 +17,8 @@ use std::sync::Arc;
 
 /// The version in a slot: its number and its program.
 pub fn look_up(slots: &Slots, slot: u32) -> Option<(u32, &Arc<Program>)>
-    ensures { MatchOption result (version_in slots.now slot ≡ None) (λ v. version_in slots.now slot ≡ Some (record { number = v.0; program = arc_value v.1.now })) }
+    ensures { MatchOption result (version_in slots.now slot ≡ None)
+        (λ v. version_in slots.now slot ≡ Some (record { number = v.0; program = arc_value v.1.now })) }
 {
     let number = slots.installed(slot)?;
     let program = slots.version(number)?;
@@ -97,7 +99,8 @@ pub fn is_version(
 ) -> Result<(), Option<u32>>
     ensures { let version : Version = record { number = number; program = program.now } in
         MatchResult result (λ _. version_in slots.now slot ≡ Some version)
-        (λ now. (version_in slots.now slot ≢ Some version) × (now ≡ option_map (λ (v : Version). v.number) (version_in slots.now slot))) }
+        (λ now. (version_in slots.now slot ≢ Some version)
+        × (now ≡ option_map (λ (v : Version). v.number) (version_in slots.now slot))) }
 {
     match look_up(slots, slot) {
         None => Err(None),

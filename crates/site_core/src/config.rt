@@ -11,8 +11,9 @@ use std::marker::Model;
 /// The greatest bound of a counter: what the text of a configuration can write.
 const MOST_COUNTER: u64 = 9_223_372_036_854_775_807;
 
-/// What a site is made from: its number of tills, the slot of price changes, the prices of products 1 to 8 in thousandths, for each
-/// point the slots of its releases and of its presets, and the counters' values and bounds. All of it is in its range.
+/// What a site is made from: its number of tills, the slot of price changes, the prices of products 1 to 8 in
+/// thousandths, for each point the slots of its releases and of its presets, and the counters' values and bounds. All
+/// of it is in its range.
 #[derive(Drop)]
 pub struct Config {
     tills: u32,
@@ -27,14 +28,27 @@ impl Model for Config {
 
     ghost Value = { ConfigValue };
 
-    ghost view = { λ c. record { tills = c.tills; price_slot = c.price_slot; prices = c.prices; points = c.points.items; counters = c.counters } };
+    ghost view = { λ c. record {
+      tills = c.tills;
+      price_slot = c.price_slot;
+      prices = c.prices;
+      points = c.points.items;
+      counters = c.counters;
+    } };
 
-    ghost invariant = { λ c. IsConfig (record { tills = c.tills; price_slot = c.price_slot; prices = c.prices; points = c.points.items; counters = c.counters }) };
+    ghost invariant = { λ c. IsConfig (record {
+      tills = c.tills;
+      price_slot = c.price_slot;
+      prices = c.prices;
+      points = c.points.items;
+      counters = c.counters;
+    }) };
 }
 
 impl Config {
-    /// The configuration, exactly where there are 1 to 64 tills and 1 to 32 points, slots are 0 to 15, prices at most 9,999,999 (0 for
-    /// none), and each counter's value is at most its bound and that at most 2^63 - 1. Takes no memory.
+    /// The configuration, exactly where there are 1 to 64 tills and 1 to 32 points, slots are 0 to 15, prices at most
+    /// 9,999,999 (0 for none), and each counter's value is at most its bound and that at most 2^63 - 1. Takes no
+    /// memory.
     pub fn new(
         tills: u32,
         price_slot: u32,
@@ -42,9 +56,21 @@ impl Config {
         points: Vec<(u32, u32)>,
         counters: [(u64, u64); 32],
     ) -> Option<Config>
-        ensures value { let value : ConfigValue = record { tills = tills; price_slot = price_slot; prices = prices; points = points.items; counters = counters } in
+        ensures value { let value : ConfigValue = record {
+          tills = tills;
+          price_slot = price_slot;
+          prices = prices;
+          points = points.items;
+          counters = counters;
+        } in
             IfSome result (λ config. config ≡ value) }
-        ensures variant { let value : ConfigValue = record { tills = tills; price_slot = price_slot; prices = prices; points = points.items; counters = counters } in
+        ensures variant { let value : ConfigValue = record {
+          tills = tills;
+          price_slot = price_slot;
+          prices = prices;
+          points = points.items;
+          counters = counters;
+        } in
             IsTrue (is_some result) ↔ IsConfig value }
     {
         if tills < 1 || tills > 64 || price_slot > 15 || points.is_empty() || points.len() > 32 {

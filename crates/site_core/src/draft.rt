@@ -42,9 +42,25 @@ impl Model for Draft {
 
     ghost Value = { DraftValue };
 
-    ghost view = { λ d. record { till = d.till; moment = d.moment; request = d.request; version = record { number = d.version; program = arc_value d.program }; context = bytes_of d.context; view = d.view; counters = d.counters } };
+    ghost view = { λ d. record {
+      till = d.till;
+      moment = d.moment;
+      request = d.request;
+      version = record { number = d.version; program = arc_value d.program };
+      context = bytes_of d.context;
+      view = d.view;
+      counters = d.counters;
+    } };
 
-    ghost invariant = { λ d. (layout_of d.context ≡ (arc_value d.program).layout) × WasAsked (record { till = d.till; moment = d.moment; request = d.request; version = record { number = d.version; program = arc_value d.program }; context = bytes_of d.context; view = d.view; counters = d.counters }) };
+    ghost invariant = { λ d. (layout_of d.context ≡ (arc_value d.program).layout) × WasAsked (record {
+      till = d.till;
+      moment = d.moment;
+      request = d.request;
+      version = record { number = d.version; program = arc_value d.program };
+      context = bytes_of d.context;
+      view = d.view;
+      counters = d.counters;
+    }) };
 }
 
 impl Draft {
@@ -95,7 +111,8 @@ impl Draft {
         }
     }
 
-    /// The question, where a run would be made on the same version, context, view and declared counters now; else the first difference.
+    /// The question, where a run would be made on the same version, context, view and declared counters now; else the
+    /// first difference.
     fn compare(&self, config: &Config, station: &Station, slots: &Slots) -> Result<Question, Why>
         requires { length station.now.points ≡ length config.now.points }
         ensures { Compares config.now station.now slots.now self.now result }
@@ -126,7 +143,8 @@ impl Draft {
     }
 }
 
-/// A draft that was run. It keeps that its answer and the counters after are the program's, on the draft's own context, view and counters.
+/// A draft that was run. It keeps that its answer and the counters after are the program's, on the draft's own context,
+/// view and counters.
 #[derive(Drop)]
 pub struct Ready {
     draft: Draft,
@@ -153,8 +171,9 @@ impl Ready {
     ghost use Rattle.site_core.specs.Differences.{IsFresh, Differs};
     ghost use Rattle.site_core.specs.Asked.{basis_in};
 
-    /// Does what the program answered, where nothing that its run depends on differs now; else the first difference, and nothing changes.
-    /// Counters that the program doesn't declare stay as they are now, and a release is bounded by the preset of now.
+    /// Does what the program answered, where nothing that its run depends on differs now; else the first difference,
+    /// and nothing changes. Counters that the program doesn't declare stay as they are now, and a release is bounded by
+    /// the preset of now.
     pub(crate) fn settle(
         self,
         config: &Config,
@@ -166,7 +185,8 @@ impl Ready {
         ensures performed { MatchResult result
             (λ p. IsFresh (basis_in config.now station.old slots.now self.draft) self.draft
             × ((past : List Entry) → Agrees slots.now past →
-            Performs config.now past station.old self.draft.moment (act.Till self.draft.till self.draft.request) p station.new slots.now))
+            Performs config.now past station.old self.draft.moment (act.Till self.draft.till self.draft.request)
+            p station.new slots.now))
             (Differs (basis_in config.now station.old slots.now self.draft) self.draft) }
         ensures unchanged { OnErr result (station.new ≡ station.old) }
         ensures bounded { (k : ℕ) → Bounded k station.old → Bounded (k + 1) station.new }

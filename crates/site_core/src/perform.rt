@@ -94,7 +94,8 @@ pub fn perform(
 
 /// Makes a version.
 fn load(slots: &mut Slots, slot: u32, program: Arc<Program>) -> Result<Reply, AllocError>
-    ensures reply { IfOk result (λ reply. (past : List Entry) → Agrees slots.old past → Loads slots.old slot (arc_value program) past reply slots.new) }
+    ensures reply { IfOk result (λ reply. (past : List Entry) → Agrees slots.old past
+        → Loads slots.old slot (arc_value program) past reply slots.new) }
     ensures unchanged { OnErr result (slots.new ≡ slots.old) }
 {
     match slots.install(slot, program) {
@@ -117,7 +118,11 @@ fn ask(
     requires points { length station.old.points ≡ length config.now.points }
     requires bounded { Bounded 1048575 station.old }
     ensures effect { (past : List Entry) → Agrees slots.now past →
-        effect config.now past station.old moment (act.Till till request) ≡ record { reply = result.0; run = result.1; after = station.new } }
+        effect config.now past station.old moment (act.Till till request) ≡ record {
+          reply = result.0;
+          run = result.1;
+          after = station.new;
+        } }
     ensures bounded { (k : ℕ) → Bounded k station.old → Bounded (k + 1) station.new }
     ensures points { length station.new.points ≡ length station.old.points }
 {
@@ -225,7 +230,11 @@ fn decide(
     requires till { 0 < till }
     requires asked { IfOk question (λ q. WellAsked station.old q) }
     ensures effect { (past : List Entry) → Agrees slots.now past →
-        decided past station.old till moment question ≡ record { reply = result.0; run = result.1; after = station.new } }
+        decided past station.old till moment question ≡ record {
+          reply = result.0;
+          run = result.1;
+          after = station.new;
+        } }
     ensures bounded { (k : ℕ) → Bounded k station.old → Bounded (k + 1) station.new }
     ensures points { length station.new.points ≡ length station.old.points }
 {

@@ -8,8 +8,8 @@ pub enum Kind {
     Price,
 }
 
-/// What is asked, and the slot whose program decides. A price has point 0, all else product 0. `asked` is an amount in cents, or a
-/// price in thousandths.
+/// What is asked, and the slot whose program decides. A price has point 0, all else product 0. `asked` is an amount in
+/// cents, or a price in thousandths.
 #[derive(Clone, Copy, Debug, PartialEq, Eq, Drop)]
 pub struct Question {
     pub kind: Kind,

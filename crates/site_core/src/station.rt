@@ -2,12 +2,14 @@
 
 ghost use Rattle.std.specs.Prelude.{option_copied, ◌≡◌, ℕ, ◌+◌, ◌<◌, ◌≤◌, IfOk, length, Some, None};
 ghost use Rattle.std.specs.Bool.{OnTrue, OnFalse};
-ghost use Rattle.site_core.specs.State.{opening_state, at_number, price_of, busy_points, open_points, first_busy, view_of, counter_of};
+ghost use Rattle.site_core.specs.State.{opening_state, at_number, price_of, busy_points, open_points, first_busy};
+ghost use Rattle.site_core.specs.State.{view_of, counter_of};
 ghost use Rattle.bpf_model.specs.Layouts.{layout_of};
 ghost use Rattle.site_core.specs.Bounds.{Bounded};
 ghost use Rattle.site_core.specs.Context.{context, fields, product_of, told};
 ghost use Rattle.site_core.specs.Asked.{FitsContext};
-ghost use Rattle.site_core.specs.Decide.{replied, verdict, grant, WellAsked, release_question, preset_question, price_question};
+ghost use Rattle.site_core.specs.Decide.{replied, verdict, grant, WellAsked, release_question, preset_question};
+ghost use Rattle.site_core.specs.Decide.{price_question};
 ghost use Rattle.site_core.specs.Step.{commanded, reported, show_reply};
 ghost use Rattle.program_slots.specs.Slots.{Version};
 ghost use Rattle.fuelling_point.specs.States.{state_number};
@@ -43,7 +45,13 @@ impl Model for Station {
 
     ghost Value = { SiteState };
 
-    ghost view = { λ s. record { points = s.points.items; prices = s.prices; counters = s.counters; cleared = s.cleared; clears = s.clears } };
+    ghost view = { λ s. record {
+      points = s.points.items;
+      prices = s.prices;
+      counters = s.counters;
+      cleared = s.cleared;
+      clears = s.clears;
+    } };
 
     ghost invariant = { λ s. (length s.points.items ≤ 32) × (length s.prices ≡ 8) };
 }
@@ -338,8 +346,13 @@ impl Station {
         requires bounded { Bounded 1048575 self.old }
         requires till { 0 < till }
         requires asked { WellAsked self.old question.now }
-        ensures effect { (moment : ℕ) (v : Version) → context v.program.layout self.old till moment question.now ≡ given → v.number ≡ version → v.program ≡ program.now →
-            verdict self.old till moment question.now v r0 counters ≡ record { reply = result.0; run = Some result.1; after = self.new } }
+        ensures effect { (moment : ℕ) (v : Version) → context v.program.layout self.old till moment question.now ≡ given
+            → v.number ≡ version → v.program ≡ program.now →
+            verdict self.old till moment question.now v r0 counters ≡ record {
+              reply = result.0;
+              run = Some result.1;
+              after = self.new;
+            } }
         ensures bounded { (k : ℕ) → Bounded k self.old → Bounded (k + 1) self.new }
         ensures points { length self.new.points ≡ length self.old.points }
     {

@@ -53,7 +53,8 @@ clear f ys v all total h = record {
 }
 
 closed : (h : HaltedValue) (base : List Entry) (taken : Option (List ℕ)) (xs ys : List PassView) (v : GroundValue) (config : ConfigValue)
-    → AreAll h.opened.passes ys → xs ≡ ys → config ≡ h.opened.config → base ≡ h.opened.base → taken ≡ h.opened.taken → v ≡ h.ground → v.total ≡ sum_by (λ (p : PassView). p.amount) ys
+    → AreAll h.opened.passes ys → xs ≡ ys → config ≡ h.opened.config → base ≡ h.opened.base → taken ≡ h.opened.taken → v ≡ h.ground
+    → v.total ≡ sum_by (λ (p : PassView). p.amount) ys
     → IsClear base taken v config xs → ClosesSince h.opened ys h.ground.site h.ground.written
 closed h base taken xs ys v config all same is from took ground total good =
     let P : List PassView → Type 0 = λ zs. IsClear base taken v config zs in
@@ -69,10 +70,13 @@ pub refused_some : (h : HaltedValue) (base : List Entry) (xs ys : List PassView)
 refused_some h base xs ys v None all same from is total fault = tt
 refused_some h base xs ys v (Some w) all same from is total fault = refused h base xs ys v w all same from is total fault
 
-pub closed_none : (h : HaltedValue) (base : List Entry) (taken : Option (List ℕ)) (xs ys : List PassView) (v : GroundValue) (config : ConfigValue) (r : Option CloseRefusal)
-    → AreAll h.opened.passes ys → xs ≡ ys → config ≡ h.opened.config → base ≡ h.opened.base → taken ≡ h.opened.taken → v ≡ h.ground → v.total ≡ sum_by (λ (p : PassView). p.amount) ys
+pub closed_none : (h : HaltedValue) (base : List Entry) (taken : Option (List ℕ)) (xs ys : List PassView) (v : GroundValue) (config : ConfigValue)
+    (r : Option CloseRefusal)
+    → AreAll h.opened.passes ys → xs ≡ ys → config ≡ h.opened.config → base ≡ h.opened.base → taken ≡ h.opened.taken → v ≡ h.ground
+    → v.total ≡ sum_by (λ (p : PassView). p.amount) ys
     → IfNone r (IsClear base taken v config xs) → IfNone r (ClosesSince h.opened ys h.ground.site h.ground.written)
-closed_none h base taken xs ys v config None all same is from took ground total good = closed h base taken xs ys v config all same is from took ground total good
+closed_none h base taken xs ys v config None all same is from took ground total good =
+    closed h base taken xs ys v config all same is from took ground total good
 closed_none h base taken xs ys v config (Some w) all same is from took ground total good = tt
 
 -- a history that goes on from none
@@ -98,7 +102,8 @@ wrong_new h ys id n false none stands fault = (
 )
 wrong_new h ys id n true none stands fault = absurd stands.0
 
-pub refuses_new : (f : Opened) (h : HaltedValue) (ys : List PassView) (w : CloseRefusal) → f.base ≡ [] → h.opened ≡ f → IsHalted ⊥ h → RefusesSince h ys w → Refuses h ys w
+pub refuses_new : (f : Opened) (h : HaltedValue) (ys : List PassView) (w : CloseRefusal) → f.base ≡ [] → h.opened ≡ f → IsHalted ⊥ h
+    → RefusesSince h ys w → Refuses h ys w
 refuses_new f h ys PassMissing none is halted why = why
 refuses_new f h ys (NotInHistory id n) none is halted why =
     let wrong = wrong_new h ys id n h.ground.stopped (ap (λ (o : Opened). o.base) is ∙ none) halted.stands why.2 in (why.0, wrong.0 ∙ why.1, wrong.1)

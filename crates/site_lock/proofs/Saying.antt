@@ -17,7 +17,8 @@ use Rattle.site_lock.specs.Calls.{Gains, FitsIn, RoseWithin}
 use Rattle.site_lock.specs.Desks.{AsksGate, DeskAnswers, said_of}
 
 -- what a call of the act at the moment says of its pass
-pub record Called (base : ℕ) (config : ConfigValue) (may_fail : Type 0) (old new : PassView) (moment : ℕ) (act : Act) (r : Result Answered EnterFault) : Type 0 where
+pub record Called (base : ℕ) (config : ConfigValue) (may_fail : Type 0) (old new : PassView) (moment : ℕ) (act : Act)
+    (r : Result Answered EnterFault) : Type 0 where
   pub gains : IfOk r (λ (a : Answered). Gains old new moment act a)
   pub number : IfOk r (λ (a : Answered). base + length new.receipts ≤ a.number)
   pub fits : IfOk r (λ (a : Answered). FitsIn config old.id moment act a)
@@ -25,13 +26,15 @@ pub record Called (base : ℕ) (config : ConfigValue) (may_fail : Type 0) (old n
   pub same : OnErr r (new ≡ old)
 
 module _ (base : ℕ) (may_fail : Type 0) (old new : PassView) (moment : ℕ) where
-  said_so : (config : ConfigValue) (act : Act) (r : Result Answered EnterFault) → Called base config may_fail old new (entered_moment act moment) act r → IsGoodAct act → DeskAnswers config may_fail old new act moment (said_of r)
+  said_so : (config : ConfigValue) (act : Act) (r : Result Answered EnterFault) → Called base config may_fail old new (entered_moment act moment) act r
+      → IsGoodAct act → DeskAnswers config may_fail old new act moment (said_of r)
   said_so config act (Ok a) called good = record { gains = called.gains; number_is = omega (arith, called.number); fits = called.fits; good = good }
   said_so config act (Err (enter.Call fault.JournalFull)) called good = called.same
   said_so config act (Err (enter.Call fault.OutOfMemory)) called good = called.same
   said_so config act (Err enter.Journal) called good = (called.same, called.cause refl)
 
-  pub answers : (kept config : ConfigValue) (act asked : Act) (r : Result Answered EnterFault) (answer : Answer) → kept ≡ config → act ≡ asked → answer ≡ said_of r
+  pub answers : (kept config : ConfigValue) (act asked : Act) (r : Result Answered EnterFault) (answer : Answer) → kept ≡ config
+      → act ≡ asked → answer ≡ said_of r
       → Called base kept may_fail old new (entered_moment act moment) act r → IsGoodAct asked → DeskAnswers config may_fail old new asked moment answer
   answers kept config act asked r answer same is said called good =
       let P : Answer → Type 0 = λ a. DeskAnswers config may_fail old new asked moment a in
@@ -40,7 +43,8 @@ module _ (base : ℕ) (may_fail : Type 0) (old new : PassView) (moment : ℕ) wh
       subst P (sym said) (said_so config asked r (subst Q same (subst R is called)) good)
 
 module _ (before now : ℕ) where
-  asks_so : (till : ℕ) (request : Request) (r : Result Answered EnterFault) → IfOk r (λ (a : Answered). is_decided a.reply ≡ true → RoseWithin 1 2 before now) → AsksGate before now (said_of r) (Till till request)
+  asks_so : (till : ℕ) (request : Request) (r : Result Answered EnterFault) → IfOk r (λ (a : Answered). is_decided a.reply ≡ true → RoseWithin 1 2 before now)
+      → AsksGate before now (said_of r) (Till till request)
   asks_so till request (Ok a) h = h
   asks_so till request (Err (enter.Call fault.JournalFull)) h = tt
   asks_so till request (Err (enter.Call fault.OutOfMemory)) h = tt

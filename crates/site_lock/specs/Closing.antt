@@ -19,7 +19,9 @@ pub record Closes (f : Opened) (passes : List PassView) (s : SiteValue) : Type 0
   pub calls : length s.history ≡ sum_by (λ (p : PassView). p.amount) passes
   pub merge : IsMerge s.history passes
 
--- The configuration is the kept one; the history is legal and goes on from the one started with by the merge of what the passes were answered, as many entries as these were answered calls; and the journal took exactly the text of these.
+-- The configuration is the kept one; the history is legal and goes on from the one started with by the merge of what
+-- the passes were answered, as many entries as these were answered calls; and the journal took exactly the text of
+-- these.
 pub record ClosesSince (f : Opened) (passes : List PassView) (s : SiteValue) (written : Option (List ℕ)) : Type 0 where
   pub all : AreAll f.passes passes
   pub config : s.config ≡ f.config
@@ -35,7 +37,8 @@ pub record HaltedValue : Type 0 where
   pub opened : Opened
   pub ground : GroundValue
 
--- Its configuration is the one started with, its history is legal and goes on from the one started with by the answered calls, and the journal took the text of these.
+-- Its configuration is the one started with, its history is legal and goes on from the one started with by the answered
+-- calls, and the journal took the text of these.
 pub record IsHalted (may_fail : Type 0) (h : HaltedValue) : Type 0 where
   pub config : h.ground.site.config ≡ h.opened.config
   pub legal : Upholds h.ground.site

@@ -46,7 +46,8 @@ IsFault history passes id n =
     Any (λ p. (p.id ≡ id) × FailsFrom history p.id 0 p.receipts n) passes
     ⊎ Any (λ e. (e.pass ≡ id) × (e.number ≡ n) × ¬ Covered passes e) history
 
--- The same of a history that went on from its first `base` entries: the receipts' numbers are above them, and each entry behind them stands in the receipts of its pass.
+-- The same of a history that went on from its first `base` entries: the receipts' numbers are above them, and each
+-- entry behind them stands in the receipts of its pass.
 abbrev pub IsMergeSince : ℕ → List Entry → List PassView → Type 0
 IsMergeSince base history passes = All (λ p. StandsFrom history p.id base p.receipts) passes × All (Covered passes) (drop base history)
 

@@ -1,7 +1,8 @@
 //! Whether a history is what the passes were answered.
 ghost use Rattle.std.specs.Prelude.{◌≡◌, ◌↔◌, IsTrue, IfNone, IfSome, All, Any, count_by, ◌==◌};
 ghost use Rattle.std.specs.Prelude.{◌≤◌, ℕ, length, drop};
-ghost use Rattle.site_lock.specs.Merge.{Matches, IsEntryOf, StandsFrom, FailsFrom, HasNumber, Covers, Covered, IsMerge, IsMergeSince, IsFault, IsFaultSince, AreAll};
+ghost use Rattle.site_lock.specs.Merge.{Matches, IsEntryOf, StandsFrom, FailsFrom, HasNumber, Covers, Covered, IsMerge};
+ghost use Rattle.site_lock.specs.Merge.{IsMergeSince, IsFault, IsFaultSince, AreAll};
 
 use super::pass::{Pass, Receipt, Yard};
 use decision_journal::Entry;
@@ -47,7 +48,8 @@ fn wrong_receipt(history: &[Entry], base: u32, id: u32, receipts: &[Receipt]) ->
 
 fn wrong_pass<L: Yard>(history: &[Entry], base: u32, passes: &[Pass<L>]) -> Option<(u32, u32)>
     ensures none { IfNone result (All (λ p. StandsFrom history.now p.id base p.receipts) passes.now) }
-    ensures some { IfSome result (λ x. Any (λ p. (p.id ≡ x.0) × FailsFrom history.now p.id base p.receipts x.1) passes.now) }
+    ensures some { IfSome result
+        (λ x. Any (λ p. (p.id ≡ x.0) × FailsFrom history.now p.id base p.receipts x.1) passes.now) }
 {
     for pass in passes {
         if let Some(number) = wrong_receipt(history, base, pass.id(), pass.receipts()) {
@@ -110,7 +112,8 @@ fn is_covered_at_all<L: Yard>(passes: &[Pass<L>], entry: &Entry) -> bool
 
 fn uncovered<L: Yard>(history: &[Entry], passes: &[Pass<L>]) -> Option<(u32, u32)>
     ensures none { IfNone result (All (Covered passes.now) history.now) }
-    ensures some { IfSome result (λ x. Any (λ e. (e.pass ≡ x.0) × (e.number ≡ x.1) × ¬ Covered passes.now e) history.now) }
+    ensures some { IfSome result
+        (λ x. Any (λ e. (e.pass ≡ x.0) × (e.number ≡ x.1) × ¬ Covered passes.now e) history.now) }
 {
     for entry in history {
         if !is_covered_at_all(passes, entry) {
@@ -131,14 +134,15 @@ pub(super) fn behind(base: u32, history: &[Entry]) -> &[Entry]
 fn uncovered_since<L: Yard>(base: u32, history: &[Entry], passes: &[Pass<L>]) -> Option<(u32, u32)>
     requires { base ≤ length history.now }
     ensures none { IfNone result (All (Covered passes.now) (drop base history.now)) }
-    ensures some { IfSome result (λ x. Any (λ e. (e.pass ≡ x.0) × (e.number ≡ x.1) × ¬ Covered passes.now e) (drop base history.now)) }
+    ensures some { IfSome result
+        (λ x. Any (λ e. (e.pass ≡ x.0) × (e.number ≡ x.1) × ¬ Covered passes.now e) (drop base history.now)) }
 {
     uncovered(behind(base, history), passes)
 }
 
-/// What keeps a history from being what the passes were answered: a pass and a number. Either the first receipt of the pass that is
-/// wrong has this number: it isn't the entry there by pass, event, moment and reply, or isn't above the receipt before it. Or the
-/// entry of this pass and number stands in no receipt of that pass.
+/// What keeps a history from being what the passes were answered: a pass and a number. Either the first receipt of the
+/// pass that is wrong has this number: it isn't the entry there by pass, event, moment and reply, or isn't above the
+/// receipt before it. Or the entry of this pass and number stands in no receipt of that pass.
 pub fn fault<L: Yard>(history: &[Entry], passes: &[Pass<L>]) -> Option<(u32, u32)>
     ensures none { IfNone result (IsMerge history.now passes.now) }
     ensures some { IfSome result (λ x. IsFault history.now passes.now x.0 x.1) }
@@ -146,8 +150,8 @@ pub fn fault<L: Yard>(history: &[Entry], passes: &[Pass<L>]) -> Option<(u32, u32
     fault_since(0, history, passes)
 }
 
-/// The same of a history that went on from its first `base` entries, which no pass was answered: a receipt's number is above them, and
-/// each entry behind them stands in the receipts of its pass.
+/// The same of a history that went on from its first `base` entries, which no pass was answered: a receipt's number is
+/// above them, and each entry behind them stands in the receipts of its pass.
 pub fn fault_since<L: Yard>(base: u32, history: &[Entry], passes: &[Pass<L>]) -> Option<(u32, u32)>
     requires within { base ≤ length history.now }
     ensures none { IfNone result (IsMergeSince base history.now passes.now) }

@@ -9,8 +9,8 @@ use site_core::Site;
 pub enum CloseRefusal {
     /// C1: the passes handed in aren't all of the forecourt's, each once.
     PassMissing,
-    /// C2: the receipt of this pass with this number isn't the entry there, or the entry there has no receipt, as that at which a
-    /// journal failed.
+    /// C2: the receipt of this pass with this number isn't the entry there, or the entry there has no receipt, as that
+    /// at which a journal failed.
     NotInHistory(u32, u32),
     /// C3: the site has another configuration.
     OtherConfig,

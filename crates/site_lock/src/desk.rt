@@ -20,9 +20,9 @@ use std::alloc::Global;
 use std::sync::Wait;
 use till_request::{Act, Answer, LineFault};
 
-/// Answers acts by a forecourt, with one pass; a gate runs the programs that decide. A load's bytes are verified before the lock is
-/// taken: a refused program is answered by its V line and is no event. Once the journal has failed each event is answered by what ends
-/// a session without a line.
+/// Answers acts by a forecourt, with one pass; a gate runs the programs that decide. A load's bytes are verified before
+/// the lock is taken: a refused program is answered by its V line and is no event. Once the journal has failed each
+/// event is answered by what ends a session without a line.
 #[derive(Drop)]
 pub struct PassDesk<'a, L: Yard, R: Wait, G: Gate + Drop, J: Journal = NoJournal> {
     rt: &'a R,
@@ -65,8 +65,10 @@ impl<L: Yard, R: Wait, G: Gate + Drop, J: Journal> Desk for PassDesk<'_, L, R, G
     ghost use Rattle.site_lock.specs.Calls.{RoseWithin};
     ghost use Rattle.site_lock.specs.Desks.{DeskAnswers, AsksGate};
 
-    ghost step = { λ desk act moment answer after. DeskAnswers L.config J.may_fail desk.pass after.pass act moment answer
-        × RoseWithin 0 2 (G.calls desk.gate) (G.calls after.gate) × AsksGate (G.calls desk.gate) (G.calls after.gate) answer act };
+    ghost step = { λ desk act moment answer after. DeskAnswers L.config J.may_fail desk.pass
+        after.pass act moment answer
+        × RoseWithin 0 2 (G.calls desk.gate) (G.calls after.gate)
+        × AsksGate (G.calls desk.gate) (G.calls after.gate) answer act };
 
     fn answer(&mut self, act: Act, moment: u64) -> Answer {
         let PassDesk {
@@ -131,7 +133,8 @@ fn said(called: Result<Answered, EnterFault>) -> Answer
 
 // The answer to a load that is no event.
 fn refused<J: Journal>(refusal: Refusal) -> Answer
-    ensures answers { (config : ConfigValue) (pass : PassView) (act : Act) (moment : ℕ) → IsRefusedAct act refusal → DeskAnswers config J.may_fail pass pass act moment result }
+    ensures answers { (config : ConfigValue) (pass : PassView) (act : Act) (moment : ℕ) → IsRefusedAct act refusal
+        → DeskAnswers config J.may_fail pass pass act moment result }
     ensures asks { (calls : ℕ) (act : Act) → AsksGate calls calls result act }
 {
     match refusal.shown() {

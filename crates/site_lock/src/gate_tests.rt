@@ -139,7 +139,8 @@ impl<L: Yard, R: Wait> Gate for Loading<'_, L, R> {
     }
 }
 
-/// A release, with another version each time before its program is run: the entry's number, the reply, and the gate's calls.
+/// A release, with another version each time before its program is run: the entry's number, the reply, and the gate's
+/// calls.
 fn overtaken<L: Yard, R: Wait>(
     rt: &R,
     alloc: Global,

@@ -12,7 +12,8 @@ use site_core::{Config, Site};
 use std::alloc::Global;
 use std::marker::Model;
 
-/// A forecourt that could not be closed. Until it is opened again nobody can call it, so its history stands still and can be read.
+/// A forecourt that could not be closed. Until it is opened again nobody can call it, so its history stands still and
+/// can be read.
 #[derive(Drop)]
 pub struct Halted<L: Yard, J: Journal = NoJournal> {
     pub(super) alloc: Global,
@@ -27,7 +28,15 @@ impl<L: Yard, J: Journal> Model for Halted<L, J> {
 
     ghost Value = { HaltedValue };
 
-    ghost view = { λ h. record { opened = record { config = h.config; passes = h.passes; base = L.base; taken = L.taken }; ground = h.ground } };
+    ghost view = { λ h. record {
+      opened = record {
+        config = h.config;
+        passes = h.passes;
+        base = L.base;
+        taken = L.taken;
+      };
+      ground = h.ground;
+    } };
 
     ghost invariant = { λ h. (h.passes ≡ L.parts) × (0 < h.passes) × (h.config ≡ L.config) };
 }
@@ -38,7 +47,8 @@ impl<L: Yard, J: Journal> Halted<L, J> {
     /// Why it can't be closed with these passes.
     pub(super) fn refusal(&mut self, passes: &mut Vec<Pass<L>>) -> Option<CloseRefusal>
         ensures same { (self.new ≡ self.old) × (passes.new.items ≡ passes.old.items) }
-        ensures none { IfNone result (ClosesSince self.old.opened passes.old.items self.old.ground.site self.old.ground.written) }
+        ensures none { IfNone result
+            (ClosesSince self.old.opened passes.old.items self.old.ground.site self.old.ground.written) }
         ensures some { IfSome result (λ why. RefusesSince self.old passes.old.items why) }
         ensures halted { IsHalted J.may_fail self.new }
     {

@@ -8,8 +8,8 @@ use till_request::{Act, Reply};
 
 /// The call ledger of a forecourt: one part for each pass, the configuration of its site, and what it goes on from.
 ///
-/// A forecourt lives and ends in one function that is generic over its ledger, and which is called with `Brand` for it; the call's proof
-/// picks name, parts and configuration. So a pass of another forecourt doesn't compile.
+/// A forecourt lives and ends in one function that is generic over its ledger, and which is called with `Brand` for it;
+/// the call's proof picks name, parts and configuration. So a pass of another forecourt doesn't compile.
 pub trait Yard: Ledger {
     ghost use Rattle.std.specs.Prelude.{List, Option, ℕ};
     ghost use Rattle.decision_journal.specs.declared.entries.Entry.{Entry};
@@ -42,7 +42,8 @@ pub struct Receipt {
     pub reply: Reply,
 }
 
-/// A caller's pass. It has a number, from 1, a share of the call ledger, and a receipt for each answered call, the oldest first.
+/// A caller's pass. It has a number, from 1, a share of the call ledger, and a receipt for each answered call, the
+/// oldest first.
 #[derive(Drop)]
 pub struct Pass<L: Yard> {
     pub(super) id: u32,

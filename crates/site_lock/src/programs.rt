@@ -39,7 +39,9 @@ pub fn verify_all<R: Threads + Sync>(
 ) -> Result<Vec<Result<Program, Refusal>>, AllocError>
     requires { (0 < workers) × (workers ≤ 16) }
     ensures number { IfOk result (λ v. vec_len v ≡ length items.now) }
-    ensures each { IfOk result (λ v. (i : ℕ) (d : _) (e : _) → i < length items.now → IsVerified (slice_index_or items.now i d).0.items (slice_index_or items.now i d).1 (slice_index_or items.now i d).2 (slice_index_or v.items i e)) }
+    ensures each { IfOk result (λ v. (i : ℕ) (d : _) (e : _) → i < length items.now
+        → IsVerified (slice_index_or items.now i d).0.items (slice_index_or items.now i d).1
+        (slice_index_or items.now i d).2 (slice_index_or v.items i e)) }
 {
     let mut verdicts = places(alloc, items.len())?;
     thread::for_each_mut(
@@ -48,7 +50,9 @@ pub fn verify_all<R: Threads + Sync>(
         workers as usize,
         &|i, verdict: &mut Result<Program, Refusal>|
             requires { i < length items.now }
-            ensures { (d : _) → IsVerified (slice_index_or items.entry.now i d).0.items (slice_index_or items.entry.now i d).1 (slice_index_or items.entry.now i d).2 verdict.exit.now }
+            ensures { (d : _)
+                → IsVerified (slice_index_or items.entry.now i d).0.items (slice_index_or items.entry.now i d).1
+                (slice_index_or items.entry.now i d).2 verdict.exit.now }
         { *verdict = verified(alloc, &items[i]) },
     );
     Ok(verdicts)

@@ -1,5 +1,6 @@
 -- What the posts hand in is what all workers handed back.
-use Rattle.std.proofs.Common.{◌≡◌, ℕ, ◌+◌, ◌<◌, List, [], ◌∷◌, ◌++◌, length, map, slice_index_or, Option, Some, None, slice_get, refl, sym, ◌∙◌, ap, subst, arith, zero, suc}
+use Rattle.std.proofs.Common.{◌≡◌, ℕ, ◌+◌, ◌<◌, List, [], ◌∷◌, ◌++◌, length, map, slice_index_or, Option, Some, None, slice_get, refl, sym, ◌∙◌, ap, subst}
+use Rattle.std.proofs.Common.{arith, zero, suc}
 use Rattle.std.proofs.lemmas.List.{length-map}
 use Rattle.site_lock.specs.Passes.{PassView, new_pass, AreNew}
 use Rattle.site_core.specs.Limits.{ConfigValue}
@@ -33,7 +34,8 @@ module _ (config own : ConfigValue) (same : config ≡ own) (may_fail : Type 0) 
   AllBack b (None ∷ posts) = ⊥
   AllBack b (Some r ∷ posts) = HandedBack config may_fail tills dispensers connections b r × AllBack (b + 1) posts
 
-  one_back : {A : Type 0} (b : ℕ) (x : Option (PassView × A)) (y : Option (PassView × ℕ)) (rest : List (Option (PassView × ℕ))) → waits x ≡ Some (new_pass (b + 1))
+  one_back : {A : Type 0} (b : ℕ) (x : Option (PassView × A)) (y : Option (PassView × ℕ)) (rest : List (Option (PassView × ℕ)))
+      → waits x ≡ Some (new_pass (b + 1))
       → Manned own may_fail tills dispensers connections x y → AllBack (b + 1) rest → AllBack b (y ∷ rest)
   one_back b None y rest e h more = absurd (subst IsThere (sym e) tt)
   one_back b (Some w) None rest e h more = absurd h
@@ -65,8 +67,10 @@ module _ (config own : ConfigValue) (same : config ≡ own) (may_fail : Type 0) 
   handed_length b (None ∷ posts) h = absurd h
   handed_length b (Some r ∷ posts) h = (let more = handed_length (b + 1) posts h.1 in omega arith)
 
-module _ (config : ConfigValue) (may_fail : Type 0) (tills dispensers connections : ℕ) {P A : Type 0} (w : P → Option (PassView × A)) (d : P → Option (PassView × ℕ)) where
-  pub manned_so : (x y a b : P) → a ≡ x → b ≡ y → Manned config may_fail tills dispensers connections (w a) (d b) → Manned config may_fail tills dispensers connections (w x) (d y)
+module _ (config : ConfigValue) (may_fail : Type 0) (tills dispensers connections : ℕ) {P A : Type 0} (w : P → Option (PassView × A)) (d : P
+    → Option (PassView × ℕ)) where
+  pub manned_so : (x y a b : P) → a ≡ x → b ≡ y → Manned config may_fail tills dispensers connections (w a) (d b)
+      → Manned config may_fail tills dispensers connections (w x) (d y)
   manned_so x y a b is left h = subst (λ (p : P). Manned config may_fail tills dispensers connections (w p) (d y)) is
       (subst (λ (p : P). Manned config may_fail tills dispensers connections (w a) (d p)) left h)
 
@@ -75,12 +79,14 @@ module _ (config : ConfigValue) (may_fail : Type 0) (tills dispensers connection
 
 -- new passes that wait at posts
 module _ {P A : Type 0} (w : P → Option (PassView × A)) where
-  waits_at : (k : ℕ) (d : Option PassView) (p : PassView) (ps : List PassView) → slice_get ps k ≡ Some p → slice_index_or (map (λ (q : PassView). Some q) ps) k d ≡ Some p
+  waits_at : (k : ℕ) (d : Option PassView) (p : PassView) (ps : List PassView) → slice_get ps k ≡ Some p
+      → slice_index_or (map (λ (q : PassView). Some q) ps) k d ≡ Some p
   waits_at k d p [] is = absurd (subst IsThere (sym is) tt)
   waits_at zero d p (q ∷ ps) is = is
   waits_at (suc k) d p (q ∷ ps) is = waits_at k d p ps is
 
-  pub are_waiting : (n : ℕ) (posts : List P) (ps : List PassView) → map (λ p. waits (w p)) posts ≡ map (λ (q : PassView). Some q) ps → AreNew n ps → AreWaiting n (map (λ p. waits (w p)) posts)
+  pub are_waiting : (n : ℕ) (posts : List P) (ps : List PassView) → map (λ p. waits (w p)) posts ≡ map (λ (q : PassView). Some q) ps → AreNew n ps
+      → AreWaiting n (map (λ p. waits (w p)) posts)
   are_waiting n posts ps is new = rw is (
     length-map ps (λ (q : PassView). Some q) ∙ new.0,
     λ k d lt. waits_at k d (new_pass (k + 1)) ps (new.1 k lt),

@@ -27,7 +27,8 @@ module _ (config : ConfigValue) (may_fail : Type 0) where
   answer_keeps (answer.Line line.CutLine) p q act moment h = absurd h
   answer_keeps (answer.Program number unit part) p q act moment h = ap (λ (x : PassView). x.id) h.same
 
-  act_keeps : (act : Result Act LineFault) (c : ℕ) (p : PassView) (a : Answer) (d : ℕ) (q : PassView) → AnswersAct (pass_answers config may_fail) tells act c p a d q → q.id ≡ p.id
+  act_keeps : (act : Result Act LineFault) (c : ℕ) (p : PassView) (a : Answer) (d : ℕ) (q : PassView)
+      → AnswersAct (pass_answers config may_fail) tells act c p a d q → q.id ≡ p.id
   act_keeps (Ok act) c p a d q h = answer_keeps a p q act h.0 h.2
   act_keeps (Err fault) c p a d q h = ap (λ (x : PassView). x.id) h.2
 
@@ -46,16 +47,20 @@ module _ (config : ConfigValue) (may_fail : Type 0) where
     module _ {I O D : Type 0} (remaining : I → Option (List ℕ)) (reads read_failures : I → ℕ) (written : O → Option (List ℕ)) (write_failures : O → ℕ)
         (opens : D → I → O → D → Type 0) (fails : D → D → Type 0) where
       visit_keeps : (outcome : Outcome) (d : D) (s : ℕ × PassView) (e : D) (t : ℕ × PassView)
-          → Visits opens fails (Sits (desk_says (pass_answers config may_fail) tells role) (desk_drops (pass_answers config may_fail) tells role) remaining reads read_failures written write_failures) outcome d s e t → t.1.id ≡ s.1.id
+          → Visits opens fails (Sits (desk_says (pass_answers config may_fail) tells role) (desk_drops (pass_answers config may_fail) tells role) remaining
+          reads read_failures written write_failures) outcome d s e t → t.1.id ≡ s.1.id
       visit_keeps None d s e t v = ap (λ (x : ℕ × PassView). x.1.id) v.1
       visit_keeps (Some (Ok ended)) d s e t v = let talks = v.3.said.talks in all_keep talks.lines s talks.texts t talks.said
-      visit_keeps (Some (Err fault)) d s e t v = let breaks = v.3.broken in drop_keeps breaks.answered t breaks.rest breaks.dropped ∙ all_keep breaks.lines s breaks.texts breaks.answered breaks.said
+      visit_keeps (Some (Err fault)) d s e t v = let breaks =
+          v.3.broken in drop_keeps breaks.answered t breaks.rest breaks.dropped ∙ all_keep breaks.lines s breaks.texts breaks.answered breaks.said
 
       visits_keep : (outcomes : List Outcome) (d : D) (s : ℕ × PassView) (e : D) (t : ℕ × PassView)
-          → VisitsAll (Visits opens fails (Sits (desk_says (pass_answers config may_fail) tells role) (desk_drops (pass_answers config may_fail) tells role) remaining reads read_failures written write_failures)) outcomes d s e t → t.1.id ≡ s.1.id
+          → VisitsAll (Visits opens fails (Sits (desk_says (pass_answers config may_fail) tells role) (desk_drops (pass_answers config may_fail) tells role)
+          remaining reads read_failures written write_failures)) outcomes d s e t → t.1.id ≡ s.1.id
       visits_keep [] d s e t h = ap (λ (x : ℕ × PassView). x.1.id) h.1
       visits_keep (outcome ∷ outcomes) d s e t h = visits_keep outcomes h.0 h.1 e t h.3 ∙ visit_keeps outcome d s h.0 h.1 h.2
 
       pub serves_keep : (asked well : ℕ) (d : D) (s : ℕ × PassView) (e : D) (t : ℕ × PassView)
-          → Serves (Visits opens fails (Sits (desk_says (pass_answers config may_fail) tells role) (desk_drops (pass_answers config may_fail) tells role) remaining reads read_failures written write_failures)) asked well d s e t → t.1.id ≡ s.1.id
+          → Serves (Visits opens fails (Sits (desk_says (pass_answers config may_fail) tells role) (desk_drops (pass_answers config may_fail) tells role)
+          remaining reads read_failures written write_failures)) asked well d s e t → t.1.id ≡ s.1.id
       serves_keep asked well d s e t h = visits_keep h.outcomes d s e t h.each

@@ -1,5 +1,6 @@
 -- Passes with the numbers 1, 2, 3 and so on are all passes, each once.
-use Rattle.std.proofs.Common.{◌≡◌, ℕ, ◌+◌, ◌<◌, ◌≤◌, List, [], ◌∷◌, length, map, slice_index_or, Bool, true, false, refl, sym, ◌∙◌, ap, subst, arith, rules, zero, suc}
+use Rattle.std.proofs.Common.{◌≡◌, ℕ, ◌+◌, ◌<◌, ◌≤◌, List, [], ◌∷◌, length, map, slice_index_or, Bool, true, false, refl, sym, ◌∙◌, ap, subst, arith, rules}
+use Rattle.std.proofs.Common.{zero, suc}
 use Rattle.std.specs.Prelude.{count_by, cond, ◌==◌}
 use Rattle.std.proofs.lemmas.Bool.{eqb-true, eqb-false}
 use Rattle.std.proofs.lemmas.List.{length-map}
@@ -67,7 +68,8 @@ pub all_numbered : (ps : List PassView) (n : ℕ) → length ps ≡ n → ((k : 
 all_numbered ps n is h = (
   is,
   λ k lt. counted ps (k + 1) ∙ tally_is ps (k + 1)
-      ∙ once 0 (map (λ (p : PassView). p.id) ps) (k + 1) (numbers_of 0 ps (λ j d l. h j d l ∙ omega arith)) (omega arith) (omega (arith, length-map ps (λ (p : PassView). p.id))),
+      ∙ once 0 (map (λ (p : PassView). p.id) ps) (k + 1) (numbers_of 0 ps (λ j d l. h j d l ∙ omega arith)) (omega arith)
+      (omega (arith, length-map ps (λ (p : PassView). p.id))),
 )
 
 module _ (config : ConfigValue) (may_fail : Type 0) (tills dispensers connections : ℕ) where

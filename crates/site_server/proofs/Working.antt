@@ -8,25 +8,30 @@ use Rattle.site_core.specs.Limits.{ConfigValue}
 use Rattle.site_lock.specs.Passes.{PassView}
 use Rattle.site_server.specs.Posts.{pass_answers, tells, DropsOne, Talked, TalkedAll, Worked}
 
-module _ (config : ConfigValue) (may_fail : Type 0) (role : Role) {I O D : Type 0} (remaining : I → Option (List ℕ)) (reads read_failures : I → ℕ) (written : O → Option (List ℕ)) (write_failures : O → ℕ)
+module _ (config : ConfigValue) (may_fail : Type 0) (role : Role) {I O D : Type 0} (remaining : I → Option (List ℕ)) (reads read_failures : I → ℕ) (written : O
+    → Option (List ℕ)) (write_failures : O → ℕ)
     (opens : D → I → O → D → Type 0) (fails : D → D → Type 0) where
   dropped : (s t : ℕ × PassView) (rest : List ℕ) → DropsNext (desk_drops (pass_answers config may_fail) tells role) s t rest → DropsOne config may_fail role s t
   dropped s t rest (inl same) = inl same
   dropped s t rest (inr d) = inr (d.0, d.1, d.3)
 
   talked : (outcome : Outcome) (d : D) (s : ℕ × PassView) (e : D) (t : ℕ × PassView)
-      → Visits opens fails (Sits (desk_says (pass_answers config may_fail) tells role) (desk_drops (pass_answers config may_fail) tells role) remaining reads read_failures written write_failures) outcome d s e t → Talked config may_fail role outcome s t
+      → Visits opens fails (Sits (desk_says (pass_answers config may_fail) tells role) (desk_drops (pass_answers config may_fail) tells role) remaining reads
+      read_failures written write_failures) outcome d s e t → Talked config may_fail role outcome s t
   talked None d s e t v = v.1
   talked (Some (Ok ended)) d s e t v = let talks = v.3.said.talks in (talks.lines, talks.texts, t, talks.each, talks.said, inl refl)
-  talked (Some (Err fault)) d s e t v = let breaks = v.3.broken in (breaks.lines, breaks.texts, breaks.answered, breaks.each, breaks.said, dropped breaks.answered t breaks.rest breaks.dropped)
+  talked (Some (Err fault)) d s e t v = let breaks =
+      v.3.broken in (breaks.lines, breaks.texts, breaks.answered, breaks.each, breaks.said, dropped breaks.answered t breaks.rest breaks.dropped)
 
   all_talked : (outcomes : List Outcome) (d : D) (s : ℕ × PassView) (e : D) (t : ℕ × PassView)
-      → VisitsAll (Visits opens fails (Sits (desk_says (pass_answers config may_fail) tells role) (desk_drops (pass_answers config may_fail) tells role) remaining reads read_failures written write_failures)) outcomes d s e t → TalkedAll config may_fail role outcomes s t
+      → VisitsAll (Visits opens fails (Sits (desk_says (pass_answers config may_fail) tells role) (desk_drops (pass_answers config may_fail) tells role)
+      remaining reads read_failures written write_failures)) outcomes d s e t → TalkedAll config may_fail role outcomes s t
   all_talked [] d s e t h = h.1
   all_talked (outcome ∷ outcomes) d s e t h = (h.1, talked outcome d s h.0 h.1 h.2, all_talked outcomes h.0 h.1 e t h.3)
 
   pub worked : (asked well : ℕ) (d : D) (p : PassView) (e : D) (moment : ℕ) (q : PassView)
-      → Serves (Visits opens fails (Sits (desk_says (pass_answers config may_fail) tells role) (desk_drops (pass_answers config may_fail) tells role) remaining reads read_failures written write_failures)) asked well d (0, p) e (moment, q)
+      → Serves (Visits opens fails (Sits (desk_says (pass_answers config may_fail) tells role) (desk_drops (pass_answers config may_fail) tells role) remaining
+      reads read_failures written write_failures)) asked well d (0, p) e (moment, q)
       → Worked config may_fail role asked well p q
   worked asked well d p e moment q h = record {
     moment = moment;

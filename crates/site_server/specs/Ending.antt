@@ -45,7 +45,8 @@ pub record LeavesSince (from : Opened) (may_fail : Type 0) (tills dispensers con
   pub closes : ClosesSince from passes site written
   pub worked : HaveWorked from.config may_fail tills dispensers connections passes
 
--- A fault other than want of memory is one that all passes had at a close, after such work, against the history that stood there: so neither is one missing, nor is it another configuration.
+-- A fault other than want of memory is one that all passes had at a close, after such work, against the history that
+-- stood there: so neither is one missing, nor is it another configuration.
 abbrev pub Spoils : ConfigValue → ℕ → ℕ → ℕ → ServeFault → Type 0
 Spoils config tills dispensers connections OutOfMemory = Unit {0}
 Spoils config tills dispensers connections Journal = ⊥
@@ -58,5 +59,6 @@ abbrev pub SpoilsSince : Opened → Type 0 → ℕ → ℕ → ℕ → ServeFaul
 SpoilsSince from may_fail tills dispensers connections OutOfMemory = Unit {0}
 SpoilsSince from may_fail tills dispensers connections Journal = may_fail
 SpoilsSince from may_fail tills dispensers connections (NotClosed why) =
-    (passes : List PassView) × (h : HaltedValue) × AreAll (passes_of tills dispensers) passes × HaveWorked from.config may_fail tills dispensers connections passes
+    (passes : List PassView) × (h : HaltedValue) × AreAll (passes_of tills dispensers) passes
+    × HaveWorked from.config may_fail tills dispensers connections passes
     × (h.opened ≡ from) × IsHalted may_fail h × RefusesSince h passes why

@@ -34,7 +34,8 @@ Talked config may_fail role (Some result) s s' =
 -- connections that went so, one after another
 abbrev pub TalkedAll : ConfigValue → Type 0 → Role → List Outcome → ℕ × PassView → ℕ × PassView → Type 0
 TalkedAll config may_fail role [] s s' = s' ≡ s
-TalkedAll config may_fail role (outcome ∷ outcomes) s s' = (m : ℕ × PassView) × Talked config may_fail role outcome s m × TalkedAll config may_fail role outcomes m s'
+TalkedAll config may_fail role (outcome ∷ outcomes) s s' =
+    (m : ℕ × PassView) × Talked config may_fail role outcome s m × TalkedAll config may_fail role outcomes m s'
 
 -- The pass served so many connections in this role, and so many of them ended without fault.
 pub record Worked (config : ConfigValue) (may_fail : Type 0) (role : Role) (connections well : ℕ) (before now : PassView) : Type 0 where

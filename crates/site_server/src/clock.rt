@@ -5,8 +5,8 @@ use line_session::Clock;
 use std::time;
 use std::time::{SystemTime, UNIX_EPOCH};
 
-/// Tells whole seconds since the start of 1970. Where the machine's clock can't be read, or stands before 1970, the moment told last
-/// is told again; at first that is 0.
+/// Tells whole seconds since the start of 1970. Where the machine's clock can't be read, or stands before 1970, the
+/// moment told last is told again; at first that is 0.
 #[derive(Drop)]
 pub struct MachineClock<'a, R: time::Clock> {
     rt: &'a R,

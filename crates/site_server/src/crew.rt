@@ -33,7 +33,8 @@ impl Crew {
         self.tills + self.dispensers + 1
     }
 
-    /// Whom the worker with this pass serves: the passes go to the tills' workers first, then to the dispensers', then to the owner's.
+    /// Whom the worker with this pass serves: the passes go to the tills' workers first, then to the dispensers', then
+    /// to the owner's.
     pub fn role(&self, pass: u32) -> Role
         ensures { result ≡ role_of self.now.tills self.now.dispensers pass }
     {

@@ -17,9 +17,9 @@ type Connection = (StreamIn<BufReader<TcpStream>>, StreamOut<TcpStream>);
 
 /// The connections of a listener, which other workers may share.
 ///
-/// A connection's lines are read through a buffer of its own, and its answers leave at once, without a delay that gathers them.
-/// Where a connection can't be opened, as for want of descriptors, an operator is told the first time, and the worker waits before it
-/// asks again: 10 milliseconds at first, then twice as long each time, at most a second.
+/// A connection's lines are read through a buffer of its own, and its answers leave at once, without a delay that
+/// gathers them. Where a connection can't be opened, as for want of descriptors, an operator is told the first time,
+/// and the worker waits before it asks again: 10 milliseconds at first, then twice as long each time, at most a second.
 #[derive(Drop)]
 pub struct TcpDoors<'a, R: Clock, N: Notices> {
     rt: &'a R,

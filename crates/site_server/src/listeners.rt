@@ -14,8 +14,8 @@ pub struct ListenFault {
     pub error: io::Error,
 }
 
-/// Where tills, dispensers and the owner connect, on 127.0.0.1 alone. Each worker of a role has a share of its port, which is closed
-/// when the last share is dropped.
+/// Where tills, dispensers and the owner connect, on 127.0.0.1 alone. Each worker of a role has a share of its port,
+/// which is closed when the last share is dropped.
 #[derive(Drop)]
 pub struct Listeners {
     pub till: Arc<TcpListener>,

@@ -16,8 +16,8 @@ use std::net::TcpListener;
 use std::sync::{Arc, Wait};
 use std::time::Clock;
 
-/// A worker's post: the pass and the share of its role's port with which it waits, and then the pass that it hands back, with how many
-/// connections ended without fault.
+/// A worker's post: the pass and the share of its role's port with which it waits, and then the pass that it hands
+/// back, with how many connections ended without fault.
 #[derive(Drop)]
 pub struct Post<L: Yard> {
     pub waiting: Option<(Pass<L>, Arc<TcpListener>)>,
@@ -56,7 +56,8 @@ fn serve_post<L: Yard, J: Journal, N: Notices, A: Release, R: Wait + Clock>(
     release: &A,
     connections: u32,
 ) -> (Pass<L>, u64)
-    ensures worked { Worked L.config J.may_fail (role_of crew.tills crew.dispensers pass.id) connections result.1 pass result.0 }
+    ensures worked { Worked L.config J.may_fail (role_of crew.tills crew.dispensers pass.id) connections
+        result.1 pass result.0 }
     ensures id { result.0.id ≡ pass.id }
 {
     let role = crew.role(pass.id());
@@ -111,7 +112,8 @@ fn hand_in<L: Yard>(post: &mut Post<L>, passes: &mut Vec<Pass<L>>) -> u64
     }
 }
 
-/// Moves the passes that were handed back to others, for which there is room, and answers how many connections ended without fault.
+/// Moves the passes that were handed back to others, for which there is room, and answers how many connections ended
+/// without fault.
 pub fn gather<L: Yard>(posts: &mut [Post<L>], passes: &mut Vec<Pass<L>>) -> u64
     requires { vec_len passes.old + length posts.old ≤ vec_capacity passes.old }
     ensures { passes.new.items ≡ passes.old.items ++ handed_in (map (λ p. p.done) posts.old) }

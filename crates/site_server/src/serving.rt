@@ -56,8 +56,8 @@ impl From<AllocError> for ServeFault {
     }
 }
 
-/// Serves so many connections of a role for one pass, whose programs run while nobody holds the site's lock, and answers the pass, with the receipts that it gained, and how many
-/// connections ended without fault.
+/// Serves so many connections of a role for one pass, whose programs run while nobody holds the site's lock, and
+/// answers the pass, with the receipts that it gained, and how many connections ended without fault.
 pub fn serve_pass<L: Yard, J: Journal, S: Doors, R: Wait + Clock>(
     rt: &R,
     alloc: Global,
@@ -67,7 +67,11 @@ pub fn serve_pass<L: Yard, J: Journal, S: Doors, R: Wait + Clock>(
     doors: &mut S,
     connections: u32,
 ) -> (Pass<L>, u64)
-    ensures served { (moment : ℕ) × Serves (Visits S.opens S.fails (Sits (desk_says (pass_answers L.config J.may_fail) tells role) (desk_drops (pass_answers L.config J.may_fail) tells role) S.In.remaining S.In.reads S.In.failures S.Out.written S.Out.failures))
+    ensures served { (moment : ℕ)
+        × Serves (Visits S.opens S.fails
+        (Sits (desk_says (pass_answers L.config J.may_fail) tells role)
+        (desk_drops (pass_answers L.config J.may_fail) tells role) S.In.remaining S.In.reads S.In.failures
+        S.Out.written S.Out.failures))
         connections result.1 doors.old (0, pass) doors.new (moment, result.0) }
     ensures worked { Worked L.config J.may_fail role connections result.1 pass result.0 }
     ensures id { result.0.id ≡ pass.id }
@@ -78,7 +82,8 @@ pub fn serve_pass<L: Yard, J: Journal, S: Doors, R: Wait + Clock>(
     (desk.into_pass(), well)
 }
 
-/// Serves with each post's pass, beside one another, and then closes the site. Takes no memory of its own: what it needs was made before.
+/// Serves with each post's pass, beside one another, and then closes the site. Takes no memory of its own: what it
+/// needs was made before.
 fn serve_posts<
     L: Yard + Send + Sync,
     J: Journal + Send,
@@ -101,7 +106,9 @@ fn serve_posts<
     requires posts { AreWaiting yard.passes (map (λ p. waits p.waiting) posts.items) }
     requires room { (room.items ≡ []) × (length posts.items ≤ vec_capacity room) }
     ensures memory { result ≢ Err ServeFault.OutOfMemory }
-    ensures ok { IfOk result (λ served. LeavesSince yard J.may_fail crew.tills crew.dispensers connections served.site (J.written served.journal)) }
+    ensures ok { IfOk result
+        (λ served. LeavesSince yard J.may_fail crew.tills crew.dispensers connections served.site
+        (J.written served.journal)) }
     ensures err { IfErr result (λ fault. SpoilsSince yard J.may_fail crew.tills crew.dispensers connections fault) }
 {
     let mut posts = posts;
@@ -114,7 +121,8 @@ fn serve_posts<
         all,
         workers,
         &|_: usize, post: &mut Post<L>|
-            ensures { Manned L.config J.may_fail crew.tills crew.dispensers connections post.entry.now.waiting post.exit.now.done }
+            ensures { Manned L.config J.may_fail crew.tills crew.dispensers connections
+                post.entry.now.waiting post.exit.now.done }
         { man(rt, alloc, shared, post, crew, notices, release, connections) },
     );
     let well = gather(all, &mut passes);
@@ -131,9 +139,9 @@ fn serve_posts<
     }
 }
 
-/// Serves a site from where it stands: each worker of the crew serves so many connections, one after another, and then the site is
-/// closed. Each entry's line is handed to the journal before the entry is answered, and the answer leaves once it may. A role's port is
-/// closed when its last worker ends.
+/// Serves a site from where it stands: each worker of the crew serves so many connections, one after another, and then
+/// the site is closed. Each entry's line is handed to the journal before the entry is answered, and the answer leaves
+/// once it may. A role's port is closed when its last worker ends.
 ///
 /// Want of memory is told only before anything is served.
 pub fn serve_on<
@@ -160,8 +168,12 @@ pub fn serve_on<
     requires base { site.history ≡ L.base }
     requires taken { J.written journal ≡ L.taken }
     requires passes { blank.parts ≡ passes_of crew.tills crew.dispensers }
-    ensures ok { IfOk result (λ served. LeavesSince (from_site site (J.written journal) crew.tills crew.dispensers) J.may_fail crew.tills crew.dispensers connections served.site (J.written served.journal)) }
-    ensures err { IfErr result (λ fault. SpoilsSince (from_site site (J.written journal) crew.tills crew.dispensers) J.may_fail crew.tills crew.dispensers connections fault) }
+    ensures ok { IfOk result
+        (λ served. LeavesSince (from_site site (J.written journal) crew.tills crew.dispensers) J.may_fail crew.tills
+        crew.dispensers connections served.site (J.written served.journal)) }
+    ensures err { IfErr result
+        (λ fault. SpoilsSince (from_site site (J.written journal) crew.tills crew.dispensers) J.may_fail crew.tills
+        crew.dispensers connections fault) }
 {
     let (yard, passes) = Forecourt::<L, J>::go_on(alloc, site, journal, crew.passes(), blank)?;
     let room = Vec::with_capacity(alloc, passes.len())?;
@@ -223,8 +235,12 @@ pub fn resume_site<
     release: &A,
     connections: u32,
 ) -> Result<Served<J>, ServeFault>
-    ensures ok { IfOk result (λ served. LeavesSince (from_site site (J.written journal) crew.tills crew.dispensers) J.may_fail crew.tills crew.dispensers connections served.site (J.written served.journal)) }
-    ensures err { IfErr result (λ fault. SpoilsSince (from_site site (J.written journal) crew.tills crew.dispensers) J.may_fail crew.tills crew.dispensers connections fault) }
+    ensures ok { IfOk result
+        (λ served. LeavesSince (from_site site (J.written journal) crew.tills crew.dispensers) J.may_fail crew.tills
+        crew.dispensers connections served.site (J.written served.journal)) }
+    ensures err { IfErr result
+        (λ fault. SpoilsSince (from_site site (J.written journal) crew.tills crew.dispensers) J.may_fail crew.tills
+        crew.dispensers connections fault) }
 {
     let blank = Blank::new(u64::from(crew.passes()));
     serve_on::<Brand, J, N, A, R>(

@@ -106,7 +106,8 @@ fn journal_of(alloc: Global, site: &Site) -> Option<Vec<u8>> {
     Some(output.bytes)
 }
 
-/// Serves one connection of each kind, beside what the peers do, and answers what these heard and the site that was closed then.
+/// Serves one connection of each kind, beside what the peers do, and answers what these heard and the site that was
+/// closed then.
 fn one_of_each<R: Net<Listener = TcpListener, Stream = TcpStream> + Threads + Wait + Clock + Sync>(
     rt: &R,
     alloc: Global,

@@ -1,5 +1,5 @@
-//! Tests of the site: scripts of events, drafts and layouts. They stand apart from the crate, so that the gate proves them
-//! while it tries the wrong edits of that crate.
+//! Tests of the site: scripts of events, drafts and layouts. They stand apart from the crate, so that the gate proves
+//! them while it tries the wrong edits of that crate.
 #![tactic(auto)]
 
 #[cfg(test)]

@@ -1,12 +1,14 @@
 -- Which places the words of a set stand for, and what masks do to them.
-use Rattle.std.proofs.Common.{◌≡◌, ◌≢◌, ℕ, zero, suc, ◌+◌, ◌-◌, ◌*◌, ◌/◌, ◌%◌, ◌^◌, ◌<◌, ◌≤◌, ◌⊎◌, ◌↔◌, List, [], ◌∷◌, ◌++◌, Bool, true, false, refl, sym, ap, ◌∙◌, subst, inl, inr, arith, length, replicate, bit_and, bit_or, min, max}
+use Rattle.std.proofs.Common.{◌≡◌, ◌≢◌, ℕ, zero, suc, ◌+◌, ◌-◌, ◌*◌, ◌/◌, ◌%◌, ◌^◌, ◌<◌, ◌≤◌, ◌⊎◌, ◌↔◌, List, [], ◌∷◌, ◌++◌, Bool, true, false, refl, sym, ap}
+use Rattle.std.proofs.Common.{◌∙◌, subst, inl, inr, arith, length, replicate, bit_and, bit_or, min, max}
 use Rattle.std.specs.Prelude.{◌==◌, slice_index_or, slice_set}
 use Rattle.std.specs.Int.{bit_at, bit_not, w64}
 use Rattle.std.specs.List.{AllByRecursion}
 use Rattle.std.proofs.lemmas.Bool.{cases_lt, cases_eq, eqb-true, eq-eqb}
 use Rattle.std.proofs.lemmas.List.{get_or-set_other, get_or-set_same, length-set}
 use Rattle.std.proofs.lemmas.Nat.{or_lt, and_le_l, and_le_r, pow-add, pow_below, pow_pos}
-use Rattle.std.proofs.lemmas.Nat.Bits.{bit_at_lowest, bit_at-suc, bit_at-zero, bit_at-lt, bit_at_and, bit_at_or, bit_at_above, bit_at_cat_low, bit_at_mask_inside, bit_at_not, same_from_bits_below}
+use Rattle.std.proofs.lemmas.Nat.Bits.{bit_at_lowest, bit_at-suc, bit_at-zero, bit_at-lt, bit_at_and, bit_at_or, bit_at_above, bit_at_cat_low}
+use Rattle.std.proofs.lemmas.Nat.Bits.{bit_at_mask_inside, bit_at_not, same_from_bits_below}
 use Rattle.stack_map.specs.Places.{Has, Within, bits_of, places_of, AreWords, IsMarked}
 
 bit_true : (word : ℕ) → ((word % 2 == 1) ≡ true) ↔ (bit_at word 0 ≡ 1)
@@ -35,7 +37,8 @@ marked_is (word ∷ words) p = elim (cases_lt p 64) [
       let place : p / 64 ≡ 0 = omega (arith, low) in
       let bit : p % 64 ≡ p = omega (arith, low) in
       let is = bits_low 64 word p (places_of words) low in
-      let same : bit_at (slice_index_or (word ∷ words) (p / 64) 0) (p % 64) ≡ bit_at word p = ap (λ k. bit_at (slice_index_or (word ∷ words) k 0) (p % 64)) place ∙ ap (bit_at word) bit in
+      let same : bit_at (slice_index_or (word ∷ words) (p / 64) 0) (p % 64) ≡ bit_at word p =
+      ap (λ k. bit_at (slice_index_or (word ∷ words) k 0) (p % 64)) place ∙ ap (bit_at word) bit in
       (λ h. same ∙ is.0 h, λ e. is.1 (sym same ∙ e))
   | inr high ↦
       let place : p / 64 ≡ suc ((p - 64) / 64) = omega (arith, high) in
@@ -43,7 +46,8 @@ marked_is (word ∷ words) p = elim (cases_lt p 64) [
       let is = marked_is words (p - 64) in
       let set = bits_of 64 word ++ places_of words in
       let there : slice_index_or set p false ≡ slice_index_or (places_of words) (p - 64) false = bits_high 64 word p (places_of words) high in
-      let same : bit_at (slice_index_or (word ∷ words) (p / 64) 0) (p % 64) ≡ bit_at (slice_index_or words ((p - 64) / 64) 0) ((p - 64) % 64) = ap (λ k. bit_at (slice_index_or (word ∷ words) k 0) (p % 64)) place ∙ ap (bit_at (slice_index_or words ((p - 64) / 64) 0)) bit in
+      let same : bit_at (slice_index_or (word ∷ words) (p / 64) 0) (p % 64) ≡ bit_at (slice_index_or words ((p - 64) / 64) 0) ((p - 64) % 64) =
+      ap (λ k. bit_at (slice_index_or (word ∷ words) k 0) (p % 64)) place ∙ ap (bit_at (slice_index_or words ((p - 64) / 64) 0)) bit in
       (λ h. same ∙ is.0 (sym there ∙ h), λ e. there ∙ is.1 (sym same ∙ e))
 ]
 
@@ -117,15 +121,18 @@ and_is a b i =
 module _ (words : List ℕ) (k v : ℕ) where
   pub word_set : (p : ℕ) → p / 64 ≡ k → k < length words → IsMarked (slice_set words k v) p ↔ (bit_at v (p % 64) ≡ 1)
   word_set p here l =
-      let same : bit_at (slice_index_or (slice_set words k v) (p / 64) 0) (p % 64) ≡ bit_at v (p % 64) = ap (λ j. bit_at (slice_index_or (slice_set words k v) j 0) (p % 64)) here ∙ ap (λ w. bit_at w (p % 64)) (get_or-set_same words k v 0 l) in
+      let same : bit_at (slice_index_or (slice_set words k v) (p / 64) 0) (p % 64) ≡ bit_at v (p % 64) =
+      ap (λ j. bit_at (slice_index_or (slice_set words k v) j 0) (p % 64)) here ∙ ap (λ w. bit_at w (p % 64)) (get_or-set_same words k v 0 l) in
       (λ e. sym same ∙ e, λ e. same ∙ e)
 
   pub word_kept : (p : ℕ) → p / 64 ≢ k → IsMarked (slice_set words k v) p ↔ IsMarked words p
   word_kept p other =
-      let same : bit_at (slice_index_or (slice_set words k v) (p / 64) 0) (p % 64) ≡ bit_at (slice_index_or words (p / 64) 0) (p % 64) = ap (λ w. bit_at w (p % 64)) (get_or-set_other words k (p / 64) v 0 other) in
+      let same : bit_at (slice_index_or (slice_set words k v) (p / 64) 0) (p % 64) ≡ bit_at (slice_index_or words (p / 64) 0) (p % 64) =
+      ap (λ w. bit_at w (p % 64)) (get_or-set_other words k (p / 64) v 0 other) in
       (λ e. sym same ∙ e, λ e. same ∙ e)
 
-small_set : (words : List ℕ) (k v : ℕ) → v < 2 ^ 64 → AllByRecursion (λ word. word < 2 ^ 64) words → AllByRecursion (λ word. word < 2 ^ 64) (slice_set words k v)
+small_set : (words : List ℕ) (k v : ℕ) → v < 2 ^ 64 → AllByRecursion (λ word. word < 2 ^ 64) words
+    → AllByRecursion (λ word. word < 2 ^ 64) (slice_set words k v)
 small_set [] k v l all = all
 small_set (word ∷ words) zero v l all = (l, all.1)
 small_set (word ∷ words) (suc k) v l all = (all.0, small_set words k v l all.1)
@@ -136,7 +143,10 @@ small_at (word ∷ words) zero all = all.0
 small_at (word ∷ words) (suc k) all = small_at words k all.1
 
 pub words_or : (words : List ℕ) (k mask : ℕ) → mask < 2 ^ 64 → AreWords words → AreWords (slice_set words k (bit_or (slice_index_or words k 0) mask))
-words_or words k mask l is = record { many = length-set words k _ ∙ is.many; small = small_set words k _ (or_lt 64 (slice_index_or words k 0) mask (small_at words k is.small) l) is.small }
+words_or words k mask l is = record {
+  many = length-set words k _ ∙ is.many;
+  small = small_set words k _ (or_lt 64 (slice_index_or words k 0) mask (small_at words k is.small) l) is.small;
+}
 
 pub words_and : (words : List ℕ) (k other : ℕ) → AreWords words → AreWords (slice_set words k (bit_and (slice_index_or words k 0) other))
 words_and words k other is =
@@ -146,7 +156,8 @@ words_and words k other is =
 
 at_word : (words : List ℕ) (p k : ℕ) → p / 64 ≡ k → IsMarked words p ↔ (bit_at (slice_index_or words k 0) (p % 64) ≡ 1)
 at_word words p k here =
-    let same : bit_at (slice_index_or words (p / 64) 0) (p % 64) ≡ bit_at (slice_index_or words k 0) (p % 64) = ap (λ j. bit_at (slice_index_or words j 0) (p % 64)) here in
+    let same : bit_at (slice_index_or words (p / 64) 0) (p % 64) ≡ bit_at (slice_index_or words k 0) (p % 64) =
+    ap (λ j. bit_at (slice_index_or words j 0) (p % 64)) here in
     (λ e. sym same ∙ e, λ e. same ∙ e)
 
 -- the places of word k in a run
@@ -163,7 +174,8 @@ mask_at mask k at len p is here =
 abbrev pub IsTaken : List ℕ → List Bool → ℕ → ℕ → ℕ → Type 0
 IsTaken words old at len k = (p : ℕ) → IsMarked words p ↔ (Has old p ⊎ (Within at len p × (p < 64 * k)))
 
-pub taken_more : (words : List ℕ) (old : List Bool) (at len k mask : ℕ) → k < length words → IsMask mask k at len → IsTaken words old at len k → IsTaken (slice_set words k (bit_or (slice_index_or words k 0) mask)) old at len (k + 1)
+pub taken_more : (words : List ℕ) (old : List Bool) (at len k mask : ℕ) → k < length words → IsMask mask k at len → IsTaken words old at len k
+    → IsTaken (slice_set words k (bit_or (slice_index_or words k 0) mask)) old at len (k + 1)
 taken_more words old at len k mask l is taken p = elim (cases_eq (p / 64) k) [
   | inl here ↦
       let both = or_is (slice_index_or words k 0) mask (p % 64) in
@@ -190,7 +202,8 @@ taken_none words old at len e p =
       λ h. is.0 (subst (λ set. Has set p) (sym e) (elim h [ inl o ↦ o | inr w ↦ absurd (let a = w.0.0 in let b = w.1 in omega (arith, a, b)) ])),
     )
 
-pub taken_all : (words : List ℕ) (old : List Bool) (at len k : ℕ) → at + len ≤ 64 * k → IsTaken words old at len k → (p : ℕ) → Has (places_of words) p ↔ (Has old p ⊎ Within at len p)
+pub taken_all : (words : List ℕ) (old : List Bool) (at len k : ℕ) → at + len ≤ 64 * k → IsTaken words old at len k → (p : ℕ)
+    → Has (places_of words) p ↔ (Has old p ⊎ Within at len p)
 taken_all words old at len k l taken p =
     let is = marked_is words p in (
       λ h. elim ((taken p).0 (is.0 h)) [ inl o ↦ inl o | inr w ↦ inr w.0 ],
@@ -218,7 +231,8 @@ freed_none words old at len e p =
     let is = marked_is words p in
     (λ m. (subst (λ set. Has set p) e (is.1 m), λ w. let a = w.0 in omega (arith, a)), λ h. is.0 (subst (λ set. Has set p) (sym e) h.0))
 
-pub freed_more : (words : List ℕ) (old : List Bool) (at len k mask : ℕ) → k < length words → mask < 2 ^ 64 → IsMask mask k at len → IsFreed words old at len k → IsFreed (slice_set words k (bit_and (slice_index_or words k 0) (bit_not w64 mask))) old at len (k + 1)
+pub freed_more : (words : List ℕ) (old : List Bool) (at len k mask : ℕ) → k < length words → mask < 2 ^ 64 → IsMask mask k at len → IsFreed words old at len k
+    → IsFreed (slice_set words k (bit_and (slice_index_or words k 0) (bit_not w64 mask))) old at len (k + 1)
 freed_more words old at len k mask l small is freed p = elim (cases_eq (p / 64) k) [
   | inl here ↦
       let without = without_is (slice_index_or words k 0) mask (p % 64) small (omega arith) in
@@ -235,7 +249,8 @@ freed_more words old at len k mask l small is freed p = elim (cases_eq (p / 64) 
       )
 ]
 
-pub freed_all : (words : List ℕ) (old : List Bool) (at len k : ℕ) → at + len ≤ 64 * k → IsFreed words old at len k → (p : ℕ) → Has (places_of words) p ↔ (Has old p × ¬ (Within at len p))
+pub freed_all : (words : List ℕ) (old : List Bool) (at len k : ℕ) → at + len ≤ 64 * k → IsFreed words old at len k → (p : ℕ)
+    → Has (places_of words) p ↔ (Has old p × ¬ (Within at len p))
 freed_all words old at len k l freed p =
     let is = marked_is words p in (
       λ h. let x = (freed p).0 (is.0 h) in (x.0, λ w. let a = x.1 w in let b = w.1 in omega (arith, a, b, l)),
@@ -252,7 +267,8 @@ met_none words old others e p =
     let is = marked_is words p in
     (λ m. (subst (λ set. Has set p) e (is.1 m), λ l. absurd (omega (arith, l))), λ h. is.0 (subst (λ set. Has set p) (sym e) h.0))
 
-pub met_more : (words : List ℕ) (old : List Bool) (others : List ℕ) (k : ℕ) → k < length words → IsMet words old others k → IsMet (slice_set words k (bit_and (slice_index_or words k 0) (slice_index_or others k 0))) old others (k + 1)
+pub met_more : (words : List ℕ) (old : List Bool) (others : List ℕ) (k : ℕ) → k < length words → IsMet words old others k
+    → IsMet (slice_set words k (bit_and (slice_index_or words k 0) (slice_index_or others k 0))) old others (k + 1)
 met_more words old others k l met p = elim (cases_eq (p / 64) k) [
   | inl here ↦
       let both = and_is (slice_index_or words k 0) (slice_index_or others k 0) (p % 64) in
@@ -277,13 +293,16 @@ no_word (word ∷ others) (suc k) l = no_word others k (omega (arith, l))
 past_all : (words : List ℕ) (p : ℕ) → length words ≤ 8 → 512 ≤ p → IsMarked words p → ⊥
 past_all words p l b m = let z = ap (λ w. bit_at w (p % 64)) (no_word words (p / 64) (omega (arith, l, b))) ∙ bit_at-zero (p % 64) in absurd (cc)
 
-pub met_all : (words : List ℕ) (old other : List Bool) (others : List ℕ) (k : ℕ) → length words ≡ 8 → 8 ≤ k → places_of others ≡ other → IsMet words old others k → (p : ℕ) → Has (places_of words) p ↔ (Has old p × Has other p)
+pub met_all : (words : List ℕ) (old other : List Bool) (others : List ℕ) (k : ℕ) → length words ≡ 8 → 8 ≤ k → places_of others ≡ other
+    → IsMet words old others k → (p : ℕ) → Has (places_of words) p ↔ (Has old p × Has other p)
 met_all words old other others k many l e met p =
     let is = marked_is words p in
     let there = marked_is others p in (
       λ h. (
         ((met p).0 (is.0 h)).0,
-        subst (λ set. Has set p) e (there.1 (((met p).0 (is.0 h)).1 (elim (cases_lt p 512) [ inl b ↦ omega (arith, b, l) | inr b ↦ absurd (past_all words p (omega (arith, many)) b (is.0 h)) ]))),
+        subst (λ set. Has set p) e
+            (there.1 (((met p).0 (is.0 h)).1
+            (elim (cases_lt p 512) [ inl b ↦ omega (arith, b, l) | inr b ↦ absurd (past_all words p (omega (arith, many)) b (is.0 h)) ]))),
       ),
       λ h. is.1 ((met p).1 (h.0, λ b. there.0 (subst (λ set. Has set p) (sym e) h.1))),
     )
@@ -294,14 +313,17 @@ met_all words old other others k many l e met p =
 abbrev pub IsHeld : List ℕ → ℕ → ℕ → ℕ → Type 0
 IsHeld words at len k = (p : ℕ) → Within at len p → p < 64 * k → IsMarked words p
 
-pub held_more : (words : List ℕ) (at len k mask : ℕ) → IsMask mask k at len → bit_and (slice_index_or words k 0) mask ≡ mask → IsHeld words at len k → IsHeld words at len (k + 1)
+pub held_more : (words : List ℕ) (at len k mask : ℕ) → IsMask mask k at len → bit_and (slice_index_or words k 0) mask ≡ mask → IsHeld words at len k
+    → IsHeld words at len (k + 1)
 held_more words at len k mask is all held p w l = elim (cases_eq (p / 64) k) [
-  | inl here ↦ (at_word words p k here).1 ((and_is (slice_index_or words k 0) mask (p % 64)).0 (ap (λ m. bit_at m (p % 64)) all ∙ (mask_at mask k at len p is here).1 w)).0
+  | inl here ↦ (at_word words p k here).1
+      ((and_is (slice_index_or words k 0) mask (p % 64)).0 (ap (λ m. bit_at m (p % 64)) all ∙ (mask_at mask k at len p is here).1 w)).0
   | inr other ↦ held p w (omega (arith, l, other))
 ]
 
 -- a mask whose places are all in the set is left as it is
-pub not_held : (words : List ℕ) (at len k mask : ℕ) → k < 8 → mask < 2 ^ 64 → IsMask mask k at len → ((p : ℕ) → Within at len p → Has (places_of words) p) → bit_and (slice_index_or words k 0) mask ≡ mask
+pub not_held : (words : List ℕ) (at len k mask : ℕ) → k < 8 → mask < 2 ^ 64 → IsMask mask k at len → ((p : ℕ) → Within at len p → Has (places_of words) p)
+    → bit_and (slice_index_or words k 0) mask ≡ mask
 not_held words at len k mask small below is all =
     let word = slice_index_or words k 0 in
     let most = and_le_r word mask in

@@ -3,7 +3,8 @@ use Rattle.std.proofs.Common.{◌≡◌, ℕ, ◌+◌, ◌-◌, ◌≤◌, ◌*�
 use Rattle.std.proofs.Math.Nat.{add-mul}
 use Rattle.till_request.specs.Count.{RoseBy}
 
-mod_more : (a b c j k : ℕ) → b % 18446744073709551616 ≡ (a + j) % 18446744073709551616 → c % 18446744073709551616 ≡ (b + k) % 18446744073709551616 → c % 18446744073709551616 ≡ (a + (j + k)) % 18446744073709551616
+mod_more : (a b c j k : ℕ) → b % 18446744073709551616 ≡ (a + j) % 18446744073709551616 → c % 18446744073709551616 ≡ (b + k) % 18446744073709551616
+    → c % 18446744073709551616 ≡ (a + (j + k)) % 18446744073709551616
 mod_more a b c j k h g = omega arith
 
 pub rose_more : {a b c j k : ℕ} → RoseBy j a b → RoseBy k b c → RoseBy (j + k) a c

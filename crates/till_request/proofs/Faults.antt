@@ -1,5 +1,6 @@
 -- A line that stands for no act is a bad line or has a bad number.
-use Rattle.std.proofs.Common.{◌≡◌, ℕ, List, [], ◌∷◌, ◌++◌, Bool, true, false, cond, Option, Some, None, Result, Ok, Err, subst, sym, ap, ◌∙◌, ◌≤◌, length, find, nat_lt, ◌&&◌, ◌^◌, inr}
+use Rattle.std.proofs.Common.{◌≡◌, ℕ, List, [], ◌∷◌, ◌++◌, Bool, true, false, cond, Option, Some, None, Result, Ok, Err, subst, sym, ap, ◌∙◌, ◌≤◌, length, find}
+use Rattle.std.proofs.Common.{nat_lt, ◌&&◌, ◌^◌, inr}
 use Rattle.std.proofs.lemmas.Bool.{le-ltb}
 use Rattle.std.specs.Io.KnownBytes.{Consumes}
 use Rattle.std.specs.Str.Parse.{digits_value}
@@ -19,7 +20,8 @@ use Rattle.till_request.specs.declared.form.ReportVerb.{ReportVerb}
 use Rattle.till_request.specs.declared.line.LineReadFault.TheVariants as reading
 use Rattle.till_request.specs.Gives.{Fails}
 use Rattle.till_request.specs.Line.{IsLine, TakesFault}
-use Rattle.till_request.specs.Grammar.{number, is_decimal, bytes_from, ◌>>=◌, amount_of, point_of, transaction_of, report_of, up_of, flow_of, load_of, act_in, act_by, act_of_line, line_read, suits, all_forms, words}
+use Rattle.till_request.specs.Grammar.{number, is_decimal, bytes_from, ◌>>=◌, amount_of, point_of, transaction_of, report_of, up_of, flow_of, load_of, act_in}
+use Rattle.till_request.specs.Grammar.{act_by, act_of_line, line_read, suits, all_forms, words}
 
 -- no fault but these two
 abbrev pub IsBad : {A : Type 0} → Result A LineFault → Type 0
@@ -51,7 +53,8 @@ IsBad-bytes_from (Err e) = tt
 
 IsBad-amount_of : (verb : AmountVerb) (w v u : List ℕ) → IsBad (amount_of verb w v u)
 unfolding amount_of
-IsBad-amount_of verb w v u = IsBad-bind (number 32 w) _ (IsBad-number 32 w) (λ t. IsBad-bind (number 32 v) _ (IsBad-number 32 v) (λ p. IsBad-bind (number 64 u) _ (IsBad-number 64 u) (λ a. tt)))
+IsBad-amount_of verb w v u = IsBad-bind (number 32 w) _ (IsBad-number 32 w)
+    (λ t. IsBad-bind (number 32 v) _ (IsBad-number 32 v) (λ p. IsBad-bind (number 64 u) _ (IsBad-number 64 u) (λ a. tt)))
 
 IsBad-point_of : (verb : PointVerb) (w v : List ℕ) → IsBad (point_of verb w v)
 unfolding point_of
@@ -59,7 +62,8 @@ IsBad-point_of verb w v = IsBad-bind (number 32 w) _ (IsBad-number 32 w) (λ t. 
 
 IsBad-transaction_of : (verb : TransactionVerb) (w v u : List ℕ) → IsBad (transaction_of verb w v u)
 unfolding transaction_of
-IsBad-transaction_of verb w v u = IsBad-bind (number 32 w) _ (IsBad-number 32 w) (λ t. IsBad-bind (number 32 v) _ (IsBad-number 32 v) (λ p. IsBad-bind (number 32 u) _ (IsBad-number 32 u) (λ x. tt)))
+IsBad-transaction_of verb w v u = IsBad-bind (number 32 w) _ (IsBad-number 32 w)
+    (λ t. IsBad-bind (number 32 v) _ (IsBad-number 32 v) (λ p. IsBad-bind (number 32 u) _ (IsBad-number 32 u) (λ x. tt)))
 
 IsBad-report_of : (verb : ReportVerb) (w : List ℕ) → IsBad (report_of verb w)
 unfolding report_of
@@ -71,11 +75,13 @@ IsBad-up_of w v = IsBad-bind (number 32 w) _ (IsBad-number 32 w) (λ p. IsBad-bi
 
 IsBad-flow_of : (w v u : List ℕ) → IsBad (flow_of w v u)
 unfolding flow_of
-IsBad-flow_of w v u = IsBad-bind (number 32 w) _ (IsBad-number 32 w) (λ p. IsBad-bind (number 64 v) _ (IsBad-number 64 v) (λ a. IsBad-bind (number 64 u) _ (IsBad-number 64 u) (λ n. tt)))
+IsBad-flow_of w v u = IsBad-bind (number 32 w) _ (IsBad-number 32 w)
+    (λ p. IsBad-bind (number 64 v) _ (IsBad-number 64 v) (λ a. IsBad-bind (number 64 u) _ (IsBad-number 64 u) (λ n. tt)))
 
 IsBad-load_of : (layout : Layout) (w v u : List ℕ) → IsBad (load_of layout w v u)
 unfolding load_of
-IsBad-load_of layout w v u = IsBad-bind (number 32 w) _ (IsBad-number 32 w) (λ s. IsBad-bind (number 32 v) _ (IsBad-number 32 v) (λ m. IsBad-bind (bytes_from (decode_of u)) _ (IsBad-bytes_from (decode_of u)) (λ b. tt)))
+IsBad-load_of layout w v u = IsBad-bind (number 32 w) _ (IsBad-number 32 w)
+    (λ s. IsBad-bind (number 32 v) _ (IsBad-number 32 v) (λ m. IsBad-bind (bytes_from (decode_of u)) _ (IsBad-bytes_from (decode_of u)) (λ b. tt)))
 
 IsBad-act_in : (form : Form) (ws : List (List ℕ)) → IsBad (act_in form ws)
 IsBad-act_in (forms.Amount verb) (k0 ∷ till ∷ k1 ∷ point ∷ amount ∷ []) = IsBad-amount_of verb till point amount
@@ -102,7 +108,8 @@ pub short_read : (role : Role) (line : List ℕ) → length line ≤ 8400 → li
 short_read role line l = ap (λ b. cond b (Err TooLong) (act_of_line role line)) (le-ltb 8400 (length line) l)
 
 -- a line that was taken, with the fault that reading it gave
-pub fault_taken : (fault : LineFault) (old new : Option (List ℕ)) (role : Role) (line : List ℕ) → Consumes old new (line ++ 10 ∷ []) → IsLine line → Fails fault (line_read role line)
+pub fault_taken : (fault : LineFault) (old new : Option (List ℕ)) (role : Role) (line : List ℕ) → Consumes old new (line ++ 10 ∷ []) → IsLine line
+    → Fails fault (line_read role line)
     → TakesFault old new role (reading.Line fault)
 fault_taken TooLong old new role line t l e = absurd (bad_along (sym (short_read role line l.1) ∙ e) (IsBad-act_of_line role line))
 fault_taken BadLine old new role line t l e = (line, t, l, e)

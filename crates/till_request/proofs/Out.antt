@@ -8,7 +8,8 @@ use Rattle.till_request.proofs.Taken.{appends_more}
 rest_whole : (xs : List ℕ) (i : ℕ) → take (length xs - i) (drop i xs) ≡ drop i xs
 rest_whole xs i = grind (arith, common_steps)
 
-pub written_more : (a b c : Option (List ℕ)) (xs : List ℕ) (i n : ℕ) → Appends a b (take i xs) → Appends b c (take n (take (length xs - i) (drop i xs))) → Appends a c (take (i + n) xs)
+pub written_more : (a b c : Option (List ℕ)) (xs : List ℕ) (i n : ℕ) → Appends a b (take i xs) → Appends b c (take n (take (length xs - i) (drop i xs)))
+    → Appends a c (take (i + n) xs)
 written_more a b c xs i n h k =
     let t : take n (take (length xs - i) (drop i xs)) ≡ take n (drop i xs) = ap (take n) (rest_whole xs i) in
     rw (take-add i n xs) (appends_more a b c (take i xs) (take n (drop i xs)) h (rw t at k))

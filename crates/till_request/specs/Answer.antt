@@ -1,4 +1,5 @@
--- Definitions: the texts of answers (this profile). A number of the entry stands before the reply; a refusal is S, L or V with its number and then what it names.
+-- Definitions: the texts of answers (this profile). A number of the entry stands before the reply; a refusal is S, L or
+-- V with its number and then what it names.
 use Rattle.std.specs.Prelude.{ℕ, List, [], ◌∷◌, ◌++◌, codes, Option, Some, None}
 use Rattle.std.specs.Fmt.{decimal}
 use Rattle.std.specs.List.{join_with_byte}
@@ -23,7 +24,8 @@ reply_words replies.Done = codes "done" ∷ []
 reply_words (replies.Granted amount version) = codes "granted" ∷ decimal amount ∷ codes "by" ∷ decimal version ∷ []
 reply_words (replies.Version version) = codes "version" ∷ decimal version ∷ []
 reply_words (replies.Order order) = codes "order" ∷ order_words order
-reply_words (replies.Point state nozzle amount volume limit preset unpaid) = codes "point" ∷ decimal state ∷ decimal nozzle ∷ decimal amount ∷ decimal volume ∷ decimal limit ∷ decimal preset ∷ decimal unpaid ∷ []
+reply_words (replies.Point state nozzle amount volume limit preset unpaid) =
+    codes "point" ∷ decimal state ∷ decimal nozzle ∷ decimal amount ∷ decimal volume ∷ decimal limit ∷ decimal preset ∷ decimal unpaid ∷ []
 reply_words (replies.Refused number None) = (codes "S" ++ decimal number) ∷ []
 reply_words (replies.Refused number (Some value)) = (codes "S" ++ decimal number) ∷ decimal value ∷ []
 

@@ -1,7 +1,8 @@
 -- Definitions: what a line stands for (this profile). A line is words with one space between them. It has a form,
 -- which is a list of fixed words and of places for values; a line without a form is a bad line, and only then are
 -- the values read, from left to right.
-use Rattle.std.specs.Prelude.{◌==◌, ◌&&◌, not, nat_lt, ℕ, ◌^◌, List, [], ◌∷◌, length, slice_index, codes, Bool, true, false, Option, Some, None, Result, Ok, Err, if◌then◌else◌, find}
+use Rattle.std.specs.Prelude.{◌==◌, ◌&&◌, not, nat_lt, ℕ, ◌^◌, List, [], ◌∷◌, length, slice_index, codes, Bool, true, false, Option, Some, None, Result, Ok}
+use Rattle.std.specs.Prelude.{Err, if◌then◌else◌, find}
 use Rattle.std.specs.List.{slice_split, list_all}
 use Rattle.std.specs.Str.{bytes_eq}
 use Rattle.std.specs.Char.{is_ascii_digit}
@@ -66,7 +67,8 @@ text (keywords.Report reports.Fault) = codes "fault"
 text (keywords.Report reports.Repaired) = codes "repaired"
 text (keywords.Report reports.Order) = codes "order"
 
--- the words of a form: `till T verb P A`, `till T verb P`, `till T verb P X`, `disp P verb`, `disp P up N`, `disp P flow A V`, `load SLOT MASK HEX` and `load2 SLOT MASK HEX`
+-- the words of a form: `till T verb P A`, `till T verb P`, `till T verb P X`, `disp P verb`, `disp P up N`, `disp P
+-- flow A V`, `load SLOT MASK HEX` and `load2 SLOT MASK HEX`
 abbrev pub template : Form → List Part
 template (forms.Amount verb) = Word keywords.Till ∷ Value ∷ Word (keywords.Amount verb) ∷ Value ∷ Value ∷ []
 template (forms.Point verb) = Word keywords.Till ∷ Value ∷ Word (keywords.Point verb) ∷ Value ∷ []

@@ -84,14 +84,18 @@ impl LineIn for MemoryIn {
 
     fn read(&mut self, buffer: &mut [u8]) -> Result<usize, DeviceFault>
         ensures bound { IfOk result (λ n. n ≤ length buffer.new) }
-        ensures bytes { ReadConsumes (Some (drop self.old.at self.old.bytes.items)) (Some (drop self.new.at self.new.bytes.items)) result buffer.new }
+        ensures bytes { ReadConsumes (Some (drop self.old.at self.old.bytes.items))
+            (Some (drop self.new.at self.new.bytes.items)) result buffer.new }
         ensures counted { RoseBy 1 self.old.reads self.new.reads }
         ensures failed { RoseBy (one_if (is_err result)) self.old.failures self.new.failures }
         ensures asked_for { RoseBy (length buffer.new) self.old.asked self.new.asked }
         ensures fails { IsTrue (is_err result) ↔ (self.old.good ≡ Some 0) }
         ensures good { self.new.good ≡ one_less self.old.good }
-        ensures given { IfOk result (λ n. n ≡ min (min (length self.old.bytes.items - self.old.at) (length buffer.new)) (piece_size self.old.sizes.items self.old.each self.old.reads)) }
-        ensures kept { (self.new.bytes ≡ self.old.bytes) × (self.new.sizes ≡ self.old.sizes) × (self.new.each ≡ self.old.each) }
+        ensures given { IfOk result
+            (λ n. n ≡ min (min (length self.old.bytes.items - self.old.at) (length buffer.new))
+            (piece_size self.old.sizes.items self.old.each self.old.reads)) }
+        ensures kept { (self.new.bytes ≡ self.old.bytes) × (self.new.sizes ≡ self.old.sizes)
+            × (self.new.each ≡ self.old.each) }
     {
         let size = size_at(&self.sizes, self.each, self.reads);
         self.reads = self.reads.wrapping_add(1);
@@ -187,7 +191,8 @@ impl LineOut for MemoryOut {
         ensures fails { self.old.good ≡ Some 0 → IsTrue (is_err result) }
         ensures good { self.new.good ≡ one_less self.old.good }
         ensures counted { RoseBy 1 self.old.writes self.new.writes }
-        ensures taken { IfOk result (λ n. n ≡ min (length piece.now) (piece_size self.old.sizes.items self.old.each self.old.writes)) }
+        ensures taken { IfOk result
+            (λ n. n ≡ min (length piece.now) (piece_size self.old.sizes.items self.old.each self.old.writes)) }
         ensures kept { (self.new.sizes ≡ self.old.sizes) × (self.new.each ≡ self.old.each) }
     {
         let count = piece

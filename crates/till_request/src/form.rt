@@ -1,6 +1,7 @@
 //! The forms of lines.
 ghost use Rattle.std.specs.Prelude.{◌≡◌};
-ghost use Rattle.till_request.specs.Grammar.{text, template, sender, allows, amount_request, point_request, transaction_request, report_event};
+ghost use Rattle.till_request.specs.Grammar.{text, template, sender, allows, amount_request, point_request};
+ghost use Rattle.till_request.specs.Grammar.{transaction_request, report_event};
 
 use crate::act::{Request, Role};
 use bpf_model::context::Layout;

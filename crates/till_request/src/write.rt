@@ -23,7 +23,8 @@ pub enum WriteFault {
 /// Writes all the bytes, or a front of them where the device fails.
 pub fn write_all<O: LineOut>(output: &mut O, bytes: &[u8]) -> Result<(), DeviceFault>
     ensures ok { OnOk result (Appends (O.written output.old) (O.written output.new) bytes.now) }
-    ensures err { IfErr result (λ _. (k : ℕ) × Appends (O.written output.old) (O.written output.new) (take k bytes.now)) }
+    ensures err { IfErr result
+        (λ _. (k : ℕ) × Appends (O.written output.old) (O.written output.new) (take k bytes.now)) }
     ensures failed { RoseBy (one_if (is_err result)) (O.failures output.old) (O.failures output.new) }
 {
     let mut at = 0;
@@ -47,7 +48,8 @@ pub fn write_answer<O: LineOut>(
     answer: &Answer,
 ) -> Result<(), WriteFault>
     ensures ok { OnOk result (Appends (O.written output.old) (O.written output.new) (answer_line answer.now)) }
-    ensures err { IfErr result (λ _. (k : ℕ) × Appends (O.written output.old) (O.written output.new) (take k (answer_line answer.now))) }
+    ensures err { IfErr result
+        (λ _. (k : ℕ) × Appends (O.written output.old) (O.written output.new) (take k (answer_line answer.now))) }
     ensures refused { result ≡ Err WriteFault.OutOfMemory → output.new ≡ output.old }
     ensures failed { RoseBy (one_if (is_write_fault result)) (O.failures output.old) (O.failures output.new) }
 {

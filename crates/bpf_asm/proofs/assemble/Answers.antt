@@ -14,7 +14,8 @@ texts_at = map (λ (t : Bor (List ℕ)). t.now)
 
 pub assemble_rows-requires-clause-fits : goal.assemble_rows-requires-clause-fits
 assemble_rows-requires-clause-fits c =
-    subst AreRight (sym (ap rows_at c.as_slice-2.ensures.value ∙ c.in-Ok-rows_of.ensures.ok)) (rows_right 1 (texts_at c.as_slice.result.now) c.in-Ok-rows_of.ensures.none)
+    subst AreRight (sym (ap rows_at c.as_slice-2.ensures.value ∙ c.in-Ok-rows_of.ensures.ok))
+    (rows_right 1 (texts_at c.as_slice.result.now) c.in-Ok-rows_of.ensures.none)
 
 pub assemble_rows-requires-clause-sound : goal.assemble_rows-requires-clause-sound
 assemble_rows-requires-clause-sound c =

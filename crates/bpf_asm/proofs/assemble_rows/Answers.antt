@@ -21,7 +21,9 @@ pub from_units-requires-clause-sound : goal.from_units-requires-clause-sound
 from_units-requires-clause-sound c =
     let g : c.is_length.result ≡ true = search rules in
     let count = right_count (rows_at c.args.rows.now) c.units_in-count.result c.is_length.result c.units_in-count.ensures c.is_length.ensures g in
-    subst (AreUnits true) (sym (spelled_by (rows_at c.args.rows.now) (labels_at c.as_slice-2.result.now) c.in-Ok-units_of.units.items (ap labels_at c.as_slice-2.ensures.value ∙ c.in-Ok.ensures) c.in-Ok-units_of.ensures))
+    subst (AreUnits true)
+    (sym (spelled_by (rows_at c.args.rows.now) (labels_at c.as_slice-2.result.now) c.in-Ok-units_of.units.items (ap labels_at c.as_slice-2.ensures.value
+    ∙ c.in-Ok.ensures) c.in-Ok-units_of.ensures))
     (spelled_units (rows_at c.args.rows.now) count.1 c.requires.fits c.requires.sound)
 
 pub from_units-requires-clause-some : goal.from_units-requires-clause-some

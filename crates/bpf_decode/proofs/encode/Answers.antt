@@ -6,7 +6,8 @@ use Rattle.bpf_decode.proofs.encode.Goals as goal
 
 pub loop-unit-preserved : goal.loop-unit-preserved
 loop-unit-preserved c =
-    encoded_step c.units-units.result.now c.loop-unit.unit-index _ c.loop-unit.bytes.items c.bytes_of.result c.extend_from_slice.new.self.items (omega arith) c.loop-unit.invariant c.bytes_of.ensures c.in_ok-extend_from_slice.ensures.items
+    encoded_step c.units-units.result.now c.loop-unit.unit-index _ c.loop-unit.bytes.items c.bytes_of.result c.extend_from_slice.new.self.items (omega arith)
+    c.loop-unit.invariant c.bytes_of.ensures c.in_ok-extend_from_slice.ensures.items
 
 pub returns-clause-read_back : goal.returns-clause-read_back
 returns-clause-read_back c =

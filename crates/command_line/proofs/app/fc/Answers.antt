@@ -11,7 +11,8 @@ with_version a = record a { top = record a.top { has_version = true } }
 
 pub returns : goal.returns
 returns c =
-    let top = ap app_of_fields c.after_help-top.ensures ∙ ap app_of_fields c.about.ensures ∙ ap app_of_fields c.version.ensures ∙ ap with_version c.new.ensures.app in
+    let top = ap app_of_fields c.after_help-top.ensures ∙ ap app_of_fields c.about.ensures ∙ ap app_of_fields c.version.ensures
+    ∙ ap with_version c.new.ensures.app in
     let one = c.in_ok-one.ensures.shape c.in_ok-asm.ensures.local ∙ ap₂ with_subcommand top (ap top_of c.in_ok-asm.ensures.app) in
     let two = c.in_ok-two.ensures.shape c.in_ok-dis.ensures.local ∙ ap₂ with_subcommand one (ap top_of c.in_ok-dis.ensures.app) in
     let three = c.in_ok-three.ensures.shape c.in_ok-verify.ensures.local ∙ ap₂ with_subcommand two (ap top_of c.in_ok-verify.ensures.app) in

@@ -1,4 +1,5 @@
-use Rattle.std.proofs.Common.{◌≡◌, ◌⊎◌, inl, inr, sym, subst, ◌∙◌, Bool, true, false, IfOk, IfErr, OnOk, IsSome, Option, None, Result, Ok, Err, List, [], String, Global, refl, map, string_bytes}
+use Rattle.std.proofs.Common.{◌≡◌, ◌⊎◌, inl, inr, sym, subst, ◌∙◌, Bool, true, false, IfOk, IfErr, OnOk, IsSome, Option, None, Result, Ok, Err, List, []}
+use Rattle.std.proofs.Common.{String, Global, refl, map, string_bytes}
 use Rattle.clap.specs.Words.{App, HasMatchesOf, Row, Text, app_of, is_simple, is_simple_and_free, fault_of, subcommand_of, subcommand_rows_of, takes, kind_of}
 use Rattle.clap.specs.Kinds.{IsAmong, Kinds}
 use Rattle.clap.specs.declared.parser.matches.ArgMatches.{ArgMatches}
@@ -63,7 +64,8 @@ may_show : (k : ErrorKind) (kinds : Kinds) → (k ≡ kind.OutOfMemory) ⊎ IsAm
 may_show k kinds (inl m) s = absurd (shown_has_memory k s m)
 may_show k kinds (inr among) s = (k, among, s)
 
-may_refuse : (k : ErrorKind) (kinds : Kinds) (found : Option (Text × List Row)) → (k ≡ kind.OutOfMemory) ⊎ IsAmong k kinds → (f : CommandFault) → IsRefusalOf k f → RefusesBy kinds found f
+may_refuse : (k : ErrorKind) (kinds : Kinds) (found : Option (Text × List Row)) → (k ≡ kind.OutOfMemory) ⊎ IsAmong k kinds → (f : CommandFault)
+    → IsRefusalOf k f → RefusesBy kinds found f
 may_refuse k kinds found (inl m) (Usage text) h = absurd (h.1 m)
 may_refuse k kinds found (inr among) (Usage text) h = inl (k, among, h.0, h.1)
 may_refuse k kinds found has OutOfMemory h = tt
@@ -74,7 +76,8 @@ nothing kinds seen found e OutOfMemory h = tt
 
 pub returns-in-Ok-clause-asked : goal.returns-in-Ok-clause-asked
 returns-in-Ok-clause-asked c =
-    let rows = found (app_of c.in_ok-command.command) c.in_ok-command.ensures c.as_slice.result.now c.args.words.items c.as_slice.ensures.value c.in-Ok.matches c.in-Ok.ensures.matches in
+    let rows = found (app_of c.in_ok-command.command) c.in_ok-command.ensures c.as_slice.result.now c.args.words.items c.as_slice.ensures.value c.in-Ok.matches
+    c.in-Ok.ensures.matches in
     more c.found_job.result (λ j. asked_of (subcommand_rows_of c.in-Ok.matches) ≡ asked j)
     (λ j. IsSome (asked j) → asked_of (subcommand_of fc_app (map (λ w. string_bytes w) c.args.words.items)) ≡ asked j)
     (λ j h some. rw (sym rows) h) c.found_job.ensures.asked
@@ -88,7 +91,8 @@ returns-in-Ok-clause-faultless c =
 
 pub returns-in-Ok-clause-refused : goal.returns-in-Ok-clause-refused
 returns-in-Ok-clause-refused c =
-    let rows = found (app_of c.in_ok-command.command) c.in_ok-command.ensures c.as_slice.result.now c.args.words.items c.as_slice.ensures.value c.in-Ok.matches c.in-Ok.ensures.matches in
+    let rows = found (app_of c.in_ok-command.command) c.in_ok-command.ensures c.as_slice.result.now c.args.words.items c.as_slice.ensures.value c.in-Ok.matches
+    c.in-Ok.ensures.matches in
     let words = map (λ w. string_bytes w) c.args.words.items in
     more_err c.found_job.result (IsUnasked (subcommand_rows_of c.in-Ok.matches)) (RefusesBy (fault_of fc_app words) (subcommand_of fc_app words))
     (λ e h. nothing (fault_of fc_app words) (subcommand_rows_of c.in-Ok.matches) (subcommand_of fc_app words) rows e h) c.found_job.ensures.none
@@ -98,7 +102,8 @@ returns-clause-shown c =
     more_on c.told_of.result (IsShown (kind_of c.in-Err.error)) (λ j. asked j ≡ None → takes fc_app (map (λ w. string_bytes w) c.args.words.items) ≡ false)
     (λ j s none. false_unless (takes fc_app (map (λ w. string_bytes w) c.args.words.items))
     (λ h. shown_has_memory (kind_of c.in-Err.error) s
-    (refused (app_of c.in_ok-command.command) c.in_ok-command.ensures c.as_slice.result.now c.args.words.items c.as_slice.ensures.value (kind_of c.in-Err.error) c.in-Err.ensures.passes h)))
+    (refused (app_of c.in_ok-command.command) c.in_ok-command.ensures c.as_slice.result.now c.args.words.items c.as_slice.ensures.value (kind_of c.in-Err.error)
+    c.in-Err.ensures.passes h)))
     c.told_of.ensures.shown
 
 pub returns-clause-helps : goal.returns-clause-helps

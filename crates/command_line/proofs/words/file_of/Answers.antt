@@ -5,7 +5,8 @@ use Rattle.command_line.proofs.words.file_of.Goals as goal
 
 pub returns-in_ok-name-in-Some : goal.returns-in_ok-name-in-Some
 returns-in_ok-name-in-Some c =
-    sym (first_value-rows (found_of c.args.matches.now) c.args.id.now) ∙ (rw c.in-Some.is at (sym c.get_str.ensures)) ∙ ap Some (sym c.in_ok-name-in-Some.ensures.ok)
+    sym (first_value-rows (found_of c.args.matches.now) c.args.id.now) ∙ (rw c.in-Some.is at (sym c.get_str.ensures))
+    ∙ ap Some (sym c.in_ok-name-in-Some.ensures.ok)
 
 pub returns-in-None : goal.returns-in-None
 returns-in-None c = sym (first_value-rows (found_of c.args.matches.now) c.args.id.now) ∙ (rw c.in-None.is at (sym c.get_str.ensures))

@@ -11,7 +11,8 @@ use Rattle.command_line.specs.declared.job.Job.{Job}
 use Rattle.command_line.proofs.words.job_of.Goals as goal
 
 -- what a subcommand's values ask for, where its name and its values are those that were found
-finds_in : (p : Text × List Row) (name : Text) (rows : List Row) → p.0 ≡ name → p.1 ≡ rows → (found : Option Job) → Finds name rows found → FindsIn (Some p) found
+finds_in : (p : Text × List Row) (name : Text) (rows : List Row) → p.0 ≡ name → p.1 ≡ rows → (found : Option Job) → Finds name rows found
+    → FindsIn (Some p) found
 finds_in p name rows n r (Some job) h =
     subst (λ (t : Text). (asked_by t p.1 ≡ asked job) × IsSome (asked job)) (sym n)
     (subst (λ (rs : List Row). (asked_by name rs ≡ asked job) × IsSome (asked job)) (sym r) h)
@@ -21,7 +22,8 @@ finds_in p name rows n r None (inr h) = inr (p, refl, subst HasNoMask (sym r) h)
 
 module _ {Z : Type 0} where
   finds : (o : Option (Box SubCommand Z)) (name : Text) (rows : List Row) → Some name ≡ option_map (λ b. (out-SubCommand (box_value b)).name.now) o
-      → Some rows ≡ option_map (λ p. p.1) (subcommand_rows o) → {E : Type 0} (r : Result (Option Job) E) → IfOk r (Finds name rows) → IfOk r (FindsIn (subcommand_rows o))
+      → Some rows ≡ option_map (λ p. p.1) (subcommand_rows o) → {E : Type 0} (r : Result (Option Job) E) → IfOk r (Finds name rows)
+      → IfOk r (FindsIn (subcommand_rows o))
   finds None name rows n r result h = let bad : Some name ≡ None = n in absurd (cc)
   finds (Some b) name rows n r (Ok found) h =
       let p : Text × List Row = ((out-SubCommand (box_value b)).name.now, rows_of (found_of (out-SubCommand (box_value b)).matches)) in
@@ -30,5 +32,6 @@ module _ {Z : Type 0} where
 
 pub returns-in-Some : goal.returns-in-Some
 returns-in-Some c =
-    finds (out-ArgMatches c.args.matches.now).subcommand c.in-Some.name.now (rows_of (found_of c.in-Some.rest.now)) c.in-Some.ensures.name c.in-Some.ensures.rows
+    finds (out-ArgMatches c.args.matches.now).subcommand c.in-Some.name.now (rows_of (found_of c.in-Some.rest.now))
+    c.in-Some.ensures.name c.in-Some.ensures.rows
     c.named_job.result c.named_job.ensures

@@ -7,8 +7,10 @@ use Rattle.command_line.proofs.words.layout_of.Goals as goal
 pub returns-in-Some : goal.returns-in-Some
 returns-in-Some c =
     c.layout_named.ensures
-    ∙ sym (ap (option_and_then layout_named) (sym (first_value-rows (found_of c.args.matches.now) (codes "context")) ∙ (rw c.in-Some.is at (sym c.get_str.ensures))))
+    ∙ sym (ap (option_and_then layout_named) (sym (first_value-rows (found_of c.args.matches.now) (codes "context"))
+    ∙ (rw c.in-Some.is at (sym c.get_str.ensures))))
 
 pub returns-in-None : goal.returns-in-None
 returns-in-None c =
-    sym (ap (option_and_then layout_named) (sym (first_value-rows (found_of c.args.matches.now) (codes "context")) ∙ (rw c.in-None.is at (sym c.get_str.ensures))))
+    sym (ap (option_and_then layout_named) (sym (first_value-rows (found_of c.args.matches.now) (codes "context"))
+    ∙ (rw c.in-None.is at (sym c.get_str.ensures))))

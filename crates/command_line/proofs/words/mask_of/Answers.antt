@@ -14,11 +14,14 @@ abbrev IsRead : Text → Option ℕ → Type 0
 IsRead t (Some n) = n ≡ digits_value 10 (without_leading_plus t)
 IsRead t None = ¬ IsMask t
 
-read_so : (t : Text) (r : Option ℕ) → ReadsOne (λ (bs : List ℕ) (r : Result ℕ ParseIntError). ParsesUnsigned 32 10 bs r × ExplainsUnsignedError 10 bs r × HasUnsignedDigitsIfOk bs r) t r → IsRead t r
+read_so : (t : Text) (r : Option ℕ)
+    → ReadsOne (λ (bs : List ℕ) (r : Result ℕ ParseIntError). ParsesUnsigned 32 10 bs r × ExplainsUnsignedError 10 bs r × HasUnsignedDigitsIfOk bs r) t r
+    → IsRead t r
 read_so t (Some n) h = h.0.1
 read_so t None h = h.1.0
 
-mask_read : (rows : List Row) (o : Option Text) (r : Option ℕ) → one_of (codes "counters") rows ≡ o → (o ≡ None → r ≡ None) → ((t : Text) → o ≡ Some t → IsRead t r) → ReadsMask rows r
+mask_read : (rows : List Row) (o : Option Text) (r : Option ℕ) → one_of (codes "counters") rows ≡ o → (o ≡ None → r ≡ None)
+    → ((t : Text) → o ≡ Some t → IsRead t r) → ReadsMask rows r
 mask_read rows None (Some n) is none some = let bad : Some n ≡ None = none refl in absurd (cc)
 mask_read rows None None is none some = inl (ap (option_map (λ (t : Text). digits_value 10 (without_leading_plus t))) is)
 mask_read rows (Some t) (Some n) is none some = ap (option_map (λ (t : Text). digits_value 10 (without_leading_plus t))) is ∙ ap Some (sym (some t refl))

@@ -5,12 +5,15 @@ use Rattle.console.proofs.Fronts.{breaks_none, said_from, broken_from}
 use Rattle.console.proofs.playing.play_within.Goals as goal
 
 pub returns-in_default-clause-broken : goal.returns-in_default-clause-broken
-returns-in_default-clause-broken g c = record { moment = 0; left = new_site c.args.config; breaks = breaks_none Plays drops_none (0, new_site c.args.config) _ _ }
+returns-in_default-clause-broken g c =
+    record { moment = 0; left = new_site c.args.config; breaks = breaks_none Plays drops_none (0, new_site c.args.config) _ _ }
 
 pub returns-clause-said : goal.returns-clause-said
 returns-clause-said g c =
-    said_from c.talk_within.result c.in-Ok.site (new_site c.args.config) c.talk_within.new.first c.talk_within.new.second _ _ _ _ c.in-Ok.ensures c.talk_within.ensures.said
+    said_from c.talk_within.result c.in-Ok.site (new_site c.args.config) c.talk_within.new.first c.talk_within.new.second _ _ _ _ c.in-Ok.ensures
+    c.talk_within.ensures.said
 
 pub returns-clause-broken : goal.returns-clause-broken
 returns-clause-broken g c =
-    broken_from c.talk_within.result c.in-Ok.site (new_site c.args.config) c.talk_within.new.first c.talk_within.new.second _ _ _ _ c.in-Ok.ensures c.talk_within.ensures.broken
+    broken_from c.talk_within.result c.in-Ok.site (new_site c.args.config) c.talk_within.new.first c.talk_within.new.second _ _ _ _ c.in-Ok.ensures
+    c.talk_within.ensures.broken

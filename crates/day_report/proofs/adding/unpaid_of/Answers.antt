@@ -21,7 +21,8 @@ loop-place-preserved c =
     let both : option_to_list first ++ option_to_list second ≡ p.unpaid = c.transactions.ensures in
     let more = unpaid-more points i p first second lt c.index-points-place.is both in
     let one : c.push_some.new.items.items ≡ c.loop-place.found.items ++ option_to_list c.unpaid_as.result = grind (arith, common_steps) in
-    let two : c.push_some-in-loop-place.new.items.items ≡ c.push_some.new.items.items ++ option_to_list c.unpaid_as-in-loop-place.result = grind (arith, common_steps) in
+    let two : c.push_some-in-loop-place.new.items.items ≡ c.push_some.new.items.items ++ option_to_list c.unpaid_as-in-loop-place.result =
+    grind (arith, common_steps) in
     two
     ∙ (λ j. (one ∙ (λ k. c.loop-place.invariant k ++ option_to_list (c.unpaid_as.ensures k))) j ++ option_to_list (c.unpaid_as-in-loop-place.ensures j))
     ∙ sym more

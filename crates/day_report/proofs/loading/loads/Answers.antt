@@ -14,5 +14,8 @@ loop-entry-preserved c =
     let more = loads-more 0 entries i e lt c.entry-item.is in
     let told = moment-more 0 entries i e lt c.entry-item.is in
     let pushed : c.push_some.new.items.items ≡ c.loop-entry.found.items ++ option_to_list c.load_of.result = grind (arith, common_steps) in
-    let found = c.load_of.ensures ∙ ap (λ m. load_of m e) c.loop-entry.invariant.1 in
-    (pushed ∙ (λ j. c.loop-entry.invariant.0 j ++ option_to_list (found j)) ∙ sym more, c.moment_after-moment.ensures ∙ ap (λ m. moment_after m e) c.loop-entry.invariant.1 ∙ sym told)
+    let found = c.load_of.ensures ∙ ap (λ m. load_of m e) c.loop-entry.invariant.1 in (
+      pushed ∙ (λ j. c.loop-entry.invariant.0 j ++ option_to_list (found j)) ∙ sym more,
+      c.moment_after-moment.ensures ∙ ap
+          (λ m. moment_after m e) c.loop-entry.invariant.1 ∙ sym told,
+    )

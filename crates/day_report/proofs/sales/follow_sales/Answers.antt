@@ -15,5 +15,9 @@ loop-entry-preserved c =
     let stands = stand-more c.args.points.now entries i e lt c.entry-item.is in
     let sold = sales-more c.args.points.now entries i e lt c.entry-item.is in
     let pushed : c.push_some.new.items.items ≡ c.loop-entry.sales.items ++ option_to_list c.sale_of.result = grind (arith, common_steps) in
-    let found = c.sale_of.ensures ∙ ap (λ p. sale_of p e) c.loop-entry.invariant.0 in
-    (c.follow.ensures.is ∙ ap (λ p. with_entry p e) c.loop-entry.invariant.0 ∙ sym stands, pushed ∙ (λ j. c.loop-entry.invariant.1 j ++ option_to_list (found j)) ∙ sym sold, c.follow.ensures.bounded i c.loop-entry.invariant.2)
+    let found = c.sale_of.ensures ∙ ap (λ p. sale_of p e) c.loop-entry.invariant.0 in (
+      c.follow.ensures.is ∙ ap (λ p. with_entry p e) c.loop-entry.invariant.0 ∙ sym stands,
+      pushed
+          ∙ (λ j. c.loop-entry.invariant.1 j ++ option_to_list (found j)) ∙ sym sold,
+      c.follow.ensures.bounded i c.loop-entry.invariant.2,
+    )

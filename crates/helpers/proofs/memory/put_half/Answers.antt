@@ -7,4 +7,5 @@ use Rattle.helpers.proofs.memory.put_half.Goals as goal
 
 pub returns : goal.returns
 returns c =
-    stored_part c.args.memory.now c.args.at (little_bytes 2 c.args.n) c.write_u16.new.buf c.told-memory c.requires (c.write_u16.ensures ∙ ap (λ bytes. bytes ++ drop 2 (mid_of c.args.at (512 - c.args.at) c.args.memory.now)) (low_two c.args.n))
+    stored_part c.args.memory.now c.args.at (little_bytes 2 c.args.n) c.write_u16.new.buf c.told-memory c.requires (c.write_u16.ensures ∙ ap
+    (λ bytes. bytes ++ drop 2 (mid_of c.args.at (512 - c.args.at) c.args.memory.now)) (low_two c.args.n))

@@ -7,4 +7,5 @@ use Rattle.helpers.proofs.memory.put_word.Goals as goal
 
 pub returns : goal.returns
 returns c =
-    stored_part c.args.memory.now c.args.at (little_bytes 4 c.args.n) c.write_u32.new.buf c.told-memory c.requires (c.write_u32.ensures ∙ ap (λ bytes. bytes ++ drop 4 (mid_of c.args.at (512 - c.args.at) c.args.memory.now)) (low_four c.args.n))
+    stored_part c.args.memory.now c.args.at (little_bytes 4 c.args.n) c.write_u32.new.buf c.told-memory c.requires (c.write_u32.ensures ∙ ap
+    (λ bytes. bytes ++ drop 4 (mid_of c.args.at (512 - c.args.at) c.args.memory.now)) (low_four c.args.n))

@@ -8,10 +8,12 @@ returns-in_err-let_go-in-Ok-clause-broken g c =
     on_err_always _ (ends_broken (g.P.Speaker.says c.args.speaker.now) (g.P.Speaker.drops c.args.speaker.now) _ _ _ _ _ _ _ _ _ w.0 _ c.in-Ok.ensures.said w.1)
 
 pub returns-in-Err-Read-clause-broken : goal.returns-in-Err-Read-clause-broken
-returns-in-Err-Read-clause-broken g c = breaks_left (g.P.Speaker.says c.args.speaker.now) (g.P.Speaker.drops c.args.speaker.now) _ _ _ _ _ _ _ (rw c.in-Err-Read.is at c.talk_held-outcome.ensures.broken)
+returns-in-Err-Read-clause-broken g c = breaks_left (g.P.Speaker.says c.args.speaker.now) (g.P.Speaker.drops c.args.speaker.now) _ _ _ _ _ _ _
+    (rw c.in-Err-Read.is at c.talk_held-outcome.ensures.broken)
 
 pub returns-in-Err-Write-clause-broken : goal.returns-in-Err-Write-clause-broken
-returns-in-Err-Write-clause-broken g c = breaks_left (g.P.Speaker.says c.args.speaker.now) (g.P.Speaker.drops c.args.speaker.now) _ _ _ _ _ _ _ (rw c.in-Err-Write.is at c.talk_held-outcome.ensures.broken)
+returns-in-Err-Write-clause-broken g c = breaks_left (g.P.Speaker.says c.args.speaker.now) (g.P.Speaker.drops c.args.speaker.now) _ _ _ _ _ _ _
+    (rw c.in-Err-Write.is at c.talk_held-outcome.ensures.broken)
 
 pub returns-in_err-let_go-in-Err-clause-broken : goal.returns-in_err-let_go-in-Err-clause-broken
 returns-in_err-let_go-in-Err-clause-broken g c =
@@ -19,4 +21,5 @@ returns-in_err-let_go-in-Err-clause-broken g c =
     on_err_always _ (breaks_out (g.P.Speaker.says c.args.speaker.now) (g.P.Speaker.drops c.args.speaker.now) _ _ _ _ _ _ _ _ w.0 c.in-Err.ensures.broken w.1)
 
 pub returns-clause-broken : goal.returns-clause-broken
-returns-clause-broken g c = breaks_all (g.P.Speaker.says c.args.speaker.now) (g.P.Speaker.drops c.args.speaker.now) _ _ _ _ _ _ _ _ c.in-Err.ensures.broken c.in_ok-let_go-in-Err.ensures.ok
+returns-clause-broken g c = breaks_all (g.P.Speaker.says c.args.speaker.now) (g.P.Speaker.drops c.args.speaker.now) _ _ _ _ _ _ _ _ c.in-Err.ensures.broken
+    c.in_ok-let_go-in-Err.ensures.ok

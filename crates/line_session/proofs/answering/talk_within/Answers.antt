@@ -17,13 +17,15 @@ turns-init g c = record {
 
 pub returns-in_err-line-clause-broken : goal.returns-in_err-line-clause-broken
 returns-in_err-line-clause-broken g c =
-    on_err_always _ (breaks_here _ _ _ _ _ _ _ _ c.turns.count _ c.in_err-line.ensures.given.0 c.turns.invariant.talks c.in_err-line.ensures.given.1 (inl c.in_err-line.ensures.given.2))
+    on_err_always _ (breaks_here _ _ _ _ _ _ _ _ c.turns.count _ c.in_err-line.ensures.given.0 c.turns.invariant.talks c.in_err-line.ensures.given.1
+    (inl c.in_err-line.ensures.given.2))
 
 pub returns-in_err-speak-in-Line-clause-broken :
     goal.returns-in_err-speak-in-Line-clause-broken
 returns-in_err-speak-in-Line-clause-broken g c =
     let t = rw c.in-Line.is at c.in_ok-line.ensures.taken in
-    on_err_always _ (breaks_line _ _ g.O.LineOut.written _ _ _ _ _ _ _ _ _ c.turns.count c.in-Line.line.items c.turns.invariant.talks t.1 t.0 (rw c.deref.ensures.value at c.in_err-speak-in-Line.ensures.err))
+    on_err_always _ (breaks_line _ _ g.O.LineOut.written _ _ _ _ _ _ _ _ _ c.turns.count c.in-Line.line.items c.turns.invariant.talks t.1 t.0
+    (rw c.deref.ensures.value at c.in_err-speak-in-Line.ensures.err))
 
 pub returns-in_err-write_cut-in-TooLong-clause-broken :
     goal.returns-in_err-write_cut-in-TooLong-clause-broken
@@ -42,10 +44,13 @@ returns-in_err-write_cut-in-Cut-clause-broken g c =
 pub turns-preserved : goal.turns-preserved
 turns-preserved g c =
     let t = rw c.in-Line.is at c.in_ok-line.ensures.taken in record {
-      talks = talks_more _ _ _ _ _ _ _ _ _ _ c.turns.count c.in-Line.line.items c.turns.invariant.talks t.1 t.0 (rw c.deref.ensures.value at c.in_ok-speak-in-Line.ensures.ok);
+      talks = talks_more _ _ _ _ _ _ _ _ _ _ c.turns.count c.in-Line.line.items c.turns.invariant.talks t.1 t.0
+          (rw c.deref.ensures.value at c.in_ok-speak-in-Line.ensures.ok);
       within = omega (arith, c.in_ok-line.ensures.used);
-      reads = rose_left c.args.left.now c.turns.left c.next_line.new.left (omega arith) (omega (arith, c.in_ok-line.ensures.left)) c.turns.invariant.reads c.in_ok-line.ensures.counted;
-      asked = rose_left c.args.left.now c.turns.left c.next_line.new.left (omega arith) (omega (arith, c.in_ok-line.ensures.left)) c.turns.invariant.asked c.in_ok-line.ensures.asked;
+      reads = rose_left c.args.left.now c.turns.left c.next_line.new.left (omega arith) (omega (arith, c.in_ok-line.ensures.left)) c.turns.invariant.reads
+          c.in_ok-line.ensures.counted;
+      asked = rose_left c.args.left.now c.turns.left c.next_line.new.left (omega arith) (omega (arith, c.in_ok-line.ensures.left)) c.turns.invariant.asked
+          c.in_ok-line.ensures.asked;
       read = rose_more c.turns.invariant.read c.in_ok-line.ensures.failed;
       write = rose_more c.turns.invariant.write c.in_ok-speak-in-Line.ensures.failed;
     }

@@ -9,8 +9,10 @@ pub returns-clause-step : goal.returns-clause-step
 returns-clause-step c =
     let old = c.self.inside.programs.items in
     let pushed : c.push.new.self.items ≡ old ++ c.args.program ∷ [] = grind (arith, common_steps) in
-    let programs : map (λ x. arc_value x) c.push.new.self.items ≡ map (λ x. arc_value x) old ++ arc_value c.args.program ∷ [] = rw pushed (map-append (λ x. arc_value x) old (c.args.program ∷ [])) in
+    let programs : map (λ x. arc_value x) c.push.new.self.items ≡ map (λ x. arc_value x) old ++ arc_value c.args.program ∷ [] =
+    rw pushed (map-append (λ x. arc_value x) old (c.args.program ∷ [])) in
     let count : length (map (λ x. arc_value x) old) ≡ length old = length-map old (λ x. arc_value x) in
     let number : c.len-number.result ≡ length (map (λ x. arc_value x) old) + 1 = rw count (grind (arith, common_steps)) in
     let at : c.args.slot < length c.self.inside.installed = grind (arith, common_steps) in
-    rw (← c.self.view_is, programs) (installs c.self.inside.installed (map (λ x. arc_value x) old) c.args.slot (arc_value c.args.program) c.len-number.result number at (rw count c.self.invariant.named))
+    rw (← c.self.view_is, programs) (installs c.self.inside.installed (map (λ x. arc_value x) old) c.args.slot (arc_value c.args.program) c.len-number.result
+    number at (rw count c.self.invariant.named))

@@ -8,9 +8,11 @@ loop-k-preserved c =
     let old = c.loop-k.invariant in
     record {
       many = length-set c.loop-k.notes c.loop-k.k c.common_note.result ∙ old.many;
-      joined = note_step c.loop-k.notes c.args.notes.now c.args.others.now c.loop-k.k c.common_note.result (omega arith) c.common_note.ensures (old.rest c.loop-k.k (omega arith)) old.joined;
+      joined = note_step c.loop-k.notes c.args.notes.now c.args.others.now c.loop-k.k c.common_note.result (omega arith) c.common_note.ensures
+          (old.rest c.loop-k.k (omega arith)) old.joined;
       rest = note_rest c.loop-k.notes c.args.notes.now c.loop-k.k c.common_note.result old.rest;
     }
 
 pub returns : goal.returns
-returns c = notes_joined c.args.notes.now c.args.others.now c.loop-k.notes c.loop-k.k (omega arith) (omega arith) (omega arith) (omega arith) c.loop-k.invariant.joined
+returns c = notes_joined c.args.notes.now c.args.others.now c.loop-k.notes c.loop-k.k (omega arith) (omega arith) (omega arith) (omega arith)
+    c.loop-k.invariant.joined

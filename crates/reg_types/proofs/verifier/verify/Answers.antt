@@ -26,8 +26,10 @@ invariant_of-result c =
             reads = reads;
             forward = c.code.ensures.forward;
             flows = subst (λ us. flow_fault us ≡ None) (sym flow) c.in-Ok-check_flow.ensures.ok.1;
-            flawless = subst (λ us. first_flaw us (terms_of (as_loaded c.args.bytes.now c.args.declared c.args.layout)) ≡ None) own c.in-Ok-infer.ensures.flawless;
-            inferred_are = subst (λ us. AreInferred us (terms_of (as_loaded c.args.bytes.now c.args.declared c.args.layout)) (stored c.in-Ok-infer.facts.items)) own c.in-Ok-infer.ensures.inferred;
+            flawless = subst (λ us. first_flaw us (terms_of (as_loaded c.args.bytes.now c.args.declared c.args.layout)) ≡ None) own
+                c.in-Ok-infer.ensures.flawless;
+            inferred_are = subst (λ us. AreInferred us (terms_of (as_loaded c.args.bytes.now c.args.declared c.args.layout)) (stored c.in-Ok-infer.facts.items))
+                own c.in-Ok-infer.ensures.inferred;
             distinct = c.in-Ok-infer.ensures.distinct;
             walked = walked c.in-Ok-from_slice.kept.items c.in-Ok-check_flow.flow (terms_of (as_loaded c.args.bytes.now c.args.declared c.args.layout)) reads;
           };
@@ -43,44 +45,55 @@ returns-in-Err c =
       good = tt;
       answers = subst (IsRefusal (refusal_of (as_loaded c.args.bytes.now c.args.declared c.args.layout))) (sym told) exact;
       alone = subst IsToldAlone (sym told) (decode_alone c.in-Err.fault);
-      refused = subst (IsRefused (as_loaded c.args.bytes.now c.args.declared c.args.layout)) (sym told) (decode_shown c.args.bytes.now (terms_of (as_loaded c.args.bytes.now c.args.declared c.args.layout)) c.in-Err.fault c.in-Err.ensures.refused);
-      plain = λ p. told ∙ exact_plain c.args.bytes.now (terms_of (as_loaded c.args.bytes.now c.args.declared c.args.layout)) (decode_told c.in-Err.fault) exact p;
+      refused = subst (IsRefused (as_loaded c.args.bytes.now c.args.declared c.args.layout)) (sym told)
+          (decode_shown c.args.bytes.now (terms_of (as_loaded c.args.bytes.now c.args.declared c.args.layout)) c.in-Err.fault c.in-Err.ensures.refused);
+      plain = λ p. told ∙ exact_plain c.args.bytes.now (terms_of (as_loaded c.args.bytes.now c.args.declared c.args.layout))
+          (decode_told c.in-Err.fault) exact p;
     }
 
 pub returns-in-Err-check_flow-clause-answers : goal.returns-in-Err-check_flow-clause-answers
 returns-in-Err-check_flow-clause-answers c =
-    flow_exact c.args.bytes.now (terms_of (as_loaded c.args.bytes.now c.args.declared c.args.layout)) c.in-Ok.code c.in-Err-check_flow.fault c.in-Ok.ensures.ok c.in-Err-check_flow.ensures.refused
+    flow_exact c.args.bytes.now (terms_of (as_loaded c.args.bytes.now c.args.declared c.args.layout)) c.in-Ok.code c.in-Err-check_flow.fault c.in-Ok.ensures.ok
+    c.in-Err-check_flow.ensures.refused
 
 pub returns-in-Err-infer-clause-answers : goal.returns-in-Err-infer-clause-answers
 returns-in-Err-infer-clause-answers c =
     let same = c.units-units.ensures.same ∙ c.code.ensures.same ∙ c.in-Ok-check_flow.ensures.ok.0 in
-    pass_exact c.args.bytes.now c.in-Ok.code (terms_of (as_loaded c.args.bytes.now c.args.declared c.args.layout)) c.in-Ok.ensures.ok c.in-Ok-check_flow.ensures.ok.1 c.in-Err-infer.refusal
-    (subst (λ us. IsPassRefused us (terms_of (as_loaded c.args.bytes.now c.args.declared c.args.layout)) c.in-Err-infer.refusal) same c.in-Err-infer.ensures.refused)
+    pass_exact c.args.bytes.now c.in-Ok.code (terms_of (as_loaded c.args.bytes.now c.args.declared c.args.layout)) c.in-Ok.ensures.ok
+    c.in-Ok-check_flow.ensures.ok.1 c.in-Err-infer.refusal
+    (subst (λ us. IsPassRefused us (terms_of (as_loaded c.args.bytes.now c.args.declared c.args.layout)) c.in-Err-infer.refusal) same
+    c.in-Err-infer.ensures.refused)
 
 pub returns-in-Err-infer-clause-refused : goal.returns-in-Err-infer-clause-refused
 returns-in-Err-infer-clause-refused c =
     let same = c.units-units.ensures.same ∙ c.code.ensures.same ∙ c.in-Ok-check_flow.ensures.ok.0 in
-    pass_shown c.args.bytes.now c.in-Ok.code (terms_of (as_loaded c.args.bytes.now c.args.declared c.args.layout)) c.in-Ok.ensures.ok c.in-Ok-check_flow.ensures.ok.1 c.in-Err-infer.refusal
-    (subst (λ us. IsPassRefused us (terms_of (as_loaded c.args.bytes.now c.args.declared c.args.layout)) c.in-Err-infer.refusal) same c.in-Err-infer.ensures.refused)
+    pass_shown c.args.bytes.now c.in-Ok.code (terms_of (as_loaded c.args.bytes.now c.args.declared c.args.layout)) c.in-Ok.ensures.ok
+    c.in-Ok-check_flow.ensures.ok.1 c.in-Err-infer.refusal
+    (subst (λ us. IsPassRefused us (terms_of (as_loaded c.args.bytes.now c.args.declared c.args.layout)) c.in-Err-infer.refusal) same
+    c.in-Err-infer.ensures.refused)
 
 pub returns-in-Err-infer-clause-plain : goal.returns-in-Err-infer-clause-plain
 returns-in-Err-infer-clause-plain c =
     let same = c.units-units.ensures.same ∙ c.code.ensures.same ∙ c.in-Ok-check_flow.ensures.ok.0 in
     exact_plain c.args.bytes.now (terms_of (as_loaded c.args.bytes.now c.args.declared c.args.layout)) c.in-Err-infer.refusal
-    (pass_exact c.args.bytes.now c.in-Ok.code (terms_of (as_loaded c.args.bytes.now c.args.declared c.args.layout)) c.in-Ok.ensures.ok c.in-Ok-check_flow.ensures.ok.1 c.in-Err-infer.refusal
-    (subst (λ us. IsPassRefused us (terms_of (as_loaded c.args.bytes.now c.args.declared c.args.layout)) c.in-Err-infer.refusal) same c.in-Err-infer.ensures.refused))
+    (pass_exact c.args.bytes.now c.in-Ok.code (terms_of (as_loaded c.args.bytes.now c.args.declared c.args.layout)) c.in-Ok.ensures.ok
+    c.in-Ok-check_flow.ensures.ok.1 c.in-Err-infer.refusal
+    (subst (λ us. IsPassRefused us (terms_of (as_loaded c.args.bytes.now c.args.declared c.args.layout)) c.in-Err-infer.refusal) same
+    c.in-Err-infer.ensures.refused))
 
 pub returns-clause-good : goal.returns-clause-good
 returns-clause-good c =
     let flow = c.in-Ok-check_flow.ensures.ok.0 in
     let same = c.units-units.ensures.same ∙ c.code.ensures.same ∙ flow in
-    good_by c.args.bytes.now (terms_of (as_loaded c.args.bytes.now c.args.declared c.args.layout)) c.in-Ok.code c.in-Ok.ensures.ok (subst GoesForward flow c.code.ensures.forward)
+    good_by c.args.bytes.now (terms_of (as_loaded c.args.bytes.now c.args.declared c.args.layout)) c.in-Ok.code c.in-Ok.ensures.ok
+    (subst GoesForward flow c.code.ensures.forward)
     (subst (λ us. first_flaw us (terms_of (as_loaded c.args.bytes.now c.args.declared c.args.layout)) ≡ None) same c.in-Ok-infer.ensures.flawless)
 
 pub returns-clause-answers : goal.returns-clause-answers
 returns-clause-answers c =
     let same = c.units-units.ensures.same ∙ c.code.ensures.same ∙ c.in-Ok-check_flow.ensures.ok.0 in (
       ap (λ bytes. as_loaded bytes c.args.declared c.args.layout) c.in-Ok-from_slice.ensures.items,
-      accepted c.args.bytes.now c.in-Ok.code (terms_of (as_loaded c.args.bytes.now c.args.declared c.args.layout)) c.in-Ok.ensures.ok c.in-Ok-check_flow.ensures.ok.1
+      accepted c.args.bytes.now c.in-Ok.code (terms_of (as_loaded c.args.bytes.now c.args.declared c.args.layout)) c.in-Ok.ensures.ok
+          c.in-Ok-check_flow.ensures.ok.1
           (subst (λ us. first_flaw us (terms_of (as_loaded c.args.bytes.now c.args.declared c.args.layout)) ≡ None) same c.in-Ok-infer.ensures.flawless),
     )

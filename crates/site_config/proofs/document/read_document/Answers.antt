@@ -11,7 +11,8 @@ false_unless false n = refl
 
 pub returns-in-Ok-table_from_str : goal.returns-in-Ok-table_from_str
 unfolding document_of
-returns-in-Ok-table_from_str c = rw (is_utf8-from_IsUtf8 c.args.bytes.now c.in-Ok.ensures.cases.1) (ap (or_fault K1) (rw c.in-Ok.ensures.cases.0 at c.in-Ok-table_from_str.ensures.ok))
+returns-in-Ok-table_from_str c =
+    rw (is_utf8-from_IsUtf8 c.args.bytes.now c.in-Ok.ensures.cases.1) (ap (or_fault K1) (rw c.in-Ok.ensures.cases.0 at c.in-Ok-table_from_str.ensures.ok))
 
 pub returns-in-Err : goal.returns-in-Err
 unfolding document_of

@@ -5,4 +5,8 @@ use Rattle.site_config.specs.Ranges.{each_of, counter_of}
 use Rattle.site_config.proofs.ranges.each_counter.Given as goal
 
 abbrev pub invariant-loop-pair : goal.invariant-loop-pair
-invariant-loop-pair l = record { read : with_front l.counters.items (each_of counter_of (drop l.pair-index l.pairs)) ≡ each_of counter_of l.pairs; each : length l.counters.items ≡ l.pair-index; range : All IsCounter l.counters.items }
+invariant-loop-pair l = record {
+  read : with_front l.counters.items (each_of counter_of (drop l.pair-index l.pairs)) ≡ each_of counter_of l.pairs;
+  each : length l.counters.items ≡ l.pair-index;
+  range : All IsCounter l.counters.items;
+}

@@ -15,5 +15,6 @@ slice_bounds-put-end c =
 pub loop-field-preserved : goal.loop-field-preserved
 loop-field-preserved c =
     let i = c.loop-field.invariant in
-    let put = laid-put c.args.fields.now c.loop-field.field-index c.loop-field.at c.size.result (Four 0) c.loop-field.bytes c.put.new.bytes c.loop-field-test.true i.at_is i.many i.front c.size.ensures c.put.ensures in
+    let put = laid-put c.args.fields.now c.loop-field.field-index c.loop-field.at c.size.result (Four 0) c.loop-field.bytes c.put.new.bytes
+    c.loop-field-test.true i.at_is i.many i.front c.size.ensures c.put.ensures in
     record { at_is = put.0; many = put.1; front = put.2 }

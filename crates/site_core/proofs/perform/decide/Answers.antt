@@ -28,7 +28,8 @@ returns-clause-effect c = λ past agrees.
     let layout_is : c.layout-layout.result ≡ p.layout = c.layout-layout.ensures ∙ ap (λ (t : ProgramText). t.layout) c.deref.ensures in
     let given : c.context-context.result ≡ context p.layout c.args.station.now c.args.till c.args.moment q =
     c.context-context.ensures.context ∙ ap (λ l. context l c.args.station.now c.args.till c.args.moment q) layout_is in
-    let ended : outcome p (bytes_of (context p.layout c.args.station.now c.args.till c.args.moment q)) (view_of c.args.station.now) c.args.station.now.counters ≡ Ended c.run-r0.result c.run-r0.new.counters =
+    let ended : outcome p (bytes_of (context p.layout c.args.station.now c.args.till c.args.moment q)) (view_of c.args.station.now) c.args.station.now.counters
+    ≡ Ended c.run-r0.result c.run-r0.new.counters =
     (λ i. outcome (sym c.deref-2.ensures i) (bytes_of (sym given i)) (sym c.view-view.ensures i) (sym c.counters-counters.ensures i)) ∙ c.run-r0.ensures in
     let settled = c.settle-reply.ensures.effect c.args.moment v (sym given) refl (sym c.deref-3.ensures) in
     rw c.in-Ok.is (decided-ended past c.args.station.now c.args.till c.args.moment q v c.run-r0.result c.run-r0.new.counters some ended ∙ settled)

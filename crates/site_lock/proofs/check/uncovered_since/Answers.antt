@@ -10,5 +10,6 @@ returns-clause-none g c =
 
 pub returns-clause-some : goal.returns-clause-some
 returns-clause-some g c =
-    let P : List Entry → Type 0 = λ h. IfSome c.uncovered.result (λ (x : ℕ × ℕ). Any (λ (e : Entry). (e.pass ≡ x.0) × (e.number ≡ x.1) × (Covered c.args.passes.now e → ⊥)) h) in
+    let P : List Entry → Type 0 =
+    λ h. IfSome c.uncovered.result (λ (x : ℕ × ℕ). Any (λ (e : Entry). (e.pass ≡ x.0) × (e.number ≡ x.1) × (Covered c.args.passes.now e → ⊥)) h) in
     subst P c.behind.ensures c.uncovered.ensures.some

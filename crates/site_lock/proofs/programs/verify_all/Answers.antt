@@ -14,4 +14,5 @@ returns-clause-each g c = λ i d e h.
     let changed = (c.for_each_mut.ensures i e old).1 in
     let item = slice_index_or c.args.items.now i d in
     subst (IsVerified item.0.items item.1 item.2)
-    (changed.left ∙ sym (get_or-append new behind e i (omega (arith, c.for_each_mut.auto.s))) ∙ sym (get_or-take count (new ++ behind) i e within)) (changed.call d)
+    (changed.left ∙ sym (get_or-append new behind e i (omega (arith, c.for_each_mut.auto.s))) ∙ sym (get_or-take count (new ++ behind) i e within))
+    (changed.call d)

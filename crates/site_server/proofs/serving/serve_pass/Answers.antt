@@ -6,7 +6,8 @@ use Rattle.site_server.proofs.serving.serve_pass.Goals as goal
 pub returns-clause-served : goal.returns-clause-served
 returns-clause-served g c = (
   c.worker-well.new.clock.last,
-  serves_as_pass (λ k. k.last) (λ d. d.pass) g.L.Yard.config g.J.Journal.may_fail _ _ (λ d act moment a e h. h.0) (λ k moment e h. h) c.args.role _ _ _ _ _ _ _ _ _ _ _ _ _ _ _ _ _ _
+  serves_as_pass (λ k. k.last) (λ d. d.pass) g.L.Yard.config g.J.Journal.may_fail _ _ (λ d act moment a e h. h.0)
+      (λ k moment e h. h) c.args.role _ _ _ _ _ _ _ _ _ _ _ _ _ _ _ _ _ _
       c.new-clock.ensures c.new-desk.ensures.pass c.into_pass.ensures c.worker-well.ensures,
 )
 

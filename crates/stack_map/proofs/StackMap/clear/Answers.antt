@@ -11,7 +11,8 @@ loop-k-preserved c =
     let many = c.loop-k.invariant.words.many in
     record {
       words = words_and c.loop-k.self-inside.words c.loop-k.k _ c.loop-k.invariant.words;
-      freed = freed_more c.loop-k.self-inside.words c.args.self.now c.args.at c.args.len c.loop-k.k c.mask_of.result (omega (arith, many)) small c.mask_of.ensures c.loop-k.invariant.freed;
+      freed = freed_more c.loop-k.self-inside.words c.args.self.now c.args.at c.args.len c.loop-k.k c.mask_of.result (omega (arith, many)) small
+          c.mask_of.ensures c.loop-k.invariant.freed;
     }
 
 pub returns : goal.returns

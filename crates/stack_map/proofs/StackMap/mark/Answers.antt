@@ -11,7 +11,8 @@ loop-k-preserved c =
     let many = c.loop-k.invariant.words.many in
     record {
       words = words_or c.loop-k.self-inside.words c.loop-k.k c.mask_of.result small c.loop-k.invariant.words;
-      taken = taken_more c.loop-k.self-inside.words c.args.self.now c.args.at c.args.len c.loop-k.k c.mask_of.result (omega (arith, many)) c.mask_of.ensures c.loop-k.invariant.taken;
+      taken = taken_more c.loop-k.self-inside.words c.args.self.now c.args.at c.args.len c.loop-k.k c.mask_of.result (omega (arith, many)) c.mask_of.ensures
+          c.loop-k.invariant.taken;
     }
 
 pub returns : goal.returns

@@ -14,4 +14,5 @@ loop-k-preserved c =
     }
 
 pub returns : goal.returns
-returns c = met_all c.loop-k.self-inside.words c.args.self.now c.args.other.now c.other.inside.words c.loop-k.k c.loop-k.invariant.words.many (omega arith) c.other.view_is c.loop-k.invariant.met
+returns c = met_all c.loop-k.self-inside.words c.args.self.now c.args.other.now c.other.inside.words c.loop-k.k c.loop-k.invariant.words.many (omega arith)
+    c.other.view_is c.loop-k.invariant.met

@@ -11,5 +11,6 @@ unfolding escaped
 returns-clause-writes g c =
     let text = c.text-text.result.now in
     let done = YieldsList-end (YieldsList-from_chars text c.text-text.utf8 cc) c.loop-c.yielded _ c.loop-c.yielded_by _ _ c.in-None.is c.next.ensures.steps in
-    let all : flat_map escaped_char c.loop-c.yielded ≡ escaped c.args.self.now.0.now = ap (λ cs. flat_map escaped_char cs) (sym (map-id c.loop-c.yielded) ∙ done.0) ∙ ap escaped c.text-text.ensures in
+    let all : flat_map escaped_char c.loop-c.yielded ≡ escaped c.args.self.now.0.now =
+    ap (λ cs. flat_map escaped_char cs) (sym (map-id c.loop-c.yielded) ∙ done.0) ∙ ap escaped c.text-text.ensures in
     λ p q. has_written_of_eq _ _ _ _ _ all (c.loop-c.invariant p)

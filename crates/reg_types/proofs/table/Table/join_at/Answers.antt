@@ -21,9 +21,11 @@ returns-clause-joined c e =
     let found = subst (λ l. IsPlace l c.args.at c.in-Some.k) (sym c.self.view_is) c.in-Some.ensures.found in
     let held : slice_index_or facts c.in-Some.k c.index_mut.result.now ≡ c.index_mut.result.now = search rules in
     let at = sym (ap (λ s. s.at) held) ∙ found.here c.index_mut.result.now in
-    subst (λ l. IsJoined c.args.at c.args.fact.now (stored l) (stored (slice_set facts c.in-Some.k (stored_fact c.index_mut.result.now.at c.join.new.self)))) c.self.view_is
+    subst (λ l. IsJoined c.args.at c.args.fact.now (stored l) (stored (slice_set facts c.in-Some.k (stored_fact c.index_mut.result.now.at c.join.new.self))))
+    c.self.view_is
     (subst (λ n. IsJoined c.args.at c.args.fact.now (stored facts) (stored (slice_set facts c.in-Some.k (stored_fact n c.join.new.self)))) (sym at)
-    (joined_is facts c.args.at c.in-Some.k c.index_mut.result.now c.join.new.self c.args.fact.now found (subst (λ s. IsSame c.join.new.self (join_fact s.fact c.args.fact.now)) (sym held) c.join.ensures.joined)))
+    (joined_is facts c.args.at c.in-Some.k c.index_mut.result.now c.join.new.self c.args.fact.now found
+    (subst (λ s. IsSame c.join.new.self (join_fact s.fact c.args.fact.now)) (sym held) c.join.ensures.joined)))
 
 pub returns-clause-both : goal.returns-clause-both
 returns-clause-both c e =

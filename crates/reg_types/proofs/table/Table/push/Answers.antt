@@ -9,7 +9,8 @@ pub invariant_of-self-2 : goal.invariant_of-self-2
 invariant_of-self-2 c =
     let facts = c.self.inside.facts.items in
     let items = c.in_ok-push.ensures.items in
-    let long : c.len.result ≡ length facts + 1 = (let n = ap length items ∙ length-append facts (stored_fact c.args.at c.args.fact.now ∷ []) in omega (arith, n, c.len.ensures)) in
+    let long : c.len.result ≡ length facts + 1 =
+    (let n = ap length items ∙ length-append facts (stored_fact c.args.at c.args.fact.now ∷ []) in omega (arith, n, c.len.ensures)) in
     let none : stored facts c.args.at ≡ None = ap (λ l. stored l c.args.at) c.self.view_is ∙ c.requires.new in
     subst (λ n. IsIndexed c.push.new.self.items (slice_set c.self.inside.places c.args.at n)) (sym long)
     (subst (λ l. IsIndexed l (slice_set c.self.inside.places c.args.at (length facts + 1))) (sym items)
@@ -21,4 +22,5 @@ returns c q =
     let items = c.in_ok-push.ensures.items in
     let none : stored facts c.args.at ≡ None = ap (λ l. stored l c.args.at) c.self.view_is ∙ c.requires.new in
     same_by (stored c.push.new.self.items q) (arrived q c.args.fact.now c.args.at (stored c.args.self.now q))
-    (ap (λ l. stored l q) items ∙ stored_pushed facts c.args.at c.args.fact.now none q ∙ ap (λ l. arrived q c.args.fact.now c.args.at (stored l q)) c.self.view_is)
+    (ap (λ l. stored l q) items ∙ stored_pushed facts c.args.at c.args.fact.now none q ∙ ap
+    (λ l. arrived q c.args.fact.now c.args.at (stored l q)) c.self.view_is)

@@ -14,7 +14,8 @@ returns-clause-number c =
     let p = c.self.inside in
     let n : c.len.result ≡ length p.facts.items = omega (arith, c.len.ensures) in
     subst (λ n. IsFactCount c.args.self.now n) (sym n)
-    (subst (λ t. IsFactCount t (length p.facts.items)) c.self.view_is (counts p.bytes.items c.self.invariant.us p.terms p.facts.items c.self.invariant.accepted))
+    (subst (λ t. IsFactCount t (length p.facts.items)) c.self.view_is
+    (counts p.bytes.items c.self.invariant.us p.terms p.facts.items c.self.invariant.accepted))
 
 pub returns-clause-few : goal.returns-clause-few
 returns-clause-few c =

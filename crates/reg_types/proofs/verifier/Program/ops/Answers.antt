@@ -9,4 +9,8 @@ returns c =
     let is = c.self.invariant.accepted in
     subst (IsDecoded c.args.self.now) (sym c.as_slice.ensures.value)
     (subst (λ t. IsDecoded t p.ops.items) c.self.view_is
-    (record { us = c.self.invariant.us; covered = covered_by p.bytes.items p.terms c.self.invariant.us is.reads is.forward is.flawless; operations = c.self.invariant.decoded }))
+    (record {
+      us = c.self.invariant.us;
+      covered = covered_by p.bytes.items p.terms c.self.invariant.us is.reads is.forward is.flawless;
+      operations = c.self.invariant.decoded;
+    }))

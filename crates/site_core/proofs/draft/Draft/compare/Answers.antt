@@ -14,7 +14,15 @@ returns-in-Some-first_counter c =
     let s = c.args.station.now in
     let q = c.in-Some.question in
     let d = c.self.inside in
-    let draft : DraftValue = record { till = d.till; moment = d.moment; request = d.request; version = record { number = d.version; program = arc_value d.program }; context = bytes_of d.context; view = d.view; counters = d.counters } in
+    let draft : DraftValue = record {
+      till = d.till;
+      moment = d.moment;
+      request = d.request;
+      version = record { number = d.version; program = arc_value d.program };
+      context = bytes_of d.context;
+      view = d.view;
+      counters = d.counters;
+    } in
     let layout_is : c.layout-layout.result ≡ draft.version.program.layout = c.layout-layout.ensures ∙ ap (λ (p : ProgramText). p.layout) c.deref-2.ensures in
     let given : c.context-context.result ≡ context draft.version.program.layout s d.till d.moment q =
     c.context-context.ensures.context ∙ ap (λ l. context l s d.till d.moment q) layout_is in
@@ -28,14 +36,23 @@ returns-in-Some-first_counter c =
     } in
     let differs : CounterDiffers (arc_value d.program).declared s.counters d.counters c.in-Some-first_counter.c =
     rw (← c.deref-3.ensures, ← c.declared.ensures, ← c.counters-counters.ensures) c.in-Some-first_counter.ensures in
-    rw (← c.self.view_is) (differs-counter c.args.config.now s c.args.slots.now draft q c.in-Some-first_counter.c c.get.result same differs (rw (← c.counters-counters.ensures) c.get.ensures.value))
+    rw (← c.self.view_is) (differs-counter c.args.config.now s c.args.slots.now draft q c.in-Some-first_counter.c c.get.result same differs
+    (rw (← c.counters-counters.ensures) c.get.ensures.value))
 
 pub returns : goal.returns
 returns c =
     let s = c.args.station.now in
     let q = c.in-Some.question in
     let d = c.self.inside in
-    let draft : DraftValue = record { till = d.till; moment = d.moment; request = d.request; version = record { number = d.version; program = arc_value d.program }; context = bytes_of d.context; view = d.view; counters = d.counters } in
+    let draft : DraftValue = record {
+      till = d.till;
+      moment = d.moment;
+      request = d.request;
+      version = record { number = d.version; program = arc_value d.program };
+      context = bytes_of d.context;
+      view = d.view;
+      counters = d.counters;
+    } in
     let layout_is : c.layout-layout.result ≡ draft.version.program.layout = c.layout-layout.ensures ∙ ap (λ (p : ProgramText). p.layout) c.deref-2.ensures in
     let given : c.context-context.result ≡ context draft.version.program.layout s d.till d.moment q =
     c.context-context.ensures.context ∙ ap (λ l. context l s d.till d.moment q) layout_is in

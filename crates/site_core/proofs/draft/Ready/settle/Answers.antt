@@ -21,17 +21,30 @@ returns-clause-performed c =
     let s = c.args.station.now in
     let q = c.in-Ok.question in
     let d = c.draft.inside in
-    let draft : DraftValue = record { till = d.till; moment = d.moment; request = d.request; version = record { number = d.version; program = arc_value d.program }; context = bytes_of d.context; view = d.view; counters = d.counters } in
+    let draft : DraftValue = record {
+      till = d.till;
+      moment = d.moment;
+      request = d.request;
+      version = record { number = d.version; program = arc_value d.program };
+      context = bytes_of d.context;
+      view = d.view;
+      counters = d.counters;
+    } in
     let still : StillAsked c.args.config.now s c.args.slots.now draft q = rw (c.draft.view_is) c.in-Ok.ensures in
     let layout : DraftValue → Layout = λ x. x.version.program.layout in
     let given : context (layout draft) s d.till d.moment q ≡ d.context =
-    same-context (context (layout draft) s d.till d.moment q) d.context (context-layout (layout draft) s d.till d.moment q ∙ sym c.draft.invariant.0) still.context_is in
+    same-context (context (layout draft) s d.till d.moment q) d.context (context-layout (layout draft) s d.till d.moment q ∙ sym c.draft.invariant.0)
+    still.context_is in
     let ran : outcome draft.version.program draft.context draft.view s.counters ≡ Ended c.self.inside.r0 c.rebase.new.now =
     rw (← c.deref.ensures, ← c.counters-counters.ensures) c.rebase.ensures.ran in
     let settled = c.settle-reply.ensures.effect draft.moment draft.version given refl (sym c.deref-2.ensures) in
     let done : Performed = record { moment = d.moment; act = act.Till d.till d.request; reply = c.settle-reply.result.0; run = Some c.settle-reply.result.1 } in
     let Settled : DraftValue → Type 0 = λ x.
     IsFresh (basis_in c.args.config.now s c.args.slots.now x) x
-    × ((past : List Entry) → Agrees c.args.slots.now past → Performs c.args.config.now past s x.moment (act.Till x.till x.request) done c.settle-reply.new.self c.args.slots.now) in
-    subst Settled (c.draft.view_is ∙ ap (λ (r : ReadyValue). r.draft) c.self.view_is)
-    (still.fresh, λ past agrees. performs-settled c.args.config.now past s c.settle-reply.new.self c.args.slots.now draft q c.self.inside.r0 c.rebase.new.now c.settle-reply.result.0 c.settle-reply.result.1 still agrees ran settled)
+    × ((past : List Entry) → Agrees c.args.slots.now past
+    → Performs c.args.config.now past s x.moment (act.Till x.till x.request) done c.settle-reply.new.self c.args.slots.now) in
+    subst Settled (c.draft.view_is ∙ ap (λ (r : ReadyValue). r.draft) c.self.view_is) (
+      still.fresh,
+      λ past agrees. performs-settled c.args.config.now past s c.settle-reply.new.self c.args.slots.now draft q c.self.inside.r0 c.rebase.new.now
+          c.settle-reply.result.0 c.settle-reply.result.1 still agrees ran settled,
+    )

@@ -12,26 +12,46 @@ pub returns-then-not-has_point-clause-grant : goal.returns-then-not-has_point-cl
 returns-then-not-has_point-clause-grant c =
     let none : at_number c.args.self.now.points c.args.question.now.point ≡ None = grind (arith, common_steps) in
     let q = c.args.question.now in
-    let back : c.args.self.now ≡ record { points = c.self.inside.points.items; prices = c.self.inside.prices; counters = c.self.inside.counters; cleared = c.self.inside.cleared; clears = c.self.inside.clears } = sym c.self.view_is in
+    let back : c.args.self.now ≡ record {
+      points = c.self.inside.points.items;
+      prices = c.self.inside.prices;
+      counters = c.self.inside.counters;
+      cleared = c.self.inside.cleared;
+      clears = c.self.inside.clears;
+    } = sym c.self.view_is in
     let whole = grant-none c.args.self.now c.args.till c.args.r0 q none in
     let put : SiteState → ℕ × SiteState = λ s. (q.asked, record s { prices = slice_set s.prices (q.product - 1) q.asked }) in
     whole ∙ ap put back
 
 pub returns-clause-grant : goal.returns-clause-grant
 returns-clause-grant c =
-    let old : SiteState = record { points = c.self.inside.points.items; prices = c.self.inside.prices; counters = c.self.inside.counters; cleared = c.self.inside.cleared; clears = c.self.inside.clears } in
+    let old : SiteState = record {
+      points = c.self.inside.points.items;
+      prices = c.self.inside.prices;
+      counters = c.self.inside.counters;
+      cleared = c.self.inside.cleared;
+      clears = c.self.inside.clears;
+    } in
     let q = c.args.question.now in
     let p : PointState = c.index_mut-point.result.now in
     let one : 1 ≤ q.point = grind (arith, common_steps) in
     let le : q.point ≤ length old.points = grind (arith, common_steps) in
     let given : c.granted_point-granted.result ≡ granted_point q.kind q.asked c.args.r0 p.preset = rw c.preset.ensures at c.granted_point-granted.ensures in
     let asked : c.command_of.result ≡ command_of q.kind (granted_point q.kind q.asked c.args.r0 p.preset) = rw given at c.command_of.ensures in
-    let answers : FollowsTable (command_step p c.args.till (command_of q.kind (granted_point q.kind q.asked c.args.r0 p.preset))) p c.on_command.result c.on_command.new.self = rw asked at c.on_command.ensures.answer in
-    rw (← c.self.view_is, given) (grant-is old c.args.till c.args.r0 q p c.on_command.new.self c.on_command.result one le c.index_mut-point.ensures.value answers)
+    let answers : FollowsTable (command_step p c.args.till (command_of q.kind (granted_point q.kind q.asked c.args.r0 p.preset))) p c.on_command.result
+    c.on_command.new.self = rw asked at c.on_command.ensures.answer in
+    rw (← c.self.view_is, given) (grant-is old c.args.till c.args.r0 q p c.on_command.new.self c.on_command.result one le
+    c.index_mut-point.ensures.value answers)
 
 pub returns-clause-bounded : goal.returns-clause-bounded
 returns-clause-bounded c = λ k b.
-    let old : SiteState = record { points = c.self.inside.points.items; prices = c.self.inside.prices; counters = c.self.inside.counters; cleared = c.self.inside.cleared; clears = c.self.inside.clears } in
+    let old : SiteState = record {
+      points = c.self.inside.points.items;
+      prices = c.self.inside.prices;
+      counters = c.self.inside.counters;
+      cleared = c.self.inside.cleared;
+      clears = c.self.inside.clears;
+    } in
     let q = c.args.question.now in
     let one : 1 ≤ q.point = grind (arith, common_steps) in
     let le : q.point ≤ length old.points = grind (arith, common_steps) in
