@@ -1,4 +1,6 @@
 //! A play's answers, which leave together before more of its script is read.
+ghost use Rattle.std.specs.Prelude.{◌≤◌, IfOk, length};
+
 use crate::faults::tell_write;
 use crate::files::{Outlet, Source};
 use console::{Ended, SessionFault};
@@ -36,7 +38,9 @@ impl<'a> Answers<'a> {
     }
 
     /// Takes a piece of an answer, where none failed to leave before.
-    fn add(&self, piece: &[u8]) -> io::Result<usize> {
+    fn add(&self, piece: &[u8]) -> io::Result<usize>
+        ensures { IfOk result (λ count. count ≤ length piece.now) }
+    {
         match self.waiting.try_borrow_mut() {
             Ok(mut waiting) => match &waiting.get_ref().failure {
                 Some(error) => Err(Error::from(error.kind())),

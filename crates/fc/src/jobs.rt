@@ -299,20 +299,28 @@ pub fn settings_and(
     }
 }
 
-fn play_files<'a>(rt: &'a HostRuntime, config: &str, script: &'a str) -> io::Result<u8> {
+fn play_files(rt: &HostRuntime, config: &str, script: &str) -> io::Result<u8> {
     let (settings, source) = match settings_and(rt, config, script)? {
         Ok(both) => both,
         Err(status) => return Ok(status),
     };
+    let answers = Answers::new(rt)?;
+    play_script(rt, settings, source, script, &answers)
+}
+
+/// The script that a word names.
+fn play_script<'a>(
+    rt: &'a HostRuntime,
+    settings: Settings,
+    source: Source,
+    script: &'a str,
+    answers: &Answers<'_>,
+) -> io::Result<u8> {
     // On a terminal the answers themselves show how far it is.
     let is_silent = !rt.stdout().is_terminal();
     let progress = Progress::new(rt, is_silent, source.size());
     let loads = Some(Loads::new(rt, name_of(script), 1));
-    let answers = Answers::new(rt)?;
-    let incoming = Incoming {
-        source,
-        answers: &answers,
-    };
+    let incoming = Incoming { source, answers };
     let mut input = Watched {
         input: StreamIn {
             reader: BufReader::new(rt.alloc(), incoming)?,
@@ -323,12 +331,12 @@ fn play_files<'a>(rt: &'a HostRuntime, config: &str, script: &'a str) -> io::Res
         progress,
         loads,
     };
-    let mut output = outlet(&answers);
+    let mut output = outlet(answers);
     let ended = play(rt.alloc(), settings.config, &mut input, &mut output);
     let ended = answers.end(ended);
     input.progress.clear();
     let read = input.input.reader.get_ref().source.failure();
-    Ok(status_of(rt, ended, script, 1, read, &answers))
+    Ok(status_of(rt, ended, script, 1, read, answers))
 }
 
 fn audit_files(rt: &HostRuntime, config: &str, journal: &str) -> io::Result<u8> {
