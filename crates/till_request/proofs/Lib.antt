@@ -2,7 +2,10 @@ pub mod Apart
 pub mod Counts
 pub mod Faults
 pub mod Forms
-pub mod Numbers
+pub mod Numerals
 pub mod Out
+pub mod Parted
+pub mod Short
 pub mod Spelled
 pub mod Taken
+pub mod Told

@@ -5,5 +5,7 @@ pub mod Devices
 pub mod Gives
 pub mod Grammar
 pub mod Line
+pub mod Short
 pub mod Spelling
+pub mod Told
 pub mod Write

@@ -2,8 +2,9 @@
 //! memory.
 use crate::devices::{MemoryIn, MemoryOut};
 use crate::{
-    Act, Answer, Bytes, LineFault, LineIn, LineReadFault, Reply, Request, Role, WriteFault,
-    parse_line, read_line, spell_act, spelling_is_read, write_answer,
+    Act, Answer, Bytes, LineFault, LineIn, LineReadFault, Reply, Request, Role, ShortText,
+    WriteFault, few_parts, first_part, parse_line, put_reply, read_line, spell_act,
+    spelling_is_read, write_answer,
 };
 use bpf_model::context::Layout;
 use fuelling_point::{DispenserEvent, Order};
@@ -83,6 +84,28 @@ fn lines_stand_for_acts(rt: HostRuntime) -> Result<(), Fail> {
         })
     );
     Ok(())
+}
+
+#[test]
+fn texts_are_parted(rt: HostRuntime) {
+    let (first, rest) = first_part(b"12:0:9", b':');
+    assert!(rt; first == b"12".as_slice());
+    assert!(rt; rest.is_some());
+    let (whole, none) = first_part(b"12", b':');
+    assert!(rt; whole == b"12".as_slice());
+    assert!(rt; none.is_none());
+    match few_parts::<3>(b"12:0:9", b':') {
+        Some(parts) => assert_eq!(rt; parts.len(), 3),
+        None => assert!(rt; false),
+    }
+    assert!(rt; few_parts::<2>(b"12:0:9", b':').is_none());
+}
+
+#[test]
+fn replies_are_spelled(rt: HostRuntime) {
+    let mut text = ShortText::new();
+    put_reply(&mut text, &Reply::Granted(8000, 3));
+    assert_eq!(rt; text.as_str(), " granted 8000 by 3");
 }
 
 #[test]

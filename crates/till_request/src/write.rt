@@ -1,5 +1,5 @@
 //! Answers written out.
-ghost use Rattle.std.specs.Prelude.{◌≡◌, ◌++◌, ℕ, take, OnOk, IfOk, IfErr, Err, is_err, string_bytes};
+ghost use Rattle.std.specs.Prelude.{◌≡◌, ℕ, take, OnOk, IfErr, Err, is_err};
 ghost use Rattle.std.specs.Io.KnownBytes.{Appends};
 ghost use Rattle.till_request.specs.Count.{RoseBy, one_if};
 ghost use Rattle.till_request.specs.Write.{is_write_fault};
@@ -7,7 +7,8 @@ ghost use Rattle.till_request.specs.Answer.{answer_line};
 
 use crate::act::Answer;
 use crate::device::{DeviceFault, LineOut};
-use std::alloc::{AllocError, Global};
+use crate::short_text::answer_to;
+use std::alloc::Global;
 use thiserror::Error;
 
 /// Why an answer was not written.
@@ -34,13 +35,6 @@ pub fn write_all<O: LineOut>(output: &mut O, bytes: &[u8]) -> Result<(), DeviceF
     Ok(())
 }
 
-/// The line of an answer.
-fn line_of(alloc: Global, answer: &Answer) -> Result<String, AllocError>
-    ensures { IfOk result (λ line. string_bytes line ≡ answer_line answer.now) }
-{
-    format!(in alloc; "{answer}\n")
-}
-
 /// Writes an answer with its LF, or a front of that: nothing where memory was refused.
 pub fn write_answer<O: LineOut>(
     alloc: Global,
@@ -53,10 +47,10 @@ pub fn write_answer<O: LineOut>(
     ensures refused { result ≡ Err WriteFault.OutOfMemory → output.new ≡ output.old }
     ensures failed { RoseBy (one_if (is_write_fault result)) (O.failures output.old) (O.failures output.new) }
 {
-    let Ok(line) = line_of(alloc, answer) else {
-        return Err(WriteFault::OutOfMemory);
-    };
-    match write_all(output, line.as_bytes()) {
+    // An answer's line needs no memory.
+    let _ = alloc;
+    let line = answer_to(answer);
+    match write_all(output, line.as_str().as_bytes()) {
         Ok(()) => Ok(()),
         Err(DeviceFault) => Err(WriteFault::Write),
     }

@@ -4,7 +4,7 @@ use Rattle.till_request.specs.Grammar.{part_fits}
 use Rattle.till_request.specs.declared.form.Part.TheVariants.{Word}
 use Rattle.till_request.specs.declared.form.Keyword.TheVariants.{Till}
 use Rattle.till_request.proofs.Forms.{pointwise_tried}
-use Rattle.till_request.proofs.grammar.has_parts.Goals as goal
+use Rattle.till_request.proofs.finding.has_parts.Goals as goal
 
 pub returns-then-not-part_takes : goal.returns-then-not-part_takes
 returns-then-not-part_takes c =

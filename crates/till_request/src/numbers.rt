@@ -1,0 +1,63 @@
+//! Numbers in decimal digits.
+ghost use Rattle.std.specs.Prelude.{◌≡◌, ◌⊎◌, ◌+◌, ◌*◌, ◌^◌, ◌≤◌, ◌&&◌, nat_lt, true, false, IfSome, IfNone};
+ghost use Rattle.std.specs.Char.{digit_value, is_ascii_digit};
+ghost use Rattle.std.specs.List.{list_all};
+ghost use Rattle.std.specs.Str.Parse.{digits_value};
+ghost use Rattle.till_request.specs.Grammar.{number, has_no_leading_zero};
+
+use crate::act::LineFault;
+
+/// The number that a digit more makes, where it is below 2^64.
+fn with_digit(value: u64, byte: u8) -> Option<u64>
+    ensures some { IfSome result (λ more. (is_ascii_digit byte ≡ true) × (more ≡ value * 10 + digit_value byte)) }
+    ensures none { IfNone result ((is_ascii_digit byte ≡ false) ⊎ (2 ^ 64 ≤ value * 10 + digit_value byte)) }
+{
+    if !byte.is_ascii_digit() {
+        return None;
+    }
+    value.checked_mul(10)?.checked_add(u64::from(byte - b'0'))
+}
+
+/// The number that digits spell, where it is below 2^64.
+fn value_of(word: &[u8]) -> Option<u64>
+    ensures some { IfSome result (λ n. (list_all is_ascii_digit word.now ≡ true) × (n ≡ digits_value 10 word.now)) }
+    ensures none { IfNone result
+        ((list_all is_ascii_digit word.now && nat_lt (digits_value 10 word.now) (2 ^ 64)) ≡ false) }
+{
+    let mut value = 0u64;
+    for byte in word {
+        value = with_digit(value, *byte)?;
+    }
+    Some(value)
+}
+
+/// Whether there is something, and a zero in front only alone.
+fn is_canonical(word: &[u8]) -> bool
+    ensures { result ≡ has_no_leading_zero word.now }
+{
+    if word.len() == 1 {
+        true
+    } else {
+        !word.is_empty() && word[0] != b'0'
+    }
+}
+
+/// The number that the word spells in decimal digits without leading zeros, or `BadNumber`.
+pub fn number_u64(word: &[u8]) -> Result<u64, LineFault>
+    ensures { result ≡ number 64 word.now }
+{
+    if !is_canonical(word) {
+        return Err(LineFault::BadNumber);
+    }
+    match value_of(word) {
+        Some(value) => Ok(value),
+        None => Err(LineFault::BadNumber),
+    }
+}
+
+/// The number of 32 bits that the word spells in decimal digits without leading zeros, or `BadNumber`.
+pub fn number_u32(word: &[u8]) -> Result<u32, LineFault>
+    ensures { result ≡ number 32 word.now }
+{
+    u32::try_from(number_u64(word)?).map_err(|_| LineFault::BadNumber)
+}

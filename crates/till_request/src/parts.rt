@@ -1,0 +1,45 @@
+//! Parts of a line, without memory.
+ghost use Rattle.std.specs.Prelude.{◌≡◌, ◌==◌, ◌<◌, ◌∷◌, [], length, map, MatchOption};
+ghost use Rattle.std.specs.List.{position, slice_split};
+
+use arrayvec::ArrayVec;
+
+/// The place of the first separator.
+fn place_of(text: &[u8], separator: u8) -> Option<usize>
+    ensures { result ≡ position (λ b. b == separator) text.now }
+{
+    text.iter().position(|b| *b == separator)
+}
+
+/// The bytes before the first separator, and those behind it, if there is one.
+pub fn first_part(text: &[u8], separator: u8) -> (&[u8], Option<&[u8]>)
+    ensures { MatchOption result.1 (slice_split (λ b. b == separator) text.now ≡ result.0.now ∷ [])
+        (λ rest. (slice_split (λ b. b == separator) text.now
+        ≡ result.0.now ∷ slice_split (λ b. b == separator) rest.now)
+        × (length rest.now < length text.now)) }
+{
+    match place_of(text, separator) {
+        Some(at) => (&text[..at], Some(&text[at + 1..])),
+        None => (text, None),
+    }
+}
+
+/// The parts of a text, or `None` where there are more than `N`.
+pub fn few_parts<'a, const N: usize>(text: &'a [u8], separator: u8) -> Option<ArrayVec<&'a [u8], N>>
+    ensures { MatchOption result (N < length (slice_split (λ b. b == separator) text.now))
+        (λ parts. map (λ w. w.now) parts.items ≡ slice_split (λ b. b == separator) text.now) }
+{
+    let mut parts = ArrayVec::new();
+    let mut rest = text;
+    'parts: loop {
+        if parts.is_full() {
+            return None;
+        }
+        let (part, more) = first_part(rest, separator);
+        parts.push(part);
+        match more {
+            Some(bytes) => rest = bytes,
+            None => return Some(parts),
+        }
+    }
+}
