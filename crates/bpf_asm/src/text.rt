@@ -330,7 +330,8 @@ fn write_goto(out: &mut String, inst: Inst) -> Result<(), AllocError>
 }
 
 fn write_long_goto(out: &mut String, inst: Inst) -> Result<(), AllocError>
-    ensures { OnOk result (string_bytes out.new ≡ string_bytes out.old ++ line_text (pieces Form.GotoLong inst (pos 0))) }
+    ensures { OnOk result (string_bytes out.new ≡ string_bytes out.old
+        ++ line_text (pieces Form.GotoLong inst (pos 0))) }
 {
     let distance = Distance(inst.imm);
     write!(out, "gotol {distance}\n")

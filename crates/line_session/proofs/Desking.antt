@@ -10,7 +10,7 @@ use Rattle.till_request.specs.Gives.{Fails}
 use Rattle.till_request.specs.Grammar.{line_read}
 use Rattle.till_request.specs.Answer.{answer_line}
 use Rattle.line_session.specs.Session.{AnswersAct, Writes, WritesFront, SpeaksAt, desk_says, desk_drops}
-use Rattle.line_session.specs.Talk.{Said, Half, Silent, Dropped}
+use Rattle.line_session.specs.Talk.{FallsShort, Said}
 
 fails_is : {Y : Type 0} (fault : LineFault) (given : Result Y LineFault) → Fails fault given → Line fault ≢ Line OutOfMemory → given ≡ Err fault
 fails_is TooLong given h ne = h
@@ -32,8 +32,7 @@ module _ {C D O : Type 0} (step : D → Act → ℕ → Answer → D → Type 0)
   fault_said (Err e) w = tt
 
   pub fault_broke : {T E : Type 0} (r : Result T E) → OnErr r (((Line fault ≡ Line OutOfMemory) × (o' ≡ o)) ⊎ WritesFront written (Line fault) o o')
-      → OnErr r (Silent c d o c d o'
-      ⊎ (Dropped (desk_drops step tick role) line (c, d) (c, d) o o' ⊎ Half (desk_says step tick role) line (c, d) (c, d) (written o) (written o')))
+      → OnErr r (FallsShort (desk_says step tick role) (desk_drops step tick role) written line (c, d) (c, d) o o')
   fault_broke (Ok x) w = tt
-  fault_broke (Err e) (inl w) = inl record { first = refl; second = refl; output = w.1 }
+  fault_broke (Err e) (inl w) = inl record { state = refl; output = w.1 }
   fault_broke (Err e) (inr w) = inr (inr record { text = answer_line (Line fault); says_it = told w.has_line; kept = w.kept; written = w.written })

@@ -1,6 +1,6 @@
 -- Answers that are held until they are written at once.
 use Rattle.std.proofs.Common.{◌≡◌, ℕ, ◌+◌, List, [], ◌∷◌, ◌++◌, take, drop, Option, Some, None, refl, sym, ◌∙◌, ap, subst, arith, append_assoc, append-nil}
-use Rattle.std.proofs.Common.{length, ◌⊎◌, inl, inr}
+use Rattle.std.proofs.Common.{length, inl, inr}
 use Rattle.std.specs.List.{flat_map}
 use Rattle.std.specs.Io.KnownBytes.{Consumes, Appends, IsAtEnd}
 use Rattle.std.proofs.lemmas.List.{take-append-drop, take_all}
@@ -9,7 +9,7 @@ use Rattle.till_request.specs.declared.act.LineFault.{LineFault}
 use Rattle.till_request.specs.declared.act.Answer.TheVariants.{Line}
 use Rattle.till_request.specs.Answer.{answer_line}
 use Rattle.till_request.specs.Line.{IsLine}
-use Rattle.line_session.specs.Talk.{with_lf, all_texts, cut_line, cut_count, Said, Half, Silent, Dropped, Talks, IsCut, AnswersCut, IsUpToLine, Ends, Breaks}
+use Rattle.line_session.specs.Talk.{with_lf, cut_line, cut_count, FallsShort, Said, IsCut, AnswersCut, IsUpToLine, Ends, Breaks}
 use Rattle.line_session.specs.Holding.{Gathers, EndsHeld, BreaksHeld, LetsGo}
 use Rattle.line_session.proofs.Saying.{is_line_empty, consumes_none, appends_none, talks_none, talks_more, breaks_here, breaks_line, breaks_cut}
 
@@ -21,20 +21,20 @@ is_answered : (cut : Option LineFault) (now : Option (List ℕ)) (rest : List �
 is_answered None now rest h = subst IsUpToLine (sym h.0) (inl is_line_empty)
 is_answered (Some fault) now rest h = h
 
-module _ {A B : Type 0} (says : A × B → List ℕ → List ℕ → A × B → Type 0) (drops : A × B → List ℕ → A × B → Type 0) where
-  pub gathers_none : (s : A × B) (i o : Option (List ℕ)) → Gathers says s s i i o o [] 0
+module _ {C D : Type 0} (says : C × D → List ℕ → List ℕ → C × D → Type 0) (drops : C × D → List ℕ → C × D → Type 0) where
+  pub gathers_none : (s : C × D) (i o : Option (List ℕ)) → Gathers says s s i i o o [] 0
   gathers_none s i o = record { sent = []; talks = talks_none says s i (Some []); out = appends_none o }
 
-  pub gathers_gone : (s m : A × B) (i j o p q : Option (List ℕ)) (held : List ℕ) (count : ℕ) → Gathers says s m i j o p held count → Appends p q held
+  pub gathers_gone : (s m : C × D) (i j o p q : Option (List ℕ)) (held : List ℕ) (count : ℕ) → Gathers says s m i j o p held count → Appends p q held
       → Gathers says s m i j o q [] count
   gathers_gone s m i j o p q held count g w = record { sent = g.sent ++ held; talks = rw append-nil g.talks; out = appends_more o p q g.sent held g.out w }
 
-  pub gathers_way : (s m : A × B) (i j o p q : Option (List ℕ)) (held after : List ℕ) (count : ℕ) → Gathers says s m i j o p held count → LetsGo held after p q
+  pub gathers_way : (s m : C × D) (i j o p q : Option (List ℕ)) (held after : List ℕ) (count : ℕ) → Gathers says s m i j o p held count → LetsGo held after p q
       → Gathers says s m i j o q after count
   gathers_way s m i j o p q held after count g (inl same) = rw (same.0, same.1) g
   gathers_way s m i j o p q held after count g (inr gone) = rw gone.0 (gathers_gone s m i j o p q held count g gone.1)
 
-  pub gathers_more : (s m s' : A × B) (i j k o p : Option (List ℕ)) (held after : List ℕ) (count : ℕ) (l : List ℕ)
+  pub gathers_more : (s m s' : C × D) (i j k o p : Option (List ℕ)) (held after : List ℕ) (count : ℕ) (l : List ℕ)
       → Gathers says s m i j o p held count → IsLine l → Consumes j k (l ++ 10 ∷ []) → Said says l m s' (Some held) (Some after)
       → Gathers says s s' i k o p after (count + 1)
   gathers_more s m s' i j k o p held after count l g whole taken a = record {
@@ -44,7 +44,7 @@ module _ {A B : Type 0} (says : A × B → List ℕ → List ℕ → A × B → 
     out = g.out;
   }
 
-  pub breaks_gone : (s m : A × B) (i j o p q : Option (List ℕ)) (held after : List ℕ) (count k : ℕ) → Gathers says s m i j o p held count
+  pub breaks_gone : (s m : C × D) (i j o p q : Option (List ℕ)) (held after : List ℕ) (count k : ℕ) → Gathers says s m i j o p held count
       → Appends p q (take k held) → after ≡ [] → BreaksHeld says drops s m i j o q after
   breaks_gone s m i j o p q held after count k g w none = rw none record {
     sent = g.sent ++ take k held;
@@ -54,7 +54,7 @@ module _ {A B : Type 0} (says : A × B → List ℕ → List ℕ → A × B → 
     out = appends_more o p q g.sent (take k held) g.out w;
   }
 
-  pub breaks_read : (s m : A × B) (i j k o p : Option (List ℕ)) (held : List ℕ) (count : ℕ) (more : List ℕ) → Gathers says s m i j o p held count
+  pub breaks_read : (s m : C × D) (i j k o p : Option (List ℕ)) (held : List ℕ) (count : ℕ) (more : List ℕ) → Gathers says s m i j o p held count
       → Consumes j k more → IsLine more → BreaksHeld says drops s m i k o p held
   breaks_read s m i j k o p held count more g taken line = record {
     sent = g.sent;
@@ -63,18 +63,16 @@ module _ {A B : Type 0} (says : A × B → List ℕ → List ℕ → A × B → 
     out = g.out;
   }
 
-  half_behind : {O : Type 0} (bytes : O → List ℕ) (sent l : List ℕ) (m s' : A × B) (p q : O)
-      → (Silent m.0 m.1 p s'.0 s'.1 q ⊎ (Dropped drops l m s' p q ⊎ Half says l m s' (Some (bytes p)) (Some (bytes q))))
-      → (Silent m.0 m.1 p s'.0 s'.1 q ⊎ (Dropped drops l m s' p q ⊎ Half says l m s' (Some (sent ++ bytes p)) (Some (sent ++ bytes q))))
+  half_behind : {O : Type 0} (bytes : O → List ℕ) (sent l : List ℕ) (m s' : C × D) (p q : O)
+      → FallsShort says drops (λ (x : O). Some (bytes x)) l m s' p q → FallsShort says drops (λ (x : O). Some (sent ++ bytes x)) l m s' p q
   half_behind bytes sent l m s' p q (inl a) = inl a
   half_behind bytes sent l m s' p q (inr (inl a)) = inr (inl a)
   half_behind bytes sent l m s' p q (inr (inr a)) =
       inr (inr (record { text = a.text; says_it = a.says_it; kept = a.kept; written = behind sent (bytes p) (bytes q) (take a.kept a.text) a.written }))
 
-  pub breaks_spoken : {O : Type 0} (bytes : O → List ℕ) (s m s' : A × B) (i j k o r : Option (List ℕ)) (p q : O) (count : ℕ) (l : List ℕ)
+  pub breaks_spoken : {O : Type 0} (bytes : O → List ℕ) (s m s' : C × D) (i j k o r : Option (List ℕ)) (p q : O) (count : ℕ) (l : List ℕ)
       → Gathers says s m i j o r (bytes p) count → IsLine l → Consumes j k (l ++ 10 ∷ [])
-      → (Silent m.0 m.1 p s'.0 s'.1 q ⊎ (Dropped drops l m s' p q ⊎ Half says l m s' (Some (bytes p)) (Some (bytes q))))
-      → BreaksHeld says drops s s' i k o r (bytes q)
+      → FallsShort says drops (λ (x : O). Some (bytes x)) l m s' p q → BreaksHeld says drops s s' i k o r (bytes q)
   breaks_spoken {O} bytes s m s' i j k o r p q count l g whole taken e = record {
     sent = g.sent;
     lost = [];
@@ -83,7 +81,7 @@ module _ {A B : Type 0} (says : A × B → List ℕ → List ℕ → A × B → 
     out = g.out;
   }
 
-  pub breaks_held_cut : (s m : A × B) (i j k o p : Option (List ℕ)) (held after : List ℕ) (count : ℕ) (more : List ℕ) (fault : LineFault) (kept : ℕ)
+  pub breaks_held_cut : (s m : C × D) (i j k o p : Option (List ℕ)) (held after : List ℕ) (count : ℕ) (more : List ℕ) (fault : LineFault) (kept : ℕ)
       → Gathers says s m i j o p held count → Consumes j k more → IsCut (Some fault) k more → after ≡ held ++ take kept (answer_line (Line fault))
       → BreaksHeld says drops s m i k o p after
   breaks_held_cut s m i j k o p held after count more fault kept g taken is w = record {
@@ -94,7 +92,7 @@ module _ {A B : Type 0} (says : A × B → List ℕ → List ℕ → A × B → 
     out = g.out;
   }
 
-  ends_so : (s m : A × B) (i j k o p : Option (List ℕ)) (held after : List ℕ) (count : ℕ) (cut : Option LineFault) (more : List ℕ)
+  ends_so : (s m : C × D) (i j k o p : Option (List ℕ)) (held after : List ℕ) (count : ℕ) (cut : Option LineFault) (more : List ℕ)
       → Gathers says s m i j o p held count → Consumes j k more → IsCut cut k more → after ≡ held ++ cut_line cut
       → EndsHeld says s m i k o p after (count + cut_count cut) cut
   ends_so s m i j k o p held after count cut more g taken is w = record {
@@ -117,19 +115,19 @@ module _ {A B : Type 0} (says : A × B → List ℕ → List ℕ → A × B → 
     out = g.out;
   }
 
-  pub ends_here : (s m : A × B) (i j k o p : Option (List ℕ)) (held : List ℕ) (count : ℕ) → Gathers says s m i j o p held count → Consumes j k [] → IsAtEnd k
+  pub ends_here : (s m : C × D) (i j k o p : Option (List ℕ)) (held : List ℕ) (count : ℕ) → Gathers says s m i j o p held count → Consumes j k [] → IsAtEnd k
       → EndsHeld says s m i k o p held count None
   ends_here s m i j k o p held count g taken at_end =
       subst (λ (n : ℕ). EndsHeld says s m i k o p held n None) (omega arith)
       (ends_so s m i j k o p held held count None [] g taken (refl, at_end) (sym (append-nil held)))
 
-  pub ends_cut : (s m : A × B) (i j k o p : Option (List ℕ)) (held after : List ℕ) (count : ℕ) (fault : LineFault) (more : List ℕ)
+  pub ends_cut : (s m : C × D) (i j k o p : Option (List ℕ)) (held after : List ℕ) (count : ℕ) (fault : LineFault) (more : List ℕ)
       → Gathers says s m i j o p held count → Consumes j k more → IsCut (Some fault) k more → after ≡ held ++ answer_line (Line fault)
       → EndsHeld says s m i k o p after (count + 1) (Some fault)
   ends_cut s m i j k o p held after count fault more g taken is w = ends_so s m i j k o p held after count (Some fault) more g taken is w
 
   -- what was held is out too
-  pub ends_out : (s m : A × B) (i k o p q : Option (List ℕ)) (held : List ℕ) (count : ℕ) (cut : Option LineFault) → EndsHeld says s m i k o p held count cut
+  pub ends_out : (s m : C × D) (i k o p q : Option (List ℕ)) (held : List ℕ) (count : ℕ) (cut : Option LineFault) → EndsHeld says s m i k o p held count cut
       → Appends p q held → Ends says s m i k o q count cut
   ends_out s m i k o p q held count cut h w = record {
     answered = h.ends.answered;
@@ -148,7 +146,7 @@ module _ {A B : Type 0} (says : A × B → List ℕ → List ℕ → A × B → 
   }
 
   -- a front of it is
-  pub ends_broken : (s m : A × B) (i k o p q : Option (List ℕ)) (held : List ℕ) (count kept : ℕ) (cut : Option LineFault)
+  pub ends_broken : (s m : C × D) (i k o p q : Option (List ℕ)) (held : List ℕ) (count kept : ℕ) (cut : Option LineFault)
       → EndsHeld says s m i k o p held count cut → Appends p q (take kept held) → Breaks says drops s m i k o q
   ends_broken s m i k o p q held count kept cut h w = record {
     lines = h.ends.talks.lines;
@@ -168,7 +166,7 @@ module _ {A B : Type 0} (says : A × B → List ℕ → List ℕ → A × B → 
         ∙ sym (append_assoc h.sent (take kept held) (drop kept held));
   }
 
-  pub breaks_out : (s m : A × B) (i k o p q : Option (List ℕ)) (held : List ℕ) (kept : ℕ) → BreaksHeld says drops s m i k o p held
+  pub breaks_out : (s m : C × D) (i k o p q : Option (List ℕ)) (held : List ℕ) (kept : ℕ) → BreaksHeld says drops s m i k o p held
       → Appends p q (take kept held) → Breaks says drops s m i k o q
   breaks_out s m i k o p q held kept h w = record {
     lines = h.breaks.lines;
@@ -197,11 +195,11 @@ module _ {A B : Type 0} (says : A × B → List ℕ → List ℕ → A × B → 
   }
 
   -- all of it is
-  pub breaks_all : (s m : A × B) (i k o p q : Option (List ℕ)) (held : List ℕ) → BreaksHeld says drops s m i k o p held → Appends p q held
+  pub breaks_all : (s m : C × D) (i k o p q : Option (List ℕ)) (held : List ℕ) → BreaksHeld says drops s m i k o p held → Appends p q held
       → Breaks says drops s m i k o q
   breaks_all s m i k o p q held h w =
       breaks_out s m i k o p q held (length held) h (subst (λ (t : List ℕ). Appends p q t) (sym (take_all (length held) held (omega arith))) w)
 
   -- nothing of it is
-  pub breaks_left : (s m : A × B) (i k o p : Option (List ℕ)) (held : List ℕ) → BreaksHeld says drops s m i k o p held → Breaks says drops s m i k o p
+  pub breaks_left : (s m : C × D) (i k o p : Option (List ℕ)) (held : List ℕ) → BreaksHeld says drops s m i k o p held → Breaks says drops s m i k o p
   breaks_left s m i k o p held h = breaks_out s m i k o p p held 0 h (appends_none p)

@@ -1,6 +1,6 @@
 -- Line by line.
 use Rattle.std.proofs.Common.{◌≡◌, ℕ, ◌+◌, List, [], ◌∷◌, ◌++◌, take, drop, Option, Some, None, refl, sym, ◌∙◌, ap, arith, append_assoc, append-nil}
-use Rattle.std.proofs.Common.{length-append, ◌⊎◌, inl, inr}
+use Rattle.std.proofs.Common.{length-append, inl, inr}
 use Rattle.std.specs.List.{flat_map, AllByRecursion}
 use Rattle.std.specs.Io.KnownBytes.{Consumes, Appends}
 use Rattle.std.proofs.lemmas.List.{take-append-drop}
@@ -9,7 +9,7 @@ use Rattle.till_request.specs.declared.act.LineFault.{LineFault}
 use Rattle.till_request.specs.Line.{IsLine}
 use Rattle.till_request.specs.declared.act.Answer.TheVariants.{Line}
 use Rattle.till_request.specs.Answer.{answer_line}
-use Rattle.line_session.specs.Talk.{with_lf, Said, Half, Silent, Dropped, SaysAll, Talks, IsCut, IsUpToLine, Breaks}
+use Rattle.line_session.specs.Talk.{FallsShort, with_lf, Said, SaysAll, Talks, IsCut, IsUpToLine, Breaks}
 
 pub is_line_empty : IsLine []
 is_line_empty = (tt, omega arith)
@@ -33,18 +33,18 @@ pub flat_more : {A : Type 0} (f : A → List ℕ) (xs : List A) (x : A) → flat
 flat_more f [] x = append-nil (f x)
 flat_more f (y ∷ xs) x = ap (λ t. f y ++ t) (flat_more f xs x) ∙ sym (append_assoc (f y) (flat_map f xs) (f x))
 
-module _ {A B : Type 0} (says : A × B → List ℕ → List ℕ → A × B → Type 0) where
-  says_more : (ls : List (List ℕ)) (l : List ℕ) (s : A × B) (texts : List (List ℕ)) (text : List ℕ) (m s' : A × B)
+module _ {C D : Type 0} (says : C × D → List ℕ → List ℕ → C × D → Type 0) where
+  says_more : (ls : List (List ℕ)) (l : List ℕ) (s : C × D) (texts : List (List ℕ)) (text : List ℕ) (m s' : C × D)
       → SaysAll says ls s texts m → says m l text s' → SaysAll says (ls ++ l ∷ []) s (texts ++ text ∷ []) s'
   says_more [] l s [] text m s' h k = (s', rw (← h) k, refl)
   says_more [] l s (b ∷ texts) text m s' h k = absurd h
   says_more (x ∷ ls) l s [] text m s' h k = absurd h
   says_more (x ∷ ls) l s (b ∷ texts) text m s' h k = (h.0, h.1, says_more ls l h.0 texts text m s' h.2 k)
 
-  pub talks_none : (s : A × B) (i o : Option (List ℕ)) → Talks says s s i i o o 0 [] []
+  pub talks_none : (s : C × D) (i o : Option (List ℕ)) → Talks says s s i i o o 0 [] []
   talks_none s i o = record { lines = []; texts = []; each = tt; said = refl; taken = consumes_none i; written = appends_none o; counted = refl }
 
-  pub talks_more : (s m s' : A × B) (i j k o p q : Option (List ℕ)) (count : ℕ) (l : List ℕ)
+  pub talks_more : (s m s' : C × D) (i j k o p q : Option (List ℕ)) (count : ℕ) (l : List ℕ)
       → Talks says s m i j o p count [] [] → IsLine l → Consumes j k (l ++ 10 ∷ []) → Said says l m s' p q
       → Talks says s s' i k o q (count + 1) [] []
   talks_more s m s' i j k o p q count l t whole taken a = record {
@@ -57,8 +57,8 @@ module _ {A B : Type 0} (says : A × B → List ℕ → List ℕ → A × B → 
     counted = omega (arith, length-append t.texts (a.text ∷ []), t.counted);
   }
 
-  module _ (drops : A × B → List ℕ → A × B → Type 0) where
-    pub breaks_here : (s m : A × B) (i j o p : Option (List ℕ)) (count : ℕ) (k : Option (List ℕ)) (more : List ℕ)
+  module _ (drops : C × D → List ℕ → C × D → Type 0) where
+    pub breaks_here : (s m : C × D) (i j o p : Option (List ℕ)) (count : ℕ) (k : Option (List ℕ)) (more : List ℕ)
         → Talks says s m i j o p count [] [] → Consumes j k more → IsUpToLine more → Breaks says drops s m i k o p
     breaks_here s m i j o p count k more t taken is = record {
       lines = t.lines;
@@ -77,13 +77,13 @@ module _ {A B : Type 0} (says : A × B → List ℕ → List ℕ → A × B → 
       begins = refl;
     }
 
-    pub breaks_line : {O : Type 0} (out : O → Option (List ℕ)) (s m s' : A × B) (i j k : Option (List ℕ)) (o : Option (List ℕ)) (p q : O)
+    pub breaks_line : {O : Type 0} (out : O → Option (List ℕ)) (s m s' : C × D) (i j k : Option (List ℕ)) (o : Option (List ℕ)) (p q : O)
         (count : ℕ) (l : List ℕ)
         → Talks says s m i j o (out p) count [] [] → IsLine l → Consumes j k (l ++ 10 ∷ [])
-        → (Silent m.0 m.1 p s'.0 s'.1 q ⊎ (Dropped drops l m s' p q ⊎ Half says l m s' (out p) (out q)))
+        → FallsShort says drops out l m s' p q
         → Breaks says drops s s' i k o (out q)
     breaks_line out s m s' i j k o p q count l t whole taken (inl a) =
-        rw (a.first, a.second, a.output) (breaks_here s m i j o (out p) count k (l ++ 10 ∷ []) t taken (inr (l, whole, refl)))
+        rw (a.state, a.output) (breaks_here s m i j o (out p) count k (l ++ 10 ∷ []) t taken (inr (l, whole, refl)))
     breaks_line out s m s' i j k o p q count l t whole taken (inr (inl a)) = rw a.output record {
       lines = t.lines;
       texts = t.texts;
@@ -117,7 +117,7 @@ module _ {A B : Type 0} (says : A × B → List ℕ → List ℕ → A × B → 
       begins = rw (append-nil, flat_more same t.texts a.text, append_assoc) (ap (λ x. flat_map same t.texts ++ x) (sym (take-append-drop a.kept a.text)));
     }
 
-    pub breaks_cut : (s m : A × B) (i j k o p q : Option (List ℕ)) (count : ℕ) (more : List ℕ) (fault : LineFault) (kept : ℕ)
+    pub breaks_cut : (s m : C × D) (i j k o p q : Option (List ℕ)) (count : ℕ) (more : List ℕ) (fault : LineFault) (kept : ℕ)
         → Talks says s m i j o p count [] [] → Consumes j k more → IsCut (Some fault) k more → Appends p q (take kept (answer_line (Line fault)))
         → Breaks says drops s m i k o q
     breaks_cut s m i j k o p q count more fault kept t taken is w = record {

@@ -5,7 +5,7 @@ use Rattle.till_request.specs.Count.{RoseBy, one_if}
 use Rattle.line_session.specs.declared.answering.Ended.{Ended}
 use Rattle.line_session.specs.declared.answering.SessionFault.{SessionFault}
 use Rattle.line_session.specs.declared.answering.SessionFault.TheVariants.{ReadsSpent}
-use Rattle.line_session.specs.Talk.{Ends, Breaks, is_read, is_write}
+use Rattle.line_session.specs.Talk.{Ends, Breaks, is_read, is_write, session_reads}
 
 -- how a connection went: None, the door did not open; else what its session answered
 abbrev pub Outcome : Type 0
@@ -34,9 +34,9 @@ pub record Sits {S I O : Type 0} (says : S → List ℕ → List ℕ → S → T
   pub read_fault : RoseBy (one_if (is_read result)) (read_failures i) (read_failures input)
   pub write_fault : RoseBy (one_if (is_write result)) (write_failures o) (write_failures output)
   pub count : ℕ
-  pub few : count ≤ 67108864
+  pub few : count ≤ session_reads
   pub counted : RoseBy count (reads i) (reads input)
-  pub spent : result ≡ Err ReadsSpent → count ≡ 67108864
+  pub spent : result ≡ Err ReadsSpent → count ≡ session_reads
 
 -- one connection: the door did not open, and nobody was asked; or it opened, and a session ran at it
 abbrev pub Visits : {D S I O : Type 0} → (D → I → O → D → Type 0) → (D → D → Type 0) → (Result Ended SessionFault → I → O → S → S → Type 0) → Outcome

@@ -1,10 +1,11 @@
 -- Promises: what somebody says to lines, one after another. The input is cut at LF; to each line in order one text is
 -- said, from the state that the lines before it left; a line that is too long or cut is answered by its fault and is
 -- the last.
-use Rattle.std.specs.Prelude.{◌≡◌, ◌⊎◌, ℕ, ◌<◌, List, [], ◌∷◌, ◌++◌, ◌+◌, length, take, Option, Some, None, Result, Ok, Err, Bool, true, false}
+use Rattle.std.specs.Prelude.{◌≡◌, ◌⊎◌, ℕ, ◌<◌, ◌≤◌, List, [], ◌∷◌, ◌++◌, ◌+◌, length, take, Option, Some, None, Result, Ok, Err, Bool, true, false}
 use Rattle.std.specs.Io.KnownBytes.{Appends, Consumes, IsAtEnd}
 use Rattle.std.specs.List.{flat_map, AllByRecursion}
 use Rattle.till_request.specs.Answer.{answer_line}
+use Rattle.till_request.specs.Count.{RoseBy}
 use Rattle.till_request.specs.Line.{HasNoLf, IsLine}
 use Rattle.till_request.specs.declared.act.Answer.TheVariants.{Line}
 use Rattle.till_request.specs.declared.act.LineFault.{LineFault}
@@ -37,10 +38,14 @@ abbrev pub drops_none : {S : Type 0} → S → List ℕ → S → Type 0
 drops_none s line s' = ⊥
 
 -- nothing changed
-pub record Silent {A B O : Type 0} (a : A) (b : B) (o : O) (a' : A) (b' : B) (o' : O) : Type 0 where
-  pub first : a' ≡ a
-  pub second : b' ≡ b
+pub record Silent {S O : Type 0} (s s' : S) (o o' : O) : Type 0 where
+  pub state : s' ≡ s
   pub output : o' ≡ o
+
+-- the line has no whole answer: nothing changed, or it has none for want of memory, or a front of it is out
+abbrev pub FallsShort : {S O : Type 0} → (S → List ℕ → List ℕ → S → Type 0) → (S → List ℕ → S → Type 0) → (O → Option (List ℕ)) → List ℕ → S → S → O → O
+    → Type 0
+FallsShort says drops out line s s' o o' = Silent s s' o o' ⊎ (Dropped drops line s s' o o' ⊎ Half says line s s' (out o) (out o'))
 
 -- a line with its LF
 abbrev pub with_lf : List ℕ → List ℕ
@@ -149,3 +154,12 @@ abbrev pub is_write_fault : {T : Type 0} → Result T SpeakFault → Bool
 is_write_fault (Ok x) = false
 is_write_fault (Err speech.Write) = true
 is_write_fault (Err speech.OutOfMemory) = false
+
+-- how many reads a session may make (this profile)
+abbrev pub session_reads : ℕ
+session_reads = 67108864
+
+-- So many reads at most were made, each for one byte; where they ran out, just so many. By the counts of the input's reads and of the bytes asked.
+abbrev pub SpendsReads : {T : Type 0} → ℕ → Result T SessionFault → ℕ → ℕ → ℕ → ℕ → Type 0
+SpendsReads most result reads_old reads_new asked_old asked_new =
+    (k : ℕ) × (k ≤ most) × RoseBy k reads_old reads_new × (result ≡ Err session.ReadsSpent → k ≡ most) × RoseBy k asked_old asked_new

@@ -5,7 +5,8 @@ ghost use Rattle.till_request.specs.Answer.{answer_line};
 ghost use Rattle.till_request.specs.Count.{RoseBy, one_if};
 ghost use Rattle.line_session.specs.Holding.{BreaksHeld, EndsHeld, LetsGo};
 ghost use Rattle.line_session.specs.Session.{desk_says, desk_drops};
-ghost use Rattle.line_session.specs.Talk.{Ends, Breaks, Said, Half, Silent, Dropped, is_read, is_write};
+ghost use Rattle.line_session.specs.Talk.{Ends, Breaks, FallsShort, Said, SpendsReads};
+ghost use Rattle.line_session.specs.Talk.{is_read, is_write, session_reads};
 
 use crate::answering::{Ended, READS, SessionFault};
 use crate::at_desk::AtDesk;
@@ -60,23 +61,22 @@ fn make_way<S: Doors>(
 }
 
 /// Holds the answer to a line.
-fn hold_answer<A, B, P: Speaker<A, B>>(
+fn hold_answer<C, D, P: Speaker<C, D>>(
     alloc: Global,
     speaker: &P,
     line: &[u8],
-    first: &mut A,
-    second: &mut B,
+    clock: &mut C,
+    desk: &mut D,
     held: &mut MemoryOut,
 ) -> Result<(), SessionFault>
-    ensures ok { OnOk result (Said (P.says speaker.now) line.now (first.old, second.old) (first.new, second.new)
+    ensures ok { OnOk result (Said (P.says speaker.now) line.now (clock.old, desk.old) (clock.new, desk.new)
         (Some held.old.bytes.items) (Some held.new.bytes.items)) }
-    ensures err { OnErr result (Silent first.old second.old held.old first.new second.new held.new
-        ⊎ (Dropped (P.drops speaker.now) line.now (first.old, second.old) (first.new, second.new) held.old held.new
-        ⊎ Half (P.says speaker.now) line.now (first.old, second.old) (first.new, second.new) (Some held.old.bytes.items)
-        (Some held.new.bytes.items))) }
+    ensures err { OnErr result
+        (FallsShort (P.says speaker.now) (P.drops speaker.now) (λ h. Some h.bytes.items) line.now (clock.old, desk.old)
+        (clock.new, desk.new) held.old held.new) }
     ensures cause { IfErr result (λ e. e ≡ SessionFault.OutOfMemory) }
 {
-    match speaker.speak(alloc, line, first, second, held) {
+    match speaker.speak(alloc, line, clock, desk, held) {
         Ok(()) => Ok(()),
         Err(_) => Err(SessionFault::OutOfMemory),
     }
@@ -96,23 +96,23 @@ fn hold_cut(alloc: Global, held: &mut MemoryOut, fault: LineFault) -> Result<(),
 }
 
 /// Answers the lines at a door in order, within so many reads. What isn't written at the end is held.
-fn talk_held<S: Doors, A, B, P: Speaker<A, B>>(
+fn talk_held<S: Doors, C, D, P: Speaker<C, D>>(
     alloc: Global,
     doors: &S,
     input: &mut S::In,
     output: &mut S::Out,
     held: &mut MemoryOut,
     speaker: &P,
-    first: &mut A,
-    second: &mut B,
+    clock: &mut C,
+    desk: &mut D,
     left: &mut u32,
 ) -> Result<Ended, SessionFault>
-    requires { (left.old ≤ 67108864) × (held.old.bytes.items ≡ []) }
-    ensures said { IfOk result (λ ended. EndsHeld (P.says speaker.now) (first.old, second.old) (first.new, second.new)
+    requires { (left.old ≤ READS) × (held.old.bytes.items ≡ []) }
+    ensures said { IfOk result (λ ended. EndsHeld (P.says speaker.now) (clock.old, desk.old) (clock.new, desk.new)
         (S.In.remaining input.old) (S.In.remaining input.new) (S.Out.written output.old) (S.Out.written output.new)
         held.new.bytes.items ended.lines ended.cut) }
     ensures broken { OnErr result
-        (BreaksHeld (P.says speaker.now) (P.drops speaker.now) (first.old, second.old) (first.new, second.new)
+        (BreaksHeld (P.says speaker.now) (P.drops speaker.now) (clock.old, desk.old) (clock.new, desk.new)
         (S.In.remaining input.old) (S.In.remaining input.new) (S.Out.written output.old)
         (S.Out.written output.new) held.new.bytes.items) }
     ensures read_fault { RoseBy (one_if (is_read result)) (S.In.failures input.old) (S.In.failures input.new) }
@@ -126,7 +126,7 @@ fn talk_held<S: Doors, A, B, P: Speaker<A, B>>(
     'turns: loop {
         make_way(doors, input, output, held)?;
         match next_line(alloc, input, left)? {
-            NextLine::Line(line) => hold_answer(alloc, speaker, &line, first, second, held)?,
+            NextLine::Line(line) => hold_answer(alloc, speaker, &line, clock, desk, held)?,
             NextLine::End => {
                 return Ok(Ended {
                     lines: count,
@@ -153,30 +153,30 @@ fn talk_held<S: Doors, A, B, P: Speaker<A, B>>(
 }
 
 /// Answers the lines at a door in order, as `talk`. An answer waits only for lines that are there already.
-fn talk_ahead<S: Doors, A, B, P: Speaker<A, B>>(
+fn talk_ahead<S: Doors, C, D, P: Speaker<C, D>>(
     alloc: Global,
     doors: &S,
     input: &mut S::In,
     output: &mut S::Out,
     speaker: &P,
-    first: &mut A,
-    second: &mut B,
+    clock: &mut C,
+    desk: &mut D,
 ) -> Result<Ended, SessionFault>
-    ensures said { IfOk result (λ ended. Ends (P.says speaker.now) (first.old, second.old) (first.new, second.new)
+    ensures said { IfOk result (λ ended. Ends (P.says speaker.now) (clock.old, desk.old) (clock.new, desk.new)
         (S.In.remaining input.old) (S.In.remaining input.new) (S.Out.written output.old) (S.Out.written output.new)
         ended.lines ended.cut) }
-    ensures broken { OnErr result (Breaks (P.says speaker.now) (P.drops speaker.now) (first.old, second.old) (first.new, second.new)
+    ensures broken { OnErr result
+        (Breaks (P.says speaker.now) (P.drops speaker.now) (clock.old, desk.old) (clock.new, desk.new)
         (S.In.remaining input.old) (S.In.remaining input.new) (S.Out.written output.old) (S.Out.written output.new)) }
     ensures read_fault { RoseBy (one_if (is_read result)) (S.In.failures input.old) (S.In.failures input.new) }
     ensures write_fault { RoseBy (one_if (is_write result)) (S.Out.failures output.old) (S.Out.failures output.new) }
-    ensures reads { (k : ℕ) × (k ≤ 67108864) × RoseBy k (S.In.reads input.old) (S.In.reads input.new)
-        × (result ≡ Err SessionFault.ReadsSpent → k ≡ 67108864)
-        × RoseBy k (S.In.asked input.old) (S.In.asked input.new) }
+    ensures reads { SpendsReads session_reads result (S.In.reads input.old) (S.In.reads input.new)
+        (S.In.asked input.old) (S.In.asked input.new) }
 {
     let mut left = READS;
     let mut held = MemoryOut::new(alloc, Vec::new(alloc), None);
     let outcome = talk_held(
-        alloc, doors, input, output, &mut held, speaker, first, second, &mut left,
+        alloc, doors, input, output, &mut held, speaker, clock, desk, &mut left,
     );
     match outcome {
         Ok(ended) => {
@@ -208,13 +208,13 @@ pub fn session_ahead<S: Doors, C: Clock, D: Desk>(
         (S.In.remaining input.old) (S.In.remaining input.new) (S.Out.written output.old) (S.Out.written output.new)
         ended.lines ended.cut) }
     ensures broken { OnErr result
-        (Breaks (desk_says D.step C.tick role) (desk_drops D.step C.tick role) (clock.old, desk.old) (clock.new, desk.new)
-        (S.In.remaining input.old) (S.In.remaining input.new) (S.Out.written output.old) (S.Out.written output.new)) }
+        (Breaks (desk_says D.step C.tick role) (desk_drops D.step C.tick role) (clock.old, desk.old)
+        (clock.new, desk.new) (S.In.remaining input.old) (S.In.remaining input.new) (S.Out.written output.old)
+        (S.Out.written output.new)) }
     ensures read_fault { RoseBy (one_if (is_read result)) (S.In.failures input.old) (S.In.failures input.new) }
     ensures write_fault { RoseBy (one_if (is_write result)) (S.Out.failures output.old) (S.Out.failures output.new) }
-    ensures reads { (k : ℕ) × (k ≤ 67108864) × RoseBy k (S.In.reads input.old) (S.In.reads input.new)
-        × (result ≡ Err SessionFault.ReadsSpent → k ≡ 67108864)
-        × RoseBy k (S.In.asked input.old) (S.In.asked input.new) }
+    ensures reads { SpendsReads session_reads result (S.In.reads input.old) (S.In.reads input.new)
+        (S.In.asked input.old) (S.In.asked input.new) }
 {
     talk_ahead(alloc, doors, input, output, &AtDesk { role }, clock, desk)
 }

@@ -3,10 +3,11 @@ ghost use Rattle.std.specs.Prelude.{◌≡◌, ◌⊎◌, ◌+◌, ◌-◌, ◌<
 ghost use Rattle.std.specs.Io.KnownBytes.{Appends};
 ghost use Rattle.till_request.specs.Count.{RoseBy, one_if};
 ghost use Rattle.till_request.specs.Answer.{answer_line};
-ghost use Rattle.line_session.specs.Talk.{Talks, Ends, Breaks, is_read, is_write};
+ghost use Rattle.line_session.specs.Talk.{Ends, Breaks, SpendsReads, is_read, is_write, session_reads};
 
 use crate::speaker::{SpeakFault, Speaker};
 use std::alloc::Global;
+use thiserror::Error;
 use till_request::{
     Answer, InputFault, LineFault, LineIn, LineOut, NextLine, WriteFault, next_line, write_answer,
 };
@@ -22,14 +23,18 @@ pub struct Ended {
 }
 
 /// Why a session did not end well.
-#[derive(Clone, Copy, Debug, PartialEq, Eq, Drop)]
+#[derive(Clone, Copy, Debug, PartialEq, Eq, Drop, Error)]
 pub enum SessionFault {
-    /// N1: a read failed.
+    /// N1.
+    #[error("a read failed")]
     Read,
-    /// N2: a write failed.
+    /// N2.
+    #[error("a write failed")]
     Write,
-    /// N3: the reads ran out.
+    /// N3.
+    #[error("the reads ran out")]
     ReadsSpent,
+    #[error("out of memory")]
     OutOfMemory,
 }
 
@@ -82,20 +87,21 @@ fn write_cut<O: LineOut>(
 /// Answers the lines of an input in order, within so many reads.
 ///
 /// A line that is too long or cut is answered by its fault, and is the last.
-pub fn talk_within<I: LineIn, O: LineOut, A, B, S: Speaker<A, B>>(
+pub fn talk_within<I: LineIn, O: LineOut, C, D, S: Speaker<C, D>>(
     alloc: Global,
     input: &mut I,
     output: &mut O,
     speaker: &S,
-    first: &mut A,
-    second: &mut B,
+    clock: &mut C,
+    desk: &mut D,
     left: &mut u32,
 ) -> Result<Ended, SessionFault>
-    requires { left.old ≤ 67108864 }
-    ensures said { IfOk result (λ ended. Ends (S.says speaker.now) (first.old, second.old) (first.new, second.new)
+    requires { left.old ≤ READS }
+    ensures said { IfOk result (λ ended. Ends (S.says speaker.now) (clock.old, desk.old) (clock.new, desk.new)
         (I.remaining input.old) (I.remaining input.new) (O.written output.old) (O.written output.new)
         ended.lines ended.cut) }
-    ensures broken { OnErr result (Breaks (S.says speaker.now) (S.drops speaker.now) (first.old, second.old) (first.new, second.new)
+    ensures broken { OnErr result
+        (Breaks (S.says speaker.now) (S.drops speaker.now) (clock.old, desk.old) (clock.new, desk.new)
         (I.remaining input.old) (I.remaining input.new) (O.written output.old) (O.written output.new)) }
     ensures read_fault { RoseBy (one_if (is_read result)) (I.failures input.old) (I.failures input.new) }
     ensures write_fault { RoseBy (one_if (is_write result)) (O.failures output.old) (O.failures output.new) }
@@ -107,7 +113,7 @@ pub fn talk_within<I: LineIn, O: LineOut, A, B, S: Speaker<A, B>>(
     let mut count = 0u64;
     'turns: loop {
         match next_line(alloc, input, left)? {
-            NextLine::Line(line) => speaker.speak(alloc, &line, first, second, output)?,
+            NextLine::Line(line) => speaker.speak(alloc, &line, clock, desk, output)?,
             NextLine::End => {
                 return Ok(Ended {
                     lines: count,
@@ -133,26 +139,26 @@ pub fn talk_within<I: LineIn, O: LineOut, A, B, S: Speaker<A, B>>(
     }
 }
 
-/// Answers the lines of an input in order, as `talk_within`, within 67,108,864 reads.
-pub fn talk<I: LineIn, O: LineOut, A, B, S: Speaker<A, B>>(
+/// Answers the lines of an input in order, as `talk_within`, within the reads of one session.
+pub fn talk<I: LineIn, O: LineOut, C, D, S: Speaker<C, D>>(
     alloc: Global,
     input: &mut I,
     output: &mut O,
     speaker: &S,
-    first: &mut A,
-    second: &mut B,
+    clock: &mut C,
+    desk: &mut D,
 ) -> Result<Ended, SessionFault>
-    ensures said { IfOk result (λ ended. Ends (S.says speaker.now) (first.old, second.old) (first.new, second.new)
+    ensures said { IfOk result (λ ended. Ends (S.says speaker.now) (clock.old, desk.old) (clock.new, desk.new)
         (I.remaining input.old) (I.remaining input.new) (O.written output.old) (O.written output.new)
         ended.lines ended.cut) }
-    ensures broken { OnErr result (Breaks (S.says speaker.now) (S.drops speaker.now) (first.old, second.old) (first.new, second.new)
+    ensures broken { OnErr result
+        (Breaks (S.says speaker.now) (S.drops speaker.now) (clock.old, desk.old) (clock.new, desk.new)
         (I.remaining input.old) (I.remaining input.new) (O.written output.old) (O.written output.new)) }
     ensures read_fault { RoseBy (one_if (is_read result)) (I.failures input.old) (I.failures input.new) }
     ensures write_fault { RoseBy (one_if (is_write result)) (O.failures output.old) (O.failures output.new) }
-    ensures reads { (k : ℕ) × (k ≤ 67108864) × RoseBy k (I.reads input.old) (I.reads input.new)
-        × (result ≡ Err SessionFault.ReadsSpent → k ≡ 67108864)
-        × RoseBy k (I.asked input.old) (I.asked input.new) }
+    ensures reads { SpendsReads session_reads result (I.reads input.old) (I.reads input.new) (I.asked input.old)
+        (I.asked input.new) }
 {
     let mut left = READS;
-    talk_within(alloc, input, output, speaker, first, second, &mut left)
+    talk_within(alloc, input, output, speaker, clock, desk, &mut left)
 }

@@ -50,16 +50,16 @@ impl<C: Clock, D: Desk> Speaker<C, D> for AtDesk {
         &self,
         alloc: Global,
         line: &[u8],
-        first: &mut C,
-        second: &mut D,
+        clock: &mut C,
+        desk: &mut D,
         output: &mut O,
     ) -> Result<(), SpeakFault> {
         let act = match parse_line(alloc, self.role, line) {
             Ok(act) => act,
             Err(fault) => return say(alloc, output, &Answer::Line(fault)),
         };
-        let moment = first.now();
-        let answer = second.answer(act, moment);
+        let moment = clock.now();
+        let answer = desk.answer(act, moment);
         say(alloc, output, &answer)
     }
 }

@@ -1,10 +1,10 @@
 //! That answers don't depend on how an input is cut.
+ghost use Rattle.till_request.specs.declared.act.Role.{Role};
 ghost use Rattle.line_session.specs.Cut.{IsDetermined, CutsAlike, TellsOne, AnswersOne};
 ghost use Rattle.line_session.specs.Session.{desk_says};
 
 use crate::desk::{Clock, Desk};
 use crate::speaker::Speaker;
-use till_request::Role;
 
 /// Whatever sizes the reads of an input give, the same is said to its bytes, by whoever says one thing to a line, want
 /// of memory aside.
@@ -12,16 +12,12 @@ use till_request::Role;
 /// The clauses of `talk` tell all that was taken and written by the bytes that the input has, whatever its device; by
 /// this law two such calls over the same bytes end alike, so cutting an input otherwise changes nothing. A reader that
 /// took bytes behind a line's LF and lost them, or took what one read gave for a line, has not these clauses.
-pub fn law_of_the_cut<A, B, S: Speaker<A, B>>(speaker: &S)
-    ensures { IsDetermined (S.says speaker.now) → CutsAlike (S.says speaker.now) }
-{
-    let _ = speaker;
-}
+pub fn law_of_the_cut<C, D, S: Speaker<C, D>>()
+    ensures { (speaker : S) → IsDetermined (S.says speaker) → CutsAlike (S.says speaker) }
+{}
 
 /// The same of the sessions of a role, whose clock tells one moment and whose desk gives one answer, want of memory
 /// aside.
-pub fn law_of_the_cut_at_desks<C: Clock, D: Desk>(role: Role)
-    ensures { TellsOne C.tick → AnswersOne D.step → CutsAlike (desk_says D.step C.tick role) }
-{
-    let _ = role;
-}
+pub fn law_of_the_cut_at_desks<C: Clock, D: Desk>()
+    ensures { (role : Role) → TellsOne C.tick → AnswersOne D.step → CutsAlike (desk_says D.step C.tick role) }
+{}

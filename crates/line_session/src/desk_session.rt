@@ -1,10 +1,10 @@
 //! Sessions at a desk.
 ghost use Rattle.std.specs.Prelude.{◌≡◌, ◌≤◌, ℕ, IfOk, OnErr, Err};
 ghost use Rattle.till_request.specs.Count.{RoseBy, one_if};
-ghost use Rattle.line_session.specs.Talk.{Ends, Breaks, is_read, is_write};
+ghost use Rattle.line_session.specs.Talk.{Ends, Breaks, SpendsReads, is_read, is_write, session_reads};
 ghost use Rattle.line_session.specs.Session.{desk_says, desk_drops};
 
-use crate::answering::{Ended, SessionFault, talk};
+use crate::answering::{Ended, READS, SessionFault, talk};
 use crate::at_desk::AtDesk;
 use crate::desk::{Clock, Desk};
 use std::alloc::Global;
@@ -26,13 +26,13 @@ pub fn session<I: LineIn, O: LineOut, C: Clock, D: Desk>(
         (I.remaining input.old) (I.remaining input.new) (O.written output.old) (O.written output.new)
         ended.lines ended.cut) }
     ensures broken { OnErr result
-        (Breaks (desk_says D.step C.tick role) (desk_drops D.step C.tick role) (clock.old, desk.old) (clock.new, desk.new)
-        (I.remaining input.old) (I.remaining input.new) (O.written output.old) (O.written output.new)) }
+        (Breaks (desk_says D.step C.tick role) (desk_drops D.step C.tick role) (clock.old, desk.old)
+        (clock.new, desk.new) (I.remaining input.old) (I.remaining input.new) (O.written output.old)
+        (O.written output.new)) }
     ensures read_fault { RoseBy (one_if (is_read result)) (I.failures input.old) (I.failures input.new) }
     ensures write_fault { RoseBy (one_if (is_write result)) (O.failures output.old) (O.failures output.new) }
-    ensures reads { (k : ℕ) × (k ≤ 67108864) × RoseBy k (I.reads input.old) (I.reads input.new)
-        × (result ≡ Err SessionFault.ReadsSpent → k ≡ 67108864)
-        × RoseBy k (I.asked input.old) (I.asked input.new) }
+    ensures reads { SpendsReads session_reads result (I.reads input.old) (I.reads input.new) (I.asked input.old)
+        (I.asked input.new) }
 {
     talk(alloc, input, output, &AtDesk { role }, clock, desk)
 }

@@ -1,42 +1,44 @@
 //! Who answers lines.
 use std::alloc::Global;
+use thiserror::Error;
 use till_request::LineOut;
 
 /// Why a line was not answered, or its answer is not out.
-#[derive(Clone, Copy, Debug, PartialEq, Eq, Drop)]
+#[derive(Clone, Copy, Debug, PartialEq, Eq, Drop, Error)]
 pub enum SpeakFault {
     /// N2: the device failed.
+    #[error("a write failed")]
     Write,
+    #[error("out of memory")]
     OutOfMemory,
 }
 
-/// Answers lines by text, with two things that it changes, as a clock and a desk.
-pub trait Speaker<A, B> {
-    ghost use Rattle.std.specs.Prelude.{List, ℕ, OnOk, OnErr, ◌⊎◌};
+/// Answers lines by text, and changes by it what tells moments, a clock, and what answers, a desk.
+pub trait Speaker<C, D> {
+    ghost use Rattle.std.specs.Prelude.{List, ℕ, OnOk, OnErr};
     ghost use Rattle.till_request.specs.Count.{RoseBy, one_if};
-    ghost use Rattle.line_session.specs.Talk.{Said, Half, Silent, Dropped, is_write_fault};
+    ghost use Rattle.line_session.specs.Talk.{FallsShort, Said, is_write_fault};
 
-    /// What it may say to a line, and what the two go on to.
-    ghost says: { Self → (A × B) → List ℕ → List ℕ → (A × B) → Type 0 };
+    /// What it may say to a line, and what clock and desk go on to.
+    ghost says: { Self → (C × D) → List ℕ → List ℕ → (C × D) → Type 0 };
 
-    /// What the two go on to at a line that has no answer, for want of memory.
-    ghost drops: { Self → (A × B) → List ℕ → (A × B) → Type 0 };
+    /// What clock and desk go on to at a line that has no answer, for want of memory.
+    ghost drops: { Self → (C × D) → List ℕ → (C × D) → Type 0 };
 
     /// Answers a line, which comes without its LF. After an error nobody is asked any more.
     fn speak<O: LineOut>(
         &self,
         alloc: Global,
         line: &[u8],
-        first: &mut A,
-        second: &mut B,
+        clock: &mut C,
+        desk: &mut D,
         output: &mut O,
     ) -> Result<(), SpeakFault>
         ensures ok { OnOk result
-            (Said (says self.now) line.now (first.old, second.old) (first.new, second.new) (O.written output.old)
+            (Said (says self.now) line.now (clock.old, desk.old) (clock.new, desk.new) (O.written output.old)
             (O.written output.new)) }
-        ensures err { OnErr result (Silent first.old second.old output.old first.new second.new output.new
-            ⊎ (Dropped (drops self.now) line.now (first.old, second.old) (first.new, second.new) output.old output.new
-            ⊎ Half (says self.now) line.now (first.old, second.old) (first.new, second.new) (O.written output.old)
-            (O.written output.new))) }
+        ensures err { OnErr result
+            (FallsShort (says self.now) (drops self.now) O.written line.now (clock.old, desk.old) (clock.new, desk.new)
+            output.old output.new) }
         ensures failed { RoseBy (one_if (is_write_fault result)) (O.failures output.old) (O.failures output.new) };
 }

@@ -10,6 +10,7 @@ use reg_types::Program;
 use std::alloc::Global;
 use std::marker::Model;
 use std::sync::Arc;
+use thiserror::Error;
 
 #[cfg(test)]
 mod tests;
@@ -21,12 +22,13 @@ pub const VERSIONS: usize = 4096;
 pub const SLOTS: u32 = 16;
 
 /// Why a program wasn't installed.
-#[derive(Clone, Copy, Debug, PartialEq, Eq, Drop)]
+#[derive(Clone, Copy, Debug, PartialEq, Eq, Drop, Error)]
 pub enum SlotFault {
-    /// S32: slots are 0 to 15.
+    #[error("there is no such slot: they are 0 to 15 (S32)")]
     NoSuchSlot,
-    /// S30: there are 4,096 versions.
+    #[error("all 4,096 versions are used (S30)")]
     VersionsFull,
+    #[error("out of memory (S31)")]
     OutOfMemory,
 }
 

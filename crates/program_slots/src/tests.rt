@@ -1,4 +1,4 @@
-//! All versions that there can be.
+//! All versions that there can be, and the words of a refusal.
 
 use crate::{SlotFault, Slots};
 use reg_types::{Layout, verify};
@@ -29,6 +29,23 @@ fn versions_end_at_4096(rt: HostRuntime) -> Result<(), Fail> {
     assert_eq!(rt; slots.installed(16), None);
     for (number, is_there) in [(0, false), (1, true), (4096, true), (4097, false)] {
         assert_eq!(rt; slots.version(number).is_some(), is_there);
+    }
+    Ok(())
+}
+
+#[test]
+fn refusals_are_told_in_words(rt: HostRuntime) -> Result<(), Fail> {
+    let alloc = rt.alloc();
+    for (fault, words) in [
+        (
+            SlotFault::NoSuchSlot,
+            "there is no such slot: they are 0 to 15 (S32)",
+        ),
+        (SlotFault::VersionsFull, "all 4,096 versions are used (S30)"),
+        (SlotFault::OutOfMemory, "out of memory (S31)"),
+    ] {
+        let told = format!(in alloc; "{fault}")?;
+        assert_eq!(rt; told.as_str(), words);
     }
     Ok(())
 }

@@ -196,7 +196,8 @@ module _ (us : List ProgramUnit) (terms : Terms) where
 
     -- what is known of unit q past a unit whose instruction is accepted
     past_is : (pc q : ℕ) (fact : Fact) (x : Inst × Form) (e : Effect) (tos : List ℕ) → inferred us terms pc ≡ Some fact → instruction_at us pc ≡ Some x
-        → ruled us terms pc fact x ≡ Ok e → leads pc x.0 x.1 ≡ Some tos → known us terms (suc pc) q ≡ arrived_all q (fact_after fact e) tos (known us terms pc q)
+        → ruled us terms pc fact x ≡ Ok e → leads pc x.0 x.1 ≡ Some tos
+        → known us terms (suc pc) q ≡ arrived_all q (fact_after fact e) tos (known us terms pc q)
     unfolding known
     past_is pc q fact x e tos h at j to =
         ap (λ o. passed us terms pc o q (known us terms pc q)) h

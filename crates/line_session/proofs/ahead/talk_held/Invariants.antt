@@ -6,7 +6,7 @@ use Rattle.line_session.proofs.ahead.talk_held.Given as goal
 -- the lines so far are answered, and some answers are held
 abbrev pub invariant-turns : goal.invariant-turns
 invariant-turns g l = record {
-  talks : Gathers (g.P.Speaker.says l.speaker) (l.initial.first, l.initial.second) (l.first, l.second) (g.S.In.LineIn.remaining l.initial.input)
+  talks : Gathers (g.P.Speaker.says l.speaker) (l.initial.clock, l.initial.desk) (l.clock, l.desk) (g.S.In.LineIn.remaining l.initial.input)
       (g.S.In.LineIn.remaining l.input) (g.S.Out.LineOut.written l.initial.output) (g.S.Out.LineOut.written l.output) l.held.bytes.items l.count;
   within : l.count + l.left ≤ l.initial.left;
   reads : RoseBy (l.initial.left - l.left) (g.S.In.LineIn.reads l.initial.input) (g.S.In.LineIn.reads l.input);

@@ -6,7 +6,7 @@ use Rattle.line_session.proofs.answering.talk_within.Given as goal
 -- the lines so far are answered
 abbrev pub invariant-turns : goal.invariant-turns
 invariant-turns g l = record {
-  talks : Talks (g.S.Speaker.says l.speaker) (l.initial.first, l.initial.second) (l.first, l.second) (g.I.LineIn.remaining l.initial.input)
+  talks : Talks (g.S.Speaker.says l.speaker) (l.initial.clock, l.initial.desk) (l.clock, l.desk) (g.I.LineIn.remaining l.initial.input)
       (g.I.LineIn.remaining l.input) (g.O.LineOut.written l.initial.output) (g.O.LineOut.written l.output) l.count [] [];
   within : l.count + l.left ≤ l.initial.left;
   reads : RoseBy (l.initial.left - l.left) (g.I.LineIn.reads l.initial.input) (g.I.LineIn.reads l.input);

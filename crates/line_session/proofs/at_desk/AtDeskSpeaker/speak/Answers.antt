@@ -3,10 +3,10 @@ use Rattle.line_session.proofs.at_desk.AtDeskSpeaker.speak.Goals as goal
 
 pub returns-in-Err-clause-ok : goal.returns-in-Err-clause-ok
 returns-in-Err-clause-ok g c =
-    fault_said g.D.Desk.step g.C.Clock.tick g.O.LineOut.written c.args.self.now.role c.args.line.now c.in-Err.fault c.args.first.now c.args.second.now
+    fault_said g.D.Desk.step g.C.Clock.tick g.O.LineOut.written c.args.self.now.role c.args.line.now c.in-Err.fault c.args.clock.now c.args.desk.now
     c.args.output.now c.say.new.output c.in-Err.ensures c.say.result c.say.ensures.ok
 
 pub returns-in-Err-clause-err : goal.returns-in-Err-clause-err
 returns-in-Err-clause-err g c =
-    fault_broke g.D.Desk.step g.C.Clock.tick g.O.LineOut.written c.args.self.now.role c.args.line.now c.in-Err.fault c.args.first.now c.args.second.now
+    fault_broke g.D.Desk.step g.C.Clock.tick g.O.LineOut.written c.args.self.now.role c.args.line.now c.in-Err.fault c.args.clock.now c.args.desk.now
     c.args.output.now c.say.new.output c.in-Err.ensures c.say.result c.say.ensures.err
