@@ -20,6 +20,9 @@ use std::alloc::Global;
 /// The most that a document can write: the greatest value and bound of a counter.
 const MOST_COUNTER: u64 = 9_223_372_036_854_775_807;
 
+/// The greatest price of a litre.
+const MOST_PRICE: u32 = 9_999_999;
+
 /// The number, if it is from low to high.
 fn in_range(place: Place, value: i64, low: u32, high: u32) -> Result<u32, ConfigFlaw>
     ensures read { Finds (λ x. x) result (ranged low high value) }
@@ -33,7 +36,7 @@ fn in_range(place: Place, value: i64, low: u32, high: u32) -> Result<u32, Config
 
 /// The number, if it is not below 0.
 fn not_negative(place: Place, value: i64) -> Result<u64, ConfigFlaw>
-    ensures { Finds (λ x. x) result (ranged 0 9223372036854775807 value) }
+    ensures { Finds (λ x. x) result (ranged 0 MOST_COUNTER value) }
 {
     match u64::try_from(value) {
         Ok(number) => Ok(number),
@@ -75,15 +78,15 @@ fn make_counter(place: usize, pair: (i64, i64)) -> Result<(u64, u64), ConfigFlaw
 
 /// A product's price.
 fn make_price(place: usize, value: i64) -> Result<u32, ConfigFlaw>
-    ensures read { Finds (λ x. x) result (ranged 0 9999999 value) }
-    ensures range { IfOk result (λ price. price ≤ 9999999) }
+    ensures read { Finds (λ x. x) result (ranged 0 MOST_PRICE value) }
+    ensures range { IfOk result (λ price. price ≤ MOST_PRICE) }
 {
-    in_range(Place::Price(place), value, 0, 9_999_999)
+    in_range(Place::Price(place), value, 0, MOST_PRICE)
 }
 
 fn each_price(alloc: Global, values: &[i64]) -> Result<Vec<u32>, ConfigFlaw>
-    ensures read { Finds (λ v. v.items) result (all_ranged 0 9999999 values.now) }
-    ensures range { IfOk result (λ v. All (λ price. price ≤ 9999999) v.items) }
+    ensures read { Finds (λ v. v.items) result (all_ranged 0 MOST_PRICE values.now) }
+    ensures range { IfOk result (λ v. All (λ price. price ≤ MOST_PRICE) v.items) }
 {
     let mut prices = Vec::new(alloc);
     for value in values {
@@ -109,7 +112,7 @@ fn eight_of(list: &[u32]) -> [u32; 8]
 #[tactic(auto, unfolding(crate::specs::Ranges::prices_of), using(crate::proofs::Lengths::lengths))]
 fn make_prices(alloc: Global, values: &[i64]) -> Result<[u32; 8], ConfigFlaw>
     ensures read { Finds (λ x. x) result (prices_of values.now) }
-    ensures range { IfOk result (All (λ price. price ≤ 9999999)) }
+    ensures range { IfOk result (All (λ price. price ≤ MOST_PRICE)) }
 {
     if values.len() != 8 {
         return Err(wrong_count(Key::Prices, values.len(), 8, 8));

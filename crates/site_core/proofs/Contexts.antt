@@ -18,7 +18,7 @@ use Rattle.bpf_model.specs.declared.context.Context.{Context}
 use Rattle.bpf_model.specs.declared.context.Context.TheVariants as contexts
 use Rattle.bpf_model.specs.Layouts.{bytes_of, layout_of}
 use Rattle.site_core.specs.declared.question.Question.{Question}
-use Rattle.site_core.specs.State.{SiteState, at_number, busy_points, first_busy, seen, view_of}
+use Rattle.site_core.specs.State.{SiteState, at_number, busy_points, first_busy, seen, seen_points, view_of}
 use Rattle.site_core.specs.declared.context.Field.{Field}
 use Rattle.site_core.specs.declared.context.Field.TheVariants.{Four, Eight}
 use Rattle.site_core.specs.Context.{context, fields, laid, told, of_point}
@@ -215,7 +215,7 @@ there-seen [] n = there-none n
 there-seen (x ∷ xs) n = rw (is-there x.state, there-seen xs n) refl
 
 view-there : (s : SiteState) → there (view_of s).points ≡ (view_of s).count
-unfolding view_of
+unfolding view_of seen_points
 view-there s = there-seen s.points (32 - length s.points)
 
 -- views of the same points and prices have as many points

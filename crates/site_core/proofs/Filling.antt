@@ -1,8 +1,55 @@
--- Filling the first places of a list of fixed length.
-use Rattle.std.proofs.Common.{◌≡◌, ℕ, zero, suc, ◌<◌, List, [], ◌∷◌, ◌++◌, length, map, take, replicate, set, get_or, refl, ap, arith}
+-- Filling the first places of a list of fixed length; the view that a station keeps.
+use Rattle.std.proofs.Common.{◌≡◌, ℕ, zero, suc, ◌-◌, ◌<◌, ◌≤◌, List, [], ◌∷◌, ◌++◌, length, map, take, replicate, set, get_or, refl, ap, arith, ◌∙◌, sym}
+use Rattle.std.proofs.lemmas.List.{length-set}
+use Rattle.bpf_model.specs.declared.machine.View.{View}
+use Rattle.bpf_model.specs.declared.machine.PointView.{PointView}
+use Rattle.bpf_model.specs.Machine.{no_point}
+use Rattle.fuelling_point.specs.Table.{PointState}
+use Rattle.site_core.specs.State.{SiteState, seen, seen_points, view_of}
 
 pub fill-more : {A B : Type 0} (f : A → B) (z : B) (xs : List A) (d : A) (i left : ℕ) → i < length xs
     → set (map f (take i xs) ++ replicate (suc left) z) i (f (get_or xs i d)) ≡ map f (take (suc i) xs) ++ replicate left z
 fill-more f z [] d i left lt = absurd (omega arith)
 fill-more f z (x ∷ xs) d zero left lt = refl
 fill-more f z (x ∷ xs) d (suc j) left lt = ap (λ r. f x ∷ r) (fill-more f z xs d j left (omega arith))
+
+set-map : {A B : Type 0} (f : A → B) (z : B) (xs : List A) (i n : ℕ) (x : A) → i < length xs
+    → set (map f xs ++ replicate n z) i (f x) ≡ map f (set xs i x) ++ replicate n z
+set-map f z [] i n x lt = absurd (omega arith)
+set-map f z (y ∷ ys) zero n x lt = refl
+set-map f z (y ∷ ys) (suc i) n x lt = ap (λ r. f y ∷ r) (set-map f z ys i n x (omega arith))
+
+-- what is seen of points of which one changed
+pub seen-set : (points : List PointState) (i : ℕ) (p : PointState) → i < length points → set (seen_points points) i (seen p) ≡ seen_points (set points i p)
+unfolding seen_points
+seen-set points i p lt =
+    let same : length (set points i p) ≡ length points = length-set points i p in
+    set-map seen no_point points i (32 - length points) p lt ∙ ap (λ n. map seen (set points i p) ++ replicate (32 - n) no_point) (sym same)
+
+-- a view of the points and prices of a state
+pub view-is : (s : SiteState) (v : View) → v.count ≡ length s.points → v.points ≡ seen_points s.points → v.prices ≡ s.prices → v ≡ view_of s
+unfolding view_of
+view-is s v count points prices = λ i. record { count = count i; points = points i; prices = prices i }
+
+-- ---- the last element of a list
+
+pub set-last : {T : Type 0} → (xs : List T) (x y : T) → set (xs ++ x ∷ []) (length xs) y ≡ xs ++ y ∷ []
+set-last [] x y = refl
+set-last (z ∷ zs) x y = ap (λ r. z ∷ r) (set-last zs x y)
+
+pub get-last : {T : Type 0} → (xs : List T) (x d : T) → get_or (xs ++ x ∷ []) (length xs) d ≡ x
+get-last [] x d = refl
+get-last (z ∷ zs) x d = get-last zs x d
+
+pub cut-last : {T : Type 0} → (xs : List T) (x y : T) → take (length xs) (set (xs ++ x ∷ []) (length xs) y) ≡ xs
+cut-last [] x y = refl
+cut-last (z ∷ zs) x y = ap (λ r. z ∷ r) (cut-last zs x y)
+
+-- what a station keeps where one of its points became another
+pub keeps-seen : (points : List PointState) (view : View) (i : ℕ) (p : PointState) (one : PointView) → i < length points → length points ≤ 32
+    → length view.prices ≡ 8 → view.count ≡ length points → view.points ≡ seen_points points → one ≡ seen p
+    → (length (set points i p) ≤ 32) × (length view.prices ≡ 8) × (view.count ≡ length (set points i p))
+    × (set view.points i one ≡ seen_points (set points i p))
+keeps-seen points view i p one lt most prices count shown is =
+    let same : length (set points i p) ≡ length points = length-set points i p in
+    (omega (arith, same), prices, count ∙ sym same, (λ j. set (shown j) i (is j)) ∙ seen-set points i p lt)

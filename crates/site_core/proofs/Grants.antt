@@ -1,6 +1,9 @@
 -- What a grant does to the site.
 use Rattle.std.proofs.Common.{◌≡◌, ℕ, ◌+◌, ◌-◌, ◌*◌, ◌≤◌, true, false, length, Option, Some, None, Result, Ok, Err, slice_set, arith, ap, ◌∙◌, sym, subst}
-use Rattle.std.proofs.Common.{get_or}
+use Rattle.std.proofs.Common.{get_or, refl, Bool}
+use Rattle.decision_journal.specs.declared.entries.Run.{Run}
+use Rattle.till_request.specs.declared.act.Reply.{Reply}
+use Rattle.site_core.specs.Keeping.{settled, with_counters}
 use Rattle.std.specs.Prelude.{◌==◌}
 use Rattle.std.proofs.lemmas.List.Elements.{All-set}
 use Rattle.fuelling_point.specs.Table.{PointState, Answer, command_step}
@@ -13,7 +16,7 @@ use Rattle.site_core.specs.declared.question.Question.{Question}
 use Rattle.site_core.specs.State.{SiteState, at_number, with_point}
 use Rattle.site_core.specs.Bounds.{Bounded}
 use Rattle.site_core.specs.Context.{context}
-use Rattle.site_core.specs.Decide.{denied, grant, granted_point, command_of, after_command, verdict, counts}
+use Rattle.site_core.specs.Decide.{Effect, denied, grant, granted_point, command_of, after_command, verdict, counts}
 use Rattle.site_core.proofs.Points.{at_number-read}
 
 -- what the point became
@@ -82,3 +85,38 @@ pub verdict-grant : (s : SiteState) (till moment r g : ℕ) (q : Question) (v : 
     }
 unfolding verdict
 verdict-grant s till moment r g q v c new some given = rw (some, given, verdict)
+
+pub settled-deny : (s : SiteState) (till n r : ℕ) (q : Question) → (r == 0) ≡ true → settled s till q n r ≡ (denied n, s)
+unfolding settled
+settled-deny s till n r q zero = rw (zero, settled)
+
+pub settled-grant : (s : SiteState) (till n r : ℕ) (q : Question) → (r == 0) ≡ false
+    → settled s till q n r ≡ (let g : ℕ × SiteState = grant s till q r in (reply.Granted g.0 n, g.1))
+unfolding settled
+settled-grant s till n r q some = rw (some, settled)
+
+module _ (s : SiteState) (till moment r : ℕ) (q : Question) (v : Version) (c : Counters) (given : Reply) (new : SiteState)
+    (is : settled (with_counters s c) till q v.number r ≡ (given, new)) where
+  abbrev pub made-run : Run
+  made-run =
+      record { slot = q.slot; version = v.number; r0 = r; context = context v.program.layout s till moment q; counts = counts v.program.declared s.counters c }
+
+  abbrev effect-of : Reply × SiteState → Effect
+  effect-of p = record { reply = p.0; run = Some made-run; after = p.1 }
+
+  verdict-by : (b : Bool) → (r == 0) ≡ b → verdict s till moment q v r c ≡ effect-of (given, new)
+  verdict-by true zero =
+      verdict-deny s till moment r q v c zero
+      ∙ ap effect-of (sym (settled-deny (with_counters s c) till v.number r q zero) ∙ is)
+  verdict-by false some =
+      let g = grant (with_counters s c) till q r in
+      verdict-grant s till moment r g.0 q v c g.1 some refl
+      ∙ ap effect-of (sym (settled-grant (with_counters s c) till v.number r q some) ∙ is)
+
+  -- the decision, by what is told and what is left
+  pub verdict-is : verdict s till moment q v r c ≡ record { reply = given; run = Some made-run; after = new }
+  verdict-is = verdict-by (r == 0) refl
+
+-- a run changes no number that is bounded
+pub bounded-counted : (k : ℕ) (s : SiteState) (c : Counters) → Bounded k s → Bounded k (with_counters s c)
+bounded-counted k s c b = record { last = b.last; cleared = b.cleared; clears = b.clears }

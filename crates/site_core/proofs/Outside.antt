@@ -27,6 +27,8 @@ use Rattle.site_core.specs.Decide.{Effect, replied, no_such_till, is_decided, is
 use Rattle.site_core.specs.Decide.{price_question}
 use Rattle.site_core.specs.Step.{effect, asked, commanded, command_effect}
 use Rattle.site_core.specs.Keeping.{Agrees, Performs}
+use Rattle.site_core.specs.Legal.{GoodLoad}
+use Rattle.site_core.specs.Histories.{load_refusal}
 use Rattle.site_core.specs.Draft.{context_for, DraftValue, basis_of, routed}
 use Rattle.site_core.specs.Asked.{asked_question, question_of, StillAsked, IsDraft, Drafts, basis_in}
 use Rattle.site_core.specs.declared.draft.Begin.TheVariants as begin
@@ -70,24 +72,25 @@ agrees-till slots past entry till r a is =
 
 -- a settled run is the step's
 pub performs-settled : (config : ConfigValue) (past : List Entry) (s new : SiteState) (slots : SlotsValue) (draft : DraftValue) (q : Question) (r0 : ℕ)
-    (after : Counters) (reply : Reply) (run : Run) → StillAsked config s slots draft q → Agrees slots past
-    → outcome draft.version.program draft.context draft.view s.counters ≡ Ended r0 after → verdict s draft.till draft.moment q draft.version r0 after
-    ≡ record { reply = reply; run = Some run; after = new } → Performs config past s draft.moment (act.Till draft.till draft.request)
-    (record { moment = draft.moment; act = act.Till draft.till draft.request; reply = reply; run = Some run }) new slots
-performs-settled config past s new slots draft q r0 after reply run still agrees ran settled =
+    (after : Counters) (entry : Entry) → entry.moment ≡ draft.moment → entry.act ≡ act.Till draft.till draft.request → StillAsked config s slots draft q
+    → Agrees slots past → outcome draft.version.program draft.context draft.view s.counters ≡ Ended r0 after
+    → verdict s draft.till draft.moment q draft.version r0 after
+    ≡ record { reply = entry.reply; run = entry.run; after = new } → Performs config past s draft.moment (act.Till draft.till draft.request)
+    entry new slots
+performs-settled config past s new slots draft q r0 after entry moment_is act_is still agrees ran settled =
     let ended : outcome draft.version.program (bytes_of (context draft.version.program.layout s draft.till draft.moment q)) (view_of s) s.counters
     ≡ Ended r0 after =
     (λ i. outcome draft.version.program (still.context_is i) (still.view_is i) s.counters) ∙ ran in
     record {
-      act_is = refl;
-      moment_is = refl;
+      act_is = act_is;
+      moment_is = moment_is;
       effect_is =
           effect-decided config past s draft.till draft.moment draft.request q still.asked
           ∙ decided-ended past s draft.till draft.moment q draft.version r0 after (agrees.in_force q.slot ∙ still.version_is) ended
           ∙ settled;
-      agrees = λ entry is replied_is. agrees-till slots past entry draft.till draft.request agrees is;
-      accepted = refl;
-      good = tt;
+      agrees = λ other is replied_is. agrees-till slots past other draft.till draft.request agrees (is ∙ act_is);
+      accepted = ap load_refusal act_is;
+      good = subst GoodLoad (sym act_is) tt;
     }
 
 -- ---- whether it runs one

@@ -1,13 +1,17 @@
 -- Representation: how the fields of a site hang together, and what the steps inside a call say. No reader has to believe it.
-use Rattle.std.specs.Prelude.{◌≡◌, ℕ, ◌+◌, ◌≤◌, List, ◌∷◌, length, reverse, None, All}
+use Rattle.std.specs.Prelude.{◌≡◌, ℕ, ◌+◌, ◌≤◌, ◌==◌, if◌then◌else◌, List, ◌∷◌, length, reverse, None, All}
 use Rattle.decision_journal.specs.declared.entries.Entry.{Entry}
 use Rattle.till_request.specs.declared.act.Act.{Act}
 use Rattle.till_request.specs.declared.act.Act.TheVariants as act
 use Rattle.till_request.specs.declared.act.Reply.{Reply}
+use Rattle.till_request.specs.declared.act.Reply.TheVariants as reply
+use Rattle.bpf_model.specs.Machine.{Counters}
+use Rattle.site_core.specs.declared.question.Question.{Question}
+use Rattle.site_core.specs.Decide.{denied, grant}
 use Rattle.program_slots.specs.Value.{SlotsValue}
 use Rattle.program_slots.specs.Slots.{version_in}
 use Rattle.bpf_model.specs.Program.{ProgramText}
-use Rattle.site_core.specs.declared.perform.Performed.{Performed}
+use Rattle.fuelling_point.specs.declared.kinds.DispenserEvent.TheVariants as event
 use Rattle.site_core.specs.Limits.{ConfigValue}
 use Rattle.site_core.specs.State.{SiteState}
 use Rattle.site_core.specs.Bounds.{Bounded}
@@ -34,8 +38,8 @@ pub record Keeps (config : ConfigValue) (history : List Entry) (state : SiteStat
   pub points : length state.points ≡ length config.points
   pub bounded : Bounded (length history) state
 
--- an event was performed as the step says, and the slots agree once its entry stands
-pub record Performs (config : ConfigValue) (past : List Entry) (old : SiteState) (moment : ℕ) (act : Act) (p : Performed) (new : SiteState)
+-- an event was performed as the step says, and written into an entry, and the slots agree once that stands
+pub record Performs (config : ConfigValue) (past : List Entry) (old : SiteState) (moment : ℕ) (act : Act) (p : Entry) (new : SiteState)
     (slots : SlotsValue) : Type 0 where
   pub act_is : p.act ≡ act
   pub moment_is : p.moment ≡ entered_moment act moment
@@ -49,6 +53,19 @@ pub record Loads (old : SlotsValue) (slot : ℕ) (program : ProgramText) (past :
   pub reply_is : load_reply slot past ≡ reply
   pub agrees : (entry : Entry) → entry.act ≡ act.Load slot program.declared program.layout program.bytes → entry.reply ≡ reply → Agrees new (entry ∷ past)
 
+-- an entry in which no event is written yet
+abbrev pub blank : ℕ → ℕ → Entry
+blank number pass = record { number = number; pass = pass; moment = 0; act = act.Dispenser 0 event.Down; reply = reply.Done; run = None }
+
 -- the entry that a performed event makes
-abbrev pub made : List Entry → ℕ → Performed → Entry
+abbrev pub made : List Entry → ℕ → Entry → Entry
 made history pass p = record { number = length history + 1; pass = pass; moment = p.moment; act = p.act; reply = p.reply; run = p.run }
+
+abbrev pub with_counters : SiteState → Counters → SiteState
+with_counters s counters = record s { counters = counters }
+
+-- what is told where a version answered r, and the state after it: a denial changes nothing
+unfoldable pub settled : SiteState → ℕ → Question → ℕ → ℕ → Reply × SiteState
+settled s till q version r =
+    if r == 0 then (denied version, s)
+    else (let g : ℕ × SiteState = grant s till q r in (reply.Granted g.0 version, g.1))

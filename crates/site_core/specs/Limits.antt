@@ -23,3 +23,7 @@ pub record IsConfig (c : ConfigValue) : Type 0 where
   pub points : length c.points ≤ 32
   pub slots : All (λ p. (p.0 ≤ 15) × (p.1 ≤ 15)) c.points
   pub counters : All IsCounter c.counters
+
+-- how many entries a history may have
+abbrev pub most_entries : ℕ
+most_entries = 1048576

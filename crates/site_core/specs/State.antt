@@ -53,6 +53,10 @@ counter_of s c = if nat_lt c 32 then Some (counter s.counters c) else None
 abbrev pub seen : PointState → PointView
 seen p = record { state = state_number p.state; nozzle = p.nozzle; amount = p.amount }
 
--- what a program can ask of the site: its points, zeros in the places of those that it hasn't, and its prices
+-- what a program sees of points: zeros stand in the places of those that aren't there
+unfoldable pub seen_points : List PointState → List PointView
+seen_points points = map seen points ++ replicate (32 - length points) no_point
+
+-- what a program can ask of the site: its points and its prices
 unfoldable pub view_of : SiteState → View
-view_of s = record { count = length s.points; points = map seen s.points ++ replicate (32 - length s.points) no_point; prices = s.prices }
+view_of s = record { count = length s.points; points = seen_points s.points; prices = s.prices }

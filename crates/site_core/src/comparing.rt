@@ -1,7 +1,7 @@
 //! The first places at which what a run is made on differs.
 
 ghost use Rattle.std.specs.Prelude.{◌≡◌, ◌≢◌, ◌↔◌, ◌<◌, IsTrue, ◌^◌, length, MatchOption, MatchResult, Some, None};
-ghost use Rattle.std.specs.Prelude.{option_map};
+ghost use Rattle.std.specs.Prelude.{option_map, IfSome};
 ghost use Rattle.std.specs.Arc.{arc_value};
 ghost use Rattle.interp.specs.Depends.{Agrees};
 ghost use Rattle.program_slots.specs.Slots.{Version, version_in};
@@ -39,7 +39,8 @@ pub fn first_byte(a: &[u8], b: &[u8]) -> Option<u32>
 }
 
 pub fn first_point(a: &[PointView; 32], b: &[PointView; 32]) -> Option<u32>
-    ensures { MatchOption result (a.now ≡ b.now) (FirstDiffers a.now b.now) }
+    ensures within { IfSome result (λ place. place < 32) }
+    ensures first { MatchOption result (a.now ≡ b.now) (FirstDiffers a.now b.now) }
 {
     for i in 0..32 {
         if a[i] != b[i] {
@@ -50,7 +51,8 @@ pub fn first_point(a: &[PointView; 32], b: &[PointView; 32]) -> Option<u32>
 }
 
 pub fn first_price(a: &[u32; 8], b: &[u32; 8]) -> Option<u32>
-    ensures { MatchOption result (a.now ≡ b.now) (FirstDiffers a.now b.now) }
+    ensures within { IfSome result (λ place. place < 8) }
+    ensures first { MatchOption result (a.now ≡ b.now) (FirstDiffers a.now b.now) }
 {
     for i in 0..8 {
         if a[i] != b[i] {

@@ -1,6 +1,6 @@
 //! What a decision asks, grants and counts.
 
-ghost use Rattle.std.specs.Prelude.{◌≡◌, ◌<◌, ◌≤◌, IfOk};
+ghost use Rattle.std.specs.Prelude.{◌≡◌, ◌<◌, ◌≤◌, IfOk, None, replicate};
 ghost use Rattle.site_core.specs.Decide.{release_at, preset_at, price_at, granted_point, command_of, counts, count_of};
 
 use crate::question::{Kind, Question};
@@ -108,14 +108,19 @@ fn count_of(mask: u32, before: &Counters, after: &Counters, c: u32) -> Option<(u
     }
 }
 
-/// The declared counters' values before and after, in the counters' order.
-pub fn counts(mask: u32, before: &Counters, after: &Counters) -> [Option<(u64, u64)>; 32]
-    ensures { result ≡ counts mask before.now after.now }
+/// Notes the declared counters' values before and after, in the counters' order, where none is noted yet.
+pub fn note_counts(
+    mask: u32,
+    before: &Counters,
+    after: &Counters,
+    noted: &mut [Option<(u64, u64)>; 32],
+)
+    requires { noted.old ≡ replicate 32 None }
+    ensures { noted.new ≡ counts mask before.now after.now }
 {
-    let mut counts = [None; 32];
     for c in 0..32 {
-        let count = count_of(mask, before, after, c);
-        counts[c as usize] = count;
+        if let Some(count) = count_of(mask, before, after, c) {
+            noted[c as usize] = Some(count);
+        }
     }
-    counts
 }

@@ -5,14 +5,15 @@ ghost use Rattle.std.specs.Prelude.{◌≡◌, IfOk, length};
 use crate::comparing::{first_byte, first_counter, first_point, first_price, is_version, look_up};
 use crate::config::Config;
 use crate::events::Answered;
-use crate::perform::{Performed, asked_question, routed};
+use crate::perform::{asked_question, routed};
 use crate::question::Question;
 use crate::station::Station;
 use crate::why::Why;
 use bpf_model::context::Context;
 use counters::Counters;
+use decision_journal::{Entry, Run};
 use helpers::View;
-use interp::{rebase, run};
+use interp::run;
 use program_slots::Slots;
 use reg_types::Program;
 use std::alloc::AllocError;
@@ -93,8 +94,8 @@ impl Draft {
             version,
             program,
             context: station.context(layout, till, moment, &question),
-            view: station.view(),
-            counters: station.counters(),
+            view: *station.view(),
+            counters: *station.counters(),
         }))
     }
 
@@ -136,7 +137,7 @@ impl Draft {
             return Err(Why::PriceDiffers(place + 1));
         }
         let counters = station.counters();
-        if let Some(c) = first_counter(self.program.declared(), &counters, &self.counters) {
+        if let Some(c) = first_counter(self.program.declared(), counters, &self.counters) {
             return Err(Why::Counter(c, counters.get(c)));
         }
         Ok(question)
@@ -166,8 +167,8 @@ impl Ready {
     ghost use Rattle.std.specs.Prelude.{MatchResult, OnErr, ◌≡◌, ℕ, ◌+◌, List};
     ghost use Rattle.decision_journal.specs.declared.entries.Entry.{Entry};
     ghost use Rattle.till_request.specs.declared.act.Act.TheVariants as act;
-    ghost use Rattle.site_core.specs.Bounds.{Bounded};
-    ghost use Rattle.site_core.specs.Keeping.{Agrees, Performs};
+    ghost use Rattle.site_core.specs.Bounds.{Bounded, HasRoom};
+    ghost use Rattle.site_core.specs.Keeping.{Agrees, Performs, blank};
     ghost use Rattle.site_core.specs.Differences.{IsFresh, Differs};
     ghost use Rattle.site_core.specs.Asked.{basis_in};
 
@@ -179,14 +180,18 @@ impl Ready {
         config: &Config,
         station: &mut Station,
         slots: &Slots,
-    ) -> Result<Performed, Why>
+        entry: &mut Entry,
+    ) -> Result<(), Why>
         requires points { length station.old.points ≡ length config.now.points }
-        requires bounded { Bounded 1048575 station.old }
+        requires bounded { HasRoom station.old }
+        requires blank { entry.old ≡ blank entry.old.number entry.old.pass }
+        ensures number { entry.new.number ≡ entry.old.number }
+        ensures pass { entry.new.pass ≡ entry.old.pass }
         ensures performed { MatchResult result
-            (λ p. IsFresh (basis_in config.now station.old slots.now self.draft) self.draft
+            (λ _. IsFresh (basis_in config.now station.old slots.now self.draft) self.draft
             × ((past : List Entry) → Agrees slots.now past →
             Performs config.now past station.old self.draft.moment (act.Till self.draft.till self.draft.request)
-            p station.new slots.now))
+            entry.new station.new slots.now))
             (Differs (basis_in config.now station.old slots.now self.draft) self.draft) }
         ensures unchanged { OnErr result (station.new ≡ station.old) }
         ensures bounded { (k : ℕ) → Bounded k station.old → Bounded (k + 1) station.new }
@@ -197,34 +202,28 @@ impl Ready {
             Ok(question) => question,
             Err(why) => return Err(why),
         };
-        let mut counters = station.counters();
-        rebase(
+        let run = entry.run.insert(Run {
+            slot: question.slot,
+            version: draft.version,
+            r0: self.r0,
+            context: draft.context,
+            counts: [None; 32],
+        });
+        station.adopt(
             &draft.program,
             &draft.context,
-            &draft.view,
             &draft.counters,
             self.r0,
             &self.after,
-            &mut counters,
+            &mut run.counts,
         );
-        let (reply, run) = station.settle(
-            draft.till,
-            &question,
-            draft.context,
-            draft.version,
-            &draft.program,
-            self.r0,
-            counters,
-        );
-        Ok(Performed {
-            moment: draft.moment,
-            act: Act::Till {
-                till: draft.till,
-                request: draft.request,
-            },
-            reply,
-            run: Some(run),
-        })
+        entry.moment = draft.moment;
+        entry.act = Act::Till {
+            till: draft.till,
+            request: draft.request,
+        };
+        entry.reply = station.settle(draft.till, &question, draft.version, self.r0);
+        Ok(())
     }
 }
 

@@ -13,6 +13,7 @@ mod laws;
 mod perform;
 mod question;
 mod replies;
+mod seeing;
 mod site;
 mod station;
 mod why;

@@ -1,14 +1,14 @@
 //! What an event does: a load makes a version, a dispenser's event and a till's request change the station.
 
-ghost use Rattle.std.specs.Prelude.{◌≡◌, ℕ, ◌+◌, ◌<◌, IfOk, OnErr, length, List};
+ghost use Rattle.std.specs.Prelude.{◌≡◌, ℕ, ◌+◌, ◌<◌, IfOk, OnOk, OnErr, None, length, List};
 ghost use Rattle.std.specs.Arc.{arc_value};
 ghost use Rattle.decision_journal.specs.declared.entries.Entry.{Entry};
 ghost use Rattle.till_request.specs.declared.act.Act.TheVariants as act;
-ghost use Rattle.site_core.specs.Bounds.{Bounded};
+ghost use Rattle.site_core.specs.Bounds.{Bounded, HasRoom};
 ghost use Rattle.site_core.specs.Decide.{decided, WellAsked};
 ghost use Rattle.site_core.specs.Asked.{asked_question};
 ghost use Rattle.site_core.specs.Draft.{at_point, routed};
-ghost use Rattle.site_core.specs.Keeping.{Agrees, Performs, Loads};
+ghost use Rattle.site_core.specs.Keeping.{Agrees, Performs, Loads, blank};
 ghost use Rattle.site_core.specs.Site.{act_of};
 ghost use Rattle.site_core.specs.Step.{effect};
 
@@ -18,25 +18,15 @@ use crate::events::What;
 use crate::question::{Kind, Question};
 use crate::replies::{NO_SUCH_SLOT, NO_SUCH_TILL, VERSIONS_FULL, no_program};
 use crate::station::Station;
-use decision_journal::Run;
+use decision_journal::{Entry, Run};
 use fuelling_point::Command;
-use interp::run;
 use program_slots::{SlotFault, Slots};
 use reg_types::Program;
 use std::alloc::{AllocError, Global};
 use std::sync::Arc;
 use till_request::{Act, Bytes, Reply, Request};
 
-/// What an event gave.
-#[derive(Drop)]
-pub struct Performed {
-    pub moment: u64,
-    pub act: Act,
-    pub reply: Reply,
-    pub run: Option<Run>,
-}
-
-/// Does what the event asks. All growth comes before the first change.
+/// Does what the event asks, and writes it into its entry. All growth comes before the first change.
 pub fn perform(
     alloc: Global,
     config: &Config,
@@ -44,11 +34,15 @@ pub fn perform(
     slots: &mut Slots,
     moment: u64,
     what: What,
-) -> Result<Performed, AllocError>
+    entry: &mut Entry,
+) -> Result<(), AllocError>
     requires points { length station.old.points ≡ length config.now.points }
-    requires bounded { Bounded 1048575 station.old }
-    ensures performed { IfOk result (λ p. (past : List Entry) → Agrees slots.old past →
-        Performs config.now past station.old moment (act_of what) p station.new slots.new) }
+    requires bounded { HasRoom station.old }
+    requires blank { entry.old ≡ blank entry.old.number entry.old.pass }
+    ensures performed { OnOk result ((past : List Entry) → Agrees slots.old past →
+        Performs config.now past station.old moment (act_of what) entry.new station.new slots.new) }
+    ensures number { entry.new.number ≡ entry.old.number }
+    ensures pass { entry.new.pass ≡ entry.old.pass }
     ensures bounded { (k : ℕ) → Bounded k station.old → Bounded (k + 1) station.new }
     ensures points { length station.new.points ≡ length station.old.points }
     ensures station { OnErr result (station.new ≡ station.old) }
@@ -56,40 +50,35 @@ pub fn perform(
 {
     match what {
         What::Till { till, request } => {
-            let (reply, run) = ask(config, station, slots, till, moment, request);
-            Ok(Performed {
+            entry.moment = moment;
+            entry.act = Act::Till { till, request };
+            entry.reply = ask(
+                config,
+                station,
+                slots,
+                till,
                 moment,
-                act: Act::Till { till, request },
-                reply,
-                run,
-            })
+                request,
+                &mut entry.run,
+            );
         }
         What::Dispenser { point, event } => {
-            let reply = station.report(point, event);
-            Ok(Performed {
-                moment: 0,
-                act: Act::Dispenser { point, event },
-                reply,
-                run: None,
-            })
+            entry.act = Act::Dispenser { point, event };
+            entry.reply = station.report(point, event);
         }
         What::Load { slot, program } => {
             let bytes = Bytes::from_slice(alloc, program.bytes())?;
             let (mask, layout) = (program.declared(), program.layout());
-            let reply = load(slots, slot, program)?;
-            Ok(Performed {
-                moment: 0,
-                act: Act::Load {
-                    slot,
-                    mask,
-                    layout,
-                    bytes,
-                },
-                reply,
-                run: None,
-            })
+            entry.reply = load(slots, slot, program)?;
+            entry.act = Act::Load {
+                slot,
+                mask,
+                layout,
+                bytes,
+            };
         }
     }
+    Ok(())
 }
 
 /// Makes a version.
@@ -114,43 +103,45 @@ fn ask(
     till: u32,
     moment: u64,
     request: Request,
-) -> (Reply, Option<Run>)
+    ran: &mut Option<Run>,
+) -> Reply
     requires points { length station.old.points ≡ length config.now.points }
-    requires bounded { Bounded 1048575 station.old }
+    requires bounded { HasRoom station.old }
+    requires none { ran.old ≡ None }
     ensures effect { (past : List Entry) → Agrees slots.now past →
         effect config.now past station.old moment (act.Till till request) ≡ record {
-          reply = result.0;
-          run = result.1;
+          reply = result;
+          run = ran.new;
           after = station.new;
         } }
     ensures bounded { (k : ℕ) → Bounded k station.old → Bounded (k + 1) station.new }
     ensures points { length station.new.points ≡ length station.old.points }
 {
     if !config.has_till(till) {
-        return (NO_SUCH_TILL, None);
+        return NO_SUCH_TILL;
     }
     match request {
         Request::Release(n, amount) => {
             let question = station.release_question(config, n, amount);
-            decide(station, slots, till, moment, question)
+            decide(station, slots, till, moment, question, ran)
         }
         Request::Preset(n, amount) => {
             let question = station.preset_question(config, n, amount);
-            decide(station, slots, till, moment, question)
+            decide(station, slots, till, moment, question, ran)
         }
         Request::Price(product, price) => {
             let question = station.price_question(config, product, price);
-            decide(station, slots, till, moment, question)
+            decide(station, slots, till, moment, question, ran)
         }
-        Request::OpenPoint(n) => (station.command(till, n, Command::OpenPoint), None),
-        Request::ClosePoint(n) => (station.command(till, n, Command::ClosePoint), None),
-        Request::Suspend(n) => (station.command(till, n, Command::Suspend), None),
-        Request::Resume(n) => (station.command(till, n, Command::Resume), None),
-        Request::Stop(n) => (station.command(till, n, Command::Stop), None),
-        Request::Lock(n, number) => (station.command(till, n, Command::Lock(number)), None),
-        Request::Unlock(n, number) => (station.command(till, n, Command::Unlock(number)), None),
-        Request::Clear(n, number) => (station.command(till, n, Command::Clear(number)), None),
-        Request::Show(n) => (station.show(n), None),
+        Request::OpenPoint(n) => station.command(till, n, Command::OpenPoint),
+        Request::ClosePoint(n) => station.command(till, n, Command::ClosePoint),
+        Request::Suspend(n) => station.command(till, n, Command::Suspend),
+        Request::Resume(n) => station.command(till, n, Command::Resume),
+        Request::Stop(n) => station.command(till, n, Command::Stop),
+        Request::Lock(n, number) => station.command(till, n, Command::Lock(number)),
+        Request::Unlock(n, number) => station.command(till, n, Command::Unlock(number)),
+        Request::Clear(n, number) => station.command(till, n, Command::Clear(number)),
+        Request::Show(n) => station.show(n),
     }
 }
 
@@ -218,21 +209,23 @@ fn routed_to(station: &Station, kind: Kind, n: u32, asked: u64, slot: u32) -> Op
     })
 }
 
-/// Runs the program in force, and enters what it answered.
+/// Runs the program in force, and does what it answered.
 fn decide(
     station: &mut Station,
     slots: &Slots,
     till: u32,
     moment: u64,
     question: Result<Question, Reply>,
-) -> (Reply, Option<Run>)
-    requires bounded { Bounded 1048575 station.old }
+    ran: &mut Option<Run>,
+) -> Reply
+    requires bounded { HasRoom station.old }
     requires till { 0 < till }
     requires asked { IfOk question (λ q. WellAsked station.old q) }
+    requires none { ran.old ≡ None }
     ensures effect { (past : List Entry) → Agrees slots.now past →
         decided past station.old till moment question ≡ record {
-          reply = result.0;
-          run = result.1;
+          reply = result;
+          run = ran.new;
           after = station.new;
         } }
     ensures bounded { (k : ℕ) → Bounded k station.old → Bounded (k + 1) station.new }
@@ -240,16 +233,19 @@ fn decide(
 {
     let question = match question {
         Ok(question) => question,
-        Err(refusal) => return (refusal, None),
+        Err(refusal) => return refusal,
     };
-    let Some((number, program)) = look_up(slots, question.slot) else {
-        return (no_program(question.slot), None);
+    let Some((version, program)) = look_up(slots, question.slot) else {
+        return no_program(question.slot);
     };
     let layout = program.layout();
-    let context = station.context(layout, till, moment, &question);
-    let view = station.view();
-    let mut counters = station.counters();
-    let r0 = run(program, &context, &view, &mut counters);
-    let (reply, run) = station.settle(till, &question, context, number, program, r0, counters);
-    (reply, Some(run))
+    let run = ran.insert(Run {
+        slot: question.slot,
+        version,
+        r0: 0,
+        context: station.context(layout, till, moment, &question),
+        counts: [None; 32],
+    });
+    run.r0 = station.run(program, &run.context, &mut run.counts);
+    station.settle(till, &question, version, run.r0)
 }

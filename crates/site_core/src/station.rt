@@ -1,29 +1,33 @@
 //! The site's state between two events.
 
-ghost use Rattle.std.specs.Prelude.{option_copied, ◌≡◌, ℕ, ◌+◌, ◌<◌, ◌≤◌, IfOk, length, Some, None};
+ghost use Rattle.std.specs.Prelude.{option_copied, ◌≡◌, ℕ, ◌+◌, ◌<◌, ◌≤◌, IfOk, length, replicate, Some, None};
 ghost use Rattle.std.specs.Bool.{OnTrue, OnFalse};
 ghost use Rattle.site_core.specs.State.{opening_state, at_number, price_of, busy_points, open_points, first_busy};
 ghost use Rattle.site_core.specs.State.{view_of, counter_of};
-ghost use Rattle.bpf_model.specs.Layouts.{layout_of};
-ghost use Rattle.site_core.specs.Bounds.{Bounded};
+ghost use Rattle.bpf_model.specs.Layouts.{layout_of, bytes_of};
+ghost use Rattle.bpf_model.specs.Runs.{Ended};
+ghost use Rattle.bpf_model.specs.Program.{outcome};
+ghost use Rattle.site_core.specs.Bounds.{Bounded, HasRoom};
 ghost use Rattle.site_core.specs.Context.{context, fields, product_of, told};
 ghost use Rattle.site_core.specs.Asked.{FitsContext};
-ghost use Rattle.site_core.specs.Decide.{replied, verdict, grant, WellAsked, release_question, preset_question};
+ghost use Rattle.site_core.specs.Decide.{replied, counts, grant, WellAsked, release_question, preset_question};
 ghost use Rattle.site_core.specs.Decide.{price_question};
+ghost use Rattle.site_core.specs.Keeping.{settled, with_counters};
 ghost use Rattle.site_core.specs.Step.{commanded, reported, show_reply};
-ghost use Rattle.program_slots.specs.Slots.{Version};
+ghost use Rattle.interp.specs.Depends.{Agrees};
 ghost use Rattle.fuelling_point.specs.States.{state_number};
 
 use crate::config::Config;
 use crate::context::{Field, kind_number, lay};
-use crate::decision::{command_of, counts, granted_point, preset_at, price_at, release_at};
+use crate::decision::{command_of, granted_point, note_counts, preset_at, price_at, release_at};
 use crate::question::{Kind, Question};
 use crate::replies::{NO_SUCH_POINT, denied, event_reply, fault_reply};
+use crate::seeing::{seen, seen_points};
 use bpf_model::context::{Context, Layout};
 use counters::Counters;
-use decision_journal::Run;
 use fuelling_point::{Command, DispenserEvent, Point, State};
-use helpers::{PointView, View};
+use helpers::View;
+use interp::{rebase, run};
 use reg_types::Program;
 use std::alloc::{AllocError, Global};
 use std::marker::Model;
@@ -33,7 +37,8 @@ use till_request::Reply;
 #[derive(Drop)]
 pub struct Station {
     points: Vec<Point>,
-    prices: [u32; 8],
+    /// What programs can ask of the points, kept as they stand, and the prices.
+    view: View,
     counters: Counters,
     cleared: u64,
     clears: u64,
@@ -41,19 +46,20 @@ pub struct Station {
 
 impl Model for Station {
     ghost use Rattle.std.specs.Prelude.{◌≡◌, ◌≤◌, length};
-    ghost use Rattle.site_core.specs.State.{SiteState};
+    ghost use Rattle.site_core.specs.State.{SiteState, seen_points};
 
     ghost Value = { SiteState };
 
     ghost view = { λ s. record {
       points = s.points.items;
-      prices = s.prices;
+      prices = s.view.prices;
       counters = s.counters;
       cleared = s.cleared;
       clears = s.clears;
     } };
 
-    ghost invariant = { λ s. (length s.points.items ≤ 32) × (length s.prices ≡ 8) };
+    ghost invariant = { λ s. (length s.points.items ≤ 32) × (length s.view.prices ≡ 8)
+        × (s.view.count ≡ length s.points.items) × (s.view.points ≡ seen_points s.points.items) };
 }
 
 impl Station {
@@ -65,9 +71,14 @@ impl Station {
         for _point in config.points() {
             points.push(Point::new())?;
         }
+        let view = View {
+            count: points.len() as u32,
+            points: seen_points(points.as_slice()),
+            prices: config.prices(),
+        };
         Ok(Station {
             points,
-            prices: config.prices(),
+            view,
             counters: Counters::new(config.counters()),
             cleared: 0,
             clears: 0,
@@ -84,7 +95,7 @@ impl Station {
 
     /// Does what a till asks of a point without a decision.
     pub fn command(&mut self, till: u32, n: u32, command: Command) -> Reply
-        requires bounded { Bounded 1048575 self.old }
+        requires bounded { HasRoom self.old }
         requires till { 0 < till }
         ensures effect { commanded self.old till n command ≡ replied result self.new }
         ensures bounded { (k : ℕ) → Bounded k self.old → Bounded (k + 1) self.new }
@@ -93,7 +104,10 @@ impl Station {
         if !self.has_point(n) {
             return NO_SUCH_POINT;
         }
-        match self.points[n as usize - 1].on_command(till, command) {
+        let point = &mut self.points[n as usize - 1];
+        let outcome = point.on_command(till, command);
+        self.view.points[n as usize - 1] = seen(point);
+        match outcome {
             Err(fault) => fault_reply(fault),
             Ok(None) => Reply::Done,
             Ok(Some(amount)) => {
@@ -106,7 +120,7 @@ impl Station {
 
     /// Takes what a dispenser reports, or hands out the point's order.
     pub fn report(&mut self, n: u32, event: DispenserEvent) -> Reply
-        requires { Bounded 1048575 self.old }
+        requires { HasRoom self.old }
         ensures effect { reported self.old n event ≡ replied result self.new }
         ensures bounded { (k : ℕ) → Bounded k self.old → Bounded (k + 1) self.new }
         ensures points { length self.new.points ≡ length self.old.points }
@@ -114,7 +128,9 @@ impl Station {
         if !self.has_point(n) {
             return NO_SUCH_POINT;
         }
-        let outcome = self.points[n as usize - 1].on_event(event);
+        let point = &mut self.points[n as usize - 1];
+        let outcome = point.on_event(event);
+        self.view.points[n as usize - 1] = seen(point);
         event_reply(outcome)
     }
 
@@ -228,33 +244,17 @@ impl Station {
         ensures { result ≡ price_of self.now product }
     {
         if product >= 1 && product <= 8 {
-            self.prices[product as usize - 1]
+            self.view.prices[product as usize - 1]
         } else {
             0
         }
     }
 
     /// What a program can ask of the site.
-    pub fn view(&self) -> View
-        ensures { result ≡ view_of self.now }
+    pub fn view(&self) -> &View
+        ensures { result.now ≡ view_of self.now }
     {
-        let mut points = [PointView {
-            state: 0,
-            nozzle: 0,
-            amount: 0,
-        }; 32];
-        for (i, point) in self.points.iter().enumerate() {
-            points[i] = PointView {
-                state: point.state().number(),
-                nozzle: point.nozzle(),
-                amount: point.amount(),
-            };
-        }
-        View {
-            count: self.points.len() as u32,
-            points,
-            prices: self.prices,
-        }
+        &self.view
     }
 
     /// A counter's value and bound, for counters 0 to 31.
@@ -268,10 +268,10 @@ impl Station {
         }
     }
 
-    pub fn counters(&self) -> Counters
-        ensures { result ≡ self.now.counters }
+    pub fn counters(&self) -> &Counters
+        ensures { result.now ≡ self.now.counters }
     {
-        self.counters
+        &self.counters
     }
 
     /// The context of this layout that a program is given.
@@ -332,48 +332,80 @@ impl Station {
         }
     }
 
-    /// Enters what a version answered on this question's context.
-    pub fn settle(
+    /// Runs a program on the site as it stands, and notes each counter that it declares before and after.
+    pub fn run(
         &mut self,
-        till: u32,
-        question: &Question,
-        given: Context,
-        version: u32,
         program: &Program,
+        given: &Context,
+        noted: &mut [Option<(u64, u64)>; 32],
+    ) -> u64
+        requires layout { layout_of given.now ≡ program.now.layout }
+        requires blank { noted.old ≡ replicate 32 None }
+        ensures ran { outcome program.now (bytes_of given.now) (view_of self.old) self.old.counters
+            ≡ Ended result self.new.counters }
+        ensures noted { noted.new ≡ counts program.now.declared self.old.counters self.new.counters }
+        ensures rest { self.new ≡ with_counters self.old self.new.counters }
+    {
+        let mask = program.declared();
+        if mask == 0 {
+            return run(program, given, &self.view, &mut self.counters);
+        }
+        let before = self.counters;
+        let r0 = run(program, given, &self.view, &mut self.counters);
+        note_counts(mask, &before, &self.counters, noted);
+        r0
+    }
+
+    /// Takes the declared counters that a run left, which was made on those of now and on this view; and notes them.
+    pub fn adopt(
+        &mut self,
+        program: &Program,
+        given: &Context,
+        before: &Counters,
         r0: u64,
-        counters: Counters,
-    ) -> (Reply, Run)
-        requires bounded { Bounded 1048575 self.old }
+        after: &Counters,
+        noted: &mut [Option<(u64, u64)>; 32],
+    )
+        requires layout { layout_of given.now ≡ program.now.layout }
+        requires blank { noted.old ≡ replicate 32 None }
+        requires ran { outcome program.now (bytes_of given.now) (view_of self.old) before.now ≡ Ended r0 after.now }
+        requires agree { Agrees program.now.declared before.now self.old.counters }
+        ensures ran { outcome program.now (bytes_of given.now) (view_of self.old) self.old.counters
+            ≡ Ended r0 self.new.counters }
+        ensures noted { noted.new ≡ counts program.now.declared self.old.counters self.new.counters }
+        ensures rest { self.new ≡ with_counters self.old self.new.counters }
+    {
+        let was = self.counters;
+        rebase(
+            program,
+            given,
+            &self.view,
+            before,
+            r0,
+            after,
+            &mut self.counters,
+        );
+        note_counts(program.declared(), &was, &self.counters, noted);
+    }
+
+    /// Does what a version's answer allows, and tells it.
+    pub fn settle(&mut self, till: u32, question: &Question, version: u32, r0: u64) -> Reply
+        requires bounded { HasRoom self.old }
         requires till { 0 < till }
         requires asked { WellAsked self.old question.now }
-        ensures effect { (moment : ℕ) (v : Version) → context v.program.layout self.old till moment question.now ≡ given
-            → v.number ≡ version → v.program ≡ program.now →
-            verdict self.old till moment question.now v r0 counters ≡ record {
-              reply = result.0;
-              run = Some result.1;
-              after = self.new;
-            } }
+        ensures settled { settled self.old till question.now version r0 ≡ (result, self.new) }
         ensures bounded { (k : ℕ) → Bounded k self.old → Bounded (k + 1) self.new }
         ensures points { length self.new.points ≡ length self.old.points }
     {
-        let run = Run {
-            slot: question.slot,
-            version,
-            r0,
-            context: given,
-            counts: counts(program.declared(), &self.counters, &counters),
-        };
-        self.counters = counters;
         if r0 == 0 {
-            return (denied(version), run);
+            return denied(version);
         }
-        let granted = self.grant(till, question, r0);
-        (Reply::Granted(granted, version), run)
+        Reply::Granted(self.grant(till, question, r0), version)
     }
 
     /// Grants what is asked, as far as the program's answer goes.
     fn grant(&mut self, till: u32, question: &Question, r0: u64) -> u64
-        requires bounded { Bounded 1048575 self.old }
+        requires bounded { HasRoom self.old }
         requires till { 0 < till }
         requires asked { WellAsked self.old question.now }
         ensures grant { grant self.old till question.now r0 ≡ (result, self.new) }
@@ -382,12 +414,13 @@ impl Station {
     {
         let n = question.point;
         if !self.has_point(n) {
-            self.prices[question.product as usize - 1] = question.asked as u32;
+            self.view.prices[question.product as usize - 1] = question.asked as u32;
             return question.asked;
         }
         let point = &mut self.points[n as usize - 1];
         let granted = granted_point(question.kind, question.asked, r0, point.preset());
         let _ = point.on_command(till, command_of(question.kind, granted));
+        self.view.points[n as usize - 1] = seen(point);
         granted
     }
 

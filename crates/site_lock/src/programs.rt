@@ -20,10 +20,9 @@ fn verified(alloc: Global, item: &(Vec<u8>, u32, Layout)) -> Result<Program, Ref
 fn places(alloc: Global, count: usize) -> Result<Vec<Result<Program, Refusal>>, AllocError>
     ensures { IfOk result (λ v. vec_len v ≡ count) }
 {
-    let mut places = Vec::new(alloc);
-    places.reserve(count)?;
+    let mut places = Vec::with_capacity(alloc, count)?;
     for _made in 0..count {
-        places.push(Err(UNDECIDED))?;
+        places.push_reserved(Err(UNDECIDED));
     }
     Ok(places)
 }

@@ -17,7 +17,8 @@ use std::thread::{Threads, join};
 use till_request::devices::{MemoryIn, MemoryOut};
 use till_request::{Reply, Request, Role};
 
-/// Two tills, two points whose releases go to slot 0 and presets to slot 1, prices to slot 2, and one counter of at most 2.
+/// Two tills, two points whose releases go to slot 0 and presets to slot 1, prices to slot 2, and one counter of at
+/// most 2.
 pub fn config(alloc: Global) -> Option<Config> {
     let points = vec![in alloc; (0, 1), (0, 1)].ok()?;
     let mut counters = [(0, 0); 32];
@@ -140,7 +141,8 @@ impl Clock for Still {
     }
 }
 
-/// A session of all lines at a desk: what it writes, the receipts that the pass gained, and the entries of the site that is closed then.
+/// A session of all lines at a desk: what it writes, the receipts that the pass gained, and the entries of the site
+/// that is closed then.
 fn desk<L: Yard, R: Wait>(
     rt: &R,
     alloc: Global,
@@ -193,8 +195,9 @@ fn desk_of<R: Wait>(
 
 /// A whole sale, and what other tills ask meanwhile.
 const SALE: &str =
-    "load 0 0 79101800000000009500000000000000\ntill 1 open 1\ndisp 1 up 1\ntill 1 release 1 8000\ndisp 1 order\ndisp 1 started\n\
-    disp 1 flow 2500 1390\ndisp 1 down\ntill 1 lock 1 1\ntill 2 lock 1 1\ntill 2 clear 1 1\ntill 1 clear 1 1\ntill 1 clear 1 1\ntill 1 show 1\n";
+    "load 0 0 79101800000000009500000000000000\ntill 1 open 1\ndisp 1 up 1\ntill 1 release 1 8000\n\
+    disp 1 order\ndisp 1 started\ndisp 1 flow 2500 1390\ndisp 1 down\ntill 1 lock 1 1\ntill 2 lock 1 1\n\
+    till 2 clear 1 1\ntill 1 clear 1 1\ntill 1 clear 1 1\ntill 1 show 1\n";
 
 const SALE_ANSWERS: &str =
     "1 version 1\n2 done\n3 done\n4 granted 8000 by 1\n5 order authorise 8000\n6 done\n\

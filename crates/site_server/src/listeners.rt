@@ -5,10 +5,12 @@ use std::alloc::Global;
 use std::io;
 use std::net::{Net, SocketAddr, TcpListener, TcpStream};
 use std::sync::Arc;
+use thiserror::Error;
 use till_request::Role;
 
 /// A port of this machine that can't be opened.
-#[derive(Debug, Drop)]
+#[derive(Debug, Drop, Error)]
+#[error("port {port}: {error}")]
 pub struct ListenFault {
     pub port: u32,
     pub error: io::Error,

@@ -1,6 +1,6 @@
 //! What an operator is told while a site is served.
 use line_session::SessionFault;
-use std::io;
+use std::{fmt, io};
 use till_request::{LineFault, Role};
 
 /// Why a session ended before its peer had said all it wanted.
@@ -10,6 +10,18 @@ pub enum Breach {
     Line(LineFault),
     /// A device that failed, reads that ran out, or want of memory.
     Session(SessionFault),
+}
+
+impl fmt::Display for Breach {
+    fn fmt<W: fmt::Write>(&self, f: &mut fmt::Formatter<W>) -> fmt::Result {
+        match self {
+            Breach::Line(LineFault::TooLong) => {
+                f.write_str("ended by a line of more than 8,400 bytes")
+            }
+            Breach::Line(_) => f.write_str("ended in mid-line"),
+            Breach::Session(fault) => write!(f, "{fault}"),
+        }
+    }
 }
 
 /// Tells an operator what doesn't go as it should. All workers share it, and none of them waits for it to be read.

@@ -23,6 +23,7 @@ use std::sync::ledger::Blank;
 use std::thread;
 use std::thread::Threads;
 use std::time::Clock;
+use thiserror::Error;
 use till_request::Role;
 
 /// What serving leaves.
@@ -37,12 +38,15 @@ pub struct Served<J: Journal = NoJournal> {
 }
 
 /// Why serving left no closed site.
-#[derive(Clone, Copy, Debug, PartialEq, Eq, Drop)]
+#[derive(Clone, Copy, Debug, PartialEq, Eq, Drop, Error)]
 pub enum ServeFault {
+    #[error("out of memory")]
     OutOfMemory,
     /// The journal failed: the last entry isn't answered.
+    #[error("a write to the journal failed: the site took no further event")]
     Journal,
     /// C1, C2 or C3: what the workers were answered isn't the site's history.
+    #[error("{0}")]
     NotClosed(CloseRefusal),
 }
 

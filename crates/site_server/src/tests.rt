@@ -1,12 +1,13 @@
 //! Serving over loopback: the peers are a thread of the test.
 use crate::{
-    Breach, Crew, Limiter, ListenFault, Listeners, Notices, ServeFault, Served, TcpDoors,
-    serve_site,
+    Breach, CloseRefusal, Crew, Limiter, ListenFault, Listeners, Notices, ServeFault, Served,
+    SessionFault, TcpDoors, serve_site,
 };
 use decision_journal::write_entries;
 use line_session::Doors;
 use site_core::{Config, Site};
-use std::alloc::Global;
+use std::alloc::{AllocError, Global};
+use std::fmt::Display;
 use std::io;
 use std::io::{BufRead, BufReader, Write};
 use std::net::{Net, SocketAddr, TcpListener, TcpStream};
@@ -14,8 +15,8 @@ use std::sync::Wait;
 use std::test::Fail;
 use std::thread::{Threads, join};
 use std::time::Clock;
-use till_request::Role;
 use till_request::devices::MemoryOut;
+use till_request::{LineFault, Role};
 
 /// One till, and one point whose releases go to slot 0 and presets to slot 1.
 pub fn config(alloc: Global) -> Option<Config> {
@@ -181,4 +182,36 @@ fn ten_lines_a_second_are_told(rt: HostRuntime) {
     assert_eq!(rt; limiter.admit(7), None);
     assert_eq!(rt; limiter.admit(8), Some(2));
     assert_eq!(rt; limiter.admit(8), Some(0));
+}
+
+/// What is said of a fault.
+fn words_of<D: Display>(alloc: Global, fault: &D) -> Result<String, AllocError> {
+    format!(in alloc; "{fault}")
+}
+
+#[test]
+fn faults_in_words(rt: HostRuntime) -> Result<(), Fail> {
+    let alloc = rt.alloc();
+    let missing = ServeFault::NotClosed(CloseRefusal::PassMissing);
+    let differs = ServeFault::NotClosed(CloseRefusal::NotInHistory(3, 12));
+    let spent = Breach::Session(SessionFault::ReadsSpent);
+    let long = Breach::Line(LineFault::TooLong);
+    assert_eq!(rt;
+        words_of(alloc, &missing)?.as_str(),
+        "the passes handed in aren't all of the site's, each once"
+    );
+    assert_eq!(rt;
+        words_of(alloc, &differs)?.as_str(),
+        "entry 12 of the history isn't what pass 3 was answered"
+    );
+    assert_eq!(rt;
+        words_of(alloc, &ServeFault::Journal)?.as_str(),
+        "a write to the journal failed: the site took no further event"
+    );
+    assert_eq!(rt; words_of(alloc, &spent)?.as_str(), "the reads ran out");
+    assert_eq!(rt;
+        words_of(alloc, &long)?.as_str(),
+        "ended by a line of more than 8,400 bytes"
+    );
+    Ok(())
 }

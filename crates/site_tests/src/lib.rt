@@ -8,3 +8,5 @@ mod drafts;
 mod layouts;
 #[cfg(test)]
 mod scripts;
+#[cfg(test)]
+mod words;

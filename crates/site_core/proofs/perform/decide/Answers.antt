@@ -1,4 +1,7 @@
-use Rattle.std.proofs.Common.{◌≡◌, Some, None, ◌∙◌, sym, refl, ap}
+use Rattle.std.proofs.Common.{◌≡◌, Some, None, ◌∙◌, sym, ap, subst}
+use Rattle.decision_journal.specs.declared.entries.Run.{Run}
+use Rattle.bpf_model.specs.Machine.{Counters}
+use Rattle.site_core.specs.Bounds.{Bounded}
 use Rattle.std.specs.Arc.{arc_value}
 use Rattle.bpf_model.specs.Runs.{Ended}
 use Rattle.bpf_model.specs.Program.{ProgramText, outcome}
@@ -7,29 +10,55 @@ use Rattle.program_slots.specs.Slots.{Version}
 use Rattle.site_core.specs.State.{view_of}
 use Rattle.site_core.specs.Context.{context}
 use Rattle.site_core.specs.History.{in_force}
+use Rattle.site_core.specs.Decide.{counts}
+use Rattle.site_core.specs.Keeping.{settled, with_counters}
 use Rattle.site_core.proofs.Decisions.{decided-refused, decided-none, decided-ended}
+use Rattle.site_core.proofs.Grants.{verdict-is, bounded-counted}
 use Rattle.site_core.proofs.perform.decide.Goals as goal
 
 pub returns-in-Err-clause-effect : goal.returns-in-Err-clause-effect
-returns-in-Err-clause-effect c = λ past agrees. rw c.in-Err.is (decided-refused past c.args.station.now c.args.till c.args.moment c.in-Err.refusal)
+returns-in-Err-clause-effect c = λ past agrees.
+    rw (c.in-Err.is, c.requires.none) (decided-refused past c.args.station.now c.args.till c.args.moment c.in-Err.refusal)
 
 pub returns-in_default-clause-effect : goal.returns-in_default-clause-effect
 returns-in_default-clause-effect c = λ past agrees.
     let q = c.in-Ok.question in
     let none : in_force q.slot past ≡ None = agrees.in_force q.slot ∙ c.in_default.ensures in
-    rw (c.in-Ok.is, c.no_program.ensures) (decided-none past c.args.station.now c.args.till c.args.moment q none)
+    rw (c.in-Ok.is, c.no_program.ensures, c.requires.none) (decided-none past c.args.station.now c.args.till c.args.moment q none)
 
 pub returns-clause-effect : goal.returns-clause-effect
 returns-clause-effect c = λ past agrees.
+    let s = c.args.station.now in
     let q = c.in-Ok.question in
     let p : ProgramText = arc_value c.in-Some.program.now in
-    let v : Version = record { number = c.in-Some.number; program = p } in
+    let v : Version = record { number = c.in-Some.version; program = p } in
     let some : in_force q.slot past ≡ Some v = agrees.in_force q.slot ∙ c.in-Some.ensures in
     let layout_is : c.layout-layout.result ≡ p.layout = c.layout-layout.ensures ∙ ap (λ (t : ProgramText). t.layout) c.deref.ensures in
-    let given : c.context-context.result ≡ context p.layout c.args.station.now c.args.till c.args.moment q =
-    c.context-context.ensures.context ∙ ap (λ l. context l c.args.station.now c.args.till c.args.moment q) layout_is in
-    let ended : outcome p (bytes_of (context p.layout c.args.station.now c.args.till c.args.moment q)) (view_of c.args.station.now) c.args.station.now.counters
-    ≡ Ended c.run-r0.result c.run-r0.new.counters =
-    (λ i. outcome (sym c.deref-2.ensures i) (bytes_of (sym given i)) (sym c.view-view.ensures i) (sym c.counters-counters.ensures i)) ∙ c.run-r0.ensures in
-    let settled = c.settle-reply.ensures.effect c.args.moment v (sym given) refl (sym c.deref-3.ensures) in
-    rw c.in-Ok.is (decided-ended past c.args.station.now c.args.till c.args.moment q v c.run-r0.result c.run-r0.new.counters some ended ∙ settled)
+    let noted : Run = c.insert-run.result.now in
+    let given : noted.context ≡ context p.layout s c.args.till c.args.moment q =
+    ap (λ (r : Run). r.context) c.insert-run.ensures.value ∙ c.context.ensures.context ∙ ap (λ l. context l s c.args.till c.args.moment q) layout_is in
+    let after : Counters = c.run-run.new.self.counters in
+    let ended : outcome p (bytes_of (context p.layout s c.args.till c.args.moment q)) (view_of s) s.counters ≡ Ended c.run-run.result after =
+    (λ i. outcome (sym c.deref-2.ensures i) (bytes_of (sym given i)) (view_of s) s.counters) ∙ c.run-run.ensures.ran in
+    let counted : c.run-run.new.noted ≡ counts p.declared s.counters after =
+    c.run-run.ensures.noted ∙ ap (λ (t : ProgramText). counts t.declared s.counters after) c.deref-2.ensures in
+    let told : settled (with_counters s after) c.args.till q c.in-Some.version c.run-run.result ≡ (c.settle.result, c.settle.new.self) =
+    (λ i. settled (sym c.run-run.ensures.rest i) c.args.till q c.in-Some.version c.run-run.result) ∙ c.settle.ensures.settled in
+    rw c.in-Ok.is (decided-ended past s c.args.till c.args.moment q v c.run-run.result after some ended
+    ∙ verdict-is s c.args.till c.args.moment c.run-run.result q v after c.settle.result c.settle.new.self told
+    ∙ (λ i. record {
+      reply = c.settle.result;
+      run = Some (record {
+        slot = sym (ap (λ (r : Run). r.slot) c.insert-run.ensures.value) i;
+        version = sym (ap (λ (r : Run). r.version) c.insert-run.ensures.value) i;
+        r0 = c.run-run.result;
+        context = sym given i;
+        counts = sym counted i;
+      });
+      after = c.settle.new.self;
+    }))
+
+pub returns-clause-bounded : goal.returns-clause-bounded
+returns-clause-bounded c = λ k b.
+    let after : Counters = c.run-run.new.self.counters in
+    c.settle.ensures.bounded k (subst (Bounded k) (sym c.run-run.ensures.rest) (bounded-counted k c.args.station.now after b))

@@ -30,8 +30,8 @@ returns-in-Some-first_counter c =
       routed_is = sym c.routed.ensures ∙ c.in-Some.is;
       version = c.in_default-is_version.ensures ∙ (λ i. Some (record { number = d.version; program = c.deref.ensures i }));
       context_is = sym (ap bytes_of given) ∙ sym c.bytes.ensures.bytes ∙ c.in_default-first_byte.ensures ∙ c.bytes-2.ensures.bytes;
-      points = (λ i. (sym c.view-view.ensures i).points) ∙ c.in_default-first_point.ensures;
-      prices = (λ i. (sym c.view-view.ensures i).prices) ∙ c.in_default-first_price.ensures;
+      points = (λ i. (sym c.view-view.ensures i).points) ∙ c.in_default-first_point.ensures.first;
+      prices = (λ i. (sym c.view-view.ensures i).prices) ∙ c.in_default-first_price.ensures.first;
       was = c.self.invariant.1;
     } in
     let differs : CounterDiffers (arc_value d.program).declared s.counters d.counters c.in-Some-first_counter.c =
@@ -60,8 +60,8 @@ returns c =
       routed_is = sym c.routed.ensures ∙ c.in-Some.is;
       version = c.in_default-is_version.ensures ∙ (λ i. Some (record { number = d.version; program = c.deref.ensures i }));
       context_is = sym (ap bytes_of given) ∙ sym c.bytes.ensures.bytes ∙ c.in_default-first_byte.ensures ∙ c.bytes-2.ensures.bytes;
-      points = (λ i. (sym c.view-view.ensures i).points) ∙ c.in_default-first_point.ensures;
-      prices = (λ i. (sym c.view-view.ensures i).prices) ∙ c.in_default-first_price.ensures;
+      points = (λ i. (sym c.view-view.ensures i).points) ∙ c.in_default-first_point.ensures.first;
+      prices = (λ i. (sym c.view-view.ensures i).prices) ∙ c.in_default-first_price.ensures.first;
       was = c.self.invariant.1;
     } in
     let agree : Agrees (arc_value d.program).declared d.counters s.counters =

@@ -1,18 +1,23 @@
 use Rattle.std.proofs.Common.{◌≡◌, List, Some, refl, ap, ◌∙◌, sym, subst}
 use Rattle.std.specs.Arc.{arc_value}
 use Rattle.bpf_model.specs.Runs.{Ended}
-use Rattle.bpf_model.specs.Program.{outcome}
 use Rattle.decision_journal.specs.declared.entries.Entry.{Entry}
 use Rattle.till_request.specs.declared.act.Act.TheVariants as act
 use Rattle.bpf_model.specs.Layouts.{bytes_of}
 use Rattle.bpf_model.specs.declared.context.Layout.{Layout}
 use Rattle.site_core.specs.Context.{context}
 use Rattle.site_core.proofs.Contexts.{same-context, context-layout}
-use Rattle.site_core.specs.declared.perform.Performed.{Performed}
 use Rattle.site_core.specs.Keeping.{Agrees, Performs}
 use Rattle.site_core.specs.Draft.{DraftValue, ReadyValue}
 use Rattle.site_core.specs.Differences.{IsFresh}
 use Rattle.site_core.specs.Asked.{StillAsked, basis_in}
+use Rattle.bpf_model.specs.Machine.{Counters}
+use Rattle.bpf_model.specs.Program.{ProgramText, outcome}
+use Rattle.decision_journal.specs.declared.entries.Run.{Run}
+use Rattle.site_core.specs.Bounds.{Bounded}
+use Rattle.site_core.specs.Decide.{counts}
+use Rattle.site_core.specs.Keeping.{settled, with_counters}
+use Rattle.site_core.proofs.Grants.{verdict-is, bounded-counted}
 use Rattle.site_core.proofs.Outside.{performs-settled}
 use Rattle.site_core.proofs.draft.Ready.settle.Goals as goal
 
@@ -35,16 +40,54 @@ returns-clause-performed c =
     let given : context (layout draft) s d.till d.moment q ≡ d.context =
     same-context (context (layout draft) s d.till d.moment q) d.context (context-layout (layout draft) s d.till d.moment q ∙ sym c.draft.invariant.0)
     still.context_is in
-    let ran : outcome draft.version.program draft.context draft.view s.counters ≡ Ended c.self.inside.r0 c.rebase.new.now =
-    rw (← c.deref.ensures, ← c.counters-counters.ensures) c.rebase.ensures.ran in
-    let settled = c.settle-reply.ensures.effect draft.moment draft.version given refl (sym c.deref-2.ensures) in
-    let done : Performed = record { moment = d.moment; act = act.Till d.till d.request; reply = c.settle-reply.result.0; run = Some c.settle-reply.result.1 } in
+    let after : Counters = c.adopt.new.self.counters in
+    let r0 = c.self.inside.r0 in
+    let noted : Run = c.insert-run.result.now in
+    let is : noted ≡ record { slot = q.slot; version = d.version; r0 = r0; context = d.context; counts = noted.counts } =
+    λ i. record {
+      slot = (c.insert-run.ensures.value i).slot;
+      version = (c.insert-run.ensures.value i).version;
+      r0 = (c.insert-run.ensures.value i).r0;
+      context = (c.insert-run.ensures.value i).context;
+      counts = noted.counts;
+    } in
+    let ran : outcome draft.version.program draft.context draft.view s.counters ≡ Ended r0 after =
+    (λ i. outcome (sym c.deref.ensures i) draft.context (sym still.view_is i) s.counters) ∙ c.adopt.ensures.ran in
+    let counted : c.adopt.new.noted ≡ counts (arc_value d.program).declared s.counters after =
+    c.adopt.ensures.noted ∙ ap (λ (t : ProgramText). counts t.declared s.counters after) c.deref.ensures in
+    let told : settled (with_counters s after) d.till q d.version r0 ≡ (c.settle-entry.result, c.settle-entry.new.self) =
+    (λ i. settled (sym c.adopt.ensures.rest i) d.till q d.version r0) ∙ c.settle-entry.ensures.settled in
+    let done : Entry = record {
+      number = c.args.entry.now.number;
+      pass = c.args.entry.now.pass;
+      moment = d.moment;
+      act = act.Till d.till d.request;
+      reply = c.settle-entry.result;
+      run = Some (record { slot = noted.slot; version = noted.version; r0 = noted.r0; context = noted.context; counts = c.adopt.new.noted });
+    } in
+    let verdict_is = verdict-is s d.till d.moment r0 q draft.version after c.settle-entry.result c.settle-entry.new.self told
+    ∙ (λ i. record {
+      reply = c.settle-entry.result;
+      run = Some (record {
+        slot = (sym is i).slot;
+        version = (sym is i).version;
+        r0 = (sym is i).r0;
+        context = (given ∙ ap (λ (r : Run). r.context) (sym is)) i;
+        counts = sym counted i;
+      });
+      after = c.settle-entry.new.self;
+    }) in
     let Settled : DraftValue → Type 0 = λ x.
     IsFresh (basis_in c.args.config.now s c.args.slots.now x) x
     × ((past : List Entry) → Agrees c.args.slots.now past
-    → Performs c.args.config.now past s x.moment (act.Till x.till x.request) done c.settle-reply.new.self c.args.slots.now) in
+    → Performs c.args.config.now past s x.moment (act.Till x.till x.request) done c.settle-entry.new.self c.args.slots.now) in
     subst Settled (c.draft.view_is ∙ ap (λ (r : ReadyValue). r.draft) c.self.view_is) (
       still.fresh,
-      λ past agrees. performs-settled c.args.config.now past s c.settle-reply.new.self c.args.slots.now draft q c.self.inside.r0 c.rebase.new.now
-          c.settle-reply.result.0 c.settle-reply.result.1 still agrees ran settled,
+      λ past agrees. performs-settled c.args.config.now past s c.settle-entry.new.self c.args.slots.now draft q r0 after done refl refl still agrees ran
+          verdict_is,
     )
+
+pub returns-clause-bounded : goal.returns-clause-bounded
+returns-clause-bounded c = λ k b.
+    let after : Counters = c.adopt.new.self.counters in
+    c.settle-entry.ensures.bounded k (subst (Bounded k) (sym c.adopt.ensures.rest) (bounded-counted k c.args.station.now after b))

@@ -1,8 +1,9 @@
-use Rattle.std.proofs.Common.{◌≡◌, ◌+◌, ◌≤◌, length, arith, Some, None, Ok, Err}
+use Rattle.std.proofs.Common.{◌≡◌, ◌+◌, ◌-◌, ◌<◌, ◌≤◌, length, arith, Some, None, Ok, Err, ap, ◌∙◌}
 use Rattle.std.proofs.lemmas.Grind.{common_steps}
 use Rattle.fuelling_point.specs.Table.{command_step}
 use Rattle.fuelling_point.specs.Promises.{FollowsTable}
 use Rattle.site_core.specs.State.{SiteState}
+use Rattle.site_core.proofs.Filling.{keeps-seen}
 use Rattle.site_core.proofs.Points.{commanded-none, commanded-err, commanded-ok}
 use Rattle.site_core.proofs.station.Station.command.Goals as goal
 
@@ -13,33 +14,36 @@ pub returns-in-Err-clause-effect : goal.returns-in-Err-clause-effect
 returns-in-Err-clause-effect c =
     let old : SiteState = record {
       points = c.self.inside.points.items;
-      prices = c.self.inside.prices;
+      prices = c.self.inside.view.prices;
       counters = c.self.inside.counters;
       cleared = c.self.inside.cleared;
       clears = c.self.inside.clears;
     } in
-    let answer : FollowsTable (command_step c.index_mut.result.now c.args.till c.args.command) c.index_mut.result.now (Err c.in-Err.fault)
-    c.on_command.new.self = rw c.in-Err.is at c.on_command.ensures.answer in
+    let answer : FollowsTable (command_step c.index_mut-point.result.now c.args.till c.args.command) c.index_mut-point.result.now (Err c.in-Err.fault)
+    c.on_command-outcome.new.self = rw c.in-Err.is at c.on_command-outcome.ensures.answer in
     let one : 1 ≤ c.args.n = grind (arith, common_steps) in
     let le : c.args.n ≤ length c.self.inside.points.items = grind (arith, common_steps) in
-    rw (← c.self.view_is, c.fault_reply.ensures) (commanded-err old c.args.till c.args.n c.args.command c.index_mut.result.now c.on_command.new.self
-    c.in-Err.fault one le c.index_mut.ensures.value answer)
+    rw (← c.self.view_is, c.fault_reply.ensures) (commanded-err old c.args.till c.args.n c.args.command c.index_mut-point.result.now
+    c.on_command-outcome.new.self c.in-Err.fault one le c.index_mut-point.ensures.value answer)
 
 pub returns-in-Ok-None-clause-effect : goal.returns-in-Ok-None-clause-effect
 returns-in-Ok-None-clause-effect c =
     let old : SiteState = record {
       points = c.self.inside.points.items;
-      prices = c.self.inside.prices;
+      prices = c.self.inside.view.prices;
       counters = c.self.inside.counters;
       cleared = c.self.inside.cleared;
       clears = c.self.inside.clears;
     } in
-    let is : c.on_command.result ≡ Ok None = cc in
-    let answer : FollowsTable (command_step c.index_mut.result.now c.args.till c.args.command) c.index_mut.result.now (Ok None) c.on_command.new.self =
-    rw is at c.on_command.ensures.answer in
+    let none : c.in-Ok-None.field-0 ≡ None = rw c.in-Ok-None.is at c.in-Ok-None.field-0-is in
+    let is : c.on_command-outcome.result ≡ Ok None = c.in-Ok-None.is ∙ ap (λ x. Ok x) none in
+    let answer : FollowsTable (command_step c.index_mut-point.result.now c.args.till c.args.command) c.index_mut-point.result.now (Ok None)
+    c.on_command-outcome.new.self =
+    rw is at c.on_command-outcome.ensures.answer in
     let one : 1 ≤ c.args.n = grind (arith, common_steps) in
     let le : c.args.n ≤ length c.self.inside.points.items = grind (arith, common_steps) in
-    let whole = commanded-ok old c.args.till c.args.n c.args.command c.index_mut.result.now c.on_command.new.self None one le c.index_mut.ensures.value answer
+    let whole = commanded-ok old c.args.till c.args.n c.args.command c.index_mut-point.result.now c.on_command-outcome.new.self None one le
+    c.index_mut-point.ensures.value answer
     in
     let same : c.self.inside.cleared + 0 ≡ c.self.inside.cleared = omega arith in
     let none : c.self.inside.clears + 0 ≡ c.self.inside.clears = omega arith in
@@ -49,15 +53,37 @@ pub returns-in-Ok-Some-clause-effect : goal.returns-in-Ok-Some-clause-effect
 returns-in-Ok-Some-clause-effect c =
     let old : SiteState = record {
       points = c.self.inside.points.items;
-      prices = c.self.inside.prices;
+      prices = c.self.inside.view.prices;
       counters = c.self.inside.counters;
       cleared = c.self.inside.cleared;
       clears = c.self.inside.clears;
     } in
-    let is : c.on_command.result ≡ Ok (Some c.in-Ok-Some.amount) = cc in
-    let answer : FollowsTable (command_step c.index_mut.result.now c.args.till c.args.command) c.index_mut.result.now (Ok (Some c.in-Ok-Some.amount))
-    c.on_command.new.self = rw is at c.on_command.ensures.answer in
+    let some : c.in-Ok-Some.field-0 ≡ Some c.in-Ok-Some.amount = rw c.in-Ok-Some.is at c.in-Ok-Some.field-0-is in
+    let is : c.on_command-outcome.result ≡ Ok (Some c.in-Ok-Some.amount) = c.in-Ok-Some.is ∙ ap (λ x. Ok x) some in
+    let answer : FollowsTable (command_step c.index_mut-point.result.now c.args.till c.args.command) c.index_mut-point.result.now
+    (Ok (Some c.in-Ok-Some.amount)) c.on_command-outcome.new.self = rw is at c.on_command-outcome.ensures.answer in
     let one : 1 ≤ c.args.n = grind (arith, common_steps) in
     let le : c.args.n ≤ length c.self.inside.points.items = grind (arith, common_steps) in
-    rw (← c.self.view_is) (commanded-ok old c.args.till c.args.n c.args.command c.index_mut.result.now c.on_command.new.self (Some c.in-Ok-Some.amount) one le
-    c.index_mut.ensures.value answer)
+    rw (← c.self.view_is) (commanded-ok old c.args.till c.args.n c.args.command c.index_mut-point.result.now c.on_command-outcome.new.self
+    (Some c.in-Ok-Some.amount) one le c.index_mut-point.ensures.value answer)
+
+pub invariant_of-self : goal.invariant_of-self
+invariant_of-self c =
+    let points = c.self.inside.points.items in
+    let i = c.self.invariant in
+    let lt : c.args.n - 1 < length points = grind (arith, common_steps) in
+    keeps-seen points c.self.inside.view (c.args.n - 1) c.on_command-outcome.new.self c.seen.result lt i.0 i.1 i.2 i.3 c.seen.ensures
+
+pub invariant_of-self-in-Ok-None : goal.invariant_of-self-in-Ok-None
+invariant_of-self-in-Ok-None c =
+    let points = c.self.inside.points.items in
+    let i = c.self.invariant in
+    let lt : c.args.n - 1 < length points = grind (arith, common_steps) in
+    keeps-seen points c.self.inside.view (c.args.n - 1) c.on_command-outcome.new.self c.seen.result lt i.0 i.1 i.2 i.3 c.seen.ensures
+
+pub invariant_of-self-in-Ok-Some : goal.invariant_of-self-in-Ok-Some
+invariant_of-self-in-Ok-Some c =
+    let points = c.self.inside.points.items in
+    let i = c.self.invariant in
+    let lt : c.args.n - 1 < length points = grind (arith, common_steps) in
+    keeps-seen points c.self.inside.view (c.args.n - 1) c.on_command-outcome.new.self c.seen.result lt i.0 i.1 i.2 i.3 c.seen.ensures

@@ -1,4 +1,4 @@
-use Rattle.std.proofs.Common.{◌≡◌, ℕ, ◌-◌, ◌≤◌, length, arith, ap, ◌∙◌, sym, None, slice_set}
+use Rattle.std.proofs.Common.{◌≡◌, ℕ, ◌-◌, ◌<◌, ◌≤◌, length, arith, ap, ◌∙◌, sym, None, slice_set}
 use Rattle.std.proofs.lemmas.Grind.{common_steps}
 use Rattle.fuelling_point.specs.Table.{PointState, command_step}
 use Rattle.fuelling_point.specs.Promises.{FollowsTable}
@@ -6,6 +6,7 @@ use Rattle.site_core.specs.State.{SiteState, at_number}
 use Rattle.site_core.specs.Bounds.{Bounded}
 use Rattle.site_core.specs.Decide.{command_of, granted_point}
 use Rattle.site_core.proofs.Grants.{grant-none, grant-is, bounded-with}
+use Rattle.site_core.proofs.Filling.{keeps-seen}
 use Rattle.site_core.proofs.station.Station.grant.Goals as goal
 
 pub returns-then-not-has_point-clause-grant : goal.returns-then-not-has_point-clause-grant
@@ -14,7 +15,7 @@ returns-then-not-has_point-clause-grant c =
     let q = c.args.question.now in
     let back : c.args.self.now ≡ record {
       points = c.self.inside.points.items;
-      prices = c.self.inside.prices;
+      prices = c.self.inside.view.prices;
       counters = c.self.inside.counters;
       cleared = c.self.inside.cleared;
       clears = c.self.inside.clears;
@@ -27,7 +28,7 @@ pub returns-clause-grant : goal.returns-clause-grant
 returns-clause-grant c =
     let old : SiteState = record {
       points = c.self.inside.points.items;
-      prices = c.self.inside.prices;
+      prices = c.self.inside.view.prices;
       counters = c.self.inside.counters;
       cleared = c.self.inside.cleared;
       clears = c.self.inside.clears;
@@ -47,7 +48,7 @@ pub returns-clause-bounded : goal.returns-clause-bounded
 returns-clause-bounded c = λ k b.
     let old : SiteState = record {
       points = c.self.inside.points.items;
-      prices = c.self.inside.prices;
+      prices = c.self.inside.view.prices;
       counters = c.self.inside.counters;
       cleared = c.self.inside.cleared;
       clears = c.self.inside.clears;
@@ -57,3 +58,11 @@ returns-clause-bounded c = λ k b.
     let le : q.point ≤ length old.points = grind (arith, common_steps) in
     let bound : Bounded k old = rw (← c.self.view_is) at b in
     bounded-with k old q.point c.index_mut-point.result.now c.on_command.new.self bound le one c.index_mut-point.ensures.value c.on_command.ensures.last
+
+pub invariant_of-self-2 : goal.invariant_of-self-2
+invariant_of-self-2 c =
+    let q = c.args.question.now in
+    let points = c.self.inside.points.items in
+    let i = c.self.invariant in
+    let lt : q.point - 1 < length points = grind (arith, common_steps) in
+    keeps-seen points c.self.inside.view (q.point - 1) c.on_command.new.self c.seen.result lt i.0 i.1 i.2 i.3 c.seen.ensures

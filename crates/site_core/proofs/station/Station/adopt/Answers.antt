@@ -1,0 +1,33 @@
+use Rattle.std.proofs.Common.{◌≡◌, ap, ◌∙◌, sym, refl}
+use Rattle.bpf_model.specs.Program.{outcome}
+use Rattle.bpf_model.specs.Layouts.{bytes_of}
+use Rattle.site_core.specs.State.{SiteState, view_of}
+use Rattle.site_core.proofs.Filling.{view-is}
+use Rattle.site_core.proofs.station.Station.adopt.Goals as goal
+
+pub rebase-requires-clause-ran : goal.rebase-requires-clause-ran
+rebase-requires-clause-ran c =
+    let old : SiteState = record {
+      points = c.self.inside.points.items;
+      prices = c.self.inside.view.prices;
+      counters = c.self.inside.counters;
+      cleared = c.self.inside.cleared;
+      clears = c.self.inside.clears;
+    } in
+    let shown : c.self.inside.view ≡ view_of c.args.self.now =
+    view-is old c.self.inside.view c.self.invariant.2 c.self.invariant.3 refl ∙ ap view_of c.self.view_is in
+    (λ i. outcome c.args.program.now (bytes_of c.args.given.now) (shown i) c.args.before.now) ∙ c.requires.ran
+
+pub returns-clause-ran : goal.returns-clause-ran
+returns-clause-ran c =
+    let old : SiteState = record {
+      points = c.self.inside.points.items;
+      prices = c.self.inside.view.prices;
+      counters = c.self.inside.counters;
+      cleared = c.self.inside.cleared;
+      clears = c.self.inside.clears;
+    } in
+    let shown : c.self.inside.view ≡ view_of c.args.self.now =
+    view-is old c.self.inside.view c.self.invariant.2 c.self.invariant.3 refl ∙ ap view_of c.self.view_is in
+    let counted : c.self.inside.counters ≡ c.args.self.now.counters = ap (λ (s : SiteState). s.counters) c.self.view_is in
+    (λ i. outcome c.args.program.now (bytes_of c.args.given.now) (sym shown i) (sym counted i)) ∙ c.rebase.ensures.ran

@@ -1,0 +1,34 @@
+//! What programs see of the points.
+
+ghost use Rattle.std.specs.Prelude.{◌≡◌, ◌≤◌, length};
+ghost use Rattle.site_core.specs.State.{seen, seen_points};
+
+use fuelling_point::Point;
+use helpers::PointView;
+
+/// What a program sees of a point.
+pub fn seen(point: &Point) -> PointView
+    ensures { result ≡ seen point.now }
+{
+    PointView {
+        state: point.state().number(),
+        nozzle: point.nozzle(),
+        amount: point.amount(),
+    }
+}
+
+/// The same of all points, with zeros in the places of those that aren't there.
+pub fn seen_points(points: &[Point]) -> [PointView; 32]
+    requires { length points.now ≤ 32 }
+    ensures { result ≡ seen_points points.now }
+{
+    let mut all = [PointView {
+        state: 0,
+        nozzle: 0,
+        amount: 0,
+    }; 32];
+    for (i, point) in points.iter().enumerate() {
+        all[i] = seen(point);
+    }
+    all
+}
