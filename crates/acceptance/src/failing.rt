@@ -20,11 +20,14 @@ use till_request::{DeviceFault, Role};
 
 /// A delivery that is paid.
 const DELIVERY: &str =
-    "load 0 0 79101800000000009500000000000000\ntill 1 open 1\ndisp 1 up 1\ntill 1 release 1 8000\ndisp 1 order\ndisp 1 started\ndisp 1 flow 2500 1390\ndisp 1 down\ntill 1 lock 1 1\ntill 2 lock 1 1\ntill 2 clear 1 1\ntill 1 clear 1 1\ntill 1 clear 1 1\ntill 1 show 1\n";
+    "load 0 0 79101800000000009500000000000000\ntill 1 open 1\ndisp 1 up 1\ntill 1 release 1 8000\ndisp 1 order\n\
+        disp 1 started\ndisp 1 flow 2500 1390\ndisp 1 down\ntill 1 lock 1 1\ntill 2 lock 1 1\ntill 2 clear 1 1\n\
+        till 1 clear 1 1\ntill 1 clear 1 1\ntill 1 show 1\n";
 
 /// What it is answered.
 const ANSWERS: &str =
-    "1 version 1\n2 done\n3 done\n4 granted 8000 by 1\n5 order authorise 8000\n6 done\n7 done\n8 done\n9 done\n10 S27\n11 S27\n12 done\n13 S28\n14 point 3 0 0 0 0 0 0\n";
+    "1 version 1\n2 done\n3 done\n4 granted 8000 by 1\n5 order authorise 8000\n6 done\n7 done\n8 done\n9 done\n\
+        10 S27\n11 S27\n12 done\n13 S28\n14 point 3 0 0 0 0 0 0\n";
 
 /// Tells 0.
 #[derive(Drop)]

@@ -8,7 +8,9 @@ use till_request::devices::MemoryIn;
 
 /// A delivery that is paid, and the journal of it.
 const PAID: &str =
-    "load 0 0 79101800000000009500000000000000\ntill 1 open 1\ndisp 1 up 1\ntill 1 release 1 8000\ndisp 1 order\ndisp 1 started\ndisp 1 flow 2500 1390\ndisp 1 down\ntill 1 lock 1 1\ntill 2 lock 1 1\ntill 2 clear 1 1\ntill 1 clear 1 1\ntill 1 clear 1 1\ntill 1 show 1\njournal\n";
+    "load 0 0 79101800000000009500000000000000\ntill 1 open 1\ndisp 1 up 1\ntill 1 release 1 8000\ndisp 1 order\n\
+        disp 1 started\ndisp 1 flow 2500 1390\ndisp 1 down\ntill 1 lock 1 1\ntill 2 lock 1 1\ntill 2 clear 1 1\n\
+        till 1 clear 1 1\ntill 1 clear 1 1\ntill 1 show 1\njournal\n";
 
 /// What an audit of a journal prints.
 fn audited(alloc: Global, site: &str, journal: &str) -> Option<String> {
@@ -35,7 +37,10 @@ fn an_entry_tells_the_run_of_its_rule(rt: HostRuntime) {
             rt.alloc(),
             KIOSK,
             "load 0 0 79101800000000009500000000000000\ntill 1 open 1\ntill 1 release 1 8000\njournal\n",
-            "1 version 1\n2 done\n3 granted 8000 by 1\n1 1 0 load 0 0 79101800000000009500000000000000 = version 1\n2 1 0 till 1 open 1 = done\n3 1 0 till 1 release 1 8000 = granted 8000 by 1 ; 0 1 8000 010000000100000001000000030000000000000000000000401f0000000000000000000000000000000000000000000000000000000000000000000000000000 -\n",
+            "1 version 1\n2 done\n3 granted 8000 by 1\n1 1 0 load 0 0 79101800000000009500000000000000 = version 1\n\
+                2 1 0 till 1 open 1 = done\n3 1 0 till 1 release 1 8000 = granted 8000 by 1 ; 0 1 8000 \
+                010000000100000001000000030000000000000000000000401f0000000000000000000000000000000000000000000000000\
+                000000000000000000000000000 -\n",
         )
     );
 }

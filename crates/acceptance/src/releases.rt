@@ -55,7 +55,8 @@ fn the_record_shows_an_idle_point(rt: HostRuntime) {
         is_answered(
             rt.alloc(),
             KIOSK,
-            "load 0 0 bfa200000000000007020000f0ffffffb701000001000000850000000500000061a0f0ff000000009500000000000000\ntill 1 open 1\ntill 1 release 1 8000\n",
+            "load 0 0 bfa200000000000007020000f0ffffffb701000001000000850000000500000061a0f0ff00000000950000000000000\
+                0\ntill 1 open 1\ntill 1 release 1 8000\n",
             "1 version 1\n2 done\n3 granted 3 by 1\n",
         )
     );
@@ -71,7 +72,8 @@ fn the_first_release_and_its_refusals(rt: HostRuntime) {
         ),
         (
             "a closed point, no rule, a rule that is refused, a point that was released",
-            "till 1 release 1 8000\ntill 1 open 1\ntill 1 release 1 8000\nload 0 0 9500000000000000\nload 0 0 79101800000000009500000000000000\ntill 1 release 1 8000\ntill 1 release 1 8000\n",
+            "till 1 release 1 8000\ntill 1 open 1\ntill 1 release 1 8000\nload 0 0 9500000000000000\n\
+                load 0 0 79101800000000009500000000000000\ntill 1 release 1 8000\ntill 1 release 1 8000\n",
             "1 S22 2\n2 done\n3 S23 0\nV11 0 0\n4 version 1\n5 granted 8000 by 1\n6 S22 5\n",
         ),
         (
@@ -95,7 +97,8 @@ fn counters_stand_whatever_is_answered(rt: HostRuntime) {
         is_answered(
             rt.alloc(),
             STATION,
-            "load 1 1 b701000000000000b70200000100000085000000020000009500000000000000\ntill 1 open 1\ntill 1 preset 1 100\ncounter 0\ntill 1 preset 1 100\ncounter 0\ntill 1 preset 1 100\ncounter 0\n",
+            "load 1 1 b701000000000000b70200000100000085000000020000009500000000000000\ntill 1 open 1\n\
+                till 1 preset 1 100\ncounter 0\ntill 1 preset 1 100\ncounter 0\ntill 1 preset 1 100\ncounter 0\n",
             "1 version 1\n2 done\n3 granted 1 by 1\ncounter 1 2\n4 granted 1 by 1\ncounter 2 2\n5 S24 1\ncounter 2 2\n",
         ),
         "a quota"
@@ -113,7 +116,9 @@ fn counters_stand_whatever_is_answered(rt: HostRuntime) {
         is_answered(
             rt.alloc(),
             KIOSK_WITH_COUNTER,
-            "load 0 1 b701000000000000b7020000010000008500000002000000b7000000000000009500000000000000\ntill 1 open 1\ntill 1 release 1 8000\ntill 1 release 1 8000\ntill 1 release 1 8000\ncounter 0\ncounter 32\n",
+            "load 0 1 b701000000000000b7020000010000008500000002000000b7000000000000009500000000000000\n\
+                till 1 open 1\ntill 1 release 1 8000\ntill 1 release 1 8000\ntill 1 release 1 8000\ncounter 0\n\
+                counter 32\n",
             "1 version 1\n2 done\n3 S24 1\n4 S24 1\n5 S24 1\ncounter 2 2\nL3\n",
         ),
         "denials keep what was counted"
@@ -122,7 +127,8 @@ fn counters_stand_whatever_is_answered(rt: HostRuntime) {
         is_answered(
             rt.alloc(),
             STATION,
-            "load 0 1 b701000000000000b70200000100000085000000020000009500000000000000\ntill 1 release 1 8000\ncounter 0\n",
+            "load 0 1 b701000000000000b70200000100000085000000020000009500000000000000\ntill 1 release 1 8000\n\
+                counter 0\n",
             "1 version 1\n2 S22 2\ncounter 0 2\n",
         ),
         "a closed point runs no rule"
@@ -135,7 +141,8 @@ fn a_rule_is_replaced_between_releases(rt: HostRuntime) {
         is_answered(
             rt.alloc(),
             STATION,
-            "load 0 0 b7000000881300009500000000000000\ntill 1 open 1\ntill 1 open 2\ntill 1 release 1 8000\nload 0 0 79101800000000009500000000000000\ntill 1 release 2 8000\n",
+            "load 0 0 b7000000881300009500000000000000\ntill 1 open 1\ntill 1 open 2\ntill 1 release 1 8000\n\
+                load 0 0 79101800000000009500000000000000\ntill 1 release 2 8000\n",
             "1 version 1\n2 done\n3 done\n4 granted 5000 by 1\n5 version 2\n6 granted 8000 by 2\n",
         )
     );
@@ -146,17 +153,21 @@ fn presets_bound_releases_and_prices_change(rt: HostRuntime) {
     for (name, script, text) in [
         (
             "a preset bounds the release",
-            "load 0 0 79101800000000009500000000000000\nload 1 0 79101800000000009500000000000000\ntill 1 open 1\ntill 1 preset 1 3000\ntill 1 release 1 8000\ntill 1 show 1\n",
+            "load 0 0 79101800000000009500000000000000\nload 1 0 79101800000000009500000000000000\ntill 1 open 1\n\
+                till 1 preset 1 3000\ntill 1 release 1 8000\ntill 1 show 1\n",
             "1 version 1\n2 version 2\n3 done\n4 granted 3000 by 2\n5 granted 3000 by 1\n6 point 5 0 0 0 3000 0 0\n",
         ),
         (
             "prices by their rule, their product and their range",
-            "till 1 price 1 1899\nload 2 0 b7000000881300009500000000000000\ntill 1 price 1 1899\ntill 1 price 9 5\ntill 1 price 1 10000000\nload 16 0 b7000000881300009500000000000000\n",
+            "till 1 price 1 1899\nload 2 0 b7000000881300009500000000000000\ntill 1 price 1 1899\ntill 1 price 9 5\n\
+                till 1 price 1 10000000\nload 16 0 b7000000881300009500000000000000\n",
             "1 S23 2\n2 version 1\n3 granted 1899 by 1\n4 S25\n5 S25\n6 S32\n",
         ),
         (
             "no price while a point is released",
-            "load 0 0 79101800000000009500000000000000\nload 1 0 79101800000000009500000000000000\ntill 1 open 1\ntill 1 preset 1 3000\ntill 1 release 1 8000\nload 2 0 b7000000881300009500000000000000\ntill 2 price 1 1899\n",
+            "load 0 0 79101800000000009500000000000000\nload 1 0 79101800000000009500000000000000\ntill 1 open 1\n\
+                till 1 preset 1 3000\ntill 1 release 1 8000\nload 2 0 b7000000881300009500000000000000\n\
+                till 2 price 1 1899\n",
             "1 version 1\n2 version 2\n3 done\n4 granted 3000 by 2\n5 granted 3000 by 1\n6 version 3\n7 S22 5\n",
         ),
     ] {

@@ -6,10 +6,13 @@ use std::test::Fail;
 
 /// The rule grants as many cents as transactions were ever cleared. One clearing is done, one before it refused.
 const SCRIPT: &str =
-    "load 0 0 79101800000000009500000000000000\ntill 1 open 1\ndisp 1 up 1\ntill 1 release 1 8000\ndisp 1 order\ndisp 1 started\ndisp 1 flow 2500 1390\ndisp 1 down\ntill 1 lock 1 1\ntill 2 lock 1 1\ntill 2 clear 1 1\ntill 1 clear 1 1\nload2 0 0 79104000000000009500000000000000\ntill 1 release 1 8000\n";
+    "load 0 0 79101800000000009500000000000000\ntill 1 open 1\ndisp 1 up 1\ntill 1 release 1 8000\ndisp 1 order\n\
+        disp 1 started\ndisp 1 flow 2500 1390\ndisp 1 down\ntill 1 lock 1 1\ntill 2 lock 1 1\ntill 2 clear 1 1\n\
+        till 1 clear 1 1\nload2 0 0 79104000000000009500000000000000\ntill 1 release 1 8000\n";
 
 const ANSWERS: &str =
-    "1 version 1\n2 done\n3 done\n4 granted 8000 by 1\n5 order authorise 8000\n6 done\n7 done\n8 done\n9 done\n10 S27\n11 S27\n12 done\n13 version 2\n14 granted 1 by 2\n";
+    "1 version 1\n2 done\n3 done\n4 granted 8000 by 1\n5 order authorise 8000\n6 done\n7 done\n8 done\n9 done\n\
+        10 S27\n11 S27\n12 done\n13 version 2\n14 granted 1 by 2\n";
 
 /// What the context has behind the first 64 bytes: one clearing, one open point, zero.
 const BEHIND: &str = "01000000000000000100000000000000 -\n";

@@ -5,7 +5,8 @@ use till_request::devices::{MemoryIn, MemoryOut};
 
 /// Two tills; two points whose releases go to slot 0 and presets to slot 1; prices in slot 2; counter 0 of at most 2.
 pub const STATION: &str =
-    "tills = 2\nprice_slot = 2\nprices = [1799, 1849, 0, 0, 0, 0, 0, 0]\n[[point]]\nrelease = 0\npreset = 1\n[[point]]\nrelease = 0\npreset = 1\n[[counter]]\nvalue = 0\nbound = 2\n";
+    "tills = 2\nprice_slot = 2\nprices = [1799, 1849, 0, 0, 0, 0, 0, 0]\n[[point]]\nrelease = 0\npreset = 1\n\
+        [[point]]\nrelease = 0\npreset = 1\n[[counter]]\nvalue = 0\nbound = 2\n";
 
 /// The same with one till, one point and no counter.
 pub const KIOSK: &str =
@@ -13,7 +14,8 @@ pub const KIOSK: &str =
 
 /// The kiosk with counter 0 of at most 2.
 pub const KIOSK_WITH_COUNTER: &str =
-    "tills = 1\nprice_slot = 2\nprices = [1799, 1849, 0, 0, 0, 0, 0, 0]\n[[point]]\nrelease = 0\npreset = 1\n[[counter]]\nvalue = 0\nbound = 2\n";
+    "tills = 1\nprice_slot = 2\nprices = [1799, 1849, 0, 0, 0, 0, 0, 0]\n[[point]]\nrelease = 0\npreset = 1\n\
+        [[counter]]\nvalue = 0\nbound = 2\n";
 
 /// What a play of a script on a site writes, where the play ends well.
 pub fn answers(alloc: Global, site: &str, script: &str) -> Option<Vec<u8>> {

@@ -109,7 +109,8 @@ fn the_rule_denies_an_idle_point(rt: HostRuntime) {
         is_answered(
             rt.alloc(),
             KIOSK,
-            "load 0 0 61120c0000000000b700000000000000550201000400000079101800000000009500000000000000\ntill 1 open 1\ntill 1 release 1 8000\n",
+            "load 0 0 61120c0000000000b700000000000000550201000400000079101800000000009500000000000000\n\
+                till 1 open 1\ntill 1 release 1 8000\n",
             "1 version 1\n2 done\n3 S24 1\n",
         )
     );

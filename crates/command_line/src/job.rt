@@ -3,6 +3,7 @@ ghost use Rattle.std.specs.Prelude.{◌≡◌};
 
 use bpf_model::context::Layout;
 use std::alloc::AllocError;
+use thiserror::Error;
 
 /// What the words ask for. Files are named as the words name them.
 #[derive(Debug, Drop)]
@@ -53,10 +54,12 @@ pub enum Job {
 }
 
 /// Why there is no job.
-#[derive(Debug, Drop)]
+#[derive(Debug, Drop, Error)]
 pub enum CommandFault {
     /// The words are no use of the program; the text says how it is used.
+    #[error("{0}")]
     Usage(String),
+    #[error("out of memory")]
     OutOfMemory,
 }
 

@@ -262,7 +262,8 @@ pub fn command(alloc: Global, words: Vec<String>) -> Result<Job, CommandFault>
     ensures faultless { IfOk result (λ job. IsSome (asked job) → fault_of fc_app (map string_bytes words.items) ≡ []) }
     ensures helps { IfOk result (λ job. asked job ≡ None → MayShow (fault_of fc_app (map string_bytes words.items))) }
     ensures refused { IfErr result
-        (RefusesBy (fault_of fc_app (map string_bytes words.items)) (subcommand_of fc_app (map string_bytes words.items))) }
+        (RefusesBy (fault_of fc_app (map string_bytes words.items))
+        (subcommand_of fc_app (map string_bytes words.items))) }
 {
     let command = fc(alloc)?;
     match command.try_get_matches_from(words.as_slice()) {

@@ -1,7 +1,7 @@
 //! Scripts.
 ghost use Rattle.std.specs.Prelude.{◌≡◌, ◌≤◌, ◌-◌, ℕ, IfOk, OnErr, Err};
 ghost use Rattle.till_request.specs.Count.{RoseBy, one_if};
-ghost use Rattle.line_session.specs.Talk.{is_read, is_write};
+ghost use Rattle.line_session.specs.Talk.{SpendsReads, is_read, is_write, session_reads};
 ghost use Rattle.site_core.specs.Site.{new_site};
 ghost use Rattle.console.specs.Play.{PlaysOut, PlayBreaks, PlaysAlike};
 
@@ -19,7 +19,7 @@ pub fn play_within<I: LineIn, O: LineOut>(
     output: &mut O,
     left: &mut u32,
 ) -> Result<Ended, SessionFault>
-    requires { left.old ≤ 67108864 }
+    requires { left.old ≤ READS }
     ensures said { IfOk result
         (λ ended. PlaysOut (new_site config) (I.remaining input.old) (I.remaining input.new) (O.written output.old)
         (O.written output.new) ended.lines ended.cut) }
@@ -58,9 +58,8 @@ pub fn play<I: LineIn, O: LineOut>(
         (O.written output.new)) }
     ensures read_fault { RoseBy (one_if (is_read result)) (I.failures input.old) (I.failures input.new) }
     ensures write_fault { RoseBy (one_if (is_write result)) (O.failures output.old) (O.failures output.new) }
-    ensures reads { (k : ℕ) × (k ≤ 67108864) × RoseBy k (I.reads input.old) (I.reads input.new)
-        × (result ≡ Err SessionFault.ReadsSpent → k ≡ 67108864)
-        × RoseBy k (I.asked input.old) (I.asked input.new) }
+    ensures reads { SpendsReads session_reads result (I.reads input.old) (I.reads input.new) (I.asked input.old)
+        (I.asked input.new) }
 {
     let mut left = READS;
     play_within(alloc, config, input, output, &mut left)

@@ -5,7 +5,9 @@ ghost use Rattle.till_request.specs.Gives.{Gives};
 ghost use Rattle.console.specs.Script.{act_line, line_alone, line_with_value, line_of_words, line_of, is_named};
 
 use std::alloc::Global;
-use till_request::{Act, LineFault, Role, number_u32, number_u64, parse_words, split_words};
+use till_request::{
+    Act, LINE_WORDS, LineFault, Role, few_parts, number_u32, number_u64, parse_words,
+};
 
 /// What a line of a script asks.
 #[derive(Debug, Drop)]
@@ -80,6 +82,8 @@ fn read_words(alloc: Global, words: &[&[u8]]) -> Result<ScriptLine, LineFault>
 pub fn parse_script_line(alloc: Global, line: &[u8]) -> Result<ScriptLine, LineFault>
     ensures { Gives result (line_of line.now) }
 {
-    let words = split_words(alloc, line)?;
-    read_words(alloc, words.as_slice())
+    match few_parts::<LINE_WORDS>(line, b' ') {
+        Some(words) => read_words(alloc, words.as_slice()),
+        None => Err(LineFault::BadLine),
+    }
 }

@@ -11,17 +11,20 @@ pub(crate) const STYLE: &str =
 --s1:#000;--s2:#46525e;--s3:#6d8296;--s4:#f0e442;--s5:#2f6f9c;--s6:#3b93cf;--s8:#56b4e9;\
 --p1:#56b4e9;--p5:#9ad0f5;--p7:#f0e442;--p8:#9aa7b4}}\
 *{box-sizing:border-box}\
-body{margin:0;background:var(--back);color:var(--text);font:16px/1.5 system-ui,-apple-system,'Segoe UI',Roboto,sans-serif}\
+body{margin:0;background:var(--back);color:var(--text);font:16px/1.5 system-ui,-apple-system,'Segoe UI',Roboto,\
+sans-serif}\
 main{max-width:68rem;margin:0 auto;padding:1.5rem 1rem 4rem}\
 h1{font-size:1.9rem;line-height:1.2;margin:.2rem 0 .4rem}\
 h2{font-size:1.3rem;margin:2.6rem 0 .6rem;border-top:1px solid var(--line);padding-top:1.2rem}\
 h3{font-size:1rem;margin:1.6rem 0 .4rem}\
 p{margin:.4rem 0}.audited{color:var(--soft);margin:0}.note{color:var(--soft);font-size:.9rem}\
-.figures{display:grid;list-style:none;padding:0;grid-template-columns:repeat(auto-fit,minmax(9.5rem,1fr));gap:.8rem;margin:1.4rem 0}\
+.figures{display:grid;list-style:none;padding:0;grid-template-columns:repeat(auto-fit,minmax(9.5rem,1fr));gap:.8rem;\
+margin:1.4rem 0}\
 .figures li{background:var(--panel);border:1px solid var(--line);border-radius:.5rem;padding:.7rem .9rem}\
 .figures span{color:var(--soft);font-size:.85rem}\
 .figures b{display:block;font-size:1.25rem;font-weight:600;font-variant-numeric:tabular-nums;white-space:nowrap}\
-.wide{overflow-x:auto;margin:.8rem 0}.rows{max-height:30rem;overflow:auto}.side{display:flex;flex-wrap:wrap;gap:0 3.5rem}\
+.wide{overflow-x:auto;margin:.8rem 0}.rows{max-height:30rem;overflow:auto}.side{display:flex;flex-wrap:wrap;\
+gap:0 3.5rem}\
 svg{display:block;width:100%;min-width:36rem;height:auto}\
 svg text{fill:var(--text);font-size:14px}svg .soft{fill:var(--soft)}\
 svg .axis{stroke:var(--line);stroke-width:1;fill:none}\
@@ -30,16 +33,25 @@ th,td{padding:.25rem .8rem .25rem 0;text-align:right;border-bottom:1px solid var
 thead th{color:var(--soft);font-weight:500;font-size:.85rem;vertical-align:bottom}\
 tbody th{font-weight:500}.words{text-align:left;white-space:normal}\
 .legend{display:flex;flex-wrap:wrap;gap:.2rem 1.1rem;padding:0;margin:.4rem 0;list-style:none;font-size:.9rem}\
-.legend i{display:inline-block;width:.9rem;overflow:hidden;line-height:.9rem;height:.9rem;border-radius:.15rem;margin-right:.35rem;vertical-align:-.1rem}\
-.sold{fill:var(--sold)}.granted{fill:var(--granted);background:var(--granted)}.denied{fill:var(--denied);background:var(--denied)}\
-.s1{stroke:var(--s1);background:var(--s1)}.s2{stroke:var(--s2);background:var(--s2)}.s3{stroke:var(--s3);background:var(--s3)}\
-.s4{stroke:var(--s4);background:var(--s4)}.s5{stroke:var(--s5);background:var(--s5)}.s6{stroke:var(--s6);background:var(--s6)}\
-.s7{stroke:var(--s7);background:var(--s7)}.s8{stroke:var(--s8);background:var(--s8)}.s9{stroke:var(--s9);background:var(--s9)}\
+.legend i{display:inline-block;width:.9rem;overflow:hidden;line-height:.9rem;height:.9rem;border-radius:.15rem;\
+margin-right:.35rem;vertical-align:-.1rem}\
+.sold{fill:var(--sold)}.granted{fill:var(--granted);background:var(--granted)}.denied{fill:var(--denied);\
+background:var(--denied)}\
+.s1{stroke:var(--s1);background:var(--s1)}.s2{stroke:var(--s2);background:var(--s2)}.s3{stroke:var(--s3);\
+background:var(--s3)}\
+.s4{stroke:var(--s4);background:var(--s4)}.s5{stroke:var(--s5);background:var(--s5)}.s6{stroke:var(--s6);\
+background:var(--s6)}\
+.s7{stroke:var(--s7);background:var(--s7)}.s8{stroke:var(--s8);background:var(--s8)}.s9{stroke:var(--s9);\
+background:var(--s9)}\
 .band{fill:none;stroke-width:5}.busy{stroke-width:18}\
 .price{fill:none;stroke-width:2.5}\
-.p1{stroke:var(--p1);background:var(--p1)}.p2{stroke:var(--p2);background:var(--p2)}.p3{stroke:var(--p3);background:var(--p3)}\
-.p4{stroke:var(--p4);background:var(--p4)}.p5{stroke:var(--p5);background:var(--p5)}.p6{stroke:var(--p6);background:var(--p6)}\
+.p1{stroke:var(--p1);background:var(--p1)}.p2{stroke:var(--p2);background:var(--p2)}.p3{stroke:var(--p3);\
+background:var(--p3)}\
+.p4{stroke:var(--p4);background:var(--p4)}.p5{stroke:var(--p5);background:var(--p5)}.p6{stroke:var(--p6);\
+background:var(--p6)}\
 .p7{stroke:var(--p7);background:var(--p7)}.p8{stroke:var(--p8);background:var(--p8)}\
-@media(max-width:40rem){main{padding:1rem .7rem 3rem}h1{font-size:1.5rem}.figures b{font-size:1.2rem}th,td{padding-right:.55rem}}\
+@media(max-width:40rem){main{padding:1rem .7rem 3rem}h1{font-size:1.5rem}.figures b{font-size:1.2rem}th,td{\
+padding-right:.55rem}}\
 @media print{main{max-width:none;padding:0}h2{break-after:avoid}.wide,tr,.figures li{break-inside:avoid}\
-.wide,.rows{overflow:visible;max-height:none}svg{min-width:0}*{print-color-adjust:exact;-webkit-print-color-adjust:exact}}";
+.wide,.rows{overflow:visible;max-height:none}svg{min-width:0}*{print-color-adjust:exact;\
+-webkit-print-color-adjust:exact}}";

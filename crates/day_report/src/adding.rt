@@ -2,6 +2,7 @@
 
 ghost use Rattle.std.specs.Prelude.{◌≡◌, ◌+◌, ◌≤◌, IfOk, length, not, sum_by, count_by, option_map};
 ghost use Rattle.std.specs.List.{filter_map};
+ghost use Rattle.site_core.specs.declared.site.TheConstants.{ENTRIES};
 ghost use Rattle.day_report.specs.Walk.{stand, closed_points};
 ghost use Rattle.day_report.specs.Sales.{sales};
 ghost use Rattle.day_report.specs.Decisions.{decision_of, refusal_of, price_change_of, loads};
@@ -199,7 +200,7 @@ fn denied_in(decisions: &[Decision]) -> usize
 
 /// What the history of a site with so many points adds up to. The error is want of memory.
 pub fn add_up(alloc: Global, points: usize, entries: &[Entry]) -> Result<Totals, AllocError>
-    requires few { length entries.now ≤ 1048576 }
+    requires few { length entries.now ≤ ENTRIES }
     requires points { points ≤ 1000 }
     ensures entries { IfOk result (λ t. t.entries ≡ length entries.now) }
     ensures sold { IfOk result (λ t. IsSum t.sold part.All (sales (closed_points points) entries.now)) }
@@ -215,7 +216,8 @@ pub fn add_up(alloc: Global, points: usize, entries: &[Entry]) -> Result<Totals,
     ensures prices { IfOk result (λ t. t.prices.items ≡ filter_map price_change_of entries.now) }
     ensures unpaid { IfOk result (λ t. t.unpaid.items ≡ unpaid_of (stand (closed_points points) entries.now)) }
     ensures unpaid_cents { IfOk result
-        (λ t. t.unpaid_cents ≡ sum_by (λ (u : Unpaid). u.amount) (unpaid_of (stand (closed_points points) entries.now))) }
+        (λ t. t.unpaid_cents
+        ≡ sum_by (λ (u : Unpaid). u.amount) (unpaid_of (stand (closed_points points) entries.now))) }
     ensures granted { IfOk result
         (λ t. t.granted ≡ count_by (λ (d : Decision). d.is_granted) (filter_map decision_of entries.now)) }
     ensures denied { IfOk result
@@ -227,7 +229,8 @@ pub fn add_up(alloc: Global, points: usize, entries: &[Entry]) -> Result<Totals,
     ensures presets { IfOk result
         (λ t. HasOutcomes deciding.Presets (versions_of entries.now) (filter_map decision_of entries.now) t.presets) }
     ensures price_requests { IfOk result
-        (λ t. HasOutcomes deciding.Prices (versions_of entries.now) (filter_map decision_of entries.now) t.price_requests) }
+        (λ t. HasOutcomes deciding.Prices (versions_of entries.now) (filter_map decision_of entries.now)
+        t.price_requests) }
 {
     let found = find_sales(alloc, points, entries)?;
     let loads = loads(alloc, entries)?;

@@ -2,6 +2,7 @@
 
 ghost use Rattle.std.specs.Prelude.{◌≡◌, ◌≤◌, ℕ, All, IfOk, length};
 ghost use Rattle.fuelling_point.specs.Table.{PointState};
+ghost use Rattle.site_core.specs.declared.site.TheConstants.{ENTRIES};
 ghost use Rattle.day_report.specs.Walk.{stand, closed_points};
 ghost use Rattle.day_report.specs.Sales.{clearing_of, unpaid_at, sale_of, sales};
 ghost use Rattle.day_report.specs.Totals.{is_in, count_in, cents_in, centilitres_in};
@@ -94,7 +95,7 @@ fn follow_sales(
     entries: &[Entry],
 ) -> Result<Vec<Sale>, AllocError>
     requires numbered { All (λ (p : PointState). p.last ≤ 0) points.old }
-    requires few { length entries.now ≤ 1048576 }
+    requires few { length entries.now ≤ ENTRIES }
     ensures sales { IfOk result (λ found. found.items ≡ sales points.old entries.now) }
     ensures points { IfOk result (λ found. points.new ≡ stand points.old entries.now) }
 {
@@ -109,7 +110,7 @@ fn follow_sales(
 /// What the entries of a site with so many points sold, and how the points stand after them. The error is want of
 /// memory.
 pub fn find_sales(alloc: Global, points: usize, entries: &[Entry]) -> Result<Sold, AllocError>
-    requires { length entries.now ≤ 1048576 }
+    requires { length entries.now ≤ ENTRIES }
     ensures sales { IfOk result (λ sold. sold.sales.items ≡ sales (closed_points points) entries.now) }
     ensures points { IfOk result (λ sold. sold.points.items ≡ stand (closed_points points) entries.now) }
 {

@@ -1,7 +1,8 @@
 //! How the points stood, step by step.
 
-ghost use Rattle.std.specs.Prelude.{◌≡◌, ◌+◌, ◌≤◌, All, OnOk, length};
-ghost use Rattle.fuelling_point.specs.Table.{PointState};
+ghost use Rattle.std.specs.Prelude.{◌≡◌, ◌+◌, ◌≤◌, ℕ, OnOk, length};
+ghost use Rattle.site_core.specs.declared.site.TheConstants.{ENTRIES};
+ghost use Rattle.day_report.specs.Following.{AreWithin, HaveRoom};
 ghost use Rattle.day_report.specs.Walk.{stand};
 
 use crate::walk::{closed_points, follow};
@@ -135,11 +136,10 @@ fn raise(states: &mut [State], points: &[Point], n: u32) {
 }
 
 /// What the entries of a step do to the points, with the greatest state of each in it.
-fn follow_step(points: &mut [Point], states: &mut [State], entries: &[Entry], before: usize)
-    requires numbered { All (λ (p : PointState). p.last ≤ before) points.old }
-    requires few { before + length entries.now ≤ 1048576 }
+fn follow_step(points: &mut [Point], states: &mut [State], entries: &[Entry])
+    requires few { HaveRoom points.old (length entries.now) }
     ensures stand { points.new ≡ stand points.old entries.now }
-    ensures bounded { All (λ (p : PointState). p.last ≤ before + length entries.now) points.new }
+    ensures bounded { (n : ℕ) → AreWithin n points.old → AreWithin (n + length entries.now) points.new }
 {
     for entry in entries {
         follow(points, entry);
@@ -154,17 +154,16 @@ fn step_states(
     alloc: Global,
     points: &mut [Point],
     entries: &[Entry],
-    before: usize,
 ) -> Result<Vec<State>, AllocError>
-    requires numbered { All (λ (p : PointState). p.last ≤ before) points.old }
-    requires few { before + length entries.now ≤ 1048576 }
-    ensures bounded { OnOk result (All (λ (p : PointState). p.last ≤ before + length entries.now) points.new) }
+    requires few { HaveRoom points.old (length entries.now) }
+    ensures bounded { OnOk result
+        ((n : ℕ) → AreWithin n points.old → AreWithin (n + length entries.now) points.new) }
 {
     let mut states = Vec::new(alloc);
     for point in points.iter() {
         states.push(point.state())?;
     }
-    follow_step(points, &mut states, entries, before);
+    follow_step(points, &mut states, entries);
     Ok(states)
 }
 
@@ -176,16 +175,17 @@ pub fn follow_states(
     entries: &[Entry],
     axis: Axis,
 ) -> Result<Bands, AllocError>
-    requires { length entries.now ≤ 1048576 }
+    requires { length entries.now ≤ ENTRIES }
 {
     let steps = steps_of(axis);
     let cuts = cuts(alloc, entries, axis, steps)?;
     let mut stand = closed_points(alloc, points)?;
+    let stand = stand.as_mut_slice();
     let mut states = Vec::new(alloc);
     let mut done = 0;
     for cut in &cuts {
         let end = (*cut).min(entries.len()).max(done);
-        let step = step_states(alloc, &mut stand, &entries[done..end], done)?;
+        let step = step_states(alloc, stand, &entries[done..end])?;
         states.extend_from_slice(&step)?;
         done = end;
     }

@@ -3,6 +3,7 @@ ghost use Rattle.std.specs.Prelude.{◌≤◌, IfOk, length};
 
 use crate::faults::tell_write;
 use crate::files::{Outlet, Source};
+use crate::progress::Watch;
 use console::{Ended, SessionFault};
 use std::cell::RefCell;
 use std::io::{self, BufWriter, Error, ErrorKind, Printer, Read, Write};
@@ -88,6 +89,8 @@ impl Write for Outgoing<'_, '_> {
 pub struct Incoming<'a, 'b> {
     pub source: Source,
     pub answers: &'b Answers<'a>,
+    /// Who looks at each piece that is read, which costs less than to look at each byte that is taken.
+    pub watch: Option<Watch<'a>>,
 }
 
 impl Read for Incoming<'_, '_> {
@@ -96,6 +99,10 @@ impl Read for Incoming<'_, '_> {
         if self.answers.let_go().is_err() {
             return Ok(0);
         }
-        self.source.read(buf)
+        let count = self.source.read(buf)?;
+        if let Some(watch) = &mut self.watch {
+            watch.see(&buf[..count]);
+        }
+        Ok(count)
     }
 }

@@ -6,6 +6,7 @@ use console::{
     AsmFault, ConfigFault, ConfigFlaw, JournalFlaw, ProgramFileFault, ProgramFlaw, asm_flaw,
 };
 use decision_journal::JournalFault;
+use site_server::CloseRefusal;
 use std::alloc::AllocError;
 use std::fmt::{self, Display};
 use std::io::{self, ErrorKind};
@@ -71,9 +72,9 @@ pub fn complain<D: Display>(rt: &HostRuntime, place: Place<'_>, words: &D, code:
     let _ = eprintln!(rt; "fc: {place}: {words} ({code})");
 }
 
-/// Prints a text, and answers the status.
-pub fn say(rt: &HostRuntime, text: &str, status: u8) -> u8 {
-    match print!(rt; "{text}") {
+/// The status, once something was printed.
+fn once_printed(rt: &HostRuntime, printed: io::Result<()>, status: u8) -> u8 {
+    match printed {
         Ok(()) => status,
         Err(error) => {
             tell_write(rt, Some(&error));
@@ -82,15 +83,14 @@ pub fn say(rt: &HostRuntime, text: &str, status: u8) -> u8 {
     }
 }
 
+/// Prints a text, and answers the status.
+pub fn say(rt: &HostRuntime, text: &str, status: u8) -> u8 {
+    once_printed(rt, print!(rt; "{text}"), status)
+}
+
 /// Prints a fault's number, and answers the status.
 pub fn refuse(rt: &HostRuntime, fault: &str) -> u8 {
-    match println!(rt; "{fault}") {
-        Ok(()) => REFUSED,
-        Err(error) => {
-            tell_write(rt, Some(&error));
-            FAILED
-        }
-    }
+    once_printed(rt, println!(rt; "{fault}"), REFUSED)
 }
 
 /// Says why nothing can be written on standard output. Who closed the pipe wants no more.
@@ -180,6 +180,21 @@ pub fn tell_journal(rt: &HostRuntime, word: &str, line: Option<u32>, flaw: &Jour
         None => Place::of(word),
     };
     complain(rt, place, flaw, code);
+}
+
+/// Refuses to close a site of a configuration.
+pub fn refuse_close(rt: &HostRuntime, word: &str, why: CloseRefusal) -> u8 {
+    let code = match why {
+        CloseRefusal::PassMissing => "C1",
+        CloseRefusal::NotInHistory(_, _) => "C2",
+        CloseRefusal::OtherConfig => "C3",
+    };
+    complain(rt, Place::of(word), &why, code);
+    let printed = match why {
+        CloseRefusal::NotInHistory(pass, number) => println!(rt; "{code} {pass} {number}"),
+        _ => println!(rt; "{code}"),
+    };
+    once_printed(rt, printed, REFUSED)
 }
 
 /// Says why a script ended within this line.

@@ -8,7 +8,7 @@ use crate::faults::{
 };
 use crate::files::{Source, Text, is_input, name_of, read_file};
 use crate::loads::Loads;
-use crate::progress::{Progress, Watched};
+use crate::progress::{Progress, Watch, Watched};
 use crate::report::report_files;
 use crate::serve::{JournalTo, serve_settings};
 use bpf_model::context::Layout;
@@ -24,7 +24,6 @@ use std::net::{Net, TcpListener, TcpStream};
 use std::sync::Wait;
 use std::thread::Threads;
 use std::time::Clock;
-use till_request::InputFault;
 use till_request::devices::{StreamIn, StreamOut};
 
 /// All was done. A refusal inside a play is an answer.
@@ -87,15 +86,7 @@ fn serve_file<H: Net<Listener = TcpListener, Stream = TcpStream> + Threads + Wai
         Ok(settings) => settings,
         Err(status) => return Ok(status),
     };
-    if settings.serve.is_none() {
-        complain(
-            rt,
-            Place::of(config),
-            &"serve needs the table [serve]",
-            "K2",
-        );
-    }
-    serve_settings(rt, host, settings, journal)
+    serve_settings(rt, host, config, settings, journal)
 }
 
 /// What is told of one file.
@@ -171,10 +162,10 @@ fn status_of(
         }
         Err(SessionFault::Read) => match read {
             Some(error) => complain(rt, place, error, "N1"),
-            None => complain(rt, place, &InputFault::Read, "N1"),
+            None => complain(rt, place, &SessionFault::Read, "N1"),
         },
         Err(SessionFault::Write) => answers.tell_failure(rt),
-        Err(SessionFault::ReadsSpent) => complain(rt, place, &InputFault::ReadsSpent, "N3"),
+        Err(SessionFault::ReadsSpent) => complain(rt, place, &SessionFault::ReadsSpent, "N3"),
         Err(SessionFault::OutOfMemory) => return out_of_memory(rt),
     }
     FAILED
@@ -191,6 +182,7 @@ fn play_input(rt: &HostRuntime) -> io::Result<u8> {
     let incoming = Incoming {
         source: Source::input(rt),
         answers: &answers,
+        watch: None,
     };
     let mut input = StreamIn {
         reader: BufReader::new(rt.alloc(), incoming)?,
@@ -233,16 +225,14 @@ fn play_rest(
     lines: u64,
     mut left: u32,
 ) -> io::Result<u8>
-    requires { left ≤ 67108864 }
+    requires { left ≤ READS }
 {
     let first = lines.saturating_add(1);
-    let progress = Progress::new(rt, false, None);
-    let loads = Some(Loads::new(rt, name_of("-"), first));
-    let mut input = Watched {
-        input,
-        progress,
-        loads,
+    let watch = Watch {
+        progress: Progress::new(rt, false, None),
+        loads: Some(Loads::new(rt, name_of("-"), first)),
     };
+    let mut input = Watched { input, watch };
     let mut output = outlet(answers);
     let ended = play_within(
         rt.alloc(),
@@ -314,28 +304,32 @@ fn play_script<'a>(
     settings: Settings,
     source: Source,
     script: &'a str,
-    answers: &Answers<'_>,
+    answers: &Answers<'a>,
 ) -> io::Result<u8> {
     // On a terminal the answers themselves show how far it is.
     let is_silent = !rt.stdout().is_terminal();
-    let progress = Progress::new(rt, is_silent, source.size());
-    let loads = Some(Loads::new(rt, name_of(script), 1));
-    let incoming = Incoming { source, answers };
-    let mut input = Watched {
-        input: StreamIn {
-            reader: BufReader::new(rt.alloc(), incoming)?,
-            reads: 0,
-            failures: 0,
-            asked: 0,
-        },
-        progress,
-        loads,
+    let watch = Watch {
+        progress: Progress::new(rt, is_silent, source.size()),
+        loads: Some(Loads::new(rt, name_of(script), 1)),
+    };
+    let incoming = Incoming {
+        source,
+        answers,
+        watch: Some(watch),
+    };
+    let mut input = StreamIn {
+        reader: BufReader::new(rt.alloc(), incoming)?,
+        reads: 0,
+        failures: 0,
+        asked: 0,
     };
     let mut output = outlet(answers);
     let ended = play(rt.alloc(), settings.config, &mut input, &mut output);
     let ended = answers.end(ended);
-    input.progress.clear();
-    let read = input.input.reader.get_ref().source.failure();
+    if let Some(watch) = &mut input.reader.get_mut().watch {
+        watch.progress.clear();
+    }
+    let read = input.reader.get_ref().source.failure();
     Ok(status_of(rt, ended, script, 1, read, answers))
 }
 
@@ -346,7 +340,6 @@ fn audit_files(rt: &HostRuntime, config: &str, journal: &str) -> io::Result<u8> 
     };
     let again = settings.config.copied(rt.alloc())?;
     let size = source.size();
-    let progress = Progress::new(rt, true, size);
     let mut input = Watched {
         input: StreamIn {
             reader: source,
@@ -354,11 +347,13 @@ fn audit_files(rt: &HostRuntime, config: &str, journal: &str) -> io::Result<u8> 
             failures: 0,
             asked: 0,
         },
-        progress,
-        loads: None,
+        watch: Watch {
+            progress: Progress::new(rt, true, size),
+            loads: None,
+        },
     };
     let told = audit_journal(rt.alloc(), settings.config, &mut input);
-    input.progress.clear();
+    input.watch.progress.clear();
     match told {
         Ok(told) => {
             // Only a file can be read once more.

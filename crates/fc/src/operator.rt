@@ -21,14 +21,15 @@ fn name_of(role: Role) -> &'static str {
     }
 }
 
-fn words_of(breach: Breach) -> &'static str {
+/// The number of what ended a session, with a blank before it.
+fn code_of(breach: Breach) -> &'static str {
     match breach {
-        Breach::Line(LineFault::TooLong) => "ended by a line of more than 8,400 bytes (L1)",
-        Breach::Line(_) => "ended in mid-line (L4)",
-        Breach::Session(SessionFault::Read) => "a read failed (N1)",
-        Breach::Session(SessionFault::Write) => "a write failed (N2)",
-        Breach::Session(SessionFault::ReadsSpent) => "its reads ran out (N3)",
-        Breach::Session(SessionFault::OutOfMemory) => "out of memory",
+        Breach::Line(LineFault::TooLong) => " (L1)",
+        Breach::Line(_) => " (L4)",
+        Breach::Session(SessionFault::Read) => " (N1)",
+        Breach::Session(SessionFault::Write) => " (N2)",
+        Breach::Session(SessionFault::ReadsSpent) => " (N3)",
+        Breach::Session(SessionFault::OutOfMemory) => "",
     }
 }
 
@@ -76,8 +77,8 @@ impl<H: Wait + Clock> Notices for Operator<'_, H> {
 
     fn breach(&self, role: Role, pass: u32, breach: Breach) {
         if self.is_admitted() {
-            let (who, words) = (name_of(role), words_of(breach));
-            let _ = eprintln!(self.rt; "fc: pass {pass}: the session of {who}: {words}");
+            let (who, code) = (name_of(role), code_of(breach));
+            let _ = eprintln!(self.rt; "fc: pass {pass}: the session of {who}: {breach}{code}");
         }
     }
 }

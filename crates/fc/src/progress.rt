@@ -104,12 +104,31 @@ impl<'a> Progress<'a> {
     }
 }
 
-/// A source of bytes whose lines are counted, and looked at where they are a script's.
+/// Looks at bytes as they are read: counts their lines, and tells of a script's refused loads.
+#[derive(Drop)]
+pub struct Watch<'a> {
+    pub progress: Progress<'a>,
+    pub loads: Option<Loads<'a>>,
+}
+
+impl Watch<'_> {
+    /// Looks at what a read gave, in order: nothing at the end.
+    pub fn see(&mut self, bytes: &[u8]) {
+        if bytes.is_empty() {
+            self.progress.say_end();
+        }
+        self.progress.count(bytes);
+        if let Some(loads) = &mut self.loads {
+            loads.see(bytes, &mut self.progress);
+        }
+    }
+}
+
+/// A source of bytes that are looked at as they are read.
 #[derive(Drop)]
 pub struct Watched<'a, I: LineIn> {
     pub input: I,
-    pub progress: Progress<'a>,
-    pub loads: Option<Loads<'a>>,
+    pub watch: Watch<'a>,
 }
 
 impl<I: LineIn + Drop> LineIn for Watched<'_, I> {
@@ -123,13 +142,7 @@ impl<I: LineIn + Drop> LineIn for Watched<'_, I> {
 
     fn read(&mut self, buffer: &mut [u8]) -> Result<usize, DeviceFault> {
         let count = self.input.read(buffer)?;
-        if count == 0 {
-            self.progress.say_end();
-        }
-        self.progress.count(&buffer[..count]);
-        if let Some(loads) = &mut self.loads {
-            loads.see(&buffer[..count], &mut self.progress);
-        }
+        self.watch.see(&buffer[..count]);
         Ok(count)
     }
 }

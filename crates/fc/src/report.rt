@@ -2,7 +2,7 @@
 use crate::faults::out_of_memory;
 use crate::jobs::{DONE, settings_and, tell_journal_fault};
 use crate::kept::refuse_history;
-use crate::progress::{Progress, Watched};
+use crate::progress::{Progress, Watch, Watched};
 use day_page::Page;
 use decision_journal::read_entries;
 use site_core::{Site, audit};
@@ -16,7 +16,10 @@ pub fn report_files(rt: &HostRuntime, config: &str, journal: &str) -> io::Result
         Ok(both) => both,
         Err(status) => return Ok(status),
     };
-    let progress = Progress::new(rt, true, source.size());
+    let watch = Watch {
+        progress: Progress::new(rt, true, source.size()),
+        loads: None,
+    };
     let mut input = Watched {
         input: StreamIn {
             reader: source,
@@ -24,11 +27,10 @@ pub fn report_files(rt: &HostRuntime, config: &str, journal: &str) -> io::Result
             failures: 0,
             asked: 0,
         },
-        progress,
-        loads: None,
+        watch,
     };
     let read = read_entries(rt.alloc(), &mut input);
-    input.progress.clear();
+    input.watch.progress.clear();
     let entries = match read {
         Ok(entries) => entries,
         Err(fault) => return tell_journal_fault(rt, journal, fault, input.input.reader.failure()),

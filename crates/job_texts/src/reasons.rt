@@ -199,7 +199,8 @@ pub fn refused_program(
 /// program. The error is want of memory.
 pub fn asm_flaw(alloc: Global, text: &[u8]) -> Result<Option<(AsmFault, AsmFlaw<'_>)>, AllocError>
     ensures { IfOk result
-        (λ found. MatchOption found (IsSpelling text.now) (λ p. asm.IsRefused text.now p.0 × Explains text.now p.0 p.1)) }
+        (λ found. MatchOption found (IsSpelling text.now)
+        (λ p. asm.IsRefused text.now p.0 × Explains text.now p.0 p.1)) }
 {
     match assemble(alloc, text) {
         Ok(_) => Ok(None),

@@ -8,7 +8,8 @@ use crate::sites::{
 };
 use crate::texts::{
     audits_journal, commands_help, commands_job, commands_usage, parses_line, reads_config,
-    reads_entries, reads_head, reads_line, tells_text, tells_units, writes_answer, writes_entries,
+    reads_entries, reads_head, reads_line, takes_line_journal, tells_text, tells_units,
+    writes_answer, writes_entries,
 };
 use std::alloc::Global;
 use std::test::Fail;
@@ -24,10 +25,10 @@ enum Call {
     Install,
     ParseLine,
     ReadLine,
-    WriteAnswer,
     WriteEntries,
     ReadEntries,
     AuditJournal,
+    TakeLineJournal,
     ReadConfig,
     ReadHead,
     TellUnits,
@@ -58,10 +59,10 @@ fn made_in(alloc: Global, call: Call, size: usize) -> Option<bool> {
         Call::Install => installs(alloc, size),
         Call::ParseLine => parses_line(alloc, size),
         Call::ReadLine => reads_line(alloc, size),
-        Call::WriteAnswer => writes_answer(alloc, size),
         Call::WriteEntries => writes_entries(alloc, size),
         Call::ReadEntries => reads_entries(alloc, size),
         Call::AuditJournal => audits_journal(alloc, size),
+        Call::TakeLineJournal => takes_line_journal(alloc, size),
         Call::ReadConfig => reads_config(alloc, size),
         Call::ReadHead => reads_head(alloc, size),
         Call::TellUnits => tells_units(alloc, size),
@@ -113,16 +114,22 @@ fn each_growth_refused_to_a_program(rt: HostRuntime) -> Result<(), Fail> {
 
 #[test]
 fn each_growth_refused_to_a_line(rt: HostRuntime) -> Result<(), Fail> {
-    for call in [Call::ParseLine, Call::ReadLine, Call::WriteAnswer] {
+    for call in [Call::ParseLine, Call::ReadLine] {
         let refused = refused(rt.alloc(), call).ok_or("another answer")?;
         assert!(rt; refused > 0, "{call:?}");
     }
+    assert!(rt; writes_answer(rt.alloc(), 0) == Some(true));
     Ok(())
 }
 
 #[test]
 fn each_growth_refused_to_a_journal(rt: HostRuntime) -> Result<(), Fail> {
-    for call in [Call::WriteEntries, Call::ReadEntries, Call::AuditJournal] {
+    for call in [
+        Call::WriteEntries,
+        Call::ReadEntries,
+        Call::AuditJournal,
+        Call::TakeLineJournal,
+    ] {
         let refused = refused(rt.alloc(), call).ok_or("another answer")?;
         assert!(rt; refused > 0, "{call:?}");
     }

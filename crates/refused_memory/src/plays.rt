@@ -13,19 +13,24 @@ const KIOSK: &str =
     "tills = 1\nprice_slot = 2\nprices = [1799, 1849, 0, 0, 0, 0, 0, 0]\n[[point]]\nrelease = 0\npreset = 1\n";
 
 pub const STATION: &str =
-    "tills = 2\nprice_slot = 2\nprices = [1799, 1849, 0, 0, 0, 0, 0, 0]\n[[point]]\nrelease = 0\npreset = 1\n[[point]]\nrelease = 0\npreset = 1\n[[counter]]\nvalue = 0\nbound = 2\n";
+    "tills = 2\nprice_slot = 2\nprices = [1799, 1849, 0, 0, 0, 0, 0, 0]\n[[point]]\nrelease = 0\npreset = 1\n\
+        [[point]]\nrelease = 0\npreset = 1\n[[counter]]\nvalue = 0\nbound = 2\n";
 
 const RELEASE: &str =
     "load 0 0 79101800000000009500000000000000\ntill 1 open 1\ntill 1 release 1 8000\ntill 1 release 1 8000\n";
 
 const SENT_AGAIN: &str =
-    "till 1 show 1\ntill 1 show 1\nload 0 0 79101800000000009500000000000000\ntill 1 open 1\ntill 1 release 1 8000\ntill 1 release 1 8000\n";
+    "till 1 show 1\ntill 1 show 1\nload 0 0 79101800000000009500000000000000\ntill 1 open 1\ntill 1 release 1 8000\n\
+        till 1 release 1 8000\n";
 
 const COUNTED: &str =
-    "load 1 1 b701000000000000b70200000100000085000000020000009500000000000000\ntill 1 open 1\ntill 1 preset 1 100\ntill 1 preset 1 100\ntill 1 preset 1 100\n";
+    "load 1 1 b701000000000000b70200000100000085000000020000009500000000000000\ntill 1 open 1\ntill 1 preset 1 100\n\
+        till 1 preset 1 100\ntill 1 preset 1 100\n";
 
 pub const DELIVERY: &str =
-    "load 0 0 79101800000000009500000000000000\ntill 1 open 1\ndisp 1 up 1\ntill 1 release 1 8000\ndisp 1 order\ndisp 1 started\ndisp 1 flow 2500 1390\ndisp 1 down\ntill 1 lock 1 1\ntill 2 lock 1 1\ntill 2 clear 1 1\ntill 1 clear 1 1\ntill 1 clear 1 1\ntill 1 show 1\n";
+    "load 0 0 79101800000000009500000000000000\ntill 1 open 1\ndisp 1 up 1\ntill 1 release 1 8000\ndisp 1 order\n\
+        disp 1 started\ndisp 1 flow 2500 1390\ndisp 1 down\ntill 1 lock 1 1\ntill 2 lock 1 1\ntill 2 clear 1 1\n\
+        till 1 clear 1 1\ntill 1 clear 1 1\ntill 1 show 1\n";
 
 /// How a play ended, and what it wrote.
 #[derive(Drop)]

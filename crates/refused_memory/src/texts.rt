@@ -7,6 +7,7 @@ use console::{
 };
 use decision_journal::{Entry, JournalFault, read_entries, write_entries};
 use site_core::Config;
+use site_lock::LineJournal;
 use std::alloc::Global;
 use till_request::devices::{MemoryIn, MemoryOut};
 use till_request::{
@@ -17,7 +18,10 @@ use till_request::{
 const LINE: &str = "load 0 0 79101800000000009500000000000000\n";
 
 const JOURNAL: &str =
-    "1 1 0 load 0 0 79101800000000009500000000000000 = version 1\n2 1 0 till 1 open 1 = done\n3 1 0 till 1 release 1 8000 = granted 8000 by 1 ; 0 1 8000 010000000100000001000000030000000000000000000000401f0000000000000000000000000000000000000000000000000000000000000000000000000000 -\n";
+    "1 1 0 load 0 0 79101800000000009500000000000000 = version 1\n2 1 0 till 1 open 1 = done\n\
+        3 1 0 till 1 release 1 8000 = granted 8000 by 1 ; 0 1 8000 \
+        010000000100000001000000030000000000000000000000401f000000000000000000000000000000000000000000000000000000000\
+        0000000000000000000 -\n";
 
 /// A text at a device.
 pub fn device(alloc: Global, text: &str) -> Option<MemoryIn> {
@@ -42,7 +46,7 @@ pub fn entries(alloc: Global) -> Option<Vec<Entry>> {
 
 pub fn parses_line(alloc: Global, size: usize) -> Option<bool> {
     let taken = take_but(alloc, size)?;
-    let answer = parse_line(alloc, Role::Till, b"till 1 release 1 8000");
+    let answer = parse_line(alloc, Role::Owner, LINE.trim_end().as_bytes());
     drop(taken);
     match answer {
         Ok(_) => Some(true),
@@ -96,6 +100,14 @@ pub fn reads_entries(alloc: Global, size: usize) -> Option<bool> {
         Ok(found) => (found.len() == 3).then_some(true),
         Err(fault) => (fault == JournalFault::OutOfMemory).then_some(false),
     }
+}
+
+pub fn takes_line_journal(alloc: Global, size: usize) -> Option<bool> {
+    let output = output(alloc, 8)?;
+    let taken = take_but(alloc, size)?;
+    let answer = LineJournal::new(alloc, output);
+    drop(taken);
+    Some(answer.is_ok())
 }
 
 pub fn audits_journal(alloc: Global, size: usize) -> Option<bool> {

@@ -10,10 +10,10 @@ returns-in_default-clause-broken g c =
 
 pub returns-clause-said : goal.returns-clause-said
 returns-clause-said g c =
-    said_from c.talk_within.result c.in-Ok.site (new_site c.args.config) c.talk_within.new.first c.talk_within.new.second _ _ _ _ c.in-Ok.ensures
+    said_from c.talk_within.result c.in-Ok.site (new_site c.args.config) c.talk_within.new.clock c.talk_within.new.desk _ _ _ _ c.in-Ok.ensures
     c.talk_within.ensures.said
 
 pub returns-clause-broken : goal.returns-clause-broken
 returns-clause-broken g c =
-    broken_from c.talk_within.result c.in-Ok.site (new_site c.args.config) c.talk_within.new.first c.talk_within.new.second _ _ _ _ c.in-Ok.ensures
+    broken_from c.talk_within.result c.in-Ok.site (new_site c.args.config) c.talk_within.new.clock c.talk_within.new.desk _ _ _ _ c.in-Ok.ensures
     c.talk_within.ensures.broken
