@@ -1,6 +1,6 @@
 #!/bin/sh
-# Runs programs of each kind by the interpreter and by the same loop as a C switch (interp.c, by gcc -O2), in turns, and
-# prints for each the nanoseconds of one run by both, their ratio, and at last the geometric mean of the ratios.
+# Runs programs of each kind by the interpreter and by the same loop as a C switch (interp.c, machine.h, by gcc -O2), in
+# turns, and prints for each the nanoseconds of one run by both, their ratio, and at last the ratios' geometric mean.
 # Usage: bench/interp.sh [ROUNDS]; without a number 20. Of all turns the least time counts, since other work on the
 # machine only adds to it. Both must give the same answers.
 # The driver (interp_driver.txt) is built in a folder of its own beside copies of the crates, with what was proved of
@@ -13,17 +13,10 @@ work=$(mktemp -d)
 trap 'rm -rf "$work"' EXIT
 rounds=${1:-20}
 
-needed='bpf_model bpf_decode flow_check operations stack_map counters helpers reg_types interp'
-mkdir -p "$work/crates/drive/src"
-: >"$work/crates.txt"
-for crate in $needed; do
-    cp -a "$here/../crates/$crate" "$work/crates/"
-    grep "^$crate[: ]" "$here/../crates.txt" >>"$work/crates.txt"
-done
-echo 'drive: interp reg_types helpers counters hex' >>"$work/crates.txt"
-cp "$here/../HANDLES" "$work/"
-cp "$here/interp_driver.txt" "$work/crates/drive/src/main.rt"
-git init -q "$work"
+# shellcheck source=bench/driver.sh
+. "$here/driver.sh"
+driver_workspace 'bpf_model bpf_decode flow_check operations stack_map counters helpers reg_types interp' \
+    'drive: interp reg_types helpers counters hex' interp_driver.txt
 (cd "$work/crates/drive" && rt run -- 1 1 /dev/null </dev/null >"$work/log" 2>&1) || true
 drive=$work/crates/drive/out/drive
 [ -x "$drive" ] || { tail -n 20 "$work/log" >&2; exit 1; }

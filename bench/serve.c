@@ -1,7 +1,7 @@
 /* Drives a site that is served over loopback: driver PORT LINES PROGRAM COUNT LINE [COUNT LINE], where tills connect at
    PORT, dispensers at PORT + 1 and the owner at PORT + 2. Loads PROGRAM for presets, opens point 1, and then COUNT connections
    send LINE so often, each waiting for its answer; a second group of connections sends its own line beside them. Prints for
-   each group lines per second and the median and 99th percentile of an answer. */
+   each group lines per second and within how long half, 99 of 100 and 999 of 1,000 answers come. */
 #include <arpa/inet.h>
 #include <netinet/in.h>
 #include <netinet/tcp.h>
@@ -94,8 +94,9 @@ static void tell(struct group *group, uint64_t began) {
     double seconds = (group->ended - began) / 1e9;
     qsort(group->times, all, sizeof *group->times, by_time);
     group->line[strlen(group->line) - 1] = 0;
-    printf("%-22s %d connection%s %8.0f lines/s   p50 %6.1f us   p99 %6.1f us\n", group->line, group->count,
-           group->count == 1 ? " " : "s", all / seconds, group->times[all / 2] / 1e3, group->times[all * 99 / 100] / 1e3);
+    printf("%-22s %d connection%s %8.0f lines/s   p50 %6.1f us   p99 %6.1f us   p99.9 %6.1f us\n", group->line,
+           group->count, group->count == 1 ? " " : "s", all / seconds, group->times[all / 2] / 1e3,
+           group->times[all * 99 / 100] / 1e3, group->times[all / 1000 * 999 + all % 1000 * 999 / 1000] / 1e3);
 }
 
 int main(int argc, char **argv) {

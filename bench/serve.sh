@@ -10,9 +10,17 @@
 # may be made to take so many microseconds longer for each sync; give few LINES then.
 #
 #     bench/serve.sh LINES --sync [MICROSECONDS]
+#
+# With --null: presets and `show` on 8 and on 64 connections, in turns beside a server that answers without a site
+# (bench/null_server.c), 8 times LINES in all each, as a table in Markdown of the medians of TURNS turns, 7 where it isn't
+# said, and their ratios. With BYTES that server takes a lock twice for each line and appends so many bytes to a list.
+#
+#     bench/serve.sh LINES --null [TURNS [BYTES]]
+#
+# The program is crates/fc/out/fc, which ./fc builds, or $FC.
 set -eu
 here=$(CDPATH='' cd -- "$(dirname -- "$0")" && pwd -P)
-fc=$here/../crates/fc/out/fc
+fc=${FC:-$here/../crates/fc/out/fc}
 [ -x "$fc" ] || { echo "bench: build the program first: ./fc --version" >&2; exit 1; }
 work=$(mktemp -d)
 trap 'kill "$served" 2>/dev/null || true; rm -rf "$work"' EXIT
@@ -21,6 +29,8 @@ kept=${2:-}
 synced=''
 preload=''
 each=''
+null=''
+bytes=''
 cc -O2 -pthread -o "$work/driver" "$here/serve.c"
 
 # Starts a site on ports that are free, with so many workers for tills; each serves one connection.
@@ -43,9 +53,14 @@ connections = 1
 END
         : >"$work/said"
         rm -f "$work/day.journal"
-        # shellcheck disable=SC2086 # no word where no journal is kept, or none is synced
-        env ${preload:+LD_PRELOAD=$preload} ${each:+SYNC_EACH_WRITE=1} \
-            "$fc" serve ${kept:+--journal "$work/day.journal"} $synced "$work/site.toml" </dev/null >"$work/journal" 2>"$work/said" &
+        if [ -n "$null" ]; then
+            "$work/null_server" "$port" "$1" ${bytes:+"$bytes"} </dev/null 2>"$work/said" &
+        else
+            # shellcheck disable=SC2086 # no word where no journal is kept, or none is synced
+            env ${preload:+LD_PRELOAD=$preload} ${each:+SYNC_EACH_WRITE=1} \
+                "$fc" serve ${kept:+--journal "$work/day.journal"} $synced "$work/site.toml" </dev/null \
+                >"$work/journal" 2>"$work/said" &
+        fi
         served=$!
         for _ in 1 2 3 4 5 6 7 8 9 10 11 12 13 14 15 16 17 18 19 20; do
             grep -q serving "$work/said" && return
@@ -85,6 +100,53 @@ if [ "$kept" = --sync ]; then
         synced=--sync
         measure "$connections" "$two" "$connections" 'till 1 preset 1 5000'
         synced=''
+    done
+    exit
+fi
+
+# What the driver said in turns, as the medians of lines a second, p50, p99 and p99.9.
+medians() {
+    awk '{ print $(NF - 10), $(NF - 7), $(NF - 4), $(NF - 1) }' "$1" | awk '
+        function median(column,    i, j, kept) {
+            for (i = 2; i <= NR; i++)
+                for (j = i; j > 1 && said[j, column] < said[j - 1, column]; j--) {
+                    kept = said[j, column]
+                    said[j, column] = said[j - 1, column]
+                    said[j - 1, column] = kept
+                }
+            return said[int((NR + 1) / 2), column]
+        }
+        { for (i = 1; i <= 4; i++) said[NR, i] = $i + 0 }
+        END { print median(1), median(2), median(3), median(4) }'
+}
+
+if [ "$kept" = --null ]; then
+    cc -O2 -pthread -o "$work/null_server" "$here/null_server.c"
+    kept='' all=$((8 * lines)) turns=${3:-7} bytes=${4:-}
+    echo '| line | connections | server | lines a second | p50, us | p99, us | p99.9, us |'
+    echo '|---|---|---|---|---|---|---|'
+    for connections in 8 64; do
+        lines=$((all / connections))
+        for line in 'till 1 preset 1 5000' 'till 1 show 1'; do
+            turn=0
+            rm -f "$work/ours" "$work/theirs"
+            while [ "$turn" -lt "$turns" ]; do
+                measure "$connections" "$two" "$connections" "$line" >>"$work/ours"
+                null=1
+                measure "$connections" "$two" "$connections" "$line" >>"$work/theirs"
+                null=''
+                turn=$((turn + 1))
+            done
+            echo "$line $connections $(medians "$work/ours") $(medians "$work/theirs")" | awk '{
+                split($0, w, " ")
+                n = NF - 8
+                head = "| " w[3] " | " w[n] " |"
+                printf "%s fc | %.0f | %.1f | %.1f | %.1f |\n", head, w[n + 1], w[n + 2], w[n + 3], w[n + 4]
+                printf "%s no site | %.0f | %.1f | %.1f | %.1f |\n", head, w[n + 5], w[n + 6], w[n + 7], w[n + 8]
+                printf "%s ratio | %.2f | %.2f | %.2f | %.2f |\n", head, w[n + 1] / w[n + 5], w[n + 2] / w[n + 6],
+                    w[n + 3] / w[n + 7], w[n + 4] / w[n + 8]
+            }'
+        done
     done
     exit
 fi

@@ -12,18 +12,11 @@ work=$(mktemp -d)
 trap 'rm -rf "$work"' EXIT
 programs=${1:-20000}
 
-needed='bpf_model bpf_decode flow_check operations stack_map counters helpers reg_types interp program_slots fuelling_point'
-needed="$needed till_request decision_journal line_session site_core site_lock"
-mkdir -p "$work/crates/drive/src"
-: >"$work/crates.txt"
-for crate in $needed; do
-    cp -a "$here/../crates/$crate" "$work/crates/"
-    grep "^$crate[: ]" "$here/../crates.txt" >>"$work/crates.txt"
-done
-echo 'drive may_wait=4: site_lock reg_types hex' >>"$work/crates.txt"
-cp "$here/../HANDLES" "$work/"
-cp "$here/verify_driver.txt" "$work/crates/drive/src/main.rt"
-git init -q "$work"
+# shellcheck source=bench/driver.sh
+. "$here/driver.sh"
+driver_workspace "bpf_model bpf_decode flow_check operations stack_map counters helpers reg_types interp program_slots \
+fuelling_point till_request decision_journal line_session site_core site_lock" \
+    'drive may_wait=4: site_lock reg_types hex' verify_driver.txt
 (cd "$work/crates/drive" && rt run -- time 1 /dev/null </dev/null >"$work/log" 2>&1) ||
     { tail -n 20 "$work/log" >&2; exit 1; }
 drive=$work/crates/drive/out/drive
