@@ -185,5 +185,3 @@ pub fn reassemble(alloc: Global, code: &Code) -> Result<Code, AsmFault>
     }
 }
 
-#[cfg(test)]
-mod tests;

@@ -234,23 +234,16 @@ Status: 0 done, 1 the input is refused, 2 the words are wrong, 3 a device failed
 pub fn fc<'a>(alloc: Global) -> Result<Command<'a>, AllocError>
     ensures { IfOk result (λ c. app_of c ≡ fc_app) }
 {
-    let asm = asm(alloc)?;
-    let dis = dis(alloc)?;
-    let verify = verify(alloc)?;
-    let play = play(alloc)?;
-    let audit = audit(alloc)?;
-    let report = report(alloc)?;
-    let serve = serve(alloc)?;
     let top = Command::new(alloc, "fc")
         .version("0.1.0")
         .about(ABOUT)
         .after_help(AFTER);
-    let one = top.subcommand(asm)?;
-    let two = one.subcommand(dis)?;
-    let three = two.subcommand(verify)?;
-    let four = three.subcommand(play)?;
-    let five = four.subcommand(audit)?;
-    let six = five.subcommand(report)?;
-    let all = six.subcommand(serve)?;
+    let one = top.subcommand(asm(alloc)?)?;
+    let two = one.subcommand(dis(alloc)?)?;
+    let three = two.subcommand(verify(alloc)?)?;
+    let four = three.subcommand(play(alloc)?)?;
+    let five = four.subcommand(audit(alloc)?)?;
+    let six = five.subcommand(report(alloc)?)?;
+    let all = six.subcommand(serve(alloc)?)?;
     Ok(all)
 }

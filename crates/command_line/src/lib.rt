@@ -3,8 +3,6 @@
 
 mod app;
 mod job;
-#[cfg(test)]
-mod tests;
 mod words;
 
 pub use job::{CommandFault, Job};

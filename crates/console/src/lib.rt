@@ -6,8 +6,6 @@ mod loading;
 mod player;
 mod playing;
 mod script;
-#[cfg(test)]
-mod tests;
 
 pub use bpf_asm::{AsmFault, AsmFlaw};
 pub use command_line::{CommandFault, Job, command};

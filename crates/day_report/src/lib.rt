@@ -9,8 +9,6 @@ mod pushing;
 mod rulings;
 mod sales;
 mod steps;
-#[cfg(test)]
-mod tests;
 mod walk;
 
 pub use adding::{FIRST_REFUSAL, REFUSALS, TILLS, Totals, Unpaid, add_up};

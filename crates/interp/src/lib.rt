@@ -11,5 +11,3 @@ pub use bpf_model::context::{Context, Layout};
 pub use rebasing::rebase;
 pub use running::run;
 
-#[cfg(test)]
-mod tests;

@@ -8,8 +8,6 @@ mod file_flaws;
 mod journal_reasons;
 mod program;
 mod reasons;
-#[cfg(test)]
-mod tests;
 mod told;
 
 pub use assembler::{asm_file, dis_file, dis_units_file};

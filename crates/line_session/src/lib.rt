@@ -10,8 +10,6 @@ mod desk_session;
 mod doors;
 mod serving;
 mod speaker;
-#[cfg(test)]
-mod tests;
 
 pub use ahead::session_ahead;
 pub use answering::{Ended, READS, SessionFault, talk, talk_within};

@@ -12,8 +12,6 @@ use std::marker::Model;
 use std::sync::Arc;
 use thiserror::Error;
 
-#[cfg(test)]
-mod tests;
 
 /// How many versions there can be, over all slots.
 pub const VERSIONS: usize = 4096;

@@ -5,8 +5,6 @@ mod notes;
 mod refusal;
 mod rules;
 mod table;
-#[cfg(test)]
-mod tests;
 mod types;
 mod verifier;
 

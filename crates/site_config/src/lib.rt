@@ -8,8 +8,6 @@ mod head;
 mod ranges;
 mod raw;
 mod settings;
-#[cfg(test)]
-mod tests;
 mod typed;
 
 pub use fault::ConfigFault;

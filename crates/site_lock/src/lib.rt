@@ -8,20 +8,12 @@ mod desk;
 mod enter_fault;
 mod forecourt;
 mod gate;
-#[cfg(test)]
-mod gate_tests;
 mod ground;
 mod halted;
 mod journal;
-#[cfg(test)]
-mod journal_tests;
 mod opening;
 mod pass;
-#[cfg(test)]
-mod program_tests;
 mod programs;
-#[cfg(test)]
-mod tests;
 
 pub use check::{are_all, fault, fault_since};
 pub use close::{CloseFault, CloseRefusal, Closed};

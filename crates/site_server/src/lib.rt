@@ -10,10 +10,6 @@ mod listeners;
 mod notices;
 mod posts;
 mod serving;
-#[cfg(test)]
-mod sync_tests;
-#[cfg(test)]
-mod tests;
 
 pub use clock::MachineClock;
 pub use crew::Crew;

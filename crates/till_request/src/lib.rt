@@ -15,8 +15,6 @@ mod numbers;
 mod parts;
 mod short_text;
 mod spelling;
-#[cfg(test)]
-mod tests;
 mod write;
 
 pub use act::{Act, Answer, Bytes, LineFault, Reply, Request, Role};

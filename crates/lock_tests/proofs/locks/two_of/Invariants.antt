@@ -1,0 +1,8 @@
+use Rattle.std.proofs.Common.{[], None}
+use Rattle.lock_tests.proofs.locks.two_of.Given as goal
+
+abbrev pub ghosts-two-L-Ledger : goal.ghosts-two-L-Ledger
+ghosts-two-L-Ledger g a = record { name = a.blank.name; parts = a.blank.parts }
+
+abbrev pub ghosts-two-L-Yard : goal.ghosts-two-L-Yard
+ghosts-two-L-Yard g a = record { config = a.config; base = []; taken = None }

@@ -1,0 +1,307 @@
+//! Programs that are run while nobody holds the lock.
+ghost use Rattle.std.specs.Prelude.{◌≡◌, [], None};
+
+use crate::locks::config;
+use site_lock::{Forecourt, Gate, Pass, Straight, Yard};
+use reg_types::{Layout, verify};
+use site_core::{Answered, Config, Draft, Ready};
+use std::alloc::Global;
+use std::marker::Brand;
+use std::sync::atomic::{AtomicBool, Ordering};
+use std::sync::ledger::Blank;
+use std::sync::{Arc, Wait};
+use std::test::Fail;
+use std::thread::{Threads, join, yield_now};
+use till_request::{Reply, Request};
+
+/// Grants what is asked.
+const ASKED: [u8; 16] = [0x79, 0x10, 0x18, 0, 0, 0, 0, 0, 0x95, 0, 0, 0, 0, 0, 0, 0];
+
+/// Grants 5,000 at most.
+const FIVE_THOUSAND: [u8; 16] = [0xb7, 0, 0, 0, 0x88, 0x13, 0, 0, 0x95, 0, 0, 0, 0, 0, 0, 0];
+
+/// Loads a program into slot 0: the entry's number.
+fn load<L: Yard, R: Wait>(
+    rt: &R,
+    alloc: Global,
+    yard: &Forecourt<L>,
+    pass: &mut Pass<L>,
+    program: &[u8; 16],
+) -> Option<u32> {
+    let program = verify(alloc, program.as_slice(), 0, Layout::One).ok()?;
+    let program = Arc::new(alloc, program).ok()?;
+    let answered = yard.load(rt, pass, 0, program).ok()?;
+    Some(answered.number)
+}
+
+/// Opens a point for till 1: the entry's number.
+fn open<L: Yard, R: Wait>(
+    rt: &R,
+    yard: &Forecourt<L>,
+    pass: &mut Pass<L>,
+    point: u32,
+) -> Option<u32> {
+    let mut gate = Straight { calls: 0 };
+    let answered = yard
+        .request(rt, pass, &mut gate, 1, 0, Request::OpenPoint(point))
+        .ok()?;
+    Some(answered.number)
+}
+
+/// What two requests are answered, and how often their gates were called.
+#[derive(Clone, Copy, Debug, PartialEq, Eq, Drop)]
+struct Told {
+    first: (u32, Reply),
+    first_calls: u64,
+    second: (u32, Reply),
+    second_calls: u64,
+}
+
+/// A release and a show, where nothing comes between.
+fn alone<L: Yard, R: Wait>(
+    rt: &R,
+    alloc: Global,
+    blank: Blank,
+    config: Config,
+) -> Result<Told, Fail>
+    requires name { blank.name ≡ L.name }
+    requires parts { blank.parts ≡ L.parts }
+    requires config { config ≡ L.config }
+    requires new { (L.base ≡ []) × (L.taken ≡ None) }
+    requires one { blank.parts ≡ 1 }
+{
+    let (yard, mut passes) = Forecourt::<L>::start(alloc, config, 1, blank)?;
+    let mut pass = passes.pop().ok_or("a pass")?;
+    load(rt, alloc, &yard, &mut pass, &ASKED).ok_or("a load")?;
+    open(rt, &yard, &mut pass, 1).ok_or("an open point")?;
+    let mut gate = Straight { calls: 0 };
+    let released = yard
+        .request(rt, &mut pass, &mut gate, 1, 0, Request::Release(1, 8000))
+        .ok()
+        .ok_or("a release")?;
+    let calls = gate.calls;
+    let shown = yard
+        .request(rt, &mut pass, &mut gate, 1, 0, Request::Release(1, 8000))
+        .ok()
+        .ok_or("a refusal")?;
+    Ok(Told {
+        first: (released.number, released.reply),
+        first_calls: calls,
+        second: (shown.number, shown.reply),
+        second_calls: gate.calls,
+    })
+}
+
+fn alone_of<R: Wait>(rt: &R, alloc: Global, config: Config) -> Result<Told, Fail> {
+    alone::<Brand, R>(rt, alloc, Blank::new(1), config)
+}
+
+#[test]
+fn a_gate_is_called_once_where_nothing_comes_between(rt: HostRuntime) -> Result<(), Fail> {
+    let config = config(rt.alloc()).ok_or("a configuration")?;
+    let told = alone_of(&rt, rt.alloc(), config)?;
+    assert_eq!(rt; told.first, (3, Reply::Granted(8000, 1)));
+    assert_eq!(rt; told.first_calls, 1);
+    // The point is authorised: no program is asked.
+    assert_eq!(rt; told.second, (4, Reply::Refused(22, Some(5))));
+    assert_eq!(rt; told.second_calls, 1);
+    Ok(())
+}
+
+/// Loads a program by a pass of its own before it runs a draft.
+#[derive(Drop)]
+struct Loading<'a, L: Yard, R: Wait> {
+    rt: &'a R,
+    alloc: Global,
+    yard: &'a Forecourt<L>,
+    pass: Pass<L>,
+    calls: u64,
+    failed: bool,
+}
+
+impl<L: Yard, R: Wait> Gate for Loading<'_, L, R> {
+    ghost calls = { λ s. s.calls };
+
+    fn run(&mut self, _till: u32, draft: Draft) -> Ready {
+        self.calls = self.calls.wrapping_add(1);
+        let Loading {
+            rt,
+            alloc,
+            yard,
+            pass,
+            failed,
+            ..
+        } = self;
+        if load(*rt, *alloc, yard, pass, &ASKED).is_none() {
+            *failed = true;
+        }
+        draft.run()
+    }
+}
+
+/// A release, with another version each time before its program is run: the entry's number, the reply, and the gate's
+/// calls.
+fn overtaken<L: Yard, R: Wait>(
+    rt: &R,
+    alloc: Global,
+    blank: Blank,
+    config: Config,
+) -> Result<(u32, Reply, u64, bool), Fail>
+    requires name { blank.name ≡ L.name }
+    requires parts { blank.parts ≡ L.parts }
+    requires config { config ≡ L.config }
+    requires new { (L.base ≡ []) × (L.taken ≡ None) }
+    requires two { blank.parts ≡ 2 }
+{
+    let (yard, mut passes) = Forecourt::<L>::start(alloc, config, 2, blank)?;
+    let second = passes.pop().ok_or("a pass")?;
+    let mut first = passes.pop().ok_or("a pass")?;
+    load(rt, alloc, &yard, &mut first, &FIVE_THOUSAND).ok_or("a load")?;
+    open(rt, &yard, &mut first, 1).ok_or("an open point")?;
+    let mut gate = Loading {
+        rt,
+        alloc,
+        yard: &yard,
+        pass: second,
+        calls: 0,
+        failed: false,
+    };
+    let answered = yard
+        .request(rt, &mut first, &mut gate, 1, 0, Request::Release(1, 8000))
+        .ok()
+        .ok_or("a release")?;
+    Ok((answered.number, answered.reply, gate.calls, gate.failed))
+}
+
+fn overtaken_of<R: Wait>(
+    rt: &R,
+    alloc: Global,
+    config: Config,
+) -> Result<(u32, Reply, u64, bool), Fail> {
+    overtaken::<Brand, R>(rt, alloc, Blank::new(2), config)
+}
+
+#[test]
+fn what_is_stale_twice_is_decided_under_the_lock(rt: HostRuntime) -> Result<(), Fail> {
+    let config = config(rt.alloc()).ok_or("a configuration")?;
+    let (number, reply, calls, failed) = overtaken_of(&rt, rt.alloc(), config)?;
+    assert_eq!(rt; (number, reply), (5, Reply::Granted(8000, 3)));
+    assert_eq!(rt; calls, 2);
+    assert!(rt; !failed);
+    Ok(())
+}
+
+/// Holds its first draft, before it is run, until it is let go.
+#[derive(Drop)]
+struct Holding<'a> {
+    held: &'a AtomicBool,
+    go: &'a AtomicBool,
+    calls: u64,
+    in_time: bool,
+}
+
+/// Whether the flag is set within so many turns.
+fn wait_for(flag: &AtomicBool) -> bool {
+    for _ in 0..100_000_000u32 {
+        if flag.load(Ordering::SeqCst) {
+            return true;
+        }
+        yield_now();
+    }
+    false
+}
+
+impl Gate for Holding<'_> {
+    ghost calls = { λ s. s.calls };
+
+    fn run(&mut self, _till: u32, draft: Draft) -> Ready {
+        self.calls = self.calls.wrapping_add(1);
+        self.held.store(true, Ordering::SeqCst);
+        self.in_time = wait_for(self.go);
+        draft.run()
+    }
+}
+
+/// Till 1 asks, and is held; how it was answered, and whether it was let go in time.
+fn held_call<L: Yard, R: Wait>(
+    rt: &R,
+    yard: &Forecourt<L>,
+    pass: &mut Pass<L>,
+    held: &AtomicBool,
+    go: &AtomicBool,
+) -> (Option<Answered>, bool) {
+    let mut gate = Holding {
+        held,
+        go,
+        calls: 0,
+        in_time: false,
+    };
+    let answered = yard.request(rt, pass, &mut gate, 1, 0, Request::Release(1, 8000));
+    (answered.ok(), gate.in_time)
+}
+
+/// Till 2 asks once till 1 is held, and then lets it go.
+fn other_call<L: Yard, R: Wait>(
+    rt: &R,
+    yard: &Forecourt<L>,
+    pass: &mut Pass<L>,
+    held: &AtomicBool,
+    go: &AtomicBool,
+) -> (Option<Answered>, bool) {
+    let in_time = wait_for(held);
+    let mut gate = Straight { calls: 0 };
+    let answered = yard.request(rt, pass, &mut gate, 2, 0, Request::Release(2, 8000));
+    go.store(true, Ordering::SeqCst);
+    (answered.ok(), in_time)
+}
+
+/// What both tills are answered, if none waited for too long.
+fn both<L: Yard + Send + Sync, R: Threads + Wait + Sync>(
+    rt: &R,
+    alloc: Global,
+    blank: Blank,
+    config: Config,
+) -> Result<Option<[(u32, Reply); 2]>, Fail>
+    requires name { blank.name ≡ L.name }
+    requires parts { blank.parts ≡ L.parts }
+    requires config { config ≡ L.config }
+    requires new { (L.base ≡ []) × (L.taken ≡ None) }
+    requires two { blank.parts ≡ 2 }
+{
+    let (yard, mut passes) = Forecourt::<L>::start(alloc, config, 2, blank)?;
+    let mut second = passes.pop().ok_or("a pass")?;
+    let mut first = passes.pop().ok_or("a pass")?;
+    load(rt, alloc, &yard, &mut first, &ASKED).ok_or("a load")?;
+    open(rt, &yard, &mut first, 1).ok_or("an open point")?;
+    open(rt, &yard, &mut first, 2).ok_or("an open point")?;
+    let (held, go) = (AtomicBool::new(false), AtomicBool::new(false));
+    let (held, go, yard) = (&held, &go, &yard);
+    let ((one, in_time), (two, soon)) = join(
+        rt,
+        || held_call(rt, yard, &mut first, held, go),
+        || other_call(rt, yard, &mut second, held, go),
+    );
+    let (one, two) = (one.ok_or("a release")?, two.ok_or("a release")?);
+    if in_time && soon {
+        Ok(Some([(one.number, one.reply), (two.number, two.reply)]))
+    } else {
+        Ok(None)
+    }
+}
+
+fn both_of<R: Threads + Wait + Sync>(
+    rt: &R,
+    alloc: Global,
+    config: Config,
+) -> Result<Option<[(u32, Reply); 2]>, Fail> {
+    both::<Brand, R>(rt, alloc, Blank::new(2), config)
+}
+
+#[test]
+fn gate_holds_first_until_second(rt: HostRuntime) -> Result<(), Fail> {
+    let config = config(rt.alloc()).ok_or("a configuration")?;
+    let told = both_of(&rt, rt.alloc(), config)?;
+    let granted = Reply::Granted(8000, 1);
+    assert_eq!(rt; told, Some([(5, granted), (4, granted)]));
+    Ok(())
+}

@@ -1,0 +1,306 @@
+//! Threads, desks and closings over one forecourt.
+ghost use Rattle.std.specs.Prelude.{◌≡◌, [], None};
+
+use site_lock::{
+    Clock, CloseRefusal, Forecourt, Pass, PassDesk, Receipt, Straight, Yard, are_all, fault,
+    session,
+};
+use fuelling_point::DispenserEvent;
+use reg_types::{Layout, verify};
+use site_core::{CallFault, Config};
+use std::alloc::Global;
+use std::marker::Brand;
+use std::sync::ledger::Blank;
+use std::sync::{Arc, Wait};
+use std::test::Fail;
+use std::thread::{Threads, join};
+use till_request::devices::{MemoryIn, MemoryOut};
+use till_request::{Reply, Request, Role};
+
+/// Two tills, two points whose releases go to slot 0 and presets to slot 1, prices to slot 2, and one counter of at
+/// most 2.
+pub fn config(alloc: Global) -> Option<Config> {
+    let points = vec![in alloc; (0, 1), (0, 1)].ok()?;
+    let mut counters = [(0, 0); 32];
+    counters[0] = (0, 2);
+    Config::new(2, 2, [1799, 1849, 0, 0, 0, 0, 0, 0], points, counters)
+}
+
+/// Asks so often for what point 1 shows.
+fn shows<L: Yard, R: Wait>(
+    rt: &R,
+    yard: &Forecourt<L>,
+    mut pass: Pass<L>,
+    calls: u32,
+) -> Result<Pass<L>, CallFault> {
+    let mut gate = Straight { calls: 0 };
+    for _ in 0..calls {
+        yard.request(rt, &mut pass, &mut gate, 1, 0, Request::Show(1))?;
+    }
+    Ok(pass)
+}
+
+/// How many receipts there are, if their numbers rise.
+fn rising(receipts: &[Receipt]) -> Option<usize> {
+    let mut last = 0;
+    for receipt in receipts {
+        if receipt.number <= last {
+            return None;
+        }
+        last = receipt.number;
+    }
+    Some(receipts.len())
+}
+
+/// What two threads of 1,000 requests each leave.
+#[derive(Clone, Copy, Debug, PartialEq, Eq, Drop)]
+struct Left {
+    first: Option<usize>,
+    second: Option<usize>,
+    refused: Option<CloseRefusal>,
+    handed_back: usize,
+    halted: usize,
+    entries: Option<usize>,
+}
+
+/// Two threads with a pass each ask 1,000 times; the forecourt is closed without the second pass, and then with both.
+fn two<L: Yard + Send + Sync, R: Threads + Wait + Sync>(
+    rt: &R,
+    alloc: Global,
+    blank: Blank,
+    config: Config,
+) -> Result<Left, Fail>
+    requires name { blank.name ≡ L.name }
+    requires parts { blank.parts ≡ L.parts }
+    requires config { config ≡ L.config }
+    requires new { (L.base ≡ []) × (L.taken ≡ None) }
+    requires two { blank.parts ≡ 2 }
+{
+    let (yard, mut passes) = Forecourt::<L>::start(alloc, config, 2, blank)?;
+    let second = passes.pop().ok_or("a pass")?;
+    let first = passes.pop().ok_or("a pass")?;
+    let shared = &yard;
+    let (a, b) = join(
+        rt,
+        move || shows(rt, shared, first, 1000),
+        move || shows(rt, shared, second, 1000),
+    );
+    let a = a.ok().ok_or("a call")?;
+    let b = b.ok().ok_or("a call")?;
+    let mut left = Left {
+        first: rising(a.receipts()),
+        second: rising(b.receipts()),
+        refused: None,
+        handed_back: 0,
+        halted: 0,
+        entries: None,
+    };
+    passes.push(a)?;
+    let (yard, mut passes) = match yard.close(rt, passes) {
+        Ok(_) => return Ok(left),
+        Err(kept) => {
+            left.refused = Some(kept.why);
+            left.handed_back = kept.passes.len();
+            left.halted = kept.forecourt.history().len();
+            (kept.forecourt.reopen(), kept.passes)
+        }
+    };
+    passes.push(b)?;
+    if let Ok(closed) = yard.close(rt, passes) {
+        left.entries = Some(closed.site.history().len());
+    }
+    Ok(left)
+}
+
+fn two_of<R: Threads + Wait + Sync>(rt: &R, alloc: Global, config: Config) -> Result<Left, Fail> {
+    two::<Brand, R>(rt, alloc, Blank::new(2), config)
+}
+
+#[test]
+fn two_threads_of_a_thousand(rt: HostRuntime) -> Result<(), Fail> {
+    let config = config(rt.alloc()).ok_or("a configuration")?;
+    let left = two_of(&rt, rt.alloc(), config)?;
+    assert_eq!(rt; left.first, Some(1000));
+    assert_eq!(rt; left.second, Some(1000));
+    assert_eq!(rt; left.refused, Some(CloseRefusal::PassMissing));
+    assert_eq!(rt; left.handed_back, 1);
+    assert_eq!(rt; left.halted, 2000);
+    assert_eq!(rt; left.entries, Some(2000));
+    Ok(())
+}
+
+/// Tells 0.
+#[derive(Drop)]
+struct Still;
+
+impl Clock for Still {
+    ghost tick = { λ _ _ _. Unit {0} };
+
+    fn now(&mut self) -> u64 {
+        0
+    }
+}
+
+/// A session of all lines at a desk: what it writes, the receipts that the pass gained, and the entries of the site
+/// that is closed then.
+fn desk<L: Yard, R: Wait>(
+    rt: &R,
+    alloc: Global,
+    blank: Blank,
+    config: Config,
+    script: Vec<u8>,
+) -> Result<(Vec<u8>, usize, Option<usize>), Fail>
+    requires name { blank.name ≡ L.name }
+    requires parts { blank.parts ≡ L.parts }
+    requires config { config ≡ L.config }
+    requires new { (L.base ≡ []) × (L.taken ≡ None) }
+    requires one { blank.parts ≡ 1 }
+{
+    let (yard, mut passes) = Forecourt::<L>::start(alloc, config, 1, blank)?;
+    let pass = passes.pop().ok_or("a pass")?;
+    let mut input = MemoryIn::new(script, Vec::new(alloc), None);
+    let mut output = MemoryOut::new(alloc, Vec::new(alloc), None);
+    let mut clock = Still;
+    let mut desk = PassDesk::new(rt, alloc, &yard, pass, Straight { calls: 0 });
+    let ended = session(
+        alloc,
+        Role::All,
+        &mut input,
+        &mut output,
+        &mut clock,
+        &mut desk,
+    );
+    let pass = desk.into_pass();
+    let gained = pass.receipts().len();
+    passes.push(pass)?;
+    let entries = match yard.close(rt, passes) {
+        Ok(closed) => Some(closed.site.history().len()),
+        Err(_) => None,
+    };
+    match ended {
+        Ok(_) => Ok((output.bytes, gained, entries)),
+        Err(_) => Ok((Vec::new(alloc), gained, None)),
+    }
+}
+
+fn desk_of<R: Wait>(
+    rt: &R,
+    alloc: Global,
+    config: Config,
+    script: &str,
+) -> Result<(Vec<u8>, usize, Option<usize>), Fail> {
+    let script = Vec::from_slice(alloc, script.as_bytes())?;
+    desk::<Brand, R>(rt, alloc, Blank::new(1), config, script)
+}
+
+/// A whole sale, and what other tills ask meanwhile.
+const SALE: &str =
+    "load 0 0 79101800000000009500000000000000\ntill 1 open 1\ndisp 1 up 1\ntill 1 release 1 8000\n\
+    disp 1 order\ndisp 1 started\ndisp 1 flow 2500 1390\ndisp 1 down\ntill 1 lock 1 1\ntill 2 lock 1 1\n\
+    till 2 clear 1 1\ntill 1 clear 1 1\ntill 1 clear 1 1\ntill 1 show 1\n";
+
+const SALE_ANSWERS: &str =
+    "1 version 1\n2 done\n3 done\n4 granted 8000 by 1\n5 order authorise 8000\n6 done\n\
+    7 done\n8 done\n9 done\n10 S27\n11 S27\n12 done\n13 S28\n14 point 3 0 0 0 0 0 0\n";
+
+#[test]
+fn a_sale_at_a_desk(rt: HostRuntime) -> Result<(), Fail> {
+    let config = config(rt.alloc()).ok_or("a configuration")?;
+    let (text, gained, entries) = desk_of(&rt, rt.alloc(), config, SALE)?;
+    assert_eq!(rt; text.as_slice(), SALE_ANSWERS.as_bytes());
+    assert_eq!(rt; gained, 14);
+    assert_eq!(rt; entries, Some(14));
+    Ok(())
+}
+
+#[test]
+fn a_refused_load_has_no_receipt(rt: HostRuntime) -> Result<(), Fail> {
+    let config = config(rt.alloc()).ok_or("a configuration")?;
+    let script = "load 0 0 9500000000000000\nload 0 0 950\ntill 3 open 1\n";
+    let (text, gained, entries) = desk_of(&rt, rt.alloc(), config, script)?;
+    assert_eq!(rt; text.as_slice(), "V11 0 0\nL3\n1 S21\n".as_bytes());
+    assert_eq!(rt; gained, 1);
+    assert_eq!(rt; entries, Some(1));
+    Ok(())
+}
+
+/// What direct calls answer.
+#[derive(Clone, Copy, Debug, PartialEq, Eq, Drop)]
+struct Called {
+    loaded: (u32, Reply),
+    reported: (u32, Reply),
+    asked: (u32, Reply),
+    are_all: (bool, bool),
+    fault: Option<(u32, u32)>,
+}
+
+/// A pass loads, reports and asks; then its receipts are held against no history.
+fn calls<L: Yard, R: Wait>(
+    rt: &R,
+    alloc: Global,
+    blank: Blank,
+    config: Config,
+) -> Result<Called, Fail>
+    requires name { blank.name ≡ L.name }
+    requires parts { blank.parts ≡ L.parts }
+    requires config { config ≡ L.config }
+    requires new { (L.base ≡ []) × (L.taken ≡ None) }
+    requires two { blank.parts ≡ 2 }
+{
+    let (yard, mut passes) = Forecourt::<L>::start(alloc, config, 2, blank)?;
+    let mut second = passes.pop().ok_or("a pass")?;
+    let asked = [0x79u8, 0x10, 0x18, 0, 0, 0, 0, 0, 0x95, 0, 0, 0, 0, 0, 0, 0];
+    let program = verify(alloc, asked.as_slice(), 0, Layout::One)
+        .ok()
+        .ok_or("a program")?;
+    let program = Arc::new(alloc, program)?;
+    let loaded = yard
+        .load(rt, &mut second, 16, program)
+        .ok()
+        .ok_or("a load")?;
+    let reported = yard
+        .dispenser(rt, &mut second, 2, DispenserEvent::Up(3))
+        .ok()
+        .ok_or("a report")?;
+    let mut gate = Straight { calls: 0 };
+    let shown = yard
+        .request(rt, &mut second, &mut gate, 1, 7, Request::Show(2))
+        .ok()
+        .ok_or("a request")?;
+    let alone = are_all(2, passes.as_slice());
+    let last = second.id();
+    passes.push(second)?;
+    let wrong = fault(&[], passes.as_slice());
+    Ok(Called {
+        loaded: (loaded.number, loaded.reply),
+        reported: (reported.number, reported.reply),
+        asked: (shown.number, shown.reply),
+        are_all: (alone, are_all(last, passes.as_slice())),
+        fault: wrong,
+    })
+}
+
+fn calls_of<R: Wait>(rt: &R, alloc: Global, config: Config) -> Result<Called, Fail> {
+    calls::<Brand, R>(rt, alloc, Blank::new(2), config)
+}
+
+#[test]
+fn calls_are_answered(rt: HostRuntime) -> Result<(), Fail> {
+    let config = config(rt.alloc()).ok_or("a configuration")?;
+    let called = calls_of(&rt, rt.alloc(), config)?;
+    assert_eq!(rt; called.loaded, (1, Reply::Refused(32, None)));
+    assert_eq!(rt; called.reported, (2, Reply::Done));
+    let shown = Reply::Point {
+        state: 2,
+        nozzle: 3,
+        amount: 0,
+        volume: 0,
+        limit: 0,
+        preset: 0,
+        unpaid: 0,
+    };
+    assert_eq!(rt; called.asked, (3, shown));
+    assert_eq!(rt; called.are_all, (false, true));
+    assert_eq!(rt; called.fault, Some((2, 1)));
+    Ok(())
+}

@@ -1,0 +1,129 @@
+//! Serving over loopback with a journal that is synced before answers leave.
+use crate::servers::{Addresses, Peer, Silent, addresses_of, config};
+use site_server::{
+    CountedOut, Crew, GroupSync, LineJournal, Listeners, MemoryDisk, ServeFault, Shared,
+    resume_site,
+};
+use site_core::Site;
+use std::alloc::Global;
+use std::io;
+use std::net::{Net, TcpListener, TcpStream};
+use std::sync::Wait;
+use std::test::Fail;
+use std::thread::{Threads, join};
+use std::time::Clock;
+use till_request::devices::MemoryOut;
+
+/// The owner loads a program, a till opens a point and asks for a release, and the dispenser takes its order. A
+/// connection that ends unanswered is no fault of theirs.
+fn as_far_as_answered<R: Net<Listener = TcpListener, Stream = TcpStream>>(
+    rt: &R,
+    alloc: Global,
+    at: Addresses,
+) -> io::Result<String> {
+    let mut owner = Peer::connect(rt, alloc, at.owner)?;
+    let _ = owner.ask("load 0 0 79101800000000009500000000000000\n");
+    let mut till = Peer::connect(rt, alloc, at.till)?;
+    let _ = till.ask("till 1 open 1\n");
+    let _ = till.ask("till 1 release 1 8000\n");
+    let mut dispenser = Peer::connect(rt, alloc, at.dispenser)?;
+    let _ = dispenser.ask("disp 1 order\n");
+    let mut heard = owner.heard;
+    heard.push_str(till.heard.as_str())?;
+    heard.push_str(dispenser.heard.as_str())?;
+    Ok(heard)
+}
+
+/// What a day leaves whose syncs go well so many times: what the peers heard, the journal or why there is none, how
+/// often it was synced and up to where.
+#[derive(Drop)]
+struct Day {
+    heard: String,
+    journal: Result<Vec<u8>, ServeFault>,
+    calls: u64,
+    synced: u64,
+}
+
+/// A new site, its ports, and where they are.
+fn opened<R: Net<Listener = TcpListener, Stream = TcpStream>>(
+    rt: &R,
+    alloc: Global,
+) -> Result<(Site, Listeners, Addresses), Fail> {
+    let site = Site::start(alloc, config(alloc).ok_or("a configuration")?)?;
+    match Listeners::open(rt, alloc, 0, 0, 0) {
+        Ok(listeners) => {
+            let at = addresses_of(&listeners)?;
+            Ok((site, listeners, at))
+        }
+        Err(_) => Err(Fail::from("a port")),
+    }
+}
+
+/// Serves one connection of each kind with a journal in memory: the journal, or why there is none.
+fn serve<R: Net<Listener = TcpListener, Stream = TcpStream> + Threads + Wait + Clock + Sync>(
+    rt: &R,
+    alloc: Global,
+    group: &GroupSync<MemoryDisk>,
+    site: Site,
+    listeners: Listeners,
+    crew: Crew,
+) -> Result<Vec<u8>, ServeFault> {
+    let output = MemoryOut::new(alloc, Vec::new(alloc), None);
+    let counted = CountedOut::new(output, Shared { rt, group });
+    let journal = LineJournal::new(alloc, counted)?;
+    let release = Shared { rt, group };
+    let served = resume_site(
+        rt, alloc, site, journal, crew, listeners, &Silent, &release, 1,
+    )?;
+    Ok(served.journal.into_output().into_output().bytes)
+}
+
+fn serve_day<R: Net<Listener = TcpListener, Stream = TcpStream> + Threads + Wait + Clock + Sync>(
+    rt: &R,
+    alloc: Global,
+    good: u64,
+) -> Result<Day, Fail> {
+    let (site, listeners, at) = opened(rt, alloc)?;
+    let crew = Crew::new(1, 1).ok_or("a crew")?;
+    let group = GroupSync::new(MemoryDisk::new(good));
+    let yard = &group;
+    let (journal, heard) = join(
+        rt,
+        || serve(rt, alloc, yard, site, listeners, crew),
+        || as_far_as_answered(rt, alloc, at),
+    );
+    Ok(Day {
+        heard: heard?,
+        journal,
+        calls: group.device().calls(),
+        synced: group.device().synced(),
+    })
+}
+
+#[test]
+fn each_answer_has_its_sync(rt: HostRuntime) -> Result<(), Fail> {
+    let day = serve_day(&rt, rt.alloc(), 9)?;
+    assert_eq!(rt;
+        day.heard.as_str(),
+        "1 version 1\n2 done\n3 granted 8000 by 1\n4 order authorise 8000\n"
+    );
+    // Each peer waits for its answer before the next one asks.
+    assert_eq!(rt; day.calls, 4);
+    match &day.journal {
+        Ok(journal) => {
+            assert_eq!(rt; day.synced, journal.len() as u64);
+            assert!(rt; journal.ends_with(b"\n4 2 0 disp 1 order = order authorise 8000\n"));
+        }
+        Err(_) => assert!(rt; false),
+    }
+    Ok(())
+}
+
+#[test]
+fn a_failed_sync_ends_the_site(rt: HostRuntime) -> Result<(), Fail> {
+    let day = serve_day(&rt, rt.alloc(), 2)?;
+    assert_eq!(rt; day.heard.as_str(), "1 version 1\n2 done\n");
+    assert_eq!(rt; day.calls, 3);
+    assert!(rt; day.journal == Err(ServeFault::Journal));
+    Ok(())
+}

@@ -1,8 +1,0 @@
-use Rattle.std.proofs.Common.{[], None}
-use Rattle.site_lock.proofs.gate_tests.alone_of.Given as goal
-
-abbrev pub ghosts-alone-L-Ledger : goal.ghosts-alone-L-Ledger
-ghosts-alone-L-Ledger g a = record { name = a.blank.name; parts = a.blank.parts }
-
-abbrev pub ghosts-alone-L-Yard : goal.ghosts-alone-L-Yard
-ghosts-alone-L-Yard g a = record { config = a.config; base = []; taken = None }

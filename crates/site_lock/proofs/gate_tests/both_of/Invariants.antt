@@ -1,8 +1,0 @@
-use Rattle.std.proofs.Common.{[], None}
-use Rattle.site_lock.proofs.gate_tests.both_of.Given as goal
-
-abbrev pub ghosts-both-L-Ledger : goal.ghosts-both-L-Ledger
-ghosts-both-L-Ledger g a = record { name = a.blank.name; parts = a.blank.parts }
-
-abbrev pub ghosts-both-L-Yard : goal.ghosts-both-L-Yard
-ghosts-both-L-Yard g a = record { config = a.config; base = []; taken = None }

@@ -1,7 +1,0 @@
-use Rattle.site_lock.proofs.journal_tests.kept_of.Given as goal
-
-abbrev pub ghosts-kept-L-Ledger : goal.ghosts-kept-L-Ledger
-ghosts-kept-L-Ledger g a = record { name = a.blank.name; parts = a.blank.parts }
-
-abbrev pub ghosts-kept-L-Yard : goal.ghosts-kept-L-Yard
-ghosts-kept-L-Yard g a = record { config = a.site.config; base = a.site.history; taken = g.J.Journal.written a.journal }

@@ -1,8 +1,0 @@
-use Rattle.std.proofs.Common.{[], None}
-use Rattle.site_lock.proofs.tests.desk_of.Given as goal
-
-abbrev pub ghosts-desk-L-Ledger : goal.ghosts-desk-L-Ledger
-ghosts-desk-L-Ledger g a = record { name = a.blank.name; parts = a.blank.parts }
-
-abbrev pub ghosts-desk-L-Yard : goal.ghosts-desk-L-Yard
-ghosts-desk-L-Yard g a = record { config = a.config; base = []; taken = None }

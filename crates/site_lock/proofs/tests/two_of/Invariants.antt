@@ -1,8 +1,0 @@
-use Rattle.std.proofs.Common.{[], None}
-use Rattle.site_lock.proofs.tests.two_of.Given as goal
-
-abbrev pub ghosts-two-L-Ledger : goal.ghosts-two-L-Ledger
-ghosts-two-L-Ledger g a = record { name = a.blank.name; parts = a.blank.parts }
-
-abbrev pub ghosts-two-L-Yard : goal.ghosts-two-L-Yard
-ghosts-two-L-Yard g a = record { config = a.config; base = []; taken = None }
