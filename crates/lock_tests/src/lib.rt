@@ -1,0 +1,16 @@
+//! Tests of the site under its lock and of serving it: passes, gates, kept journals, workers and sockets.
+//! They stand apart from those crates, so that the gate proves each of these once.
+#![tactic(auto)]
+
+#[cfg(test)]
+mod gates;
+#[cfg(test)]
+mod journals;
+#[cfg(test)]
+mod locks;
+#[cfg(test)]
+mod programs;
+#[cfg(test)]
+mod served;
+#[cfg(test)]
+mod servers;

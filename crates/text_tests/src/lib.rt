@@ -1,0 +1,22 @@
+//! Tests of what is read and written: points, lines, sessions, journals, configurations, command lines, texts of jobs,
+//! reports of a day and plays. They stand apart from those crates, so that the gate proves each of these once.
+#![tactic(auto)]
+
+#[cfg(test)]
+mod configurations;
+#[cfg(test)]
+mod days;
+#[cfg(test)]
+mod jobs;
+#[cfg(test)]
+mod journals;
+#[cfg(test)]
+mod lines;
+#[cfg(test)]
+mod plays;
+#[cfg(test)]
+mod points;
+#[cfg(test)]
+mod sessions;
+#[cfg(test)]
+mod words;
