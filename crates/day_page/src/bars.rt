@@ -1,7 +1,8 @@
 //! Pictures made of bars.
 use crate::figures::{Hundredths, Number, scaled};
-use crate::names::{Escaped, refusal_name};
+use crate::names::refusal_name;
 use day_report::Sum;
+use html_text::Escaped;
 use std::fmt;
 
 /// What a bar stands for.

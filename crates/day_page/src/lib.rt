@@ -10,5 +10,5 @@ mod prices;
 mod style;
 mod tables;
 
-pub use names::Escaped;
+pub use html_text::Escaped;
 pub use page::Page;

@@ -3,7 +3,6 @@
 use crate::bars::{Bar, Bars, Hours, Name, Unit, Verdicts};
 use crate::drawn::{BandsDrawn, StateLegend};
 use crate::figures::{Hundredths, Moment, Number};
-use crate::names::Escaped;
 use crate::prices::{PriceLegend, PriceLines};
 use crate::style::STYLE;
 use crate::tables::{
@@ -12,6 +11,7 @@ use crate::tables::{
 use day_report::{
     Axis, Bands, FIRST_REFUSAL, REFUSALS, Sum, Totals, add_up, axis_of, follow_states,
 };
+use html_text::Escaped;
 use site_core::Site;
 use std::alloc::{AllocError, Global};
 use std::fmt;

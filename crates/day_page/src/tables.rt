@@ -1,7 +1,8 @@
 //! The tables of a page.
 use crate::figures::{Hundredths, Moment, Number, Thousandths};
-use crate::names::{Escaped, state_name};
+use crate::names::state_name;
 use day_report::{Outcomes, Sum, Totals, Unpaid};
+use html_text::Escaped;
 use std::fmt;
 
 /// The most rows of a table.

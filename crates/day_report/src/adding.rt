@@ -198,6 +198,50 @@ fn denied_in(decisions: &[Decision]) -> usize
     decisions.iter().filter(|d| !d.is_granted).count()
 }
 
+/// What was sold, point by point, till by till and hour by hour.
+#[derive(Drop)]
+struct Sums {
+    points: Vec<Sum>,
+    tills: Vec<Sum>,
+    hours: Vec<Sum>,
+}
+
+fn sums_of(alloc: Global, sales: &[Sale], points: usize) -> Result<Sums, AllocError>
+    requires { points ≤ 1000 }
+    ensures points { IfOk result (λ s. SumsUp part_of_point points s.points.items sales.now) }
+    ensures tills { IfOk result (λ s. SumsUp part_of_till 64 s.tills.items sales.now) }
+    ensures hours { IfOk result (λ s. SumsUp part_of_hour 24 s.hours.items sales.now) }
+{
+    Ok(Sums {
+        points: by_point(alloc, sales, points)?,
+        tills: by_till(alloc, sales)?,
+        hours: by_hour(alloc, sales)?,
+    })
+}
+
+/// The outcomes of what was asked of programs, by what was asked and by who asked.
+#[derive(Drop)]
+struct Verdicts {
+    releases: Outcomes,
+    presets: Outcomes,
+    prices: Outcomes,
+    tills: Vec<Outcomes>,
+}
+
+fn verdicts_of(alloc: Global, decisions: &[Decision], versions: usize) -> Result<Verdicts, AllocError>
+    ensures releases { IfOk result (λ v. HasOutcomes deciding.Releases versions decisions.now v.releases) }
+    ensures presets { IfOk result (λ v. HasOutcomes deciding.Presets versions decisions.now v.presets) }
+    ensures prices { IfOk result (λ v. HasOutcomes deciding.Prices versions decisions.now v.prices) }
+    ensures tills { IfOk result (λ v. DecidedByTills 64 versions decisions.now v.tills.items) }
+{
+    Ok(Verdicts {
+        releases: outcomes(alloc, decisions, versions, Deciding::Releases)?,
+        presets: outcomes(alloc, decisions, versions, Deciding::Presets)?,
+        prices: outcomes(alloc, decisions, versions, Deciding::Prices)?,
+        tills: by_till_asked(alloc, decisions, versions)?,
+    })
+}
+
 /// What the history of a site with so many points adds up to. The error is want of memory.
 pub fn add_up(alloc: Global, points: usize, entries: &[Entry]) -> Result<Totals, AllocError>
     requires few { length entries.now ≤ ENTRIES }
@@ -233,26 +277,28 @@ pub fn add_up(alloc: Global, points: usize, entries: &[Entry]) -> Result<Totals,
         t.price_requests) }
 {
     let found = find_sales(alloc, points, entries)?;
+    let sums = sums_of(alloc, &found.sales, points)?;
+    let refused = by_number(alloc, &refusals(alloc, entries)?)?;
     let loads = loads(alloc, entries)?;
-    let versions = loads.len() + 1;
     let decisions = decisions(alloc, entries)?;
-    let numbers = refusals(alloc, entries)?;
+    let verdicts = verdicts_of(alloc, &decisions, loads.len() + 1)?;
+    let prices = price_changes(alloc, entries)?;
     let unpaid = unpaid_of(alloc, &found.points)?;
     Ok(Totals {
         entries: entries.len(),
         sold: sum_of(&found.sales, Part::All),
-        by_point: by_point(alloc, &found.sales, points)?,
-        by_till: by_till(alloc, &found.sales)?,
-        by_hour: by_hour(alloc, &found.sales)?,
+        by_point: sums.points,
+        by_till: sums.tills,
+        by_hour: sums.hours,
         points: found.points,
-        refused: by_number(alloc, &numbers)?,
-        releases: outcomes(alloc, &decisions, versions, Deciding::Releases)?,
-        presets: outcomes(alloc, &decisions, versions, Deciding::Presets)?,
-        price_requests: outcomes(alloc, &decisions, versions, Deciding::Prices)?,
-        prices: price_changes(alloc, entries)?,
+        refused,
+        releases: verdicts.releases,
+        presets: verdicts.presets,
+        price_requests: verdicts.prices,
+        prices,
         granted: granted_in(&decisions),
         denied: denied_in(&decisions),
-        tills: by_till_asked(alloc, &decisions, versions)?,
+        tills: verdicts.tills,
         unpaid_cents: cents_of(&unpaid),
         unpaid,
         loads,

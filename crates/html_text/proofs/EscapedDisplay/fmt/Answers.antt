@@ -3,8 +3,8 @@ use Rattle.std.specs.List.{flat_map}
 use Rattle.std.proofs.Output.{has_written_of_eq}
 use Rattle.std.proofs.lemmas.Iterator.{YieldsList-from_chars}
 use Rattle.std.proofs.lemmas.Iterator.Consumers.{YieldsList-end}
-use Rattle.day_page.specs.Escaping.{escaped, escaped_char}
-use Rattle.day_page.proofs.names.EscapedDisplay.fmt.Goals as goal
+use Rattle.html_text.specs.Escaping.{escaped, escaped_char}
+use Rattle.html_text.proofs.EscapedDisplay.fmt.Goals as goal
 
 pub returns-clause-writes : goal.returns-clause-writes
 unfolding escaped

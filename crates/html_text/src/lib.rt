@@ -1,0 +1,57 @@
+//! Text in a page of HTML.
+#![tactic(auto)]
+
+use std::fmt;
+
+/// Text of a page: no character of it is read as a mark of HTML.
+#[derive(Clone, Copy, Drop)]
+pub struct Escaped<'a>(pub &'a str);
+
+impl Escaped<'_> {
+    ghost use Rattle.std.specs.Prelude.{◌≡◌};
+
+    fn text(&self) -> &str
+        ensures { result.now ≡ self.now.0.now }
+    {
+        self.0
+    }
+}
+
+impl fmt::Display for Escaped<'_> {
+    ghost use Rattle.std.specs.Prelude.{Some};
+    ghost use Rattle.html_text.specs.Escaping.{escaped};
+
+    ghost output = { λ e. Some (escaped e.0.now) };
+
+    fn fmt<W: fmt::Write>(&self, f: &mut fmt::Formatter<W>) -> fmt::Result {
+        let text = self.text();
+        for c in text.chars() {
+            let mark = Mark(c);
+            write!(f, "{mark}")?;
+        }
+        Ok(())
+    }
+}
+
+/// A character of a page's text.
+#[derive(Clone, Copy, Drop)]
+struct Mark(char);
+
+impl fmt::Display for Mark {
+    ghost use Rattle.std.specs.Prelude.{Some};
+    ghost use Rattle.html_text.specs.Escaping.{escaped_char};
+
+    ghost output = { λ m. Some (escaped_char m.0) };
+
+    fn fmt<W: fmt::Write>(&self, f: &mut fmt::Formatter<W>) -> fmt::Result {
+        let c = self.0;
+        match c {
+            '<' => write!(f, "&lt;"),
+            '>' => write!(f, "&gt;"),
+            '&' => write!(f, "&amp;"),
+            '"' => write!(f, "&quot;"),
+            '\'' => write!(f, "&#39;"),
+            _ => write!(f, "{c}"),
+        }
+    }
+}
