@@ -7,13 +7,13 @@ use crate::token::Token;
 use bpf_model::instruction::{Condition, Form, Operator, Size, Source, Width};
 
 /// A number with its sign, none over 2^64 - 1.
-#[derive(Clone, Copy, Debug, PartialEq, Eq)]
+#[derive(Clone, Copy)]
 pub struct Value {
     pub negative: bool,
     pub size: Option<u64>,
 }
 
-#[derive(Clone, Copy, Debug, PartialEq, Eq)]
+#[derive(Clone, Copy)]
 pub struct Fields {
     pub dst: u8,
     pub src: u8,
@@ -22,13 +22,13 @@ pub struct Fields {
 }
 
 /// Where a jump goes: a distance, or the label that the line's last token names.
-#[derive(Clone, Copy, Debug, PartialEq, Eq)]
+#[derive(Clone, Copy)]
 pub enum Target {
     Label,
     Distance(Value),
 }
 
-#[derive(Clone, Copy, Debug, PartialEq, Eq)]
+#[derive(Clone, Copy)]
 pub enum Statement {
     Plain(Form, Fields),
     Wide(u8, Option<u64>),
@@ -36,7 +36,7 @@ pub enum Statement {
 }
 
 /// A line without a comment: a label is the first token's text.
-#[derive(Clone, Copy, Debug, PartialEq, Eq)]
+#[derive(Clone, Copy)]
 pub enum Line {
     Empty,
     Label,

@@ -184,4 +184,3 @@ pub fn reassemble(alloc: Global, code: &Code) -> Result<Code, AsmFault>
         Err(fault) => Err(fault),
     }
 }
-

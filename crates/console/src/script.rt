@@ -10,7 +10,7 @@ use till_request::{
 };
 
 /// What a line of a script asks.
-#[derive(Debug, Drop)]
+#[derive(Drop)]
 pub enum ScriptLine {
     Act(Act),
     /// `moment N`: the moment of later requests.

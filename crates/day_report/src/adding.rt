@@ -228,7 +228,11 @@ struct Verdicts {
     tills: Vec<Outcomes>,
 }
 
-fn verdicts_of(alloc: Global, decisions: &[Decision], versions: usize) -> Result<Verdicts, AllocError>
+fn verdicts_of(
+    alloc: Global,
+    decisions: &[Decision],
+    versions: usize,
+) -> Result<Verdicts, AllocError>
     ensures releases { IfOk result (λ v. HasOutcomes deciding.Releases versions decisions.now v.releases) }
     ensures presets { IfOk result (λ v. HasOutcomes deciding.Presets versions decisions.now v.presets) }
     ensures prices { IfOk result (λ v. HasOutcomes deciding.Prices versions decisions.now v.prices) }

@@ -2,9 +2,9 @@
 ghost use Rattle.std.specs.Prelude.{◌≡◌, [], None};
 
 use crate::locks::config;
-use site_lock::{Forecourt, Gate, Pass, Straight, Yard};
 use reg_types::{Layout, verify};
 use site_core::{Answered, Config, Draft, Ready};
+use site_lock::{Forecourt, Gate, Pass, Straight, Yard};
 use std::alloc::Global;
 use std::marker::Brand;
 use std::sync::atomic::{AtomicBool, Ordering};

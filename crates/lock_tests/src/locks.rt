@@ -1,13 +1,13 @@
 //! Threads, desks and closings over one forecourt.
 ghost use Rattle.std.specs.Prelude.{◌≡◌, [], None};
 
+use fuelling_point::DispenserEvent;
+use reg_types::{Layout, verify};
+use site_core::{CallFault, Config};
 use site_lock::{
     Clock, CloseRefusal, Forecourt, Pass, PassDesk, Receipt, Straight, Yard, are_all, fault,
     session,
 };
-use fuelling_point::DispenserEvent;
-use reg_types::{Layout, verify};
-use site_core::{CallFault, Config};
 use std::alloc::Global;
 use std::marker::Brand;
 use std::sync::ledger::Blank;

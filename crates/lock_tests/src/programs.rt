@@ -1,8 +1,8 @@
 //! Verifying many programs gives what verifying each gives.
 ghost use Rattle.std.specs.Prelude.{◌<◌, ◌≤◌};
 
-use site_lock::verify_all;
 use reg_types::{Layout, Program, Refusal, verify};
+use site_lock::verify_all;
 use std::alloc::{AllocError, Global};
 use std::test::Fail;
 use std::thread::Threads;

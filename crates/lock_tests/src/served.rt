@@ -1,10 +1,10 @@
 //! Serving over loopback with a journal that is synced before answers leave.
 use crate::servers::{Addresses, Peer, Silent, addresses_of, config};
+use site_core::Site;
 use site_server::{
     CountedOut, Crew, GroupSync, LineJournal, Listeners, MemoryDisk, ServeFault, Shared,
     resume_site,
 };
-use site_core::Site;
 use std::alloc::Global;
 use std::io;
 use std::net::{Net, TcpListener, TcpStream};

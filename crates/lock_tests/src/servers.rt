@@ -1,11 +1,11 @@
 //! Serving over loopback: the peers are a thread of the test.
+use decision_journal::write_entries;
+use line_session::Doors;
+use site_core::{Config, Site};
 use site_server::{
     Breach, CloseRefusal, Crew, Limiter, ListenFault, Listeners, Notices, ServeFault, Served,
     SessionFault, TcpDoors, serve_site,
 };
-use decision_journal::write_entries;
-use line_session::Doors;
-use site_core::{Config, Site};
 use std::alloc::{AllocError, Global};
 use std::fmt::Display;
 use std::io;

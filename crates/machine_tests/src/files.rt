@@ -15,8 +15,7 @@ fn blanks_are_skipped(rt: HostRuntime) -> Result<(), Fail> {
 fn other_bytes_and_odd_counts_are_refused(rt: HostRuntime) -> Result<(), Fail> {
     for text in ["9", "95g0", "0x95", "95\u{0b}00"] {
         assert!(rt;
-            read_program(rt.alloc(), text.as_bytes()).err()
-                == Some(ProgramFileFault::BadDigits),
+            read_program(rt.alloc(), text.as_bytes()).err() == Some(ProgramFileFault::BadDigits),
             "{text}"
         );
     }
@@ -38,8 +37,6 @@ fn too_long_comes_first(rt: HostRuntime) -> Result<(), Fail> {
         read_program(rt.alloc(), text.as_slice()).err() == Some(ProgramFileFault::BadDigits)
     );
     text.push(b'x')?;
-    assert!(rt;
-        read_program(rt.alloc(), text.as_slice()).err() == Some(ProgramFileFault::TooLong)
-    );
+    assert!(rt; read_program(rt.alloc(), text.as_slice()).err() == Some(ProgramFileFault::TooLong));
     Ok(())
 }

@@ -2,9 +2,9 @@
 ghost use Rattle.std.specs.Prelude.{◌≡◌};
 ghost use Rattle.bpf_model.specs.Layouts.{layout_of};
 
-use interp::{Context, Layout, rebase, run};
 use counters::Counters;
 use helpers::{PointView, View};
+use interp::{Context, Layout, rebase, run};
 use reg_types::{Program, verify};
 
 /// No point, and no price.

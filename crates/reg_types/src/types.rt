@@ -81,7 +81,7 @@ pub enum Flaw {
 }
 
 /// Where an instruction can lead to: nowhere, to the next one, by a jump, or to either, the jump's target first.
-#[derive(Clone, Copy, Debug, PartialEq, Eq)]
+#[derive(Clone, Copy, PartialEq, Eq)]
 pub enum Successors {
     End,
     Next(u32),

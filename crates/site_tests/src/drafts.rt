@@ -63,36 +63,41 @@ pub(crate) fn open(point: u32) -> (Does, Reply) {
     (Does::Till(1, Request::OpenPoint(point)), Reply::Done)
 }
 
-/// A site whose slot 0 grants what is asked, with point 1 open.
-fn opened(rt: &impl Abort, alloc: Global) -> Result<Site, Fail> {
+/// A site with a program in slot 0 and point 1 open.
+fn opened_with(rt: &impl Abort, alloc: Global, program: &[u8]) -> Result<Site, Fail> {
     let mut site = start(alloc)?;
-    load(rt, alloc, &mut site, 0, 0, &ASKED, Reply::Version(1))?;
+    load(rt, alloc, &mut site, 0, 0, program, Reply::Version(1))?;
     play(rt, &mut site, 0, &[OPEN]);
     Ok(site)
+}
+
+/// A site whose slot 0 grants what is asked, with point 1 open.
+fn opened(rt: &impl Abort, alloc: Global) -> Result<Site, Fail> {
+    opened_with(rt, alloc, &ASKED)
+}
+
+/// Decides on a site and commits at once.
+pub(crate) fn decide_now(
+    rt: &impl Abort,
+    site: &mut Site,
+    request: Request,
+    want: (u32, Reply),
+) -> Result<(), Fail> {
+    let ready = decide(site, 1, request)?;
+    commit(rt, site, ready, Ok(want));
+    Ok(())
 }
 
 #[test]
 fn a_version_that_was_replaced_meanwhile_decides_nothing(rt: HostRuntime) -> Result<(), Fail> {
     let alloc = rt.alloc();
-    let mut site = start(alloc)?;
-    load(
-        &rt,
-        alloc,
-        &mut site,
-        0,
-        0,
-        &FIVE_THOUSAND,
-        Reply::Version(1),
-    )?;
-    play(&rt, &mut site, 0, &[OPEN]);
+    let mut site = opened_with(&rt, alloc, &FIVE_THOUSAND)?;
     let ready = decide(&site, 1, RELEASE)?;
     load(&rt, alloc, &mut site, 0, 0, &ASKED, Reply::Version(2))?;
     let now = Why::Version(Some(2));
     commit(&rt, &mut site, ready, Err(now));
     assert_eq!(rt; site.history().len(), 3);
-    let ready = decide(&site, 1, RELEASE)?;
-    commit(&rt, &mut site, ready, Ok((4, Reply::Granted(8000, 2))));
-    Ok(())
+    decide_now(&rt, &mut site, RELEASE, (4, Reply::Granted(8000, 2)))
 }
 
 #[test]
@@ -163,8 +168,7 @@ fn a_run_on_another_declared_counter_is_stale(rt: HostRuntime) -> Result<(), Fai
         &[(Does::Till(2, Request::Preset(2, 100)), counted)],
     );
     commit(&rt, &mut site, ready, Err(Why::Counter(0, 1)));
-    let ready = decide(&site, 1, Request::Preset(1, 100))?;
-    commit(&rt, &mut site, ready, Ok((5, counted)));
+    decide_now(&rt, &mut site, Request::Preset(1, 100), (5, counted))?;
     assert_eq!(rt; site.counter(0), Some((2, 2)));
     Ok(())
 }
@@ -172,10 +176,8 @@ fn a_run_on_another_declared_counter_is_stale(rt: HostRuntime) -> Result<(), Fai
 #[test]
 fn the_preset_of_now_bounds_a_release(rt: HostRuntime) -> Result<(), Fail> {
     let alloc = rt.alloc();
-    let mut site = start(alloc)?;
-    load(&rt, alloc, &mut site, 0, 0, &ASKED, Reply::Version(1))?;
+    let mut site = opened(&rt, alloc)?;
     load(&rt, alloc, &mut site, 1, 0, &ASKED, Reply::Version(2))?;
-    play(&rt, &mut site, 0, &[OPEN]);
     let ready = decide(&site, 1, RELEASE)?;
     let preset = Does::Till(2, Request::Preset(1, 3000));
     play(&rt, &mut site, 0, &[(preset, Reply::Granted(3000, 2))]);
@@ -183,28 +185,31 @@ fn the_preset_of_now_bounds_a_release(rt: HostRuntime) -> Result<(), Fail> {
     Ok(())
 }
 
-/// One till and one point, otherwise as the others.
-fn small(alloc: Global) -> Result<Option<Config>, AllocError> {
+/// A site of one till and one point, otherwise as the others, whose slot 0 grants what is asked.
+fn small(rt: &impl Abort, alloc: Global) -> Result<Site, Fail> {
     let points = vec![in alloc; (0, 1)]?;
     let prices = [1799, 1849, 0, 0, 0, 0, 0, 0];
-    Ok(Config::new(1, 2, prices, points, [(0, 0); 32]))
+    let config = Config::new(1, 2, prices, points, [(0, 0); 32]).ok_or("no configuration")?;
+    let mut site = Site::start(alloc, config)?;
+    load(rt, alloc, &mut site, 0, 0, &ASKED, Reply::Version(1))?;
+    play(rt, &mut site, 0, &[OPEN]);
+    Ok(site)
 }
 
 #[test]
 fn a_site_without_the_till_or_the_point_has_no_version(rt: HostRuntime) -> Result<(), Fail> {
-    let alloc = rt.alloc();
-    let mut site = opened(&rt, alloc)?;
+    let mut site = opened(&rt, rt.alloc())?;
     play(&rt, &mut site, 0, &[open(2)]);
-    let mut other = Site::start(alloc, small(alloc)?.ok_or("no configuration")?)?;
-    load(&rt, alloc, &mut other, 0, 0, &ASKED, Reply::Version(1))?;
-    play(&rt, &mut other, 0, &[OPEN]);
-    let nowhere = Why::Version(None);
-    let ready = decide(&site, 2, RELEASE)?;
-    commit(&rt, &mut other, ready, Err(nowhere));
-    let ready = decide(&site, 1, Request::Release(2, 8000))?;
-    commit(&rt, &mut other, ready, Err(nowhere));
-    let ready = decide(&site, 1, RELEASE)?;
-    commit(&rt, &mut other, ready, Err(Why::PointDiffers(2)));
+    let mut other = small(&rt, rt.alloc())?;
+    let rows = [
+        (2, RELEASE, Why::Version(None)),
+        (1, Request::Release(2, 8000), Why::Version(None)),
+        (1, RELEASE, Why::PointDiffers(2)),
+    ];
+    for (till, request, why) in rows {
+        let ready = decide(&site, till, request)?;
+        commit(&rt, &mut other, ready, Err(why));
+    }
     Ok(())
 }
 
@@ -216,10 +221,15 @@ fn is_direct(site: &Site, till: u32, request: Request) -> Result<bool, Fail> {
 #[test]
 fn where_no_program_would_be_run_there_is_no_draft(rt: HostRuntime) -> Result<(), Fail> {
     let site = opened(&rt, rt.alloc())?;
-    assert!(rt; is_direct(&site, 1, Request::Show(1))?);
-    assert!(rt; is_direct(&site, 3, RELEASE)?);
-    assert!(rt; is_direct(&site, 1, Request::Release(1, 0))?);
-    assert!(rt; is_direct(&site, 1, Request::Release(2, 8000))?);
-    assert!(rt; is_direct(&site, 1, Request::Preset(1, 100))?);
+    let rows = [
+        (1, Request::Show(1)),
+        (3, RELEASE),
+        (1, Request::Release(1, 0)),
+        (1, Request::Release(2, 8000)),
+        (1, Request::Preset(1, 100)),
+    ];
+    for (till, request) in rows {
+        assert!(rt; is_direct(&site, till, request)?);
+    }
     Ok(())
 }

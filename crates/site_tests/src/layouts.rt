@@ -1,10 +1,11 @@
 //! Programs of the second layout.
 
-use crate::drafts::{RELEASE, commit, decide, open};
-use crate::scripts::{Does, EXIT, OPEN, entry, fault, load_for, paid, play, start};
+use crate::drafts::{RELEASE, commit, decide, decide_now, open};
+use crate::scripts::{Does, EXIT, OPEN, entry, expect, load_for, paid, play, start};
 use bpf_model::context::Context;
 use reg_types::{Layout, Refusal, TypeFault};
-use site_core::{AuditFault, Why};
+use site_core::{AuditFault, Site, Why};
+use std::process::Abort;
 use std::test::Fail;
 use till_request::{Act, Bytes, Reply, Request};
 
@@ -14,6 +15,20 @@ const CLEARS: [u8; 8] = [0x79, 0x10, 0x40, 0, 0, 0, 0, 0];
 /// R0 is 1.
 const ONE: [u8; 8] = [0xb7, 0, 0, 0, 1, 0, 0, 0];
 
+/// The context that the newest entry's run was given.
+fn newest(site: &Site) -> Option<Context> {
+    Some(site.history().last()?.run?.context)
+}
+
+/// Expects the context that the newest entry's run was given to be of the second layout, with these bytes behind the
+/// first.
+fn expect_told(rt: &impl Abort, site: &Site, want: &[u8]) {
+    match newest(site) {
+        Some(Context::Two(bytes)) => assert!(rt; &bytes[64..] == want),
+        _ => assert!(rt; false),
+    }
+}
+
 // One transaction was cleared, though its Clear was refused before and after, and one point of two is open.
 #[test]
 fn clears_and_open_points_are_told(rt: HostRuntime) -> Result<(), Fail> {
@@ -21,24 +36,14 @@ fn clears_and_open_points_are_told(rt: HostRuntime) -> Result<(), Fail> {
     let mut site = paid(&rt, alloc)?;
     let version = Reply::Version(2);
     load_for(&rt, alloc, &mut site, 0, 0, Layout::Two, &CLEARS, version)?;
-    let granted = Reply::Granted(1, 2);
-    play(
+    let release = Does::Till(1, Request::Release(1, 8000));
+    play(&rt, &mut site, 0, &[(release, Reply::Granted(1, 2))]);
+    expect_told(
         &rt,
-        &mut site,
-        0,
-        &[(Does::Till(1, Request::Release(1, 8000)), granted)],
+        &site,
+        &[1, 0, 0, 0, 0, 0, 0, 0, 1, 0, 0, 0, 0, 0, 0, 0],
     );
-    let history = site.history();
-    let last = history.last().ok_or("no entry")?;
-    let context = last.run.ok_or("no run")?.context;
-    assert_eq!(rt; context.layout(), Layout::Two);
-    let told = context.bytes().get(64..).ok_or("short")?;
-    assert_eq!(rt;
-        told,
-        [1, 0, 0, 0, 0, 0, 0, 0, 1, 0, 0, 0, 0, 0, 0, 0].as_slice()
-    );
-    assert_eq!(rt; fault(alloc, history)?, None);
-    Ok(())
+    expect(&rt, alloc, site.history(), None)
 }
 
 #[test]
@@ -51,9 +56,7 @@ fn another_number_of_open_points_is_another_context(rt: HostRuntime) -> Result<(
     let ready = decide(&site, 1, RELEASE)?;
     play(&rt, &mut site, 0, &[open(2)]);
     commit(&rt, &mut site, ready, Err(Why::Context(72)));
-    let ready = decide(&site, 1, RELEASE)?;
-    commit(&rt, &mut site, ready, Ok((4, Reply::Granted(1, 1))));
-    Ok(())
+    decide_now(&rt, &mut site, RELEASE, (4, Reply::Granted(1, 1)))
 }
 
 // A program that reads behind the first layout is audited for the layout that its load names.
@@ -72,7 +75,7 @@ fn a_load_is_audited_for_its_layout(rt: HostRuntime) -> Result<(), Fail> {
             bytes: Bytes::new(bytes),
         };
         let load = entry(1, 0, act, Reply::Version(1));
-        assert_eq!(rt; fault(alloc, &[load])?, want);
+        expect(&rt, alloc, &[load], want)?;
     }
     Ok(())
 }

@@ -235,34 +235,25 @@ fn copied(alloc: Global, entry: &Entry, at: u32, reply: Reply) -> Result<Entry, 
     })
 }
 
+/// Entries with another grant in the fourth.
+fn forged(alloc: Global, history: &[Entry]) -> Result<Vec<Entry>, AllocError> {
+    let mut entries = Vec::new(alloc);
+    for entry in history {
+        entries.push(copied(alloc, entry, 4, Reply::Granted(9000, 1))?)?;
+    }
+    Ok(entries)
+}
+
 #[test]
 fn a_delivery_is_paid_and_audited(rt: HostRuntime) -> Result<(), Fail> {
     let alloc = rt.alloc();
     let site = paid(&rt, alloc)?;
     assert_eq!(rt; site.history().len(), 14);
-    let again = audit(
-        alloc,
-        config(alloc)?.ok_or("no configuration")?,
-        site.history(),
-    );
-    assert!(rt; again.is_ok());
-    let mut entries = Vec::new(alloc);
-    for entry in site.history() {
-        entries.push(copied(alloc, entry, 4, Reply::Granted(9000, 1))?)?;
-    }
-    let forged = audit(
-        alloc,
-        config(alloc)?.ok_or("no configuration")?,
-        entries.as_slice(),
-    );
-    assert_eq!(rt; forged.err(), Some(AuditFault::NotLegal(4)));
-    let late = audit(
-        alloc,
-        config(alloc)?.ok_or("no configuration")?,
-        &site.history()[1..],
-    );
-    assert_eq!(rt; late.err(), Some(AuditFault::BadNumber(1)));
-    Ok(())
+    expect(&rt, alloc, site.history(), None)?;
+    let late = &site.history()[1..];
+    expect(&rt, alloc, late, Some(AuditFault::BadNumber(1)))?;
+    let entries = forged(alloc, site.history())?;
+    expect(&rt, alloc, &entries, Some(AuditFault::NotLegal(4)))
 }
 
 #[test]
@@ -393,9 +384,8 @@ fn presets_bound_releases_and_busy_points_keep_prices(rt: HostRuntime) -> Result
     Ok(())
 }
 
-#[test]
-fn events_are_run_in_turn(rt: HostRuntime) -> Result<(), Fail> {
-    let alloc = rt.alloc();
+/// Point 1 is opened by pass 1, and shown by pass 2.
+fn two_events(alloc: Global) -> Result<Vec<Event>, AllocError> {
     let mut events = Vec::new(alloc);
     for (pass, request) in [(1, Request::OpenPoint(1)), (2, Request::Show(1))] {
         events.push(Event {
@@ -404,14 +394,23 @@ fn events_are_run_in_turn(rt: HostRuntime) -> Result<(), Fail> {
             what: What::Till { till: 1, request },
         })?;
     }
+    Ok(events)
+}
+
+/// The site after these events, and how many results there were.
+fn ran(alloc: Global) -> Result<(Site, usize), Fail> {
     let config = config(alloc)?.ok_or("no configuration")?;
-    let (site, results) = Site::run(alloc, config, events)?;
-    assert_eq!(rt; results.len(), 2);
+    let (site, results) = Site::run(alloc, config, two_events(alloc)?)?;
+    Ok((site, results.len()))
+}
+
+#[test]
+fn events_are_run_in_turn(rt: HostRuntime) -> Result<(), Fail> {
+    let (site, count) = ran(rt.alloc())?;
+    assert_eq!(rt; count, 2);
     let last = site.history().get(1).ok_or("no entry")?;
-    assert_eq!(rt;
-        (last.number, last.pass, last.moment, last.reply),
-        (2, 2, 7, shown(3, 0, 0))
-    );
+    let told = (last.number, last.pass, last.moment, last.reply);
+    assert!(rt; told == (2, 2, 7, shown(3, 0, 0)));
     Ok(())
 }
 
@@ -426,47 +425,42 @@ pub(crate) fn entry(number: u32, moment: u64, act: Act, reply: Reply) -> Entry {
     }
 }
 
-pub(crate) fn fault(alloc: Global, entries: &[Entry]) -> Result<Option<AuditFault>, Fail> {
+/// Audits entries, and expects this fault, or none.
+pub(crate) fn expect(
+    rt: &impl Abort,
+    alloc: Global,
+    entries: &[Entry],
+    want: Option<AuditFault>,
+) -> Result<(), Fail> {
     let config = config(alloc)?.ok_or("no configuration")?;
-    Ok(audit(alloc, config, entries).err())
+    assert!(rt; audit(alloc, config, entries).err() == want);
+    Ok(())
+}
+
+/// An entry in which till 1 opened the point of its number.
+fn opening(number: u32, moment: u64) -> Entry {
+    let request = Request::OpenPoint(number);
+    entry(number, moment, Act::Till { till: 1, request }, Reply::Done)
 }
 
 #[test]
 fn an_audit_names_the_first_fault(rt: HostRuntime) -> Result<(), Fail> {
     let alloc = rt.alloc();
-    let open = |number, moment| {
-        let act = Act::Till {
-            till: 1,
-            request: Request::OpenPoint(number),
-        };
-        entry(number, moment, act, Reply::Done)
-    };
-    assert_eq!(rt; fault(alloc, &[])?, None);
-    assert_eq!(rt; fault(alloc, &[open(1, 5), open(2, 0)])?, None);
-    assert_eq!(rt;
-        fault(alloc, &[open(1, 0), open(3, 0)])?,
-        Some(AuditFault::BadNumber(2))
-    );
-    for (moment, want) in [(0, None), (5, Some(AuditFault::NotLegal(1)))] {
-        let act = Act::Dispenser {
-            point: 1,
-            event: DispenserEvent::Up(1),
-        };
-        let lifted = entry(1, moment, act, Reply::Done);
-        assert_eq!(rt; fault(alloc, &[lifted])?, want);
+    expect(&rt, alloc, &[], None)?;
+    for (number, want) in [(2, None), (3, Some(AuditFault::BadNumber(2)))] {
+        let entries = [opening(1, 5), opening(number, 0)];
+        expect(&rt, alloc, &entries, want)?;
     }
-    let act = Act::Load {
-        slot: 99,
-        mask: 0,
-        layout: Layout::One,
-        bytes: Bytes::from_slice(alloc, &EXIT)?,
-    };
-    let load = entry(1, 0, act, refused(32));
-    let refusal = Refusal::Type(TypeFault::NotANumber(0, 0));
-    assert_eq!(rt;
-        fault(alloc, &[load])?,
-        Some(AuditFault::BadProgram(1, refusal))
-    );
+    Ok(())
+}
+
+#[test]
+fn a_dispenser_has_no_moment(rt: HostRuntime) -> Result<(), Fail> {
+    for (moment, want) in [(0, None), (5, Some(AuditFault::NotLegal(1)))] {
+        let event = DispenserEvent::Up(1);
+        let lifted = entry(1, moment, Act::Dispenser { point: 1, event }, Reply::Done);
+        expect(&rt, rt.alloc(), &[lifted], want)?;
+    }
     Ok(())
 }
 
@@ -531,7 +525,7 @@ fn a_load_into_no_slot_is_audited(rt: HostRuntime) -> Result<(), Fail> {
     audit_of_its_own_history();
     let mut site = start(alloc)?;
     load(&rt, alloc, &mut site, 99, 0, &ASKED, refused(32))?;
-    assert_eq!(rt; fault(alloc, site.history())?, None);
+    expect(&rt, alloc, site.history(), None)?;
     // The program of such a load is looked at too, and before its answer.
     let act = Act::Load {
         slot: 99,
@@ -541,6 +535,5 @@ fn a_load_into_no_slot_is_audited(rt: HostRuntime) -> Result<(), Fail> {
     };
     let unset = AuditFault::BadProgram(1, Refusal::Type(TypeFault::NotANumber(0, 0)));
     let load = entry(1, 0, act, Reply::Done);
-    assert_eq!(rt; fault(alloc, &[load])?, Some(unset));
-    Ok(())
+    expect(&rt, alloc, &[load], Some(unset))
 }

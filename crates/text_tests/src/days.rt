@@ -1,10 +1,10 @@
 //! What a short day adds up to, counted by hand.
+use bpf_model::context::Layout;
 use day_report::{
     Asked, Axis, Deciding, Decision, Load, Part, PriceChange, Sale, Sum, Unpaid, add_up, axis_of,
     count_of, decisions, find_sales, follow_states, loads, price_changes, refusals, step_of,
     sum_of, tally,
 };
-use bpf_model::context::Layout;
 use decision_journal::Entry;
 use fuelling_point::{DispenserEvent, Order, State};
 use std::alloc::{AllocError, Global};

@@ -1,11 +1,11 @@
 //! What users see of files.
+use bpf_model::context::Context;
+use decision_journal::{Entry, JournalFault, Run};
+use fuelling_point::DispenserEvent;
 use job_texts::{
     ProgramFlaw, Told, asm_file, audit_entries, audit_journal, dis_file, dis_flaw, dis_units_file,
     first_difference, journal_fault_line, journal_flaw, verify_file, verify_flaw,
 };
-use bpf_model::context::Context;
-use decision_journal::{Entry, JournalFault, Run};
-use fuelling_point::DispenserEvent;
 use reg_types::Layout;
 use site_core::Config;
 use std::alloc::Global;

@@ -1,15 +1,15 @@
 //! What no clause says: worked lines and answers, and a call of each public function with ample
 //! memory.
+use bpf_model::context::Layout;
+use fuelling_point::{DispenserEvent, Order};
+use std::alloc::Global;
+use std::test::Fail;
 use till_request::devices::{MemoryIn, MemoryOut};
 use till_request::{
     Act, Answer, Bytes, LineFault, LineIn, LineReadFault, Reply, Request, Role, ShortText,
     WriteFault, few_parts, first_part, parse_line, put_reply, read_line, spell_act,
     spelling_is_read, write_answer,
 };
-use bpf_model::context::Layout;
-use fuelling_point::{DispenserEvent, Order};
-use std::alloc::Global;
-use std::test::Fail;
 
 /// A script of these bytes, in whole pieces.
 fn script(alloc: Global, text: &[u8]) -> Option<MemoryIn> {
@@ -296,7 +296,7 @@ fn a_line_has_8400_bytes(rt: HostRuntime) -> Result<(), Fail> {
 }
 
 #[test]
-fn devices_cut_and_fail(rt: HostRuntime) -> Result<(), Fail> {
+fn a_device_gives_its_bytes_cut_and_fails(rt: HostRuntime) -> Result<(), Fail> {
     let alloc = rt.alloc();
     let bytes = Vec::from_slice(alloc, b"abcdef")?;
     let mut input = MemoryIn::new(bytes, vec![in alloc; 1, 3]?, Some(3));
@@ -306,6 +306,12 @@ fn devices_cut_and_fail(rt: HostRuntime) -> Result<(), Fail> {
     }
     assert!(rt; input.read(&mut buffer).is_err() && input.read(&mut buffer).is_err());
     assert_eq!(rt; input.failures, 2);
+    Ok(())
+}
+
+#[test]
+fn a_device_takes_what_it_is_given_until_it_fails(rt: HostRuntime) -> Result<(), Fail> {
+    let alloc = rt.alloc();
     let mut output = MemoryOut::new(alloc, vec![in alloc; 4]?, Some(1));
     let answer = Answer::JournalFull;
     assert_eq!(rt; write_answer(alloc, &mut output, &answer), Ok(()));

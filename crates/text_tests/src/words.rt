@@ -1,40 +1,46 @@
 //! Words as users type them.
 use command_line::{CommandFault, Job, command};
 use std::alloc::Global;
+use std::process::Abort;
 use std::test::Fail;
 
 /// A job in words that a test can compare.
+fn text_of(alloc: Global, job: Job) -> Result<String, Fail> {
+    match job {
+        Job::NoWords => Ok(String::from_str(alloc, "nothing")?),
+        Job::Asm(file) => Ok(format!(in alloc; "asm {file}")?),
+        Job::Dis(file) => Ok(format!(in alloc; "dis {file}")?),
+        Job::Verify {
+            counters,
+            context,
+            file,
+        } => {
+            let bytes = context.len();
+            Ok(format!(in alloc; "verify {counters} {bytes} {file}")?)
+        }
+        Job::Play { config, script } => Ok(format!(in alloc; "play {config} {script}")?),
+        Job::Audit { config, journal } => Ok(format!(in alloc; "audit {config} {journal}")?),
+        Job::DisUnits(file) => Ok(format!(in alloc; "dis {file} with units")?),
+        Job::Report { config, journal } => Ok(format!(in alloc; "report {config} {journal}")?),
+        Job::ServeSynced { config, journal } => {
+            Ok(format!(in alloc; "serve {config} synced in {journal}")?)
+        }
+        Job::Serve(config) => Ok(format!(in alloc; "serve {config}")?),
+        Job::ServeKept { config, journal } => {
+            Ok(format!(in alloc; "serve {config} kept in {journal}")?)
+        }
+        Job::Show(_) => Ok(String::from_str(alloc, "text")?),
+    }
+}
+
+/// What a line of words asks for, or why it is refused.
 fn job_text(alloc: Global, line: &str) -> Result<String, Fail> {
     let mut words = Vec::new(alloc);
     for word in line.split(' ') {
         words.push(String::from_str(alloc, word)?)?;
     }
     match command(alloc, words) {
-        Ok(Job::NoWords) => Ok(String::from_str(alloc, "nothing")?),
-        Ok(Job::Asm(file)) => Ok(format!(in alloc; "asm {file}")?),
-        Ok(Job::Dis(file)) => Ok(format!(in alloc; "dis {file}")?),
-        Ok(
-            Job::Verify {
-                counters,
-                context,
-                file,
-            },
-        ) => {
-            let bytes = context.len();
-            Ok(format!(in alloc; "verify {counters} {bytes} {file}")?)
-        }
-        Ok(Job::Play { config, script }) => Ok(format!(in alloc; "play {config} {script}")?),
-        Ok(Job::Audit { config, journal }) => Ok(format!(in alloc; "audit {config} {journal}")?),
-        Ok(Job::DisUnits(file)) => Ok(format!(in alloc; "dis {file} with units")?),
-        Ok(Job::Report { config, journal }) => Ok(format!(in alloc; "report {config} {journal}")?),
-        Ok(Job::ServeSynced { config, journal }) => {
-            Ok(format!(in alloc; "serve {config} synced in {journal}")?)
-        }
-        Ok(Job::Serve(config)) => Ok(format!(in alloc; "serve {config}")?),
-        Ok(Job::ServeKept { config, journal }) => {
-            Ok(format!(in alloc; "serve {config} kept in {journal}")?)
-        }
-        Ok(Job::Show(_)) => Ok(String::from_str(alloc, "text")?),
+        Ok(job) => text_of(alloc, job),
         Err(CommandFault::Usage(text)) => {
             let told = if text.is_empty() {
                 "nothing told"
@@ -47,9 +53,18 @@ fn job_text(alloc: Global, line: &str) -> Result<String, Fail> {
     }
 }
 
+/// Expects each line to ask for what stands beside it.
+fn expect(rt: &impl Abort, alloc: Global, rows: &[(&str, &str)]) -> Result<(), Fail> {
+    for (line, want) in rows {
+        let found = job_text(alloc, line)?;
+        assert!(rt; found.as_str() == *want, "{line}");
+    }
+    Ok(())
+}
+
 #[test]
-fn words_ask_for_jobs(rt: HostRuntime) -> Result<(), Fail> {
-    for (line, want) in [
+fn programs_are_asked_for(rt: HostRuntime) -> Result<(), Fail> {
+    let rows = [
         ("fc", "nothing"),
         ("fc asm rule.bpf", "asm rule.bpf"),
         ("fc dis rule.hex", "dis rule.hex"),
@@ -67,6 +82,39 @@ fn words_ask_for_jobs(rt: HostRuntime) -> Result<(), Fail> {
         ),
         ("fc verify --counters +5 rule.hex", "verify 5 64 rule.hex"),
         ("fc verify --counters 007 rule.hex", "verify 7 64 rule.hex"),
+    ];
+    expect(&rt, rt.alloc(), &rows)
+}
+
+#[test]
+fn contexts_are_named(rt: HostRuntime) -> Result<(), Fail> {
+    let rows = [
+        (
+            "fc verify --counters 3 --context 1 rule.hex",
+            "verify 3 64 rule.hex",
+        ),
+        (
+            "fc verify --context=2 rule.hex --counters 0",
+            "verify 0 80 rule.hex",
+        ),
+        ("fc verify --counters 0 --context 0 rule.hex", "usage"),
+        ("fc verify --counters 0 --context 3 rule.hex", "usage"),
+        ("fc verify --counters 0 --context 02 rule.hex", "usage"),
+        ("fc verify --counters 0 --context +1 rule.hex", "usage"),
+        ("fc verify --counters 0 --context= rule.hex", "usage"),
+        ("fc verify --counters 0 rule.hex --context", "usage"),
+        (
+            "fc verify --counters 0 --context 1 --context 2 rule.hex",
+            "usage",
+        ),
+        ("fc asm --context 2 rule.bpf", "usage"),
+    ];
+    expect(&rt, rt.alloc(), &rows)
+}
+
+#[test]
+fn sites_are_asked_for(rt: HostRuntime) -> Result<(), Fail> {
+    let rows = [
         ("fc play site.toml day.script", "play site.toml day.script"),
         (
             "fc audit site.toml day.journal",
@@ -90,6 +138,13 @@ fn words_ask_for_jobs(rt: HostRuntime) -> Result<(), Fail> {
         ("fc report site.toml", "usage"),
         ("fc serve --journal site.toml", "usage"),
         ("fc serve --journal a --journal b site.toml", "usage"),
+    ];
+    expect(&rt, rt.alloc(), &rows)
+}
+
+#[test]
+fn other_words_are_refused(rt: HostRuntime) -> Result<(), Fail> {
+    let rows = [
         ("fc --help", "text"),
         ("fc -h", "text"),
         ("fc help", "text"),
@@ -105,28 +160,6 @@ fn words_ask_for_jobs(rt: HostRuntime) -> Result<(), Fail> {
         ("fc verify --counters 0x1 rule.hex", "usage"),
         ("fc play site.toml", "usage"),
         ("fc --counters 1", "usage"),
-        (
-            "fc verify --counters 3 --context 1 rule.hex",
-            "verify 3 64 rule.hex",
-        ),
-        (
-            "fc verify --context=2 rule.hex --counters 0",
-            "verify 0 80 rule.hex",
-        ),
-        ("fc verify --counters 0 --context 0 rule.hex", "usage"),
-        ("fc verify --counters 0 --context 3 rule.hex", "usage"),
-        ("fc verify --counters 0 --context 02 rule.hex", "usage"),
-        ("fc verify --counters 0 --context +1 rule.hex", "usage"),
-        ("fc verify --counters 0 --context= rule.hex", "usage"),
-        ("fc verify --counters 0 rule.hex --context", "usage"),
-        (
-            "fc verify --counters 0 --context 1 --context 2 rule.hex",
-            "usage",
-        ),
-        ("fc asm --context 2 rule.bpf", "usage"),
-    ] {
-        let found = job_text(rt.alloc(), line)?;
-        assert_eq!(rt; found.as_str(), want, "{line}");
-    }
-    Ok(())
+    ];
+    expect(&rt, rt.alloc(), &rows)
 }
