@@ -6,7 +6,7 @@ ghost use Rattle.std.specs.Prelude.{◌≡◌, [], None};
 use crate::journals::journal_of;
 use crate::sites::STATION;
 use console::{audit_journal, read_config};
-use decision_journal::{JournalFault, read_entries, write_entries};
+use decision_journal::{Entry, JournalFault, read_entries, write_entries};
 use line_session::{Clock, Doors, Ended, SessionFault, session, worker};
 use site_core::Config;
 use site_lock::{Forecourt, PassDesk, Straight, Yard};
@@ -41,14 +41,38 @@ impl Clock for Still {
     }
 }
 
-/// What a session left: how it ended, what is out, how many reads and writes failed, and how many entries the closed
-/// site has.
-#[derive(Drop)]
-struct Outcome {
+/// What a session left: how it ended, how many reads and writes failed, how many entries the closed site has, how many
+/// lines are out, and whether what is out is a beginning of the answers.
+#[derive(Clone, Copy, Debug, PartialEq, Eq, Drop)]
+struct Seen {
     ended: Result<Ended, SessionFault>,
-    text: Vec<u8>,
     failed: (u64, u64),
     entries: usize,
+    lines: usize,
+    is_front: bool,
+}
+
+/// All lines are read, entered and answered.
+const WHOLE: Seen = Seen {
+    ended: Ok(Ended {
+        lines: 14,
+        cut: None,
+    }),
+    failed: (0, 0),
+    entries: 14,
+    lines: 14,
+    is_front: true,
+};
+
+/// How many lines end in these bytes.
+fn lines_in(bytes: &[u8]) -> usize {
+    let mut lines = 0usize;
+    for byte in bytes {
+        if *byte == b'\n' {
+            lines = lines.wrapping_add(1);
+        }
+    }
+    lines
 }
 
 /// A session over these devices at a new site.
@@ -59,7 +83,7 @@ fn sat<L: Yard, R: Wait>(
     config: Config,
     mut input: MemoryIn,
     mut output: MemoryOut,
-) -> Result<Outcome, Fail>
+) -> Result<Seen, Fail>
     requires name { blank.name ≡ L.name }
     requires parts { blank.parts ≡ L.parts }
     requires config { config ≡ L.config }
@@ -80,22 +104,13 @@ fn sat<L: Yard, R: Wait>(
     );
     passes.push(desk.into_pass())?;
     let closed = yard.close(rt, passes).ok().ok_or("a closed site")?;
-    Ok(Outcome {
+    Ok(Seen {
         ended,
-        text: output.bytes,
         failed: (input.failures, output.failures),
         entries: closed.site.history().len(),
+        lines: lines_in(&output.bytes),
+        is_front: ANSWERS.as_bytes().starts_with(&output.bytes),
     })
-}
-
-fn sat_of<R: Wait>(
-    rt: &R,
-    alloc: Global,
-    config: Config,
-    input: MemoryIn,
-    output: MemoryOut,
-) -> Result<Outcome, Fail> {
-    sat::<Brand, R>(rt, alloc, Blank::new(1), config, input, output)
 }
 
 fn station(alloc: Global) -> Result<Config, Fail> {
@@ -105,21 +120,44 @@ fn station(alloc: Global) -> Result<Config, Fail> {
     Ok(settings.config)
 }
 
-/// The delivery at a device of which so many reads are good.
-fn delivery(alloc: Global, good: Option<u64>) -> Result<MemoryIn, Fail> {
+/// The delivery at a device that gives so many bytes at most a read, and of which so many reads are good.
+fn delivery(alloc: Global, each: usize, good: Option<u64>) -> Result<MemoryIn, Fail> {
     let bytes = Vec::from_slice(alloc, DELIVERY.as_bytes())?;
-    Ok(MemoryIn::new(bytes, Vec::new(alloc), good))
+    let mut input = MemoryIn::new(bytes, Vec::new(alloc), good);
+    input.each = each;
+    Ok(input)
 }
 
-/// How many lines end in these bytes.
-fn lines_in(bytes: &[u8]) -> usize {
-    let mut lines = 0usize;
-    for byte in bytes {
-        if *byte == b'\n' {
-            lines = lines.wrapping_add(1);
-        }
-    }
-    lines
+/// A device that takes so many bytes at most a write, and of which so many writes are good.
+fn answers(alloc: Global, each: usize, good: Option<u64>) -> MemoryOut {
+    let mut output = MemoryOut::new(alloc, Vec::new(alloc), good);
+    output.each = each;
+    output
+}
+
+fn sat_of<R: Wait>(
+    rt: &R,
+    alloc: Global,
+    config: Config,
+    input: MemoryIn,
+    output: MemoryOut,
+) -> Result<Seen, Fail> {
+    sat::<Brand, R>(rt, alloc, Blank::new(1), config, input, output)
+}
+
+/// What these devices see of a session at a new station.
+fn seen<R: Wait>(
+    rt: &R,
+    alloc: Global,
+    input: MemoryIn,
+    output: MemoryOut,
+) -> Result<Seen, Fail> {
+    sat_of(rt, alloc, station(alloc)?, input, output)
+}
+
+fn seen_after_reads<R: Wait>(rt: &R, alloc: Global, good: u64) -> Result<Seen, Fail> {
+    let input = delivery(alloc, 4096, Some(good))?;
+    seen(rt, alloc, input, answers(alloc, 4096, None))
 }
 
 #[test]
@@ -127,39 +165,25 @@ fn fails_at_each_read(rt: HostRuntime) -> Result<(), Fail> {
     let alloc = rt.alloc();
     let mut good = 0u64;
     for upto in 0..=DELIVERY.len() {
-        let output = MemoryOut::new(alloc, Vec::new(alloc), None);
-        let sat = sat_of(
-            &rt,
-            alloc,
-            station(alloc)?,
-            delivery(alloc, Some(good))?,
-            output,
-        )?;
-        assert_eq!(rt; sat.ended, Err(SessionFault::Read), "after {good} reads");
-        assert_eq!(rt; sat.failed, (1, 0));
         let lines = lines_in(DELIVERY.as_bytes().get(..upto).ok_or("a front")?);
-        assert_eq!(rt; sat.entries, lines);
-        assert_eq!(rt; lines_in(&sat.text), lines);
-        assert!(rt; ANSWERS.as_bytes().starts_with(&sat.text));
+        let want = Seen {
+            ended: Err(SessionFault::Read),
+            failed: (1, 0),
+            entries: lines,
+            lines,
+            is_front: true,
+        };
+        let seen = seen_after_reads(&rt, alloc, good)?;
+        assert_eq!(rt; seen, want, "after {good} reads");
         good = good.wrapping_add(1);
     }
-    let output = MemoryOut::new(alloc, Vec::new(alloc), None);
-    let sat = sat_of(
-        &rt,
-        alloc,
-        station(alloc)?,
-        delivery(alloc, Some(good))?,
-        output,
-    )?;
-    assert_eq!(rt;
-        sat.ended,
-        Ok(Ended {
-            lines: 14,
-            cut: None
-        })
-    );
-    assert_eq!(rt; sat.text.as_slice(), ANSWERS.as_bytes());
+    assert_eq!(rt; seen_after_reads(&rt, alloc, good)?, WHOLE);
     Ok(())
+}
+
+fn seen_after_writes<R: Wait>(rt: &R, alloc: Global, good: u64) -> Result<Seen, Fail> {
+    let input = delivery(alloc, 4096, None)?;
+    seen(rt, alloc, input, answers(alloc, 4, Some(good)))
 }
 
 // The event of the answer whose write failed stays entered.
@@ -168,24 +192,20 @@ fn fails_at_each_write(rt: HostRuntime) -> Result<(), Fail> {
     let alloc = rt.alloc();
     let mut faults = 0u64;
     for good in 0..100u64 {
-        let mut output = MemoryOut::new(alloc, Vec::new(alloc), Some(good));
-        output.each = 4;
-        let sat = sat_of(&rt, alloc, station(alloc)?, delivery(alloc, None)?, output)?;
-        if sat.ended
-            == Ok(Ended {
-                lines: 14,
-                cut: None,
-            })
-        {
-            assert_eq!(rt; sat.text.as_slice(), ANSWERS.as_bytes());
-            assert_eq!(rt; good, faults);
+        let seen = seen_after_writes(&rt, alloc, good)?;
+        if seen == WHOLE {
+            assert!(rt; good == faults && good > 14);
             return Ok(());
         }
         faults = faults.wrapping_add(1);
-        assert_eq!(rt; sat.ended, Err(SessionFault::Write), "after {good} writes");
-        assert_eq!(rt; sat.failed, (0, 1));
-        assert!(rt; ANSWERS.as_bytes().starts_with(&sat.text));
-        assert_eq!(rt; sat.entries, lines_in(&sat.text).wrapping_add(1));
+        let want = Seen {
+            ended: Err(SessionFault::Write),
+            failed: (0, 1),
+            entries: seen.lines.wrapping_add(1),
+            lines: seen.lines,
+            is_front: true,
+        };
+        assert_eq!(rt; seen, want, "after {good} writes");
     }
     assert!(rt; false, "no session ended");
     Ok(())
@@ -196,21 +216,9 @@ fn fails_at_each_write(rt: HostRuntime) -> Result<(), Fail> {
 fn each_cut_is_answered_alike(rt: HostRuntime) -> Result<(), Fail> {
     let alloc = rt.alloc();
     for size in [1usize, 2, 3, 7, 40, 4096] {
-        let mut input = delivery(alloc, None)?;
-        input.each = size;
-        let mut output = MemoryOut::new(alloc, Vec::new(alloc), None);
-        output.each = size;
-        let sat = sat_of(&rt, alloc, station(alloc)?, input, output)?;
-        assert_eq!(rt;
-            sat.ended,
-            Ok(Ended {
-                lines: 14,
-                cut: None
-            }),
-            "pieces of {size}"
-        );
-        assert_eq!(rt; sat.text.as_slice(), ANSWERS.as_bytes());
-        assert_eq!(rt; sat.entries, 14);
+        let input = delivery(alloc, size, None)?;
+        let seen = seen(&rt, alloc, input, answers(alloc, size, None))?;
+        assert_eq!(rt; seen, WHOLE, "pieces of {size}");
     }
     Ok(())
 }
@@ -288,33 +296,41 @@ fn worked_of<R: Wait>(
     worked::<Brand, R>(rt, alloc, Blank::new(1), config, doors)
 }
 
+/// The same of doors of which so many reads and writes of the first are good.
+fn worked_after<R: Wait>(
+    rt: &R,
+    alloc: Global,
+    good_reads: Option<u64>,
+    good_writes: Option<u64>,
+) -> Result<(u64, usize), Fail> {
+    let doors = TwoDoors {
+        alloc,
+        good_reads,
+        good_writes,
+        asked: 0,
+    };
+    worked_of(rt, alloc, station(alloc)?, doors)
+}
+
 // The connection that failed isn't counted, and the next one is served.
 #[test]
-fn a_worker_goes_on_after_each_fault(rt: HostRuntime) -> Result<(), Fail> {
-    let alloc = rt.alloc();
+fn a_worker_goes_on_after_each_failed_read(rt: HostRuntime) -> Result<(), Fail> {
     let mut good = 0u64;
     for upto in 0..=DELIVERY.len() {
-        let doors = TwoDoors {
-            alloc,
-            good_reads: Some(good),
-            good_writes: None,
-            asked: 0,
-        };
         let lines = lines_in(DELIVERY.as_bytes().get(..upto).ok_or("a front")?);
-        let worked = worked_of(&rt, alloc, station(alloc)?, doors)?;
+        let worked = worked_after(&rt, rt.alloc(), Some(good), None)?;
         assert_eq!(rt; worked, (1, lines.wrapping_add(1)), "after {good} reads");
         good = good.wrapping_add(1);
     }
+    Ok(())
+}
+
+#[test]
+fn a_worker_goes_on_after_each_failed_write(rt: HostRuntime) -> Result<(), Fail> {
     let mut entries = 1usize;
     for good in 0..14u64 {
-        let doors = TwoDoors {
-            alloc,
-            good_reads: None,
-            good_writes: Some(good),
-            asked: 0,
-        };
         entries = entries.wrapping_add(1);
-        let worked = worked_of(&rt, alloc, station(alloc)?, doors)?;
+        let worked = worked_after(&rt, rt.alloc(), None, Some(good))?;
         assert_eq!(rt; worked, (1, entries), "after {good} writes");
     }
     Ok(())
@@ -328,34 +344,66 @@ fn cut_journal(alloc: Global, journal: &[u8], good: u64) -> Result<MemoryIn, Fai
     Ok(input)
 }
 
+/// What a journal's reader and its audit came to over such a device.
+#[derive(Clone, Copy, Debug, PartialEq, Eq, Drop)]
+struct Read {
+    entries: Result<usize, JournalFault>,
+    is_legal: Result<bool, JournalFault>,
+    failures: (u64, u64),
+    reads: u64,
+    asked: u64,
+}
+
+fn read_after(alloc: Global, journal: &[u8], good: u64) -> Result<Read, Fail> {
+    let mut input = cut_journal(alloc, journal, good)?;
+    let entries = read_entries(alloc, &mut input).map(|entries| entries.len());
+    let mut again = cut_journal(alloc, journal, good)?;
+    let told = audit_journal(alloc, station(alloc)?, &mut again);
+    Ok(Read {
+        entries,
+        is_legal: told.map(|told| told.text.as_str() == "legal 14\n"),
+        failures: (input.failures, again.failures),
+        reads: input.reads,
+        asked: input.asked,
+    })
+}
+
 #[test]
 fn a_journal_fails_at_each_read(rt: HostRuntime) -> Result<(), Fail> {
     let alloc = rt.alloc();
     let journal = journal_of(alloc).ok_or("a journal")?;
     for good in 0..100u64 {
-        let mut input = cut_journal(alloc, journal.as_bytes(), good)?;
-        let read = read_entries(alloc, &mut input);
-        let mut again = cut_journal(alloc, journal.as_bytes(), good)?;
-        let told = audit_journal(alloc, station(alloc)?, &mut again);
-        match (read, told) {
-            (Ok(entries), Ok(told)) => {
-                assert!(rt; good > 10);
-                assert_eq!(rt; entries.len(), 14);
-                assert_eq!(rt; told.text.as_str(), "legal 14\n");
-                assert_eq!(rt; (input.failures, again.failures), (0, 0));
-                return Ok(());
-            }
-            (Err(read), Err(told)) => {
-                assert!(rt; read == JournalFault::Device && told == JournalFault::Device);
-                assert_eq!(rt; (input.failures, again.failures), (1, 1));
-                assert_eq!(rt; input.reads, good.wrapping_add(1));
-                assert_eq!(rt; input.asked, input.reads.wrapping_mul(4096));
-            }
-            _ => assert!(rt; false, "after {good} reads"),
+        let read = read_after(alloc, journal.as_bytes(), good)?;
+        let is_whole = read.entries == Ok(14);
+        let want = Read {
+            entries: if is_whole { Ok(14) } else { Err(JournalFault::Device) },
+            is_legal: if is_whole { Ok(true) } else { Err(JournalFault::Device) },
+            failures: if is_whole { (0, 0) } else { (1, 1) },
+            reads: if is_whole { read.reads } else { good.wrapping_add(1) },
+            asked: read.reads.wrapping_mul(4096),
+        };
+        assert_eq!(rt; read, want, "after {good} reads");
+        if is_whole {
+            assert!(rt; good > 10);
+            return Ok(());
         }
     }
     assert!(rt; false, "no journal was read");
     Ok(())
+}
+
+/// Writes entries to a device that takes 30 bytes a write, of which so many are good: the fault, how many writes
+/// failed, how many bytes it took, and whether they are a beginning of the journal.
+fn written_after(
+    alloc: Global,
+    entries: &[Entry],
+    journal: &[u8],
+    good: u64,
+) -> (Result<(), JournalFault>, u64, usize, bool) {
+    let mut output = answers(alloc, 30, Some(good));
+    let written = write_entries(alloc, entries, &mut output);
+    let is_front = journal.starts_with(&output.bytes);
+    (written, output.failures, output.bytes.len(), is_front)
 }
 
 #[test]
@@ -365,20 +413,14 @@ fn a_journal_fails_at_each_write(rt: HostRuntime) -> Result<(), Fail> {
     let mut input = cut_journal(alloc, journal.as_bytes(), 1000)?;
     let entries = read_entries(alloc, &mut input).ok().ok_or("entries")?;
     for good in 0..200u64 {
-        let mut output = MemoryOut::new(alloc, Vec::new(alloc), Some(good));
-        output.each = 30;
-        match write_entries(alloc, &entries, &mut output) {
-            Ok(()) => {
-                assert!(rt; good > 14);
-                assert_eq!(rt; output.bytes.as_slice(), journal.as_bytes());
-                return Ok(());
-            }
-            Err(fault) => {
-                assert!(rt; fault == JournalFault::Device);
-                assert_eq!(rt; output.failures, 1);
-                assert!(rt; journal.as_bytes().starts_with(&output.bytes));
-            }
+        let (written, failures, len, is_front) =
+            written_after(alloc, &entries, journal.as_bytes(), good);
+        assert!(rt; is_front, "after {good} writes");
+        if written.is_ok() {
+            assert!(rt; good > 14 && failures == 0 && len == journal.len());
+            return Ok(());
         }
+        assert_eq!(rt; (written, failures), (Err(JournalFault::Device), 1));
     }
     assert!(rt; false, "no journal was written");
     Ok(())

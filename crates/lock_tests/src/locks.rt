@@ -224,12 +224,51 @@ fn a_refused_load_has_no_receipt(rt: HostRuntime) -> Result<(), Fail> {
     Ok(())
 }
 
+/// Loads a program into a slot that isn't there: the entry's number, and the reply.
+fn loaded<L: Yard, R: Wait>(
+    rt: &R,
+    alloc: Global,
+    yard: &Forecourt<L>,
+    pass: &mut Pass<L>,
+) -> Option<(u32, Reply)> {
+    let asked = [0x79u8, 0x10, 0x18, 0, 0, 0, 0, 0, 0x95, 0, 0, 0, 0, 0, 0, 0];
+    let program = verify(alloc, asked.as_slice(), 0, Layout::One).ok()?;
+    let program = Arc::new(alloc, program).ok()?;
+    let answered = yard.load(rt, pass, 16, program).ok()?;
+    Some((answered.number, answered.reply))
+}
+
+/// Lifts nozzle 3 of point 2.
+fn reported<L: Yard, R: Wait>(
+    rt: &R,
+    yard: &Forecourt<L>,
+    pass: &mut Pass<L>,
+) -> Option<(u32, Reply)> {
+    let answered = yard
+        .dispenser(rt, pass, 2, DispenserEvent::Up(3))
+        .ok()?;
+    Some((answered.number, answered.reply))
+}
+
+/// Asks what point 2 shows.
+fn shown<L: Yard, R: Wait>(
+    rt: &R,
+    yard: &Forecourt<L>,
+    pass: &mut Pass<L>,
+) -> Option<(u32, Reply)> {
+    let mut gate = Straight { calls: 0 };
+    let answered = yard
+        .request(rt, pass, &mut gate, 1, 7, Request::Show(2))
+        .ok()?;
+    Some((answered.number, answered.reply))
+}
+
 /// What direct calls answer.
 #[derive(Clone, Copy, Debug, PartialEq, Eq, Drop)]
 struct Called {
-    loaded: (u32, Reply),
-    reported: (u32, Reply),
-    asked: (u32, Reply),
+    loaded: Option<(u32, Reply)>,
+    reported: Option<(u32, Reply)>,
+    asked: Option<(u32, Reply)>,
     are_all: (bool, bool),
     fault: Option<(u32, u32)>,
 }
@@ -249,32 +288,17 @@ fn calls<L: Yard, R: Wait>(
 {
     let (yard, mut passes) = Forecourt::<L>::start(alloc, config, 2, blank)?;
     let mut second = passes.pop().ok_or("a pass")?;
-    let asked = [0x79u8, 0x10, 0x18, 0, 0, 0, 0, 0, 0x95, 0, 0, 0, 0, 0, 0, 0];
-    let program = verify(alloc, asked.as_slice(), 0, Layout::One)
-        .ok()
-        .ok_or("a program")?;
-    let program = Arc::new(alloc, program)?;
-    let loaded = yard
-        .load(rt, &mut second, 16, program)
-        .ok()
-        .ok_or("a load")?;
-    let reported = yard
-        .dispenser(rt, &mut second, 2, DispenserEvent::Up(3))
-        .ok()
-        .ok_or("a report")?;
-    let mut gate = Straight { calls: 0 };
-    let shown = yard
-        .request(rt, &mut second, &mut gate, 1, 7, Request::Show(2))
-        .ok()
-        .ok_or("a request")?;
+    let loaded = loaded(rt, alloc, &yard, &mut second);
+    let reported = reported(rt, &yard, &mut second);
+    let asked = shown(rt, &yard, &mut second);
     let alone = are_all(2, passes.as_slice());
     let last = second.id();
     passes.push(second)?;
     let wrong = fault(&[], passes.as_slice());
     Ok(Called {
-        loaded: (loaded.number, loaded.reply),
-        reported: (reported.number, reported.reply),
-        asked: (shown.number, shown.reply),
+        loaded,
+        reported,
+        asked,
         are_all: (alone, are_all(last, passes.as_slice())),
         fault: wrong,
     })
@@ -288,8 +312,8 @@ fn calls_of<R: Wait>(rt: &R, alloc: Global, config: Config) -> Result<Called, Fa
 fn calls_are_answered(rt: HostRuntime) -> Result<(), Fail> {
     let config = config(rt.alloc()).ok_or("a configuration")?;
     let called = calls_of(&rt, rt.alloc(), config)?;
-    assert_eq!(rt; called.loaded, (1, Reply::Refused(32, None)));
-    assert_eq!(rt; called.reported, (2, Reply::Done));
+    assert_eq!(rt; called.loaded, Some((1, Reply::Refused(32, None))));
+    assert_eq!(rt; called.reported, Some((2, Reply::Done)));
     let shown = Reply::Point {
         state: 2,
         nozzle: 3,
@@ -299,7 +323,7 @@ fn calls_are_answered(rt: HostRuntime) -> Result<(), Fail> {
         preset: 0,
         unpaid: 0,
     };
-    assert_eq!(rt; called.asked, (3, shown));
+    assert_eq!(rt; called.asked, Some((3, shown)));
     assert_eq!(rt; called.are_all, (false, true));
     assert_eq!(rt; called.fault, Some((2, 1)));
     Ok(())
