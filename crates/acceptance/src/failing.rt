@@ -146,7 +146,7 @@ fn sat_of<R: Wait>(
 }
 
 /// What these devices see of a session at a new station.
-fn seen<R: Wait>(
+fn seen_by<R: Wait>(
     rt: &R,
     alloc: Global,
     input: MemoryIn,
@@ -157,7 +157,7 @@ fn seen<R: Wait>(
 
 fn seen_after_reads<R: Wait>(rt: &R, alloc: Global, good: u64) -> Result<Seen, Fail> {
     let input = delivery(alloc, 4096, Some(good))?;
-    seen(rt, alloc, input, answers(alloc, 4096, None))
+    seen_by(rt, alloc, input, answers(alloc, 4096, None))
 }
 
 #[test]
@@ -183,7 +183,7 @@ fn fails_at_each_read(rt: HostRuntime) -> Result<(), Fail> {
 
 fn seen_after_writes<R: Wait>(rt: &R, alloc: Global, good: u64) -> Result<Seen, Fail> {
     let input = delivery(alloc, 4096, None)?;
-    seen(rt, alloc, input, answers(alloc, 4, Some(good)))
+    seen_by(rt, alloc, input, answers(alloc, 4, Some(good)))
 }
 
 // The event of the answer whose write failed stays entered.
@@ -217,7 +217,7 @@ fn each_cut_is_answered_alike(rt: HostRuntime) -> Result<(), Fail> {
     let alloc = rt.alloc();
     for size in [1usize, 2, 3, 7, 40, 4096] {
         let input = delivery(alloc, size, None)?;
-        let seen = seen(&rt, alloc, input, answers(alloc, size, None))?;
+        let seen = seen_by(&rt, alloc, input, answers(alloc, size, None))?;
         assert_eq!(rt; seen, WHOLE, "pieces of {size}");
     }
     Ok(())
@@ -376,10 +376,22 @@ fn a_journal_fails_at_each_read(rt: HostRuntime) -> Result<(), Fail> {
         let read = read_after(alloc, journal.as_bytes(), good)?;
         let is_whole = read.entries == Ok(14);
         let want = Read {
-            entries: if is_whole { Ok(14) } else { Err(JournalFault::Device) },
-            is_legal: if is_whole { Ok(true) } else { Err(JournalFault::Device) },
+            entries: if is_whole {
+                Ok(14)
+            } else {
+                Err(JournalFault::Device)
+            },
+            is_legal: if is_whole {
+                Ok(true)
+            } else {
+                Err(JournalFault::Device)
+            },
             failures: if is_whole { (0, 0) } else { (1, 1) },
-            reads: if is_whole { read.reads } else { good.wrapping_add(1) },
+            reads: if is_whole {
+                read.reads
+            } else {
+                good.wrapping_add(1)
+            },
             asked: read.reads.wrapping_mul(4096),
         };
         assert_eq!(rt; read, want, "after {good} reads");
@@ -413,8 +425,12 @@ fn a_journal_fails_at_each_write(rt: HostRuntime) -> Result<(), Fail> {
     let mut input = cut_journal(alloc, journal.as_bytes(), 1000)?;
     let entries = read_entries(alloc, &mut input).ok().ok_or("entries")?;
     for good in 0..200u64 {
-        let (written, failures, len, is_front) =
-            written_after(alloc, &entries, journal.as_bytes(), good);
+        let (written, failures, len, is_front) = written_after(
+            alloc,
+            &entries,
+            journal.as_bytes(),
+            good,
+        );
         assert!(rt; is_front, "after {good} writes");
         if written.is_ok() {
             assert!(rt; good > 14 && failures == 0 && len == journal.len());

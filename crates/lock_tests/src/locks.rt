@@ -244,9 +244,7 @@ fn reported<L: Yard, R: Wait>(
     yard: &Forecourt<L>,
     pass: &mut Pass<L>,
 ) -> Option<(u32, Reply)> {
-    let answered = yard
-        .dispenser(rt, pass, 2, DispenserEvent::Up(3))
-        .ok()?;
+    let answered = yard.dispenser(rt, pass, 2, DispenserEvent::Up(3)).ok()?;
     Some((answered.number, answered.reply))
 }
 
