@@ -10,4 +10,3 @@ mod words;
 pub use bpf_model::context::{Context, Layout};
 pub use rebasing::rebase;
 pub use running::run;
-

@@ -12,7 +12,6 @@ use std::marker::Model;
 use std::sync::Arc;
 use thiserror::Error;
 
-
 /// How many versions there can be, over all slots.
 pub const VERSIONS: usize = 4096;
 
