@@ -18,7 +18,7 @@ h1{font-size:1.9rem;line-height:1.2;margin:.2rem 0 .4rem}\
 h2{font-size:1.3rem;margin:2.6rem 0 .6rem;border-top:1px solid var(--line);padding-top:1.2rem}\
 h3{font-size:1rem;margin:1.6rem 0 .4rem}\
 p{margin:.4rem 0}.audited{color:var(--soft);margin:0}.note{color:var(--soft);font-size:.9rem}\
-.figures{display:grid;list-style:none;padding:0;grid-template-columns:repeat(auto-fit,minmax(9.5rem,1fr));gap:.8rem;\
+.figures{display:grid;list-style:none;padding:0;grid-template-columns:repeat(auto-fit,minmax(11rem,1fr));gap:.8rem;\
 margin:1.4rem 0}\
 .figures li{background:var(--panel);border:1px solid var(--line);border-radius:.5rem;padding:.7rem .9rem}\
 .figures span{color:var(--soft);font-size:.85rem}\
