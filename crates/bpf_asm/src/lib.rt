@@ -10,6 +10,7 @@ ghost use Rattle.bpf_asm.specs.Program as spec;
 ghost use Rattle.bpf_asm.specs.RoundTrip.{RoundTrip};
 ghost use Rattle.bpf_asm.specs.Sound.{AreSound};
 ghost use Rattle.bpf_asm.specs.Text.{canon, high_of, instruction_text};
+ghost use Rattle.bpf_model.specs.declared.limits.TheConstants.{UNITS};
 
 use bpf_decode::{Code, Inst, Unit};
 use grammar::Line;
@@ -113,7 +114,7 @@ fn write_numbered(out: &mut String, number: u64, inst: Inst, high: i32) -> Resul
 }
 
 fn is_length(count: u64) -> bool
-    ensures { result ≡ (nat_le 1 count && nat_le count 512) }
+    ensures { result ≡ (nat_le 1 count && nat_le count UNITS) }
 {
     1 <= count && count <= 512
 }

@@ -2,6 +2,7 @@
 
 ghost use Rattle.std.specs.Prelude.{◌≡◌, ◌^◌, ◌≤◌, ◌+◌, ◌-ℤ◌, ◌++◌, true, pos, map, IfOk, OnOk, Some, []};
 ghost use Rattle.bpf_asm.specs.Program as spec;
+ghost use Rattle.bpf_model.specs.declared.limits.TheConstants.{UNITS};
 
 use crate::grammar::{Fields, Line, Statement, Target, Value};
 use crate::label::{len_of, place_of};
@@ -172,8 +173,8 @@ fn place_or_zero(labels: &[(&[u8], u64)], name: &[u8]) -> u64
 
 // The distance from the unit after the one at `at` to a place.
 fn apart(place: u64, at: u64) -> i16
-    requires place { place ≤ 512 }
-    requires at { at ≤ 512 }
+    requires place { place ≤ UNITS }
+    requires at { at ≤ UNITS }
     ensures { result ≡ pos place -ℤ pos (at + 1) }
 {
     let to = place as i16;
@@ -183,8 +184,8 @@ fn apart(place: u64, at: u64) -> i16
 
 // The distance from the unit after the one at `at` to a label.
 fn distance_to(labels: &[(&[u8], u64)], at: u64, name: &[u8]) -> i16
-    requires at { at ≤ 512 }
-    requires places { spec.AreWithin 512 (map (λ d. spec.definition d.0.now d.1) labels.now) }
+    requires at { at ≤ UNITS }
+    requires places { spec.AreWithin UNITS (map (λ d. spec.definition d.0.now d.1) labels.now) }
     ensures { result ≡ spec.distance_of (map (λ d. spec.definition d.0.now d.1) labels.now) at name.now Target.Label }
 {
     apart(place_or_zero(labels, name), at)
@@ -199,8 +200,8 @@ fn jump_inst(
     target: Target,
 ) -> Inst
     requires fits { spec.statement_fits (Statement.Jump form fields target) ≡ true }
-    requires at { at ≤ 512 }
-    requires places { spec.AreWithin 512 (map (λ d. spec.definition d.0.now d.1) labels.now) }
+    requires at { at ≤ UNITS }
+    requires places { spec.AreWithin UNITS (map (λ d. spec.definition d.0.now d.1) labels.now) }
     ensures { result
         ≡ spec.jump_inst form fields
         (spec.distance_of (map (λ d. spec.definition d.0.now d.1) labels.now) at name.now target) }
@@ -266,8 +267,8 @@ fn push_units(
     says: Line,
 ) -> Result<(), AllocError>
     requires fits { spec.line_fits says ≡ true }
-    requires at { at ≤ 512 }
-    requires places { spec.AreWithin 512 (map (λ d. spec.definition d.0.now d.1) labels.now) }
+    requires at { at ≤ UNITS }
+    requires places { spec.AreWithin UNITS (map (λ d. spec.definition d.0.now d.1) labels.now) }
     ensures { OnOk result (units.new.items ≡ units.old.items
         ++ spec.line_units (map (λ d. spec.definition d.0.now d.1) labels.now) at name.now says) }
 {
@@ -299,8 +300,8 @@ pub fn units_of(
     rows: &[(Line, &[u8])],
 ) -> Result<Vec<Unit>, AllocError>
     requires fits { spec.AreRight (map (λ p. spec.row p.0 p.1.now) rows.now) }
-    requires few { spec.units_in (map (λ p. spec.row p.0 p.1.now) rows.now) ≤ 512 }
-    requires places { spec.AreWithin 512 (map (λ d. spec.definition d.0.now d.1) labels.now) }
+    requires few { spec.units_in (map (λ p. spec.row p.0 p.1.now) rows.now) ≤ UNITS }
+    requires places { spec.AreWithin UNITS (map (λ d. spec.definition d.0.now d.1) labels.now) }
     ensures { IfOk result
         (λ v. v.items ≡ spec.units_from (map (λ d. spec.definition d.0.now d.1) labels.now) 0
         (map (λ p. spec.row p.0 p.1.now) rows.now)) }

@@ -6,6 +6,7 @@ ghost use Rattle.std.specs.List.{All};
 ghost use Rattle.bpf_model.specs.Machine.{counter};
 ghost use Rattle.bpf_model.specs.Runs.{AreCounters};
 ghost use Rattle.counters.specs.Changes.{can_add, after_add, can_take, after_take, adopted};
+ghost use Rattle.bpf_model.specs.declared.limits.TheConstants.{COUNTERS};
 
 use std::marker::Model;
 
@@ -40,7 +41,7 @@ impl Counters {
 
     /// The value of a counter from 0 to 31.
     pub fn get(&self, c: u32) -> u64
-        requires { c < 32 }
+        requires { c < COUNTERS }
         ensures value { result ≡ (counter self.now c).0 }
         ensures right { AreCounters self.now }
     {
@@ -49,7 +50,7 @@ impl Counters {
 
     /// The bound of a counter from 0 to 31.
     pub fn bound(&self, c: u32) -> u64
-        requires { c < 32 }
+        requires { c < COUNTERS }
         ensures { result ≡ (counter self.now c).1 }
     {
         self.cells[c as usize].1
@@ -57,7 +58,7 @@ impl Counters {
 
     /// Adds to a counter from 0 to 31. Where the sum is over the bound the answer is false, and nothing changes.
     pub fn add(&mut self, c: u32, n: u64) -> bool
-        requires { c < 32 }
+        requires { c < COUNTERS }
         ensures answer { result ≡ can_add self.old c n }
         ensures after { self.new ≡ after_add self.old c n }
     {
@@ -82,7 +83,7 @@ impl Counters {
 
     /// Takes from a counter from 0 to 31. Where `n` is over the value the answer is false, and nothing changes.
     pub fn take(&mut self, c: u32, n: u64) -> bool
-        requires { c < 32 }
+        requires { c < COUNTERS }
         ensures answer { result ≡ can_take self.old c n }
         ensures after { self.new ≡ after_take self.old c n }
     {
@@ -105,7 +106,7 @@ fn prove_small(cells: &[(u64, u64); 32])
 }
 
 fn bound_at(cells: &[(u64, u64); 32], c: usize) -> u64
-    requires { c < 32 }
+    requires { c < COUNTERS }
     ensures bound { result ≡ (counter cells.now c).1 }
     ensures small { result < 2 ^ 64 }
 {

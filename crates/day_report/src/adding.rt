@@ -20,6 +20,9 @@ use decision_journal::Entry;
 use fuelling_point::{Point, Transaction};
 use std::alloc::{AllocError, Global};
 
+/// The most points that a history is added up for.
+pub const MOST_POINTS: usize = 1000;
+
 /// The greatest number of tills.
 pub const TILLS: u32 = 64;
 
@@ -74,7 +77,7 @@ pub struct Unpaid {
 }
 
 fn by_point(alloc: Global, sales: &[Sale], points: usize) -> Result<Vec<Sum>, AllocError>
-    requires { points ≤ 1000 }
+    requires { points ≤ MOST_POINTS }
     ensures { IfOk result (λ sums. SumsUp part_of_point points sums.items sales.now) }
 {
     let mut sums = Vec::new(alloc);
@@ -85,7 +88,7 @@ fn by_point(alloc: Global, sales: &[Sale], points: usize) -> Result<Vec<Sum>, Al
 }
 
 fn by_till(alloc: Global, sales: &[Sale]) -> Result<Vec<Sum>, AllocError>
-    ensures { IfOk result (λ sums. SumsUp part_of_till 64 sums.items sales.now) }
+    ensures { IfOk result (λ sums. SumsUp part_of_till TILLS sums.items sales.now) }
 {
     let mut sums = Vec::new(alloc);
     for till in 0..TILLS {
@@ -95,7 +98,7 @@ fn by_till(alloc: Global, sales: &[Sale]) -> Result<Vec<Sum>, AllocError>
 }
 
 fn by_hour(alloc: Global, sales: &[Sale]) -> Result<Vec<Sum>, AllocError>
-    ensures { IfOk result (λ sums. SumsUp part_of_hour 24 sums.items sales.now) }
+    ensures { IfOk result (λ sums. SumsUp part_of_hour HOURS sums.items sales.now) }
 {
     let mut sums = Vec::new(alloc);
     for hour in 0..HOURS {
@@ -136,7 +139,7 @@ fn by_till_asked(
     decisions: &[Decision],
     versions: usize,
 ) -> Result<Vec<Outcomes>, AllocError>
-    ensures { IfOk result (λ found. DecidedByTills 64 versions decisions.now found.items) }
+    ensures { IfOk result (λ found. DecidedByTills TILLS versions decisions.now found.items) }
 {
     let mut found = Vec::new(alloc);
     for till in 0..TILLS {
@@ -207,10 +210,10 @@ struct Sums {
 }
 
 fn sums_of(alloc: Global, sales: &[Sale], points: usize) -> Result<Sums, AllocError>
-    requires { points ≤ 1000 }
+    requires { points ≤ MOST_POINTS }
     ensures points { IfOk result (λ s. SumsUp part_of_point points s.points.items sales.now) }
-    ensures tills { IfOk result (λ s. SumsUp part_of_till 64 s.tills.items sales.now) }
-    ensures hours { IfOk result (λ s. SumsUp part_of_hour 24 s.hours.items sales.now) }
+    ensures tills { IfOk result (λ s. SumsUp part_of_till TILLS s.tills.items sales.now) }
+    ensures hours { IfOk result (λ s. SumsUp part_of_hour HOURS s.hours.items sales.now) }
 {
     Ok(Sums {
         points: by_point(alloc, sales, points)?,
@@ -236,7 +239,7 @@ fn verdicts_of(
     ensures releases { IfOk result (λ v. HasOutcomes deciding.Releases versions decisions.now v.releases) }
     ensures presets { IfOk result (λ v. HasOutcomes deciding.Presets versions decisions.now v.presets) }
     ensures prices { IfOk result (λ v. HasOutcomes deciding.Prices versions decisions.now v.prices) }
-    ensures tills { IfOk result (λ v. DecidedByTills 64 versions decisions.now v.tills.items) }
+    ensures tills { IfOk result (λ v. DecidedByTills TILLS versions decisions.now v.tills.items) }
 {
     Ok(Verdicts {
         releases: outcomes(alloc, decisions, versions, Deciding::Releases)?,
@@ -249,15 +252,15 @@ fn verdicts_of(
 /// What the history of a site with so many points adds up to. The error is want of memory.
 pub fn add_up(alloc: Global, points: usize, entries: &[Entry]) -> Result<Totals, AllocError>
     requires few { length entries.now ≤ ENTRIES }
-    requires points { points ≤ 1000 }
+    requires points { points ≤ MOST_POINTS }
     ensures entries { IfOk result (λ t. t.entries ≡ length entries.now) }
     ensures sold { IfOk result (λ t. IsSum t.sold part.All (sales (closed_points points) entries.now)) }
     ensures by_point { IfOk result
         (λ t. SumsUp part_of_point points t.by_point.items (sales (closed_points points) entries.now)) }
     ensures by_till { IfOk result
-        (λ t. SumsUp part_of_till 64 t.by_till.items (sales (closed_points points) entries.now)) }
+        (λ t. SumsUp part_of_till TILLS t.by_till.items (sales (closed_points points) entries.now)) }
     ensures by_hour { IfOk result
-        (λ t. SumsUp part_of_hour 24 t.by_hour.items (sales (closed_points points) entries.now)) }
+        (λ t. SumsUp part_of_hour HOURS t.by_hour.items (sales (closed_points points) entries.now)) }
     ensures points { IfOk result (λ t. t.points.items ≡ stand (closed_points points) entries.now) }
     ensures refused { IfOk result (λ t. CountsRefusals t.refused.items (filter_map refusal_of entries.now)) }
     ensures loads { IfOk result (λ t. t.loads.items ≡ loads 0 entries.now) }
@@ -271,7 +274,7 @@ pub fn add_up(alloc: Global, points: usize, entries: &[Entry]) -> Result<Totals,
     ensures denied { IfOk result
         (λ t. t.denied ≡ count_by (λ (d : Decision). not d.is_granted) (filter_map decision_of entries.now)) }
     ensures tills { IfOk result
-        (λ t. DecidedByTills 64 (versions_of entries.now) (filter_map decision_of entries.now) t.tills.items) }
+        (λ t. DecidedByTills TILLS (versions_of entries.now) (filter_map decision_of entries.now) t.tills.items) }
     ensures releases { IfOk result
         (λ t. HasOutcomes deciding.Releases (versions_of entries.now) (filter_map decision_of entries.now) t.releases) }
     ensures presets { IfOk result

@@ -1,6 +1,6 @@
 //! How often each version granted and denied, and how often each number was refused.
 
-ghost use Rattle.std.specs.Prelude.{◌≡◌, ◌==◌, ◌&&◌, ◌+◌, ◌<◌, ◌≤◌, ℕ, if◌then◌else◌, All, IfOk, length, slice_index};
+ghost use Rattle.std.specs.Prelude.{◌≡◌, ◌==◌, ◌&&◌, ◌+◌, ◌-◌, ◌^◌, ◌<◌, ◌≤◌, ℕ, if◌then◌else◌, All, IfOk, length, slice_index};
 ghost use Rattle.std.specs.Prelude.{count_by};
 ghost use Rattle.day_report.specs.Totals.{is_among, has_outcome, is_wanted, decided_by};
 
@@ -44,7 +44,7 @@ fn is_wanted(part: Deciding, granted: bool, decision: &Decision) -> bool
 
 /// One more at this place, where it is wanted.
 fn count_if(counts: &mut [u64], at: usize, wanted: bool)
-    requires { All (λ n. n ≤ 18446744073709551614) counts.old }
+    requires { All (λ n. n ≤ 2 ^ 64 - 2) counts.old }
     ensures length { length counts.new ≡ length counts.old }
     ensures each { (v : ℕ) → v < length counts.old → slice_index counts.new v ≡ slice_index counts.old v
         + (if wanted && at == v then 1 else 0) }

@@ -6,6 +6,7 @@ ghost use Rattle.bpf_model.specs.Reading.{form_of};
 ghost use Rattle.bpf_model.specs.Flow.{distance_by, distance_of, distance_fault, jump_fault, landing_fault, flow_fault};
 ghost use Rattle.bpf_model.specs.Flow.{target, IsAhead, GoesForward};
 ghost use Rattle.flow_check.specs.Faults.{IsShown, numbered};
+ghost use Rattle.bpf_model.specs.declared.limits.TheConstants.{UNITS};
 
 use bpf_decode::{Code, Inst, Unit};
 use bpf_model::instruction::{Form, JumpFault};
@@ -77,7 +78,7 @@ fn fault_of_landing(landing: Option<Unit>) -> Option<JumpFault>
 
 // What is wrong with a jump of some distance.
 fn fault_of_distance(units: &[Unit], pc: usize, distance: Option<i64>) -> Option<JumpFault>
-    requires { pc < 512 }
+    requires { pc < UNITS }
     ensures { result ≡ distance_fault units.now pc distance }
 {
     let distance = distance?;
@@ -89,7 +90,7 @@ fn fault_of_distance(units: &[Unit], pc: usize, distance: Option<i64>) -> Option
 
 fn fault_of_jump(units: &[Unit], pc: usize) -> Option<JumpFault>
     requires inside { pc < length units.now }
-    requires small { length units.now ≤ 512 }
+    requires small { length units.now ≤ UNITS }
     ensures { result ≡ jump_fault units.now pc }
 {
     fault_of_distance(units, pc, distance(units[pc]))
@@ -97,7 +98,7 @@ fn fault_of_jump(units: &[Unit], pc: usize) -> Option<JumpFault>
 
 // The first unit whose jump is at fault.
 fn first_jump_fault(units: &[Unit]) -> Option<(u32, JumpFault)>
-    requires { length units.now ≤ 512 }
+    requires { length units.now ≤ UNITS }
     ensures { result ≡ flow_fault units.now }
 {
     for pc in 0..units.len() {
@@ -110,7 +111,7 @@ fn first_jump_fault(units: &[Unit]) -> Option<(u32, JumpFault)>
 
 // The unit that the jump at a unit goes to.
 fn target_in(units: &[Unit], pc: u32) -> Option<u32>
-    requires { length units.now ≤ 512 }
+    requires { length units.now ≤ UNITS }
     ensures { result ≡ target units.now pc }
 {
     let distance = distance(*units.get(pc as usize)?)?;

@@ -3,10 +3,11 @@
 
 mod memory;
 
-ghost use Rattle.std.specs.Prelude.{◌≡◌, ◌≤◌, ◌<◌, IsSome, Some};
+ghost use Rattle.std.specs.Prelude.{◌≡◌, ◌≤◌, ◌<◌, ◌+◌, IsSome, Some};
 ghost use Rattle.bpf_model.specs.Machine.{helper_of, point, price, is_there, record_bytes, no_point, point_or_zero};
 ghost use Rattle.helpers.specs.Calls.{signature, called, called_by, kinds, stored, CounterInside, PlaceInside};
 ghost use Rattle.helpers.specs.Meaning.{IsMachineCall};
+ghost use Rattle.bpf_model.specs.declared.limits.TheConstants.{STACK_BYTES};
 
 use bpf_model::instruction::Size;
 use bpf_model::machine::Helper;
@@ -95,7 +96,7 @@ fn price_of(view: &View, number: u64) -> u64
 
 // The record of a point, or of no point, is put at a place of the stack.
 fn put_point(point: Option<PointView>, at: u64, stack: &mut [u8; 512]) -> u64
-    requires { at ≤ 496 }
+    requires { at + 16 ≤ STACK_BYTES }
     ensures answer { result ≡ is_there point }
     ensures stack { stack.new ≡ stored stack.old at (record_bytes (point_or_zero point)) }
 {

@@ -4,13 +4,14 @@ ghost use Rattle.std.specs.Prelude.{◌≡◌, ◌+◌, ◌≤◌, length};
 ghost use Rattle.byteorder.specs.Endian.{little_bytes};
 ghost use Rattle.bpf_model.specs.Reading.{bytes_in};
 ghost use Rattle.helpers.specs.Calls.{stored};
+ghost use Rattle.bpf_model.specs.declared.limits.TheConstants.{STACK_BYTES};
 
 use bpf_model::instruction::Size;
 use byteorder::{ByteOrder, LittleEndian};
 
 #[inline(always)]
 fn put_half(memory: &mut [u8; 512], at: usize, n: u64)
-    requires { at + 2 ≤ 512 }
+    requires { at + 2 ≤ STACK_BYTES }
     ensures { memory.new ≡ stored memory.old at (little_bytes 2 n) }
 {
     LittleEndian::write_u16(&mut memory[at..], (n % 0x1_0000) as u16);
@@ -18,7 +19,7 @@ fn put_half(memory: &mut [u8; 512], at: usize, n: u64)
 
 #[inline(always)]
 fn put_word(memory: &mut [u8; 512], at: usize, n: u64)
-    requires { at + 4 ≤ 512 }
+    requires { at + 4 ≤ STACK_BYTES }
     ensures { memory.new ≡ stored memory.old at (little_bytes 4 n) }
 {
     LittleEndian::write_u32(&mut memory[at..], (n % 0x1_0000_0000) as u32);
@@ -26,7 +27,7 @@ fn put_word(memory: &mut [u8; 512], at: usize, n: u64)
 
 #[inline(always)]
 fn put_double(memory: &mut [u8; 512], at: usize, n: u64)
-    requires { at + 8 ≤ 512 }
+    requires { at + 8 ≤ STACK_BYTES }
     ensures { memory.new ≡ stored memory.old at (little_bytes 8 n) }
 {
     LittleEndian::write_u64(&mut memory[at..], n);
@@ -35,7 +36,7 @@ fn put_double(memory: &mut [u8; 512], at: usize, n: u64)
 /// Puts the low bytes of a number, the lowest first, from a place on.
 #[inline(always)]
 pub fn put(memory: &mut [u8; 512], at: usize, size: Size, n: u64)
-    requires { at + bytes_in size ≤ 512 }
+    requires { at + bytes_in size ≤ STACK_BYTES }
     ensures { memory.new ≡ stored memory.old at (little_bytes (bytes_in size) n) }
 {
     match size {

@@ -3,6 +3,7 @@
 ghost use Rattle.std.specs.Prelude.{◌≡◌, ◌==◌, if◌then◌else◌, ◌≤◌, ◌+◌};
 ghost use Rattle.reg_types.specs.Rules.{note_of as note_by, noted_type as noted_by};
 ghost use Rattle.reg_types.specs.Inference.{join_notes as joined, renoted};
+ghost use Rattle.bpf_model.specs.declared.limits.TheConstants.{STACK_BYTES};
 
 use crate::rules::lowest_by;
 use crate::types::RegType;
@@ -52,7 +53,7 @@ pub fn join_notes(notes: &mut [u16; 64], others: &[u16; 64])
 
 /// The places of which one of `len` bytes from `at` on is a part have this note.
 pub fn put_note(notes: &mut [u16; 64], note: u16, at: u32, len: u32)
-    requires { at + len ≤ 512 }
+    requires { at + len ≤ STACK_BYTES }
     ensures { notes.new ≡ renoted note at len 0 notes.old }
 {
     for k in at / 8..(at + len).div_ceil(8) {

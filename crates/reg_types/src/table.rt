@@ -1,10 +1,11 @@
 // The facts that the pass stores, each found by its unit at once.
 
-ghost use Rattle.std.specs.Prelude.{◌≡◌, ℕ, ◌≤◌, ◌∷◌, [], IfOk, IfSome, OnOk, IsTrue, false, Some, None, replicate};
+ghost use Rattle.std.specs.Prelude.{◌≡◌, ℕ, ◌≤◌, ◌+◌, ◌∷◌, [], IfOk, IfSome, OnOk, IsTrue, false, Some, None, replicate};
 ghost use Rattle.std.specs.Prelude.{slice_set};
 ghost use Rattle.reg_types.specs.Facts.{IsPlace, AreDistinct, stored};
 ghost use Rattle.reg_types.specs.Inference.{arrived};
 ghost use Rattle.reg_types.specs.Passing.{AreSame, IsJoined, fact_if};
+ghost use Rattle.bpf_model.specs.declared.limits.TheConstants.{UNITS};
 
 use crate::types::{Fact, Stored};
 use std::alloc::{AllocError, Global};
@@ -32,7 +33,7 @@ impl Model for Table {
 
 // The first unit's fact stands first, and the others have none.
 fn first_alone() -> [usize; 513]
-    ensures { result ≡ slice_set (replicate 513 0) 0 1 }
+    ensures { result ≡ slice_set (replicate (UNITS + 1) 0) 0 1 }
 {
     let mut places = [0; 513];
     places[0] = 1;
@@ -53,7 +54,7 @@ impl Table {
     }
 
     fn place_of(&self, at: u32) -> Option<usize>
-        requires { at ≤ 512 }
+        requires { at ≤ UNITS }
         ensures found { IfSome result (λ k. IsPlace self.now at k) }
         ensures none { result ≡ None → stored self.now at ≡ None }
     {
@@ -65,7 +66,7 @@ impl Table {
 
     /// The stored fact of a unit, if it has one, becomes what is known here.
     pub fn read_at(&self, at: u32, fact: &mut Fact) -> bool
-        requires { at ≤ 512 }
+        requires { at ≤ UNITS }
         ensures { fact_if result fact.new ≡ stored self.now at }
     {
         match self.place_of(at) {
@@ -79,7 +80,7 @@ impl Table {
 
     /// The stored fact of a unit, if it has one, and what is known where the unit is entered become what both say.
     pub fn join_at(&mut self, at: u32, fact: &mut Fact) -> bool
-        requires { at ≤ 512 }
+        requires { at ≤ UNITS }
         ensures joined { IsTrue result → IsJoined at fact.old (stored self.old) (stored self.new) }
         ensures both { IsTrue result → stored self.new at ≡ Some fact.new }
         ensures none { result ≡ false → (stored self.old at ≡ None) × (self.new ≡ self.old) × (fact.new ≡ fact.old) }
@@ -92,7 +93,7 @@ impl Table {
     }
 
     fn push(&mut self, at: u32, fact: &Fact) -> Result<(), AllocError>
-        requires small { at ≤ 512 }
+        requires small { at ≤ UNITS }
         requires new { stored self.old at ≡ None }
         ensures { OnOk result ((q : ℕ) → AreSame (stored self.new q) (arrived q fact.now at (stored self.old q))) }
     {
@@ -103,7 +104,7 @@ impl Table {
 
     /// A jump's target takes in what is known where it is entered.
     pub fn enter(&mut self, at: u32, fact: &Fact) -> Result<(), AllocError>
-        requires { at ≤ 512 }
+        requires { at ≤ UNITS }
         ensures { OnOk result ((q : ℕ) → AreSame (stored self.new q) (arrived q fact.now at (stored self.old q))) }
     {
         if self.place_of(at).is_none() {

@@ -7,6 +7,7 @@ ghost use Rattle.reg_types.specs.Effects.{effect_of};
 ghost use Rattle.reg_types.specs.Facts.{HasAfter, IsAfter, IsEntry, jump_of, next_of};
 ghost use Rattle.reg_types.specs.Inference.{join_fact, renoted};
 ghost use Rattle.reg_types.specs.Passing.{IsSame};
+ghost use Rattle.bpf_model.specs.declared.limits.TheConstants.{STACK_BYTES};
 
 use crate::notes::{join_notes, note_of, put_note};
 use bpf_model::context::Layout;
@@ -182,7 +183,7 @@ impl Fact {
 
     /// Becomes what is known after an instruction that writes these bytes, and has left these types.
     pub fn apply(&mut self, mark: Mark)
-        requires { mark.at + mark.len ≤ 512 }
+        requires { mark.at + mark.len ≤ STACK_BYTES }
         ensures { IsAfter self.old (effect_of self.old.types mark) self.new }
     {
         if mark.at > 0 || mark.len > 0 {
@@ -192,7 +193,7 @@ impl Fact {
 
     // The bytes that an instruction writes.
     fn write(&mut self, mark: Mark)
-        requires { mark.at + mark.len ≤ 512 }
+        requires { mark.at + mark.len ≤ STACK_BYTES }
         ensures types { self.new.types ≡ self.old.types }
         ensures places { (p : ℕ)
             → Has self.new.stack p ↔ HasAfter (is_unset mark.kept) self.old.stack mark.at mark.len p }

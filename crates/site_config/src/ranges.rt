@@ -7,6 +7,7 @@ ghost use Rattle.site_config.specs.Flaws.{Finds};
 ghost use Rattle.site_config.specs.Typed.{seen};
 ghost use Rattle.site_config.specs.Ranges.{ranged, all_ranged, point_of, counter_of, each_of, prices_of, points_of};
 ghost use Rattle.site_config.specs.Ranges.{counters_of, serve_of, serve_from, told_of, told, config_of};
+ghost use Rattle.bpf_model.specs.declared.limits.TheConstants.{COUNTERS, POINTS};
 
 use crate::document::read_document;
 use crate::fault::ConfigFault;
@@ -136,7 +137,7 @@ fn each_point(alloc: Global, pairs: &[(i64, i64)]) -> Result<Vec<(u32, u32)>, Co
 #[tactic(auto, unfolding(crate::specs::Ranges::points_of))]
 fn make_points(alloc: Global, pairs: &[(i64, i64)]) -> Result<Vec<(u32, u32)>, ConfigFlaw>
     ensures read { Finds (λ v. v.items) result (points_of pairs.now) }
-    ensures count { IfOk result (λ v. (1 ≤ length v.items) × (length v.items ≤ 32)) }
+    ensures count { IfOk result (λ v. (1 ≤ length v.items) × (length v.items ≤ POINTS)) }
     ensures range { IfOk result (λ v. All (λ p. (p.0 ≤ 15) × (p.1 ≤ 15)) v.items) }
 {
     if pairs.is_empty() || pairs.len() > 32 {
@@ -195,9 +196,9 @@ fn each_counter(alloc: Global, pairs: &[(i64, i64)]) -> Result<Vec<(u64, u64)>, 
 
 /// A list of at most 32 as an array, with 0 and 0 behind it.
 fn table_of(list: &[(u64, u64)]) -> [(u64, u64); 32]
-    requires room { length list.now ≤ 32 }
+    requires room { length list.now ≤ COUNTERS }
     requires range { All IsCounter list.now }
-    ensures after { result ≡ list.now ++ replicate (32 - length list.now) (0, 0) }
+    ensures after { result ≡ list.now ++ replicate (COUNTERS - length list.now) (0, 0) }
     ensures range { All IsCounter result }
 {
     let mut array = [(0, 0); 32];

@@ -8,6 +8,7 @@ ghost use Rattle.program_slots.specs.Slots.{Version, version_in};
 ghost use Rattle.bpf_model.specs.Machine.{counter};
 ghost use Rattle.site_core.specs.Decide.{is_declared};
 ghost use Rattle.site_core.specs.Differences.{FirstDiffers, CounterDiffers};
+ghost use Rattle.bpf_model.specs.declared.limits.TheConstants.{COUNTERS, POINTS};
 
 use counters::Counters;
 use helpers::PointView;
@@ -39,7 +40,7 @@ pub fn first_byte(a: &[u8], b: &[u8]) -> Option<u32>
 }
 
 pub fn first_point(a: &[PointView; 32], b: &[PointView; 32]) -> Option<u32>
-    ensures within { IfSome result (λ place. place < 32) }
+    ensures within { IfSome result (λ place. place < POINTS) }
     ensures first { MatchOption result (a.now ≡ b.now) (FirstDiffers a.now b.now) }
 {
     for i in 0..32 {
@@ -64,7 +65,7 @@ pub fn first_price(a: &[u32; 8], b: &[u32; 8]) -> Option<u32>
 
 /// Whether the counter isn't declared, or is the same in value and bound.
 fn is_same_counter(declared: u32, a: &Counters, b: &Counters, c: u32) -> bool
-    requires { c < 32 }
+    requires { c < COUNTERS }
     ensures { IsTrue result ↔ (IsTrue (is_declared declared c) → counter a.now c ≡ counter b.now c) }
 {
     if (declared >> c) % 2 != 1 {

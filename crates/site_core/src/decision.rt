@@ -2,6 +2,7 @@
 
 ghost use Rattle.std.specs.Prelude.{◌≡◌, ◌<◌, ◌≤◌, IfOk, None, replicate};
 ghost use Rattle.site_core.specs.Decide.{release_at, preset_at, price_at, granted_point, command_of, counts, count_of};
+ghost use Rattle.bpf_model.specs.declared.limits.TheConstants.{COUNTERS};
 
 use crate::question::{Kind, Question};
 use crate::replies::{BAD_AMOUNT, TRANSACTIONS_FULL, wrong_state};
@@ -9,12 +10,21 @@ use counters::Counters;
 use fuelling_point::{Command, Point, State};
 use till_request::Reply;
 
+/// The greatest amount that a release or a preset may ask for, in cents.
+const GREATEST_AMOUNT: u64 = 999_999_999;
+
+/// The products of a site.
+const PRODUCTS: u32 = 8;
+
+/// The greatest price of a litre, in tenths of a cent.
+const GREATEST_PRICE: u64 = 9_999_999;
+
 /// The question of a release at a point, or its refusal before a program is looked for: S25, S22, S26.
 pub fn release_at(point: &Point, n: u32, amount: u64, slot: u32) -> Result<Question, Reply>
     ensures question { result ≡ release_at point.now n amount slot }
     ensures point { IfOk result (λ q. q.point ≡ n) }
 {
-    if amount < 1 || amount > 999_999_999 {
+    if amount < 1 || amount > GREATEST_AMOUNT {
         return Err(BAD_AMOUNT);
     }
     let state = point.state();
@@ -38,7 +48,7 @@ pub fn preset_at(point: &Point, n: u32, amount: u64, slot: u32) -> Result<Questi
     ensures question { result ≡ preset_at point.now n amount slot }
     ensures point { IfOk result (λ q. q.point ≡ n) }
 {
-    if amount < 1 || amount > 999_999_999 {
+    if amount < 1 || amount > GREATEST_AMOUNT {
         return Err(BAD_AMOUNT);
     }
     let state = point.state();
@@ -57,9 +67,9 @@ pub fn preset_at(point: &Point, n: u32, amount: u64, slot: u32) -> Result<Questi
 /// The question of a price change, or its refusal: S25, or S22 with the state of the first busy point.
 pub fn price_at(busy: Option<State>, product: u32, price: u64, slot: u32) -> Result<Question, Reply>
     ensures question { result ≡ price_at busy product price slot }
-    ensures fits { IfOk result (λ q. (1 ≤ q.product) × (q.product ≤ 8) × (q.asked ≤ 9999999)) }
+    ensures fits { IfOk result (λ q. (1 ≤ q.product) × (q.product ≤ PRODUCTS) × (q.asked ≤ GREATEST_PRICE)) }
 {
-    if product < 1 || product > 8 || price < 1 || price > 9_999_999 {
+    if product < 1 || product > PRODUCTS || price < 1 || price > GREATEST_PRICE {
         return Err(BAD_AMOUNT);
     }
     match busy {
@@ -98,7 +108,7 @@ pub fn command_of(kind: Kind, granted: u64) -> Command
 
 /// A declared counter's value before and after.
 fn count_of(mask: u32, before: &Counters, after: &Counters, c: u32) -> Option<(u64, u64)>
-    requires { c < 32 }
+    requires { c < COUNTERS }
     ensures { result ≡ count_of mask before.now after.now c }
 {
     if (mask >> c) % 2 == 1 {
@@ -115,7 +125,7 @@ pub fn note_counts(
     after: &Counters,
     noted: &mut [Option<(u64, u64)>; 32],
 )
-    requires { noted.old ≡ replicate 32 None }
+    requires { noted.old ≡ replicate COUNTERS None }
     ensures { noted.new ≡ counts mask before.now after.now }
 {
     for c in 0..32 {

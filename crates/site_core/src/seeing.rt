@@ -2,6 +2,7 @@
 
 ghost use Rattle.std.specs.Prelude.{◌≡◌, ◌≤◌, length};
 ghost use Rattle.site_core.specs.State.{seen, seen_points};
+ghost use Rattle.bpf_model.specs.declared.limits.TheConstants.{POINTS};
 
 use fuelling_point::Point;
 use helpers::PointView;
@@ -19,7 +20,7 @@ pub fn seen(point: &Point) -> PointView
 
 /// The same of all points, with zeros in the places of those that aren't there.
 pub fn seen_points(points: &[Point]) -> [PointView; 32]
-    requires { length points.now ≤ 32 }
+    requires { length points.now ≤ POINTS }
     ensures { result ≡ seen_points points.now }
 {
     let mut all = [PointView {

@@ -16,6 +16,7 @@ ghost use Rattle.site_core.specs.Keeping.{settled, with_counters};
 ghost use Rattle.site_core.specs.Step.{commanded, reported, show_reply};
 ghost use Rattle.interp.specs.Depends.{Agrees};
 ghost use Rattle.fuelling_point.specs.States.{state_number};
+ghost use Rattle.bpf_model.specs.declared.limits.TheConstants.{COUNTERS};
 
 use crate::config::Config;
 use crate::context::{Field, kind_number, lay};
@@ -47,6 +48,7 @@ pub struct Station {
 impl Model for Station {
     ghost use Rattle.std.specs.Prelude.{◌≡◌, ◌≤◌, length};
     ghost use Rattle.site_core.specs.State.{SiteState, seen_points};
+    ghost use Rattle.bpf_model.specs.declared.limits.TheConstants.{POINTS};
 
     ghost Value = { SiteState };
 
@@ -58,7 +60,7 @@ impl Model for Station {
       clears = s.clears;
     } };
 
-    ghost invariant = { λ s. (length s.points.items ≤ 32) × (length s.view.prices ≡ 8)
+    ghost invariant = { λ s. (length s.points.items ≤ POINTS) × (length s.view.prices ≡ 8)
         × (s.view.count ≡ length s.points.items) × (s.view.points ≡ seen_points s.points.items) };
 }
 
@@ -340,7 +342,7 @@ impl Station {
         noted: &mut [Option<(u64, u64)>; 32],
     ) -> u64
         requires layout { layout_of given.now ≡ program.now.layout }
-        requires blank { noted.old ≡ replicate 32 None }
+        requires blank { noted.old ≡ replicate COUNTERS None }
         ensures ran { outcome program.now (bytes_of given.now) (view_of self.old) self.old.counters
             ≡ Ended result self.new.counters }
         ensures noted { noted.new ≡ counts program.now.declared self.old.counters self.new.counters }
@@ -367,7 +369,7 @@ impl Station {
         noted: &mut [Option<(u64, u64)>; 32],
     )
         requires layout { layout_of given.now ≡ program.now.layout }
-        requires blank { noted.old ≡ replicate 32 None }
+        requires blank { noted.old ≡ replicate COUNTERS None }
         requires ran { outcome program.now (bytes_of given.now) (view_of self.old) before.now ≡ Ended r0 after.now }
         requires agree { Agrees program.now.declared before.now self.old.counters }
         ensures ran { outcome program.now (bytes_of given.now) (view_of self.old) self.old.counters

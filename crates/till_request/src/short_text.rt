@@ -17,7 +17,7 @@ pub type ShortText = ArrayString<SHORT>;
 
 /// Puts a number behind a text.
 fn put_number(text: &mut ShortText, number: u64)
-    requires { length text.old.bytes + 20 ≤ 192 }
+    requires { length text.old.bytes + 20 ≤ SHORT }
     ensures text { text.new.bytes ≡ text.old.bytes ++ decimal number }
     ensures short { length text.new.bytes ≤ length text.old.bytes + 20 }
 {
@@ -27,7 +27,7 @@ fn put_number(text: &mut ShortText, number: u64)
 
 /// Puts a word behind a text.
 fn put_word(text: &mut ShortText, word: &str)
-    requires { length text.old.bytes + length word.now + 1 ≤ 192 }
+    requires { length text.old.bytes + length word.now + 1 ≤ SHORT }
     ensures text { text.new.bytes ≡ with_words text.old.bytes (word.now ∷ []) }
     ensures short { length text.new.bytes ≤ length text.old.bytes + length word.now + 1 }
 {
@@ -37,7 +37,7 @@ fn put_word(text: &mut ShortText, word: &str)
 
 /// Puts a number behind a text, as a word.
 fn put_word_number(text: &mut ShortText, number: u64)
-    requires { length text.old.bytes + 21 ≤ 192 }
+    requires { length text.old.bytes + 21 ≤ SHORT }
     ensures text { text.new.bytes ≡ with_words text.old.bytes (decimal number ∷ []) }
     ensures short { length text.new.bytes ≤ length text.old.bytes + 21 }
 {
@@ -47,7 +47,7 @@ fn put_word_number(text: &mut ShortText, number: u64)
 
 /// Puts a refusal's number behind a text, as a word.
 fn put_refusal(text: &mut ShortText, number: u32)
-    requires { length text.old.bytes + 22 ≤ 192 }
+    requires { length text.old.bytes + 22 ≤ SHORT }
     ensures text { text.new.bytes ≡ with_words text.old.bytes ((83 ∷ decimal number) ∷ []) }
     ensures short { length text.new.bytes ≤ length text.old.bytes + 22 }
 {
@@ -56,7 +56,7 @@ fn put_refusal(text: &mut ShortText, number: u32)
 }
 
 fn put_order(text: &mut ShortText, order: Order)
-    requires { length text.old.bytes + 31 ≤ 192 }
+    requires { length text.old.bytes + 31 ≤ SHORT }
     ensures text { text.new.bytes ≡ with_words text.old.bytes (order_words order) }
     ensures short { length text.new.bytes ≤ length text.old.bytes + 31 }
 {
@@ -73,7 +73,7 @@ fn put_order(text: &mut ShortText, order: Order)
 
 /// Puts a reply's words behind a text, a space before each.
 pub fn put_reply(text: &mut ShortText, reply: &Reply)
-    requires { length text.old.bytes + 153 ≤ 192 }
+    requires { length text.old.bytes + 153 ≤ SHORT }
     ensures text { text.new.bytes ≡ with_words text.old.bytes (reply_words reply.now) }
     ensures short { length text.new.bytes ≤ length text.old.bytes + 153 }
 {
@@ -135,7 +135,7 @@ fn fault_word(fault: LineFault) -> &'static str
 
 /// Puts a part of a program's refusal behind a text, if there is one.
 fn put_part(text: &mut ShortText, part: Option<u32>)
-    requires { length text.old.bytes + 21 ≤ 192 }
+    requires { length text.old.bytes + 21 ≤ SHORT }
     ensures text { text.new.bytes ≡ with_words text.old.bytes (map decimal (option_to_list part)) }
     ensures short { length text.new.bytes ≤ length text.old.bytes + 21 }
 {
