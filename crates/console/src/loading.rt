@@ -1,6 +1,6 @@
 //! A load of a script whose program is refused, in words.
-ghost use Rattle.std.specs.Prelude.{◌≡◌, IfOk, IfSome, Ok, option_map, string_bytes};
-ghost use Rattle.console.specs.Loading.{IsRefusedLoad, IsRefusedAct};
+ghost use Rattle.std.specs.Prelude.{◌≡◌, IfOk, MatchOption, Ok, option_map, string_bytes};
+ghost use Rattle.console.specs.Loading.{IsGoodAct, IsGoodLine, IsRefusedLoad, IsRefusedAct};
 
 use crate::script::{ScriptLine, parse_script_line};
 use job_texts::{RefusedProgram, refused_program};
@@ -20,7 +20,7 @@ pub struct RefusedLoad {
 /// is another line, or where its program is accepted. The error is want of memory.
 pub fn refused_load(alloc: Global, line: &[u8]) -> Result<Option<RefusedLoad>, AllocError>
     ensures { IfOk result
-        (λ found. IfSome found
+        (λ found. MatchOption found (IsGoodLine line.now)
         (λ load. IsRefusedLoad line.now load.slot load.program.refusal (option_map string_bytes load.program.line))) }
 {
     match parse_script_line(alloc, line) {
@@ -33,7 +33,7 @@ pub fn refused_load(alloc: Global, line: &[u8]) -> Result<Option<RefusedLoad>, A
 /// The same of an act.
 fn refused_act(alloc: Global, act: &Act) -> Result<Option<RefusedLoad>, AllocError>
     ensures { IfOk result
-        (λ found. IfSome found
+        (λ found. MatchOption found (IsGoodAct act.now)
         (λ load. IsRefusedAct act.now load.slot load.program.refusal (option_map string_bytes load.program.line))) }
 {
     match act {

@@ -1,6 +1,7 @@
 //! Why a journal is refused, in words.
-ghost use Rattle.std.specs.Prelude.{IfErr, IfOk, IfSome};
+ghost use Rattle.std.specs.Prelude.{◌≡◌, ◌↔◌, ℕ, List, Some, IfErr, IfOk, IfSome, IsNone};
 ghost use Rattle.decision_journal.specs.Journal.{IsWant};
+ghost use Rattle.site_core.specs.Histories.{IsHistory, IsJournal};
 ghost use Rattle.job_texts.specs.JournalFlaws.{AnsweredAfter, IsEntryFlaw, ShowsFlawAt, IsJournalFlaw};
 
 use crate::differing::{Difference, first_difference};
@@ -103,7 +104,8 @@ pub fn entries_flaw(
     config: Config,
     entries: &[Entry],
 ) -> Result<Option<(u32, JournalFlaw)>, AllocError>
-    ensures { IfOk result (λ found. IfSome found (λ p. ShowsFlawAt config entries.now p.0)) }
+    ensures none { IfOk result (λ found. IsNone found ↔ IsHistory config entries.now) }
+    ensures some { IfOk result (λ found. IfSome found (λ p. ShowsFlawAt config entries.now p.0)) }
 {
     let fault = match audit(alloc, config.copied(alloc)?, entries) {
         Ok(_) => return Ok(None),
@@ -136,6 +138,8 @@ pub fn journal_flaw<I: LineIn>(
     config: Config,
     input: &mut I,
 ) -> Result<Option<(Option<u32>, JournalFlaw)>, JournalFault>
+    ensures none { (text : List ℕ) → I.remaining input.old ≡ Some text
+        → IfOk result (λ found. IsNone found ↔ IsJournal config text) }
     ensures told { IfOk result
         (λ found. IfSome found (λ p. IsJournalFlaw config (I.remaining input.old) (I.remaining input.new) p.0 p.1)) }
     ensures want { IfErr result IsWant }
