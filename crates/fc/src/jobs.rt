@@ -19,12 +19,12 @@ use console::{
 };
 use decision_journal::JournalFault;
 use site_core::Config;
-use std::io::{self, BufReader, IsTerminal};
+use std::io::{self, IsTerminal};
 use std::net::{Net, TcpListener, TcpStream};
 use std::sync::Wait;
 use std::thread::Threads;
 use std::time::Clock;
-use till_request::devices::{StreamIn, StreamOut};
+use till_request::devices::{Ahead, StreamIn, StreamOut};
 
 /// All was done. A refusal inside a play is an answer.
 pub const DONE: u8 = 0;
@@ -184,19 +184,14 @@ fn play_input(rt: &HostRuntime) -> io::Result<u8> {
         answers: &answers,
         watch: None,
     };
-    let mut input = StreamIn {
-        reader: BufReader::new(rt.alloc(), incoming)?,
-        reads: 0,
-        failures: 0,
-        asked: 0,
-    };
+    let mut input = ahead(incoming);
     let mut left = READS;
     let head = match read_head(rt.alloc(), &mut input, &mut left) {
         Ok(head) => head,
         Err(fault) => {
             let (ended, read) = (
                 Err(SessionFault::from(fault)),
-                input.reader.get_ref().source.failure(),
+                input.input.reader.source.failure(),
             );
             return Ok(status_of(rt, ended, "-", 1, read, &answers));
         }
@@ -211,6 +206,16 @@ fn play_input(rt: &HostRuntime) -> io::Result<u8> {
     play_rest(rt, settings, input, &answers, lines_in(&head), left)
 }
 
+/// A script, whose bytes are taken one by one and read in blocks.
+fn ahead<'a, 'b>(incoming: Incoming<'a, 'b>) -> Ahead<StreamIn<Incoming<'a, 'b>>> {
+    Ahead::new(StreamIn {
+        reader: incoming,
+        reads: 0,
+        failures: 0,
+        asked: 0,
+    })
+}
+
 /// How many lines end in these bytes.
 fn lines_in(bytes: &[u8]) -> u64 {
     bytes.iter().filter(|byte| **byte == b'\n').count() as u64
@@ -220,7 +225,7 @@ fn lines_in(bytes: &[u8]) -> u64 {
 fn play_rest(
     rt: &HostRuntime,
     settings: Settings,
-    input: StreamIn<BufReader<Incoming<'_, '_>>>,
+    input: Ahead<StreamIn<Incoming<'_, '_>>>,
     answers: &Answers<'_>,
     lines: u64,
     mut left: u32,
@@ -242,7 +247,7 @@ fn play_rest(
         &mut left,
     );
     let ended = answers.end(ended);
-    let read = input.input.reader.get_ref().source.failure();
+    let read = input.input.input.reader.source.failure();
     Ok(status_of(rt, ended, "-", first, read, answers))
 }
 
@@ -317,19 +322,14 @@ fn play_script<'a>(
         answers,
         watch: Some(watch),
     };
-    let mut input = StreamIn {
-        reader: BufReader::new(rt.alloc(), incoming)?,
-        reads: 0,
-        failures: 0,
-        asked: 0,
-    };
+    let mut input = ahead(incoming);
     let mut output = outlet(answers);
     let ended = play(rt.alloc(), settings.config, &mut input, &mut output);
     let ended = answers.end(ended);
-    if let Some(watch) = &mut input.reader.get_mut().watch {
+    if let Some(watch) = &mut input.input.reader.watch {
         watch.progress.clear();
     }
-    let read = input.reader.get_ref().source.failure();
+    let read = input.input.reader.source.failure();
     Ok(status_of(rt, ended, script, 1, read, answers))
 }
 

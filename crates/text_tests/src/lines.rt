@@ -4,9 +4,9 @@ use bpf_model::context::Layout;
 use fuelling_point::{DispenserEvent, Order};
 use std::alloc::Global;
 use std::test::Fail;
-use till_request::devices::{MemoryIn, MemoryOut};
+use till_request::devices::{Ahead, MemoryIn, MemoryOut};
 use till_request::{
-    Act, Answer, Bytes, LineFault, LineIn, LineReadFault, Reply, Request, Role, ShortText,
+    Act, Answer, Block, Bytes, LineFault, LineIn, LineReadFault, Reply, Request, Role, ShortText,
     WriteFault, few_parts, first_part, parse_line, put_reply, read_line, spell_act,
     spelling_is_read, write_answer,
 };
@@ -321,4 +321,38 @@ fn a_device_takes_what_it_is_given_until_it_fails(rt: HostRuntime) -> Result<(),
     );
     assert_eq!(rt; output.bytes.as_slice(), b"S29\n".as_slice());
     Ok(())
+}
+
+#[test]
+fn a_block_gives_what_it_holds(rt: HostRuntime) {
+    let Some(mut input) = script(rt.alloc(), b"abcdef") else {
+        return assert!(rt; false);
+    };
+    let mut block = Block::<4>::new();
+    let mut left = 1;
+    let mut buffer = [0u8; 3];
+    assert_eq!(rt; block.fill(&mut input, &mut left), Ok(()));
+    assert_eq!(rt; block.give(&mut buffer), 3);
+    assert_eq!(rt; buffer.as_slice(), b"abc".as_slice());
+    for (count, byte) in [(1, b'd'), (0, b'd')] {
+        let mut place = [b'd'; 1];
+        assert_eq!(rt; block.give(&mut place), count);
+        assert_eq!(rt; place[0], byte);
+    }
+}
+
+#[test]
+fn a_device_is_read_ahead(rt: HostRuntime) {
+    let Some(input) = script(rt.alloc(), b"ab") else {
+        return assert!(rt; false);
+    };
+    let mut ahead = Ahead::new(input);
+    let mut byte = [0u8; 1];
+    for (given, wanted) in [(1, b'a'), (1, b'b'), (0, b'b')] {
+        assert_eq!(rt; ahead.read(&mut byte).ok(), Some(given));
+        assert_eq!(rt; byte[0], wanted);
+    }
+    assert_eq!(rt; (ahead.input.reads, ahead.input.asked), (2, 8192));
+    ahead.input.good = Some(0);
+    assert!(rt; ahead.read(&mut byte).is_err());
 }

@@ -5,6 +5,7 @@ pub mod Forms
 pub mod Numerals
 pub mod Out
 pub mod Parted
+pub mod Pieces
 pub mod Short
 pub mod Spelled
 pub mod Taken

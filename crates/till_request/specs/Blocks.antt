@@ -1,6 +1,9 @@
 -- Promises: what is taken of a device that is read in blocks. What is ahead is what the block holds, and then what the
 -- device has.
-use Rattle.std.specs.Prelude.{◌≡◌, ℕ, ◌+◌, ◌*◌, List, [], length}
+use Rattle.std.specs.Prelude.{◌≡◌, ℕ, ◌+◌, ◌*◌, ◌<◌, List, [], ◌∷◌, ◌++◌, length, take, drop}
+use Rattle.till_request.specs.Line.{HasNoLf, IsLine}
+use Rattle.till_request.specs.declared.block.Piece.{Piece}
+use Rattle.till_request.specs.declared.block.Piece.TheVariants.{Ended, TooLong, More}
 use Rattle.till_request.specs.declared.line.InputFault.{InputFault}
 use Rattle.till_request.specs.declared.line.InputFault.TheVariants.{Read, ReadsSpent, OutOfMemory}
 
@@ -13,3 +16,17 @@ abbrev pub EmptyAfter : InputFault → List ℕ → Type 0
 EmptyAfter Read unread = unread ≡ []
 EmptyAfter ReadsSpent unread = unread ≡ []
 EmptyAfter OutOfMemory unread = Unit {0}
+
+-- the first LF stands behind so many bytes
+abbrev pub EndsBehind : ℕ → List ℕ → Type 0
+EndsBehind count bytes = (count < length bytes) × HasNoLf (take count bytes) × (bytes ≡ take count bytes ++ 10 ∷ drop (count + 1) bytes)
+
+-- how a line grew by bytes that were there: up to its LF, by all of them, or beyond what a line may have
+abbrev pub LineGrows : List ℕ → List ℕ → List ℕ → List ℕ → Piece → Type 0
+LineGrows there line left grown Ended = (bytes : List ℕ) × (there ≡ bytes ++ 10 ∷ left) × (grown ≡ line ++ bytes) × IsLine grown
+LineGrows there line left grown TooLong = (bytes : List ℕ) × (there ≡ bytes ++ left) × HasNoLf (line ++ bytes) × (length (line ++ bytes) ≡ 8401)
+LineGrows there line left grown More = (left ≡ []) × (grown ≡ line ++ there) × IsLine grown
+
+-- bytes that belong to a line were taken, and lost
+abbrev pub LosesPart : List ℕ → List ℕ → List ℕ → Type 0
+LosesPart there line left = (bytes : List ℕ) × (there ≡ bytes ++ left) × IsLine (line ++ bytes) × (0 < length bytes)

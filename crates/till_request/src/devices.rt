@@ -1,9 +1,10 @@
 //! Readers and writers in memory, which cut and fail as they are told to, and those of the system.
-ghost use Rattle.std.specs.Prelude.{◌≡◌, ◌↔◌, ◌<◌, ◌≤◌, ◌-◌, min, [], Some, IfOk, IsTrue, is_err, drop, take, length};
-ghost use Rattle.std.specs.Io.KnownBytes.{ReadConsumes, WriteAppends};
+ghost use Rattle.std.specs.Prelude.{◌≡◌, ◌↔◌, ◌<◌, ◌≤◌, ◌-◌, ◌^◌, min, [], Some, IfOk, IsTrue, is_err, drop, take, length};
+ghost use Rattle.std.specs.Io.KnownBytes.{ReadConsumes, WriteAppends, prepend_known};
 ghost use Rattle.till_request.specs.Count.{RoseBy, one_if};
 ghost use Rattle.till_request.specs.Devices.{piece_size, one_less};
 
+use crate::block::Block;
 use crate::device::{DeviceFault, LineIn, LineOut};
 use std::alloc::Global;
 use std::io::{Read, Write};
@@ -31,7 +32,7 @@ impl MemoryIn {
         ensures bytes { result.bytes ≡ bytes }
         ensures start { result.at ≡ 0 }
         ensures sizes { result.sizes ≡ sizes }
-        ensures each { result.each ≡ 18446744073709551615 }
+        ensures each { result.each ≡ 2 ^ 64 - 1 }
         ensures good { result.good ≡ good }
         ensures counts { (result.reads ≡ 0) × (result.failures ≡ 0) × (result.asked ≡ 0) }
     {
@@ -143,6 +144,58 @@ impl<R: Read + Drop> LineIn for StreamIn<R> {
     }
 }
 
+/// How many bytes `Ahead` reads at once.
+const AHEAD_BYTES: usize = 4096;
+
+/// A device that is read ahead, in blocks of 4,096 bytes. So a read of one byte, as lines are read by, costs few
+/// instructions. Its counts are those of the reads that it is asked for.
+#[derive(Drop)]
+pub struct Ahead<I: LineIn> {
+    pub input: I,
+    block: Block<AHEAD_BYTES>,
+    calls: u64,
+    failures: u64,
+    asked: u64,
+}
+
+impl<I: LineIn + Drop> Ahead<I> {
+    /// Nothing was read ahead yet.
+    pub fn new(input: I) -> Self
+        ensures input { result.input ≡ input }
+        ensures empty { result.block ≡ [] }
+        ensures counts { (result.calls ≡ 0) × (result.failures ≡ 0) × (result.asked ≡ 0) }
+    {
+        Ahead {
+            input,
+            block: Block::new(),
+            asked: 0,
+            failures: 0,
+            calls: 0,
+        }
+    }
+}
+
+impl<I: LineIn + Drop> LineIn for Ahead<I> {
+    ghost remaining = { λ s. prepend_known s.block (I.remaining s.input) };
+
+    ghost reads = { λ s. s.calls };
+
+    ghost failures = { λ s. s.failures };
+
+    ghost asked = { λ s. s.asked };
+
+    fn read(&mut self, buffer: &mut [u8]) -> Result<usize, DeviceFault> {
+        self.calls = self.calls.wrapping_add(1);
+        self.asked = self.asked.wrapping_add(buffer.len() as u64);
+        let mut left = 1;
+        if self.block.fill(&mut self.input, &mut left).is_err() {
+            self.failures = self.failures.wrapping_add(1);
+            return Err(DeviceFault);
+        }
+        Ok(self.block.give(buffer))
+    }
+}
+
 /// What was written, in memory.
 ///
 /// The nth write takes at most `sizes[n]` bytes, and at least one of a piece that isn't empty;
@@ -163,7 +216,7 @@ impl MemoryOut {
     pub fn new(alloc: Global, sizes: Vec<usize>, good: Option<u64>) -> Self
         ensures bytes { result.bytes.items ≡ [] }
         ensures sizes { result.sizes ≡ sizes }
-        ensures each { result.each ≡ 18446744073709551615 }
+        ensures each { result.each ≡ 2 ^ 64 - 1 }
         ensures good { result.good ≡ good }
         ensures counts { (result.writes ≡ 0) × (result.failures ≡ 0) }
     {

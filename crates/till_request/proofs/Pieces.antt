@@ -1,0 +1,86 @@
+-- Lines that are taken out of a block piece by piece.
+use Rattle.std.proofs.Common.{◌≡◌, ◌≢◌, ◌≤◌, ◌<◌, ◌+◌, ◌-◌, ℕ, zero, suc, List, [], ◌∷◌, ◌++◌, Option, Some, None, MatchOption, refl, sym, ap, subst, ◌∙◌, length, take, drop, append-nil, length-append, length-take-le, slice_index, slice_range, slice_set, arith, append_assoc, take-append-drop, drop-drop, length-take}
+use Rattle.std.proofs.lemmas.List.{drop_more, drop-take, take_all}
+use Rattle.std.proofs.lemmas.Bool.{eq-eqb, eqb-true}
+use Rattle.memchr.specs.Find.{IsFirstByte, Nowhere, Passes, is_byte}
+use Rattle.std.specs.Io.KnownBytes.{Consumes, Keeps, prepend_known}
+use Rattle.till_request.specs.Line.{HasNoLf, IsLine}
+use Rattle.till_request.specs.Blocks.{EndsBehind, LineGrows}
+use Rattle.till_request.specs.declared.block.Piece.TheVariants.{TooLong}
+
+-- no LF stands before place n
+no_lf_before : (bytes : List ℕ) (n : ℕ) → n ≤ length bytes → Nowhere (Passes (is_byte 10) bytes) 0 n → HasNoLf (take n bytes)
+no_lf_before bytes zero l h = tt
+no_lf_before [] (suc n) l h = tt
+no_lf_before (x ∷ xs) (suc n) l h = (
+  λ e. h 0 (omega arith) (omega arith) (eq-eqb x 10 e),
+  no_lf_before xs n (omega arith) (λ k low high passes. h (suc k) (omega arith) (omega arith) passes),
+)
+
+pub ends_behind : (bytes : List ℕ) (found : Option ℕ) → IsFirstByte (is_byte 10) bytes found → MatchOption found (HasNoLf bytes) (λ count. EndsBehind count bytes)
+ends_behind bytes None h = subst (λ l. HasNoLf l) (take_all (length bytes) bytes (omega arith)) (no_lf_before bytes (length bytes) (omega arith) h)
+ends_behind bytes (Some k) h = (
+  h.0.high,
+  no_lf_before bytes k (omega (arith, h.0.high)) h.0.before,
+  sym (take-append-drop k bytes)
+      ∙ ap (λ l. take k bytes ++ l) (drop_more bytes k 0 h.0.high ∙ ap (λ b. b ∷ drop (k + 1) bytes) (eqb-true _ 10 h.1)),
+)
+
+-- what is there once so many bytes of it were passed over
+pub moved_on : (bytes : List ℕ) (at end count : ℕ) → count ≤ length (slice_range bytes at end) → slice_range bytes (at + count) end ≡ drop count (slice_range bytes at end)
+moved_on bytes at end count l =
+    let e : end - at ≡ count + (end - (at + count)) = omega (arith, l, length-take (end - at) (drop at bytes)) in
+    sym (ap (λ n. drop count (take n (drop at bytes))) e ∙ drop-take count (end - (at + count)) (drop at bytes)
+    ∙ ap (λ l. take (end - (at + count)) l) (drop-drop count at bytes))
+
+-- a byte alone, put where there is room for one
+pub put_alone : (byte : ℕ) (buffer rest : List ℕ) → 1 ≤ length buffer → byte ∷ rest ≡ take 1 (slice_set buffer 0 byte) ++ rest
+put_alone byte [] rest l = absurd (omega (arith, l))
+put_alone byte (b ∷ bs) rest l = refl
+
+no_lf_both : (xs ys : List ℕ) → HasNoLf xs → HasNoLf ys → HasNoLf (xs ++ ys)
+no_lf_both [] ys h k = k
+no_lf_both (x ∷ xs) ys h k = (h.0, no_lf_both xs ys h.1 k)
+
+no_lf_less : (n k : ℕ) (xs : List ℕ) → k ≤ n → HasNoLf (take n xs) → HasNoLf (take k xs)
+no_lf_less n zero xs l h = tt
+no_lf_less zero (suc k) xs l h = absurd (omega (arith, l))
+no_lf_less (suc n) (suc k) [] l h = tt
+no_lf_less (suc n) (suc k) (x ∷ xs) l h = (h.0, no_lf_less n k xs (omega (arith, l)) h.1)
+
+beyond : (there line : List ℕ) (room : ℕ) → IsLine line → room ≡ 8400 - length line → room + 1 ≤ length there → HasNoLf (take (room + 1) there)
+    → LineGrows there line (drop (room + 1) there) [] TooLong
+beyond there line room l e o h = (
+  take (room + 1) there,
+  sym (take-append-drop (room + 1) there),
+  no_lf_both line (take (room + 1) there) l.0 h,
+  omega (arith, e, l.1, length-append line (take (room + 1) there), length-take-le (room + 1) there o),
+)
+
+-- a line whose LF stands too far behind
+pub ends_too_late : (there line : List ℕ) (room count : ℕ) → IsLine line → room ≡ 8400 - length line → EndsBehind count there → room < count
+    → LineGrows there line (drop (room + 1) there) [] TooLong
+ends_too_late there line room count l e h o =
+    beyond there line room l e (omega (arith, o, h.0)) (no_lf_less count (room + 1) there (omega (arith, o)) h.1)
+
+-- a line without an LF in more bytes than it may have
+pub ends_nowhere : (there line : List ℕ) (room : ℕ) → IsLine line → room ≡ 8400 - length line → HasNoLf there → room < length there
+    → LineGrows there line (drop (room + 1) there) [] TooLong
+ends_nowhere there line room l e h o =
+    beyond there line room l e (omega (arith, o))
+    (no_lf_less (length there) (room + 1) there (omega (arith, o)) (subst (λ l. HasNoLf l) (sym (take_all (length there) there (omega arith))) h))
+
+-- what was taken of a line once a piece of what is there was taken too
+pub piece_taken : (a b ahead : Option (List ℕ)) (line there left piece : List ℕ) → Consumes a b line → Keeps b (prepend_known there ahead)
+    → there ≡ piece ++ left → Consumes a (prepend_known left ahead) (line ++ piece)
+piece_taken None b ahead line there left piece h k e = tt
+piece_taken (Some ps) None ahead line there left piece h k e = absurd h
+piece_taken (Some ps) (Some qs) None line there left piece h k e = absurd k
+piece_taken (Some ps) (Some qs) (Some rs) line there left piece h k e =
+    h ∙ ap (λ t. line ++ t) (sym k ∙ ap (λ t. t ++ rs) e ∙ append_assoc piece left rs) ∙ sym (append_assoc line piece (left ++ rs))
+
+-- the same, where all that is there was taken
+pub all_taken : (a b ahead : Option (List ℕ)) (line there left : List ℕ) → Consumes a b line → Keeps b (prepend_known there ahead)
+    → left ≡ [] → Consumes a (prepend_known left ahead) (line ++ there)
+all_taken a b ahead line there left h k e =
+    piece_taken a b ahead line there left there h k (sym (append-nil there) ∙ ap (λ l. there ++ l) (sym e))
