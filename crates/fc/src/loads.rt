@@ -1,6 +1,7 @@
 //! Loads of a script whose program is refused, told in words as they are read.
 use crate::progress::Progress;
 use console::refused_load;
+use memchr::memchr_iter;
 use std::alloc::AllocError;
 
 /// The longest line that asks for something, with its LF.
@@ -32,19 +33,24 @@ impl<'a> Loads<'a> {
 
     /// Looks at bytes that were read, in order. The line that says how far the work is makes room for what is told.
     pub fn see(&mut self, bytes: &[u8], progress: &mut Progress<'_>) {
-        for byte in bytes {
-            if *byte == b'\n' {
-                self.end_line(progress);
-            } else if !self.is_other {
-                self.keep(*byte);
-            }
+        let mut begin = 0;
+        for end in memchr_iter(b'\n', bytes) {
+            self.keep(bytes.get(begin..end).unwrap_or_default());
+            self.end_line(progress);
+            begin = end.saturating_add(1);
         }
+        self.keep(bytes.get(begin..).unwrap_or_default());
     }
 
-    /// Keeps a byte of a line that may be a load.
-    fn keep(&mut self, byte: u8) {
-        let is_kept = self.line.len() < LONGEST && self.line.push(byte).is_ok();
-        self.is_other = !is_kept || !begins_as_load(&self.line);
+    /// Keeps bytes of a line as long as it may be a load.
+    fn keep(&mut self, bytes: &[u8]) {
+        for byte in bytes {
+            if self.is_other {
+                return;
+            }
+            let is_kept = self.line.len() < LONGEST && self.line.push(*byte).is_ok();
+            self.is_other = !is_kept || !begins_as_load(&self.line);
+        }
     }
 
     fn end_line(&mut self, progress: &mut Progress<'_>) {

@@ -1,5 +1,6 @@
 //! How far long work is: one line on standard error that is renewed, where standard error is a terminal.
 use crate::loads::Loads;
+use memchr::memchr_iter;
 use std::io::{IsTerminal, Stderr, Write};
 use std::time::Instant;
 use till_request::{DeviceFault, LineIn};
@@ -41,15 +42,16 @@ impl<'a> Progress<'a> {
         }
     }
 
-    /// Counts the lines that end in these bytes.
+    /// Counts the lines that end in these bytes, where there is somebody to tell.
     fn count(&mut self, bytes: &[u8]) {
+        if self.to.is_none() {
+            return;
+        }
         self.bytes = self.bytes.wrapping_add(bytes.len() as u64);
-        for byte in bytes {
-            if *byte == b'\n' {
-                self.lines = self.lines.wrapping_add(1);
-                if self.lines % STEP == 0 {
-                    self.say_how_far();
-                }
+        for _ in memchr_iter(b'\n', bytes) {
+            self.lines = self.lines.wrapping_add(1);
+            if self.lines % STEP == 0 {
+                self.say_how_far();
             }
         }
     }
