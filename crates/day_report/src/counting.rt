@@ -1,7 +1,7 @@
 //! How often each version granted and denied, and how often each number was refused.
 
-ghost use Rattle.std.specs.Prelude.{◌≡◌, ◌==◌, ◌&&◌, ◌+◌, ◌-◌, ◌^◌, ◌<◌, ◌≤◌, ℕ, if◌then◌else◌, All, IfOk, length, slice_index};
-ghost use Rattle.std.specs.Prelude.{count_by};
+ghost use Rattle.std.specs.Prelude.{◌≡◌, ◌==◌, ◌&&◌, ◌+◌, ◌-◌, ◌^◌, ◌<◌, ◌≤◌, ℕ};
+ghost use Rattle.std.specs.Prelude.{if◌then◌else◌, All, IfOk, count_by, length, slice_index};
 ghost use Rattle.day_report.specs.Totals.{is_among, has_outcome, is_wanted, decided_by};
 
 use crate::rulings::{Asked, Decision};

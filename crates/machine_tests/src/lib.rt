@@ -1,5 +1,5 @@
-//! Tests of the machine: opcodes, decoding, jumps, the verifier, the interpreter, helpers, slots and the assembler. They
-//! stand apart from those crates, so that the gate proves each of these once and not once more with its tests.
+//! Tests of the machine: opcodes, decoding, jumps, the verifier, the interpreter, helpers, slots and the assembler.
+//! They stand apart from those crates, so that the gate proves each of these once and not once more with its tests.
 #![tactic(auto)]
 
 #[cfg(test)]

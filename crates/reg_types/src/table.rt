@@ -1,6 +1,7 @@
 // The facts that the pass stores, each found by its unit at once.
 
-ghost use Rattle.std.specs.Prelude.{◌≡◌, ℕ, ◌≤◌, ◌+◌, ◌∷◌, [], IfOk, IfSome, OnOk, IsTrue, false, Some, None, replicate};
+ghost use Rattle.std.specs.Prelude.{◌≡◌, ℕ, ◌≤◌, ◌+◌, ◌∷◌, [], IfOk, IfSome, OnOk, IsTrue};
+ghost use Rattle.std.specs.Prelude.{false, Some, None, replicate};
 ghost use Rattle.std.specs.Prelude.{slice_set};
 ghost use Rattle.reg_types.specs.Facts.{IsPlace, AreDistinct, stored};
 ghost use Rattle.reg_types.specs.Inference.{arrived};

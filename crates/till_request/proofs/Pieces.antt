@@ -1,5 +1,7 @@
 -- Lines that are taken out of a block piece by piece.
-use Rattle.std.proofs.Common.{◌≡◌, ◌≢◌, ◌≤◌, ◌<◌, ◌+◌, ◌-◌, ℕ, zero, suc, List, [], ◌∷◌, ◌++◌, Option, Some, None, MatchOption, refl, sym, ap, subst, ◌∙◌, length, take, drop, append-nil, length-append, length-take-le, slice_index, slice_range, slice_set, arith, append_assoc, take-append-drop, drop-drop, length-take}
+use Rattle.std.proofs.Common.{◌≡◌, ◌≢◌, ◌≤◌, ◌<◌, ◌+◌, ◌-◌, ℕ, zero, suc, List, [], ◌∷◌, ◌++◌, Option, Some, None, MatchOption}
+use Rattle.std.proofs.Common.{refl, sym, ap, subst, ◌∙◌, arith, append_assoc, append-nil, length, length-append, length-take}
+use Rattle.std.proofs.Common.{length-take-le, take, take-append-drop, drop, drop-drop, slice_index, slice_range, slice_set}
 use Rattle.std.proofs.lemmas.List.{drop_more, drop-take, take_all}
 use Rattle.std.proofs.lemmas.Bool.{eq-eqb, eqb-true}
 use Rattle.memchr.specs.Find.{IsFirstByte, Nowhere, Passes, is_byte}
@@ -17,7 +19,8 @@ no_lf_before (x ∷ xs) (suc n) l h = (
   no_lf_before xs n (omega arith) (λ k low high passes. h (suc k) (omega arith) (omega arith) passes),
 )
 
-pub ends_behind : (bytes : List ℕ) (found : Option ℕ) → IsFirstByte (is_byte 10) bytes found → MatchOption found (HasNoLf bytes) (λ count. EndsBehind count bytes)
+pub ends_behind : (bytes : List ℕ) (found : Option ℕ) → IsFirstByte (is_byte 10) bytes found
+    → MatchOption found (HasNoLf bytes) (λ count. EndsBehind count bytes)
 ends_behind bytes None h = subst (λ l. HasNoLf l) (take_all (length bytes) bytes (omega arith)) (no_lf_before bytes (length bytes) (omega arith) h)
 ends_behind bytes (Some k) h = (
   h.0.high,
@@ -27,7 +30,8 @@ ends_behind bytes (Some k) h = (
 )
 
 -- what is there once so many bytes of it were passed over
-pub moved_on : (bytes : List ℕ) (at end count : ℕ) → count ≤ length (slice_range bytes at end) → slice_range bytes (at + count) end ≡ drop count (slice_range bytes at end)
+pub moved_on : (bytes : List ℕ) (at end count : ℕ) → count ≤ length (slice_range bytes at end)
+    → slice_range bytes (at + count) end ≡ drop count (slice_range bytes at end)
 moved_on bytes at end count l =
     let e : end - at ≡ count + (end - (at + count)) = omega (arith, l, length-take (end - at) (drop at bytes)) in
     sym (ap (λ n. drop count (take n (drop at bytes))) e ∙ drop-take count (end - (at + count)) (drop at bytes)

@@ -1,5 +1,6 @@
 //! Readers and writers in memory, which cut and fail as they are told to, and those of the system.
-ghost use Rattle.std.specs.Prelude.{◌≡◌, ◌↔◌, ◌<◌, ◌≤◌, ◌-◌, ◌^◌, min, [], Some, IfOk, IsTrue, is_err, drop, take, length};
+ghost use Rattle.std.specs.Prelude.{◌≡◌, ◌↔◌, ◌<◌, ◌≤◌, ◌-◌, ◌^◌};
+ghost use Rattle.std.specs.Prelude.{min, [], Some, IfOk, IsTrue, is_err, drop, take, length};
 ghost use Rattle.std.specs.Io.KnownBytes.{ReadConsumes, WriteAppends, prepend_known};
 ghost use Rattle.till_request.specs.Count.{RoseBy, one_if};
 ghost use Rattle.till_request.specs.Devices.{piece_size, one_less};
