@@ -1,6 +1,6 @@
 //! Scripts of events with the replies that the site's rules name for them.
 
-use decision_journal::{Entry, Taker};
+use decision_journal::{Entry, LineRoom, Taker};
 use fuelling_point::{DispenserEvent, Order};
 use reg_types::{Layout, Refusal, TypeFault, verify};
 use site_core::{AuditFault, Auditor, Config, Event, Site, What, audit, audit_of_its_own_history};
@@ -8,7 +8,7 @@ use std::alloc::{AllocError, Global};
 use std::process::Abort;
 use std::sync::Arc;
 use std::test::Fail;
-use till_request::{Act, Bytes, Reply, Request};
+use till_request::{Act, Bytes, LINE_BYTES, Reply, Request};
 
 pub(crate) const EXIT: [u8; 8] = [0x95, 0, 0, 0, 0, 0, 0, 0];
 
@@ -536,4 +536,42 @@ fn a_load_into_no_slot_is_audited(rt: HostRuntime) -> Result<(), Fail> {
     let unset = AuditFault::BadProgram(1, Refusal::Type(TypeFault::NotANumber(0, 0)));
     let load = entry(1, 0, act, Reply::Done);
     expect(&rt, alloc, &[load], Some(unset))
+}
+
+/// What an auditor says of one line that it takes, and what it ends with.
+fn take_line_alone(alloc: Global, line: &[u8]) -> Result<(bool, Option<AuditFault>), Fail> {
+    let mut auditor = Auditor::new(alloc, config(alloc)?.ok_or("no configuration")?)?;
+    let mut room = LineRoom::new(alloc)?;
+    if line.len() > LINE_BYTES {
+        return Err(Fail::from("no line"));
+    }
+    let is_text = auditor.take_line(alloc, &mut room, line)?;
+    Ok((is_text, auditor.finish().err()))
+}
+
+// What was answered is compared as text: the site spells the entry that it enters.
+#[test]
+fn an_auditor_takes_lines(rt: HostRuntime) -> Result<(), Fail> {
+    for (line, is_text, fault) in [
+        ("1 1 5 till 1 open 1 = done", true, None),
+        (
+            "1 1 5 till 1 open 1 = S21",
+            false,
+            Some(AuditFault::NotLegal(1)),
+        ),
+        (
+            "2 1 5 till 1 open 1 = done",
+            false,
+            Some(AuditFault::BadNumber(1)),
+        ),
+        (
+            "1 1 5 till 1 open 1 = done ",
+            false,
+            Some(AuditFault::NotLegal(1)),
+        ),
+    ] {
+        let found = take_line_alone(rt.alloc(), line.as_bytes())?;
+        assert_eq!(rt; found, (is_text, fault));
+    }
+    Ok(())
 }
