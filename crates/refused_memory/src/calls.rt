@@ -7,9 +7,9 @@ use crate::sites::{
     loads_before_commit, makes_event, replaces, runs, starts,
 };
 use crate::texts::{
-    audits_journal, commands_help, commands_job, commands_usage, parses_line, reads_config,
-    reads_entries, reads_head, reads_line, takes_line_journal, tells_text, tells_units,
-    writes_answer, writes_entries,
+    audits_journal, commands_help, commands_job, commands_usage, holds_line, parses_line,
+    reads_config, reads_entries, reads_head, reads_line, takes_line_journal, tells_text,
+    tells_units, writes_answer, writes_entries,
 };
 use std::alloc::Global;
 use std::test::Fail;
@@ -25,6 +25,7 @@ enum Call {
     Install,
     ParseLine,
     ReadLine,
+    HoldLine,
     WriteEntries,
     ReadEntries,
     AuditJournal,
@@ -59,6 +60,7 @@ fn made_in(alloc: Global, call: Call, size: usize) -> Option<bool> {
         Call::Install => installs(alloc, size),
         Call::ParseLine => parses_line(alloc, size),
         Call::ReadLine => reads_line(alloc, size),
+        Call::HoldLine => holds_line(alloc, size),
         Call::WriteEntries => writes_entries(alloc, size),
         Call::ReadEntries => reads_entries(alloc, size),
         Call::AuditJournal => audits_journal(alloc, size),
@@ -114,7 +116,7 @@ fn each_growth_refused_to_a_program(rt: HostRuntime) -> Result<(), Fail> {
 
 #[test]
 fn each_growth_refused_to_a_line(rt: HostRuntime) -> Result<(), Fail> {
-    for call in [Call::ParseLine, Call::ReadLine] {
+    for call in [Call::ParseLine, Call::ReadLine, Call::HoldLine] {
         let refused = refused(rt.alloc(), call).ok_or("another answer")?;
         assert!(rt; refused > 0, "{call:?}");
     }

@@ -9,9 +9,9 @@ use decision_journal::{Entry, JournalFault, read_entries, write_entries};
 use site_core::Config;
 use site_lock::LineJournal;
 use std::alloc::Global;
-use till_request::devices::{MemoryIn, MemoryOut};
+use till_request::devices::{Ahead, MemoryIn, MemoryOut};
 use till_request::{
-    Answer, InputFault, LineFault, LineReadFault, Role, WriteFault, parse_line, read_line,
+    Answer, InputFault, LineFault, LineIn, LineReadFault, Role, WriteFault, parse_line, read_line,
     write_answer,
 };
 
@@ -62,6 +62,21 @@ pub fn reads_line(alloc: Global, size: usize) -> Option<bool> {
     match answer {
         Ok(_) => Some(true),
         Err(fault) => (fault == LineReadFault::Line(LineFault::OutOfMemory)).then_some(false),
+    }
+}
+
+/// Those bytes of a line that a device read ahead behind its first.
+pub fn holds_line(alloc: Global, size: usize) -> Option<bool> {
+    let mut ahead = Ahead::new(device(alloc, LINE)?);
+    ahead.read(&mut [0u8; 1]).ok()?;
+    let mut line = Vec::new(alloc);
+    let mut left = 100;
+    let taken = take_but(alloc, size)?;
+    let answer = ahead.read_held(&mut line, &mut left);
+    drop(taken);
+    match answer {
+        Ok(()) => (line.len() == 40 && left == 60).then_some(true),
+        Err(_) => (line.is_empty() && left == 100).then_some(false),
     }
 }
 

@@ -356,3 +356,32 @@ fn a_device_is_read_ahead(rt: HostRuntime) {
     ahead.input.good = Some(0);
     assert!(rt; ahead.read(&mut byte).is_err());
 }
+
+/// What is held of a line behind its first byte, how many reads are then left of five, and the byte behind it.
+fn held_of(alloc: Global, text: &[u8]) -> Result<(Vec<u8>, u32, u8), Fail> {
+    let mut ahead = Ahead::new(script(alloc, text).ok_or("no memory")?);
+    let mut byte = [0u8; 1];
+    let mut line = Vec::new(alloc);
+    let mut left = 5;
+    if ahead.read(&mut byte).is_err() || ahead.read_held(&mut line, &mut left).is_err() {
+        return Err(Fail::from("refused"));
+    }
+    if ahead.read(&mut byte).is_err() {
+        return Err(Fail::from("refused"));
+    }
+    Ok((line, left, byte[0]))
+}
+
+#[test]
+fn bytes_of_a_line_are_held(rt: HostRuntime) -> Result<(), Fail> {
+    for (text, held, left, behind) in [
+        ("abc\nd", "bc", 3, b'\n'),
+        ("a\nb", "", 5, b'\n'),
+        ("abcdefgh\n", "bcdef", 0, b'g'),
+    ] {
+        let (line, reads, byte) = held_of(rt.alloc(), text.as_bytes())?;
+        assert_eq!(rt; line.as_slice(), held.as_bytes());
+        assert_eq!(rt; (reads, byte), (left, behind));
+    }
+    Ok(())
+}

@@ -1,13 +1,13 @@
 -- Lines that are taken out of a block piece by piece.
-use Rattle.std.proofs.Common.{◌≡◌, ◌≢◌, ◌≤◌, ◌<◌, ◌+◌, ◌-◌, ℕ, zero, suc, List, [], ◌∷◌, ◌++◌, Option, Some, None, MatchOption}
+use Rattle.std.proofs.Common.{◌≡◌, ◌≤◌, ◌<◌, ◌+◌, ◌-◌, ℕ, zero, suc, List, [], ◌∷◌, ◌++◌, Option, Some, None, MatchOption}
 use Rattle.std.proofs.Common.{refl, sym, ap, subst, ◌∙◌, arith, append_assoc, append-nil, length, length-append, length-take}
-use Rattle.std.proofs.Common.{length-take-le, take, take-append-drop, drop, drop-drop, slice_index, slice_range, slice_set}
+use Rattle.std.proofs.Common.{length-take-le, take, take-append-drop, drop, drop-drop, slice_range, slice_set}
 use Rattle.std.proofs.lemmas.List.{drop_more, drop-take, take_all}
 use Rattle.std.proofs.lemmas.Bool.{eq-eqb, eqb-true}
 use Rattle.memchr.specs.Find.{IsFirstByte, Nowhere, Passes, is_byte}
 use Rattle.std.specs.Io.KnownBytes.{Consumes, Keeps, prepend_known}
 use Rattle.till_request.specs.Line.{HasNoLf, IsLine}
-use Rattle.till_request.specs.Blocks.{EndsBehind, LineGrows}
+use Rattle.till_request.specs.Blocks.{Belongs, EndsBehind, GivesHeld, LineGrows}
 use Rattle.till_request.specs.declared.block.Piece.TheVariants.{TooLong}
 
 -- no LF stands before place n
@@ -88,3 +88,15 @@ pub all_taken : (a b ahead : Option (List ℕ)) (line there left : List ℕ) →
     → left ≡ [] → Consumes a (prepend_known left ahead) (line ++ there)
 all_taken a b ahead line there left h k e =
     piece_taken a b ahead line there left there h k (sym (append-nil there) ∙ ap (λ l. there ++ l) (sym e))
+
+-- so many bytes at the front go into a line
+pub held_taken : (there line grown left : List ℕ) (room n count : ℕ) → IsLine line → room ≡ 8400 - length line → Belongs there room n → count ≤ n
+    → grown ≡ line ++ take count there → left ≡ drop count there → GivesHeld there line left grown count
+held_taken there line grown left room n count l e belongs few is rest =
+    let bytes : List ℕ = take count there in
+    let long : length bytes ≡ count = omega (arith, few, belongs.0, length-take count there) in
+    let whole : IsLine (line ++ bytes) = (
+      no_lf_both line bytes l.0 (no_lf_less n count there few belongs.1),
+      omega (arith, length-append line bytes, long, few, belongs.2, e, l.1),
+    ) in
+    (bytes, sym (ap (λ r. bytes ++ r) rest ∙ take-append-drop count there), is, subst (λ w. IsLine w) (sym is) whole, long)

@@ -1,12 +1,12 @@
 -- Words behind a text are joined by spaces.
-use Rattle.std.proofs.Common.{◌≡◌, ℕ, List, [], ◌∷◌, ◌++◌, codes, Option, Some, None, refl, ap, ◌∙◌, append_assoc, map}
+use Rattle.std.proofs.Common.{◌≡◌, ℕ, List, [], ◌∷◌, ◌++◌, codes, Option, Some, None, refl, ◌∙◌, append_assoc, map}
 use Rattle.std.specs.Fmt.{decimal}
 use Rattle.std.specs.List.{join_with_byte}
 use Rattle.std.specs.Option.{option_to_list}
 use Rattle.till_request.specs.declared.act.Answer.TheVariants.{Entered, Program}
 use Rattle.till_request.specs.declared.act.Reply.{Reply}
 use Rattle.till_request.specs.declared.act.Reply.TheVariants as replies
-use Rattle.till_request.specs.Answer.{answer_text, order_words, program_words, reply_words}
+use Rattle.till_request.specs.Answer.{answer_text, order_words, reply_words}
 use Rattle.till_request.specs.Short.{with_words}
 
 words_joined : (text word : List ℕ) (words : List (List ℕ)) → with_words text (word ∷ words) ≡ text ++ 32 ∷ join_with_byte 32 (word ∷ words)

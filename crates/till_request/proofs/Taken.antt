@@ -1,7 +1,7 @@
 -- What is taken piece by piece.
-use Rattle.std.proofs.Common.{◌≢◌, ℕ, List, [], ◌∷◌, ◌++◌, Some, None, Option, Result, Ok, Err, OnErr, sym, ◌∙◌, ap, append_assoc}
+use Rattle.std.proofs.Common.{◌≡◌, ◌≢◌, ℕ, List, [], ◌∷◌, ◌++◌, Some, None, Option, Result, Ok, Err, OnErr, sym, ◌∙◌, ap, subst, append_assoc}
 use Rattle.std.specs.Io.KnownBytes.{Consumes, Appends}
-use Rattle.till_request.specs.Line.{HasNoLf, IsLine, TakesPart}
+use Rattle.till_request.specs.Line.{GoesOn, HasNoLf, IsLine, TakesPart}
 
 pub consumes_more : (a b c : Option (List ℕ)) (xs ys : List ℕ) → Consumes a b xs → Consumes b c ys → Consumes a c (xs ++ ys)
 consumes_more None b c xs ys h k = tt
@@ -30,3 +30,10 @@ given_so (Err e) a c xs h = (xs, h)
 pub part_given : {T E : Type 0} (r : Result T E) (a c : Option (List ℕ)) (xs : List ℕ) → Consumes a c xs → IsLine xs → OnErr r (TakesPart a c)
 part_given (Ok x) a c xs h l = tt
 part_given (Err e) a c xs h l = (xs, h, l)
+
+-- a line grows by what was held of it, and then comes a byte
+pub byte_behind : (a b c : Option (List ℕ)) (line grown : List ℕ) (byte : ℕ) → Consumes a b line → GoesOn b c line grown (Some byte)
+    → Consumes a c (grown ++ byte ∷ [])
+byte_behind a b c line grown byte h on =
+    let place : line ++ (on.0 ++ byte ∷ []) ≡ grown ++ byte ∷ [] = sym (append_assoc line on.0 (byte ∷ [])) ∙ ap (λ t. t ++ byte ∷ []) (sym on.2) in
+    subst (Consumes a c) place (consumes_more a b c line (on.0 ++ byte ∷ []) h on.1)

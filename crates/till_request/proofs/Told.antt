@@ -1,9 +1,8 @@
 -- A form that words have is the one that they tell.
-use Rattle.std.proofs.Common.{◌≡◌, ℕ, zero, suc, ◌<◌, ◌≤◌, List, [], ◌∷◌, length, codes, Bool, true, false, ◌&&◌, cond, eqb}
+use Rattle.std.proofs.Common.{◌≡◌, ℕ, zero, suc, ◌<◌, ◌≤◌, List, [], ◌∷◌, length, codes, Bool, true, false, cond, eqb}
 use Rattle.std.proofs.Common.{Option, Some, None, Err, refl, ap, ap₂, ◌∙◌, sym, arith, rules, find}
 use Rattle.std.proofs.Common.{lit≤, map, Bor, get_or, slice_index}
 use Rattle.std.specs.Str.{bytes_eq}
-use Rattle.std.specs.Cmp.Lexicographic.{pointwise}
 use Rattle.std.proofs.lemmas.Bool.{and_parts}
 use Rattle.std.proofs.lemmas.Grind.{common_steps}
 use Rattle.bpf_model.specs.declared.context.Layout.TheVariants as layouts

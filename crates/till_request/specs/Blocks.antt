@@ -1,6 +1,6 @@
 -- Promises: what is taken of a device that is read in blocks. What is ahead is what the block holds, and then what the
 -- device has.
-use Rattle.std.specs.Prelude.{◌≡◌, ℕ, ◌+◌, ◌*◌, ◌<◌, List, [], ◌∷◌, ◌++◌, length, take, drop}
+use Rattle.std.specs.Prelude.{◌≡◌, ◌⊎◌, ℕ, ◌+◌, ◌*◌, ◌<◌, ◌≤◌, List, [], ◌∷◌, ◌++◌, length, take, drop}
 use Rattle.till_request.specs.Line.{HasNoLf, IsLine}
 use Rattle.till_request.specs.declared.block.Piece.{Piece}
 use Rattle.till_request.specs.declared.block.Piece.TheVariants.{Ended, TooLong, More}
@@ -30,3 +30,17 @@ LineGrows there line left grown More = (left ≡ []) × (grown ≡ line ++ there
 -- bytes that belong to a line were taken, and lost
 abbrev pub LosesPart : List ℕ → List ℕ → List ℕ → Type 0
 LosesPart there line left = (bytes : List ℕ) × (there ≡ bytes ++ left) × IsLine (line ++ bytes) × (0 < length bytes)
+
+-- so many bytes at the front have no LF, and there is room for them; no more go on: there is no room, or no byte, or an LF
+abbrev pub Belongs : List ℕ → ℕ → ℕ → Type 0
+Belongs bytes room count =
+    (count ≤ length bytes) × HasNoLf (take count bytes) × (count ≤ room)
+    × ((count ≡ room) ⊎ (drop count bytes ≡ []) ⊎ (drop count bytes ≡ 10 ∷ drop (count + 1) bytes))
+
+-- a line grew by so many bytes that were there
+abbrev pub GivesHeld : List ℕ → List ℕ → List ℕ → List ℕ → ℕ → Type 0
+GivesHeld there line left grown count = (bytes : List ℕ) × (there ≡ bytes ++ left) × (grown ≡ line ++ bytes) × IsLine grown × (length bytes ≡ count)
+
+-- a line can't go on by what is left: it is as long as a line may be, or nothing is left, or an LF stands next
+abbrev pub CannotGoOn : List ℕ → List ℕ → Type 0
+CannotGoOn left grown = (length grown ≡ 8400) ⊎ (left ≡ []) ⊎ ((rest : List ℕ) × (left ≡ 10 ∷ rest))

@@ -39,6 +39,19 @@ TakesPart old new = (bytes : List ℕ) × Consumes old new bytes × IsLine bytes
 abbrev pub TakesUpTo : Option (List ℕ) → Option (List ℕ) → Type 0
 TakesUpTo old new = TakesPart old new ⊎ ((line : List ℕ) × Consumes old new (line ++ 10 ∷ []) × IsLine line)
 
+-- bytes that belong to a line were taken, and stand behind those that it had
+abbrev pub TakesHeld : Option (List ℕ) → Option (List ℕ) → List ℕ → List ℕ → Type 0
+TakesHeld old new line grown = (bytes : List ℕ) × Consumes old new bytes × (grown ≡ line ++ bytes) × IsLine grown
+
+-- bytes that belong to a line were taken, and then another, or the end came
+abbrev pub GoesOn : Option (List ℕ) → Option (List ℕ) → List ℕ → List ℕ → Option ℕ → Type 0
+GoesOn old new line grown None = TakesHeld old new line grown × IsAtEnd new
+GoesOn old new line grown (Some byte) = (bytes : List ℕ) × Consumes old new (bytes ++ byte ∷ []) × (grown ≡ line ++ bytes) × IsLine grown
+
+-- bytes that belong to a line were taken
+abbrev pub GoesPart : Option (List ℕ) → Option (List ℕ) → List ℕ → Type 0
+GoesPart old new line = (bytes : List ℕ) × Consumes old new bytes × IsLine (line ++ bytes)
+
 -- some bytes were taken
 abbrev pub TakesSome : Option (List ℕ) → Option (List ℕ) → Type 0
 TakesSome old new = (bytes : List ℕ) × Consumes old new bytes

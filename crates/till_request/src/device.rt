@@ -1,8 +1,10 @@
 //! What lines are read from and answers are written to.
-ghost use Rattle.std.specs.Prelude.{◌<◌, ◌≤◌, ℕ, List, Option, length, IfOk, is_err};
-ghost use Rattle.std.specs.Io.KnownBytes.{ReadConsumes, WriteAppends};
+ghost use Rattle.std.specs.Prelude.{◌≡◌, ◌<◌, ◌≤◌, ◌-◌, ℕ, List, [], Option, length, IfOk, OnOk, OnErr, is_err};
+ghost use Rattle.std.specs.Io.KnownBytes.{Consumes, ReadConsumes, WriteAppends};
 ghost use Rattle.till_request.specs.Count.{RoseBy, one_if};
+ghost use Rattle.till_request.specs.Line.{IsLine, TakesHeld};
 
+use std::alloc::AllocError;
 use thiserror::Error;
 
 /// The device failed.
@@ -31,6 +33,23 @@ pub trait LineIn {
         ensures counted { RoseBy 1 (reads self.old) (reads self.new) }
         ensures failed { RoseBy (one_if (is_err result)) (failures self.old) (failures self.new) }
         ensures asked_for { RoseBy (length buffer.new) (asked self.old) (asked self.new) };
+
+    /// Takes into a line bytes that are there already and belong to it, for as many of the reads that are left: each
+    /// counts as a read of one byte that gave it. It takes no LF, and a line grows to 8,400 bytes at most. A source
+    /// that holds nothing back takes none. The error is want of memory, and then nothing was taken.
+    fn read_held(&mut self, line: &mut Vec<u8>, left: &mut u32) -> Result<(), AllocError>
+        requires { IsLine line.old.items }
+        ensures taken { OnOk result
+            (TakesHeld (remaining self.old) (remaining self.new) line.old.items line.new.items) }
+        ensures kept { OnErr result (Consumes (remaining self.old) (remaining self.new) []) }
+        ensures left { left.new ≤ left.old }
+        ensures unused { OnErr result (left.new ≡ left.old) }
+        ensures counted { RoseBy (left.old - left.new) (reads self.old) (reads self.new) }
+        ensures asked_for { RoseBy (left.old - left.new) (asked self.old) (asked self.new) }
+        ensures failed { RoseBy 0 (failures self.old) (failures self.new) }
+    {
+        Ok(())
+    }
 }
 
 /// A sink of bytes.

@@ -7,7 +7,7 @@ ghost use Rattle.till_request.specs.Devices.{piece_size, one_less};
 
 use crate::block::Block;
 use crate::device::{DeviceFault, LineIn, LineOut};
-use std::alloc::Global;
+use std::alloc::{AllocError, Global};
 use std::io::{Read, Write};
 
 /// Bytes in memory, given out in any cut.
@@ -194,6 +194,14 @@ impl<I: LineIn + Drop> LineIn for Ahead<I> {
             return Err(DeviceFault);
         }
         Ok(self.block.give(buffer))
+    }
+
+    fn read_held(&mut self, line: &mut Vec<u8>, left: &mut u32) -> Result<(), AllocError> {
+        let count = self.block.take_held(line, *left as usize)?;
+        *left -= count as u32;
+        self.calls = self.calls.wrapping_add(count as u64);
+        self.asked = self.asked.wrapping_add(count as u64);
+        Ok(())
     }
 }
 

@@ -1,7 +1,6 @@
 use Rattle.std.proofs.Common.{ap, subst, ◌∙◌, map, List, ℕ, Bor}
-use Rattle.till_request.specs.Grammar.{act_of_words, words}
+use Rattle.till_request.specs.Grammar.{act_of_words}
 use Rattle.till_request.specs.Gives.{Gives}
-use Rattle.till_request.proofs.Told.{too_many}
 use Rattle.till_request.proofs.grammar.parse_short.Goals as goal
 
 pub returns : goal.returns

@@ -1,5 +1,4 @@
-use Rattle.std.proofs.Common.{◌≡◌, ◌+◌, sym, ◌∙◌, ap, arith, eqb, length, map}
-use Rattle.std.specs.List.{slice_split}
+use Rattle.std.proofs.Common.{sym, ◌∙◌, eqb}
 use Rattle.till_request.proofs.Parted.{parts_and_more}
 use Rattle.till_request.proofs.parts.few_parts.Goals as goal
 

@@ -1,4 +1,4 @@
-use Rattle.std.proofs.Common.{◌≡◌, ◌≤◌, length, ◌∙◌, ap, sym, drop, subst}
+use Rattle.std.proofs.Common.{◌≤◌, length, ◌∙◌, ap, sym, drop, subst}
 use Rattle.till_request.proofs.Pieces.{moved_on}
 use Rattle.till_request.proofs.block.Block.skip.Goals as goal
 

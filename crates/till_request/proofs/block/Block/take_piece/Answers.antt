@@ -1,4 +1,4 @@
-use Rattle.std.proofs.Common.{◌≡◌, ◌≤◌, ◌-◌, [], length, subst, sym, arith}
+use Rattle.std.proofs.Common.{◌≡◌, ◌-◌, [], length, subst, sym, arith}
 use Rattle.till_request.specs.Blocks.{EndsBehind, LineGrows}
 use Rattle.till_request.specs.Line.{HasNoLf}
 use Rattle.till_request.specs.declared.block.Piece.TheVariants.{TooLong}
