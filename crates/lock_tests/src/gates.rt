@@ -269,7 +269,39 @@ fn other_call<L: Yard, R: Wait>(
     (answered.ok(), in_time)
 }
 
+/// Loads a program that grants what is asked, and opens both points for till 1: the last entry's number.
+fn prepare_both<L: Yard, R: Wait>(
+    rt: &R,
+    alloc: Global,
+    yard: &Forecourt<L>,
+    pass: &mut Pass<L>,
+) -> Option<u32> {
+    prepare(rt, alloc, yard, pass, &ASKED)?;
+    open(rt, yard, pass, 2)
+}
+
 /// What both tills are answered, if none waited for too long.
+fn beside<L: Yard + Send + Sync, R: Threads + Wait + Sync>(
+    rt: &R,
+    yard: &Forecourt<L>,
+    first: &mut Pass<L>,
+    second: &mut Pass<L>,
+) -> Option<[(u32, Reply); 2]> {
+    let (held, go) = (AtomicBool::new(false), AtomicBool::new(false));
+    let (held, go) = (&held, &go);
+    let ((one, in_time), (two, soon)) = join(
+        rt,
+        || held_call(rt, yard, first, held, go),
+        || other_call(rt, yard, second, held, go),
+    );
+    if !in_time || !soon {
+        return None;
+    }
+    let (one, two) = (one?, two?);
+    Some([(one.number, one.reply), (two.number, two.reply)])
+}
+
+/// The same, of a new forecourt.
 fn both<L: Yard + Send + Sync, R: Threads + Wait + Sync>(
     rt: &R,
     alloc: Global,
@@ -285,22 +317,8 @@ fn both<L: Yard + Send + Sync, R: Threads + Wait + Sync>(
     let (yard, mut passes) = Forecourt::<L>::start(alloc, config, 2, blank)?;
     let mut second = passes.pop().ok_or("a pass")?;
     let mut first = passes.pop().ok_or("a pass")?;
-    load(rt, alloc, &yard, &mut first, &ASKED).ok_or("a load")?;
-    open(rt, &yard, &mut first, 1).ok_or("an open point")?;
-    open(rt, &yard, &mut first, 2).ok_or("an open point")?;
-    let (held, go) = (AtomicBool::new(false), AtomicBool::new(false));
-    let (held, go, yard) = (&held, &go, &yard);
-    let ((one, in_time), (two, soon)) = join(
-        rt,
-        || held_call(rt, yard, &mut first, held, go),
-        || other_call(rt, yard, &mut second, held, go),
-    );
-    let (one, two) = (one.ok_or("a release")?, two.ok_or("a release")?);
-    if in_time && soon {
-        Ok(Some([(one.number, one.reply), (two.number, two.reply)]))
-    } else {
-        Ok(None)
-    }
+    prepare_both(rt, alloc, &yard, &mut first).ok_or("two open points")?;
+    Ok(beside(rt, &yard, &mut first, &mut second))
 }
 
 fn both_of<R: Threads + Wait + Sync>(

@@ -63,6 +63,62 @@ struct Left {
     entries: Option<usize>,
 }
 
+/// The passes of two threads that ask 1,000 times each.
+fn shows_beside<L: Yard + Send + Sync, R: Threads + Wait + Sync>(
+    rt: &R,
+    yard: &Forecourt<L>,
+    first: Pass<L>,
+    second: Pass<L>,
+) -> Option<(Pass<L>, Pass<L>)> {
+    let (first, second) = join(
+        rt,
+        move || shows(rt, yard, first, 1000),
+        move || shows(rt, yard, second, 1000),
+    );
+    Some((first.ok()?, second.ok()?))
+}
+
+/// What is left where the forecourt is closed without the second pass, and then with both.
+fn close_twice<L: Yard, R: Wait>(
+    rt: &R,
+    yard: Forecourt<L>,
+    mut passes: Vec<Pass<L>>,
+    first: Pass<L>,
+    second: Pass<L>,
+) -> Result<Left, Fail> {
+    let mut left = Left {
+        first: rising(first.receipts()),
+        second: rising(second.receipts()),
+        refused: None,
+        handed_back: 0,
+        halted: 0,
+        entries: None,
+    };
+    passes.push(first)?;
+    let Err(kept) = yard.close(rt, passes) else {
+        return Ok(left);
+    };
+    left.refused = Some(kept.why);
+    left.handed_back = kept.passes.len();
+    left.halted = kept.forecourt.history().len();
+    left.entries = close_whole(rt, kept.forecourt.reopen(), kept.passes, second)?;
+    Ok(left)
+}
+
+/// How many entries a forecourt has that is closed with this pass too.
+fn close_whole<L: Yard, R: Wait>(
+    rt: &R,
+    yard: Forecourt<L>,
+    mut passes: Vec<Pass<L>>,
+    last: Pass<L>,
+) -> Result<Option<usize>, Fail> {
+    passes.push(last)?;
+    Ok(match yard.close(rt, passes) {
+        Ok(closed) => Some(closed.site.history().len()),
+        Err(_) => None,
+    })
+}
+
 /// Two threads with a pass each ask 1,000 times; the forecourt is closed without the second pass, and then with both.
 fn two<L: Yard + Send + Sync, R: Threads + Wait + Sync>(
     rt: &R,
@@ -79,37 +135,8 @@ fn two<L: Yard + Send + Sync, R: Threads + Wait + Sync>(
     let (yard, mut passes) = Forecourt::<L>::start(alloc, config, 2, blank)?;
     let second = passes.pop().ok_or("a pass")?;
     let first = passes.pop().ok_or("a pass")?;
-    let shared = &yard;
-    let (a, b) = join(
-        rt,
-        move || shows(rt, shared, first, 1000),
-        move || shows(rt, shared, second, 1000),
-    );
-    let a = a.ok().ok_or("a call")?;
-    let b = b.ok().ok_or("a call")?;
-    let mut left = Left {
-        first: rising(a.receipts()),
-        second: rising(b.receipts()),
-        refused: None,
-        handed_back: 0,
-        halted: 0,
-        entries: None,
-    };
-    passes.push(a)?;
-    let (yard, mut passes) = match yard.close(rt, passes) {
-        Ok(_) => return Ok(left),
-        Err(kept) => {
-            left.refused = Some(kept.why);
-            left.handed_back = kept.passes.len();
-            left.halted = kept.forecourt.history().len();
-            (kept.forecourt.reopen(), kept.passes)
-        }
-    };
-    passes.push(b)?;
-    if let Ok(closed) = yard.close(rt, passes) {
-        left.entries = Some(closed.site.history().len());
-    }
-    Ok(left)
+    let (first, second) = shows_beside(rt, &yard, first, second).ok_or("a call")?;
+    close_twice(rt, yard, passes, first, second)
 }
 
 fn two_of<R: Threads + Wait + Sync>(rt: &R, alloc: Global, config: Config) -> Result<Left, Fail> {
