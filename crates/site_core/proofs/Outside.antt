@@ -1,6 +1,7 @@
 -- What a run made outside the site says of the site's own step.
 use Rattle.std.proofs.Common.{◌≡◌, ℕ, List, ◌∷◌, length, arith, Bool, true, false, Option, Some, None, Ok, Err, refl, ap, ◌∙◌, sym, subst}
-use Rattle.std.specs.Prelude.{◌⊎◌, reverse, ◌==◌, if◌then◌else◌, IsSome, is_some, ◌<◌}
+use Rattle.std.specs.Prelude.{◌⊎◌, reverse, ◌==◌, if◌then◌else◌, IsSome, is_some, ◌<◌, Result, IfOk}
+use Rattle.std.specs.declared.alloc.AllocError.{AllocError}
 use Rattle.std.proofs.Common.{inl, inr}
 use Rattle.std.specs.Result.{result_ok}
 use Rattle.fuelling_point.specs.Table.{PointState, Answer, command_step}
@@ -31,8 +32,9 @@ use Rattle.site_core.specs.Legal.{GoodLoad}
 use Rattle.site_core.specs.Histories.{load_refusal}
 use Rattle.site_core.specs.Draft.{context_for, DraftValue, basis_of, routed}
 use Rattle.site_core.specs.Asked.{asked_question, question_of, StillAsked, IsDraft, Drafts, basis_in}
+use Rattle.site_core.specs.declared.draft.Begin.{Begin}
 use Rattle.site_core.specs.declared.draft.Begin.TheVariants as begin
-use Rattle.site_core.specs.Outside.{run_now, reply_now, Begins, Begun, basis}
+use Rattle.site_core.specs.Outside.{run_now, reply_now, Begins, Begun, basis, drafted}
 use Rattle.site_core.specs.Site.{SiteValue, Enters, entered}
 use Rattle.site_core.proofs.Points.{commanded-none, commanded-some}
 use Rattle.site_core.proofs.Decisions.{decided-refused, decided-none, decided-some, decided-ended}
@@ -210,6 +212,21 @@ begun config history s slots till moment r draft agrees d =
       });
       counters_are = d.counters_are;
     }
+
+-- a decision begins as its draft says, where the history isn't full
+pub begins : (config : ConfigValue) (history : List Entry) (s : SiteState) (slots : SlotsValue) (till moment : ℕ) (r : Request) (b : Begin)
+    → Agrees slots (reverse history) → length history < 1048576 → Drafts config s slots till moment r (drafted b)
+    → Begins (record { config = config; history = history; state = s }) till moment r b
+begins config history s slots till moment r begin.Direct agrees less d = inr (begins-none config history s slots till moment r agrees d)
+begins config history s slots till moment r (begin.Run draft) agrees less d = (less, begun config history s slots till moment r draft agrees d)
+
+-- the same of a call that may be refused memory
+pub begins-ok : (config : ConfigValue) (history : List Entry) (s : SiteState) (slots : SlotsValue) (till moment : ℕ) (r : Request)
+    (result : Result Begin AllocError) → Agrees slots (reverse history) → length history < 1048576
+    → IfOk result (λ b. Drafts config s slots till moment r (drafted b))
+    → IfOk result (Begins (record { config = config; history = history; state = s }) till moment r)
+begins-ok config history s slots till moment r (Ok b) agrees less d = begins config history s slots till moment r b agrees less d
+begins-ok config history s slots till moment r (Err e) agrees less d = d
 
 -- the slots show what the history shows
 pub basis-is : (config : ConfigValue) (history : List Entry) (s : SiteState) (slots : SlotsValue) (draft : DraftValue) → Agrees slots (reverse history)

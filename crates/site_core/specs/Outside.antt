@@ -5,7 +5,7 @@
 -- answers a draft, which `Begun` ties to the site. `commit` is Done exactly where `IsFresh`: nothing
 -- that the draft's run depends on differs; it is then one step of the site at the draft's moment. Else it is Stale, with the first difference,
 -- and nothing has changed.
-use Rattle.std.specs.Prelude.{◌≡◌, ℕ, ◌<◌, ◌⊎◌, false, IsSome, length, reverse, Option, None}
+use Rattle.std.specs.Prelude.{◌≡◌, ℕ, ◌<◌, ◌⊎◌, false, IsSome, length, reverse, Option, Some, None}
 use Rattle.decision_journal.specs.declared.entries.Run.{Run}
 use Rattle.till_request.specs.declared.act.Request.{Request}
 use Rattle.till_request.specs.declared.act.Act.TheVariants as act
@@ -42,6 +42,11 @@ pub record Begun (site : SiteValue) (till moment : ℕ) (request : Request) (dra
   pub runs : IsSome (run_now site till moment request)
   pub fresh : IsFresh (basis site draft) draft
   pub counters_are : draft.counters ≡ site.state.counters
+
+-- the draft by which a decision begins, if it does by one
+abbrev pub drafted : Begin → Option DraftValue
+drafted begin.Direct = None
+drafted (begin.Run draft) = Some draft
 
 -- Direct: the history is full; or the step would run no program now, and so its reply is neither a grant nor S24.
 abbrev pub Begins : SiteValue → ℕ → ℕ → Request → Begin → Type 0

@@ -66,28 +66,30 @@ impl Model for Draft {
 
 impl Draft {
     ghost use Rattle.site_core.specs.Asked.{Drafts, Compares};
+    ghost use Rattle.site_core.specs.Outside.{drafted};
 
-    /// The draft of a request as the site stands, or none where no program would be run. The error is want of memory.
-    pub(crate) fn of(
+    /// How a request's decision begins as the site stands: by a draft, or at once where no program would be run. The
+    /// error is want of memory.
+    pub(crate) fn begin(
         config: &Config,
         station: &Station,
         slots: &Slots,
         till: u32,
         moment: u64,
         request: &Request,
-    ) -> Result<Option<Draft>, AllocError>
+    ) -> Result<Begin, AllocError>
         requires { length station.now.points ≡ length config.now.points }
-        ensures { IfOk result (Drafts config.now station.now slots.now till moment request.now) }
+        ensures { IfOk result (λ b. Drafts config.now station.now slots.now till moment request.now (drafted b)) }
     {
         let Some(question) = asked_question(config, station, till, request) else {
-            return Ok(None);
+            return Ok(Begin::Direct);
         };
         let Some((version, program)) = look_up(slots, question.slot) else {
-            return Ok(None);
+            return Ok(Begin::Direct);
         };
         let layout = program.layout();
         let program = Arc::try_clone(program)?;
-        Ok(Some(Draft {
+        Ok(Begin::Run(Draft {
             till,
             moment,
             request: *request,
@@ -176,7 +178,7 @@ impl Ready {
     /// and nothing changes. Counters that the program doesn't declare stay as they are now, and a release is bounded by
     /// the preset of now.
     pub(crate) fn settle(
-        self,
+        &self,
         config: &Config,
         station: &mut Station,
         slots: &Slots,
@@ -188,16 +190,16 @@ impl Ready {
         ensures number { entry.new.number ≡ entry.old.number }
         ensures pass { entry.new.pass ≡ entry.old.pass }
         ensures performed { MatchResult result
-            (λ _. IsFresh (basis_in config.now station.old slots.now self.draft) self.draft
+            (λ _. IsFresh (basis_in config.now station.old slots.now self.now.draft) self.now.draft
             × ((past : List Entry) → Agrees slots.now past →
-            Performs config.now past station.old self.draft.moment (act.Till self.draft.till self.draft.request)
-            entry.new station.new slots.now))
-            (Differs (basis_in config.now station.old slots.now self.draft) self.draft) }
+            Performs config.now past station.old self.now.draft.moment
+            (act.Till self.now.draft.till self.now.draft.request) entry.new station.new slots.now))
+            (Differs (basis_in config.now station.old slots.now self.now.draft) self.now.draft) }
         ensures unchanged { OnErr result (station.new ≡ station.old) }
         ensures bounded { (k : ℕ) → Bounded k station.old → Bounded (k + 1) station.new }
         ensures points { length station.new.points ≡ length station.old.points }
     {
-        let draft = self.draft;
+        let draft = &self.draft;
         let question = match draft.compare(config, station, slots) {
             Ok(question) => question,
             Err(why) => return Err(why),

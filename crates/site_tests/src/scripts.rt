@@ -146,6 +146,30 @@ const DELIVERY: [(Does, Reply); 6] = [
 pub(crate) const OPEN: (Does, Reply) = (Does::Till(1, Request::OpenPoint(1)), Reply::Done);
 
 #[test]
+fn ready_memory_holds_no_entry(rt: HostRuntime) -> Result<(), Fail> {
+    let mut site = start(rt.alloc())?;
+    site.make_ready(3)?;
+    assert!(rt; site.history().is_empty());
+    let shown = Reply::Point {
+        state: 2,
+        nozzle: 0,
+        amount: 0,
+        volume: 0,
+        limit: 0,
+        preset: 0,
+        unpaid: 0,
+    };
+    for _ in 0..5 {
+        let what = What::Till {
+            till: 1,
+            request: Request::Show(1),
+        };
+        enter(&rt, &mut site, 0, what, shown);
+    }
+    Ok(())
+}
+
+#[test]
 fn a_replaced_version_decides_no_more(rt: HostRuntime) -> Result<(), Fail> {
     let mut site = start(rt.alloc())?;
     load(
