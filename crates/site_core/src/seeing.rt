@@ -18,7 +18,17 @@ pub fn seen(point: &Point) -> PointView
     }
 }
 
-/// The same of all points, with zeros in the places of those that aren't there.
+/// Puts what is seen now into its place. Nothing is written where it is there already: other threads' cores then keep
+/// the place as they have it.
+pub fn renew(place: &mut PointView, now: PointView)
+    ensures { place.new ≡ now }
+{
+    if *place != now {
+        *place = now;
+    }
+}
+
+/// What programs see of all points, with zeros in the places of those that aren't there.
 pub fn seen_points(points: &[Point]) -> [PointView; 32]
     requires { length points.now ≤ POINTS }
     ensures { result ≡ seen_points points.now }

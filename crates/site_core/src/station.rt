@@ -23,7 +23,7 @@ use crate::context::{Field, kind_number, lay};
 use crate::decision::{command_of, granted_point, note_counts, preset_at, price_at, release_at};
 use crate::question::{Kind, Question};
 use crate::replies::{NO_SUCH_POINT, denied, event_reply, fault_reply};
-use crate::seeing::{seen, seen_points};
+use crate::seeing::{renew, seen, seen_points};
 use bpf_model::context::{Context, Layout};
 use counters::Counters;
 use fuelling_point::{Command, DispenserEvent, Point, State};
@@ -108,7 +108,7 @@ impl Station {
         }
         let point = &mut self.points[n as usize - 1];
         let outcome = point.on_command(till, command);
-        self.view.points[n as usize - 1] = seen(point);
+        renew(&mut self.view.points[n as usize - 1], seen(point));
         match outcome {
             Err(fault) => fault_reply(fault),
             Ok(None) => Reply::Done,
@@ -132,7 +132,7 @@ impl Station {
         }
         let point = &mut self.points[n as usize - 1];
         let outcome = point.on_event(event);
-        self.view.points[n as usize - 1] = seen(point);
+        renew(&mut self.view.points[n as usize - 1], seen(point));
         event_reply(outcome)
     }
 
@@ -422,7 +422,7 @@ impl Station {
         let point = &mut self.points[n as usize - 1];
         let granted = granted_point(question.kind, question.asked, r0, point.preset());
         let _ = point.on_command(till, command_of(question.kind, granted));
-        self.view.points[n as usize - 1] = seen(point);
+        renew(&mut self.view.points[n as usize - 1], seen(point));
         granted
     }
 

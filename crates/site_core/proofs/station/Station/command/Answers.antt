@@ -72,18 +72,18 @@ invariant_of-self c =
     let points = c.self.inside.points.items in
     let i = c.self.invariant in
     let lt : c.args.n - 1 < length points = grind (arith, common_steps) in
-    keeps-seen points c.self.inside.view (c.args.n - 1) c.on_command-outcome.new.self c.seen.result lt i.0 i.1 i.2 i.3 c.seen.ensures
+    keeps-seen points c.self.inside.view (c.args.n - 1) c.on_command-outcome.new.self c.renew.new.place lt i.0 i.1 i.2 i.3 (c.renew.ensures ∙ c.seen.ensures)
 
 pub invariant_of-self-in-Ok-None : goal.invariant_of-self-in-Ok-None
 invariant_of-self-in-Ok-None c =
     let points = c.self.inside.points.items in
     let i = c.self.invariant in
     let lt : c.args.n - 1 < length points = grind (arith, common_steps) in
-    keeps-seen points c.self.inside.view (c.args.n - 1) c.on_command-outcome.new.self c.seen.result lt i.0 i.1 i.2 i.3 c.seen.ensures
+    keeps-seen points c.self.inside.view (c.args.n - 1) c.on_command-outcome.new.self c.renew.new.place lt i.0 i.1 i.2 i.3 (c.renew.ensures ∙ c.seen.ensures)
 
 pub invariant_of-self-in-Ok-Some : goal.invariant_of-self-in-Ok-Some
 invariant_of-self-in-Ok-Some c =
     let points = c.self.inside.points.items in
     let i = c.self.invariant in
     let lt : c.args.n - 1 < length points = grind (arith, common_steps) in
-    keeps-seen points c.self.inside.view (c.args.n - 1) c.on_command-outcome.new.self c.seen.result lt i.0 i.1 i.2 i.3 c.seen.ensures
+    keeps-seen points c.self.inside.view (c.args.n - 1) c.on_command-outcome.new.self c.renew.new.place lt i.0 i.1 i.2 i.3 (c.renew.ensures ∙ c.seen.ensures)

@@ -65,4 +65,4 @@ invariant_of-self-2 c =
     let points = c.self.inside.points.items in
     let i = c.self.invariant in
     let lt : q.point - 1 < length points = grind (arith, common_steps) in
-    keeps-seen points c.self.inside.view (q.point - 1) c.on_command.new.self c.seen.result lt i.0 i.1 i.2 i.3 c.seen.ensures
+    keeps-seen points c.self.inside.view (q.point - 1) c.on_command.new.self c.renew.new.place lt i.0 i.1 i.2 i.3 (c.renew.ensures ∙ c.seen.ensures)
