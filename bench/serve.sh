@@ -13,9 +13,10 @@
 #
 # With --null: presets and `show` on 8 and on 64 connections, in turns beside a server that answers without a site
 # (bench/null_server.c), 8 times LINES in all each, as a table in Markdown of the medians of TURNS turns, 7 where it isn't
-# said, and their ratios. With BYTES that server takes a lock twice for each line and appends so many bytes to a list.
+# said, and their ratios. With BYTES that server takes a lock twice for each line and appends so many bytes to a list; it
+# may hold the lock for FIRST and SECOND nanoseconds more, and write the memory of READY such pieces before it serves.
 #
-#     bench/serve.sh LINES --null [TURNS [BYTES]]
+#     bench/serve.sh LINES --null [TURNS [BYTES [FIRST SECOND [READY]]]]
 #
 # The program is crates/fc/out/fc, which ./fc builds, or $FC.
 set -eu
@@ -54,7 +55,8 @@ END
         : >"$work/said"
         rm -f "$work/day.journal"
         if [ -n "$null" ]; then
-            "$work/null_server" "$port" "$1" ${bytes:+"$bytes"} </dev/null 2>"$work/said" &
+            # shellcheck disable=SC2086 # BYTES and what stands behind it are words of their own
+            "$work/null_server" "$port" "$1" $bytes </dev/null 2>"$work/said" &
         else
             # shellcheck disable=SC2086 # no word where no journal is kept, or none is synced
             env ${preload:+LD_PRELOAD=$preload} ${each:+SYNC_EACH_WRITE=1} \
@@ -122,7 +124,7 @@ medians() {
 
 if [ "$kept" = --null ]; then
     cc -O2 -pthread -o "$work/null_server" "$here/null_server.c"
-    kept='' all=$((8 * lines)) turns=${3:-7} bytes=${4:-}
+    kept='' all=$((8 * lines)) turns=${3:-7} bytes="${4:-} ${5:-} ${6:-} ${7:-}"
     echo '| line | connections | server | lines a second | p50, us | p99, us | p99.9, us |'
     echo '|---|---|---|---|---|---|---|'
     for connections in 8 64; do
