@@ -26,10 +26,6 @@ use std::time::Clock;
 use thiserror::Error;
 use till_request::Role;
 
-/// The entries for which memory is ready when a site is served: 131,072, which are 130 MB. A page that the system has
-/// yet to give takes it longer than an event takes under the site's lock, while all others wait.
-const READY: usize = 131_072;
-
 /// What serving leaves.
 #[derive(Drop)]
 pub struct Served<J: Journal = NoJournal> {
@@ -183,9 +179,6 @@ pub fn serve_on<
         (λ fault. SpoilsSince (from_site site (J.written journal) crew.tills crew.dispensers) J.may_fail crew.tills
         crew.dispensers connections fault) }
 {
-    let mut site = site;
-    // Where memory is wanting now, it is asked for as entries come.
-    let _ = site.make_ready(READY);
     let (yard, passes) = Forecourt::<L, J>::go_on(alloc, site, journal, crew.passes(), blank)?;
     let room = Vec::with_capacity(alloc, passes.len())?;
     let posts = posts_of(alloc, passes, listeners, crew)?;
