@@ -15,9 +15,7 @@ use crate::doors::Doors;
 use crate::speaker::Speaker;
 use std::alloc::Global;
 use till_request::devices::MemoryOut;
-use till_request::{
-    Answer, LineFault, LineOut, NextLine, Role, next_line, write_all, write_answer,
-};
+use till_request::{Answer, Found, LineFault, LineOut, Role, find_line, write_all, write_answer};
 
 /// How many bytes of answers may wait for the lines that are there already.
 const MOST_HELD: usize = 16_384;
@@ -122,25 +120,26 @@ fn talk_held<S: Doors, C, D, P: Speaker<C, D>>(
     ensures counted { RoseBy (left.old - left.new) (S.In.reads input.old) (S.In.reads input.new) }
     ensures asked { RoseBy (left.old - left.new) (S.In.asked input.old) (S.In.asked input.new) }
 {
+    let mut line = Vec::new(alloc);
     let mut count = 0u64;
     'turns: loop {
         make_way(doors, input, output, held)?;
-        match next_line(alloc, input, left)? {
-            NextLine::Line(line) => hold_answer(alloc, speaker, &line, clock, desk, held)?,
-            NextLine::End => {
+        match find_line(input, &mut line, left)? {
+            Found::Line => hold_answer(alloc, speaker, &line, clock, desk, held)?,
+            Found::End => {
                 return Ok(Ended {
                     lines: count,
                     cut: None,
                 });
             }
-            NextLine::TooLong => {
+            Found::TooLong => {
                 hold_cut(alloc, held, LineFault::TooLong)?;
                 return Ok(Ended {
                     lines: count + 1,
                     cut: Some(LineFault::TooLong),
                 });
             }
-            NextLine::Cut => {
+            Found::Cut => {
                 hold_cut(alloc, held, LineFault::CutLine)?;
                 return Ok(Ended {
                     lines: count + 1,

@@ -9,7 +9,7 @@ use crate::speaker::{SpeakFault, Speaker};
 use std::alloc::Global;
 use thiserror::Error;
 use till_request::{
-    Answer, InputFault, LineFault, LineIn, LineOut, NextLine, WriteFault, next_line, write_answer,
+    Answer, Found, InputFault, LineFault, LineIn, LineOut, WriteFault, find_line, write_answer,
 };
 
 /// The reads of one session.
@@ -110,24 +110,25 @@ pub fn talk_within<I: LineIn, O: LineOut, C, D, S: Speaker<C, D>>(
     ensures counted { RoseBy (left.old - left.new) (I.reads input.old) (I.reads input.new) }
     ensures asked { RoseBy (left.old - left.new) (I.asked input.old) (I.asked input.new) }
 {
+    let mut line = Vec::new(alloc);
     let mut count = 0u64;
     'turns: loop {
-        match next_line(alloc, input, left)? {
-            NextLine::Line(line) => speaker.speak(alloc, &line, clock, desk, output)?,
-            NextLine::End => {
+        match find_line(input, &mut line, left)? {
+            Found::Line => speaker.speak(alloc, &line, clock, desk, output)?,
+            Found::End => {
                 return Ok(Ended {
                     lines: count,
                     cut: None,
                 });
             }
-            NextLine::TooLong => {
+            Found::TooLong => {
                 write_cut(alloc, output, LineFault::TooLong)?;
                 return Ok(Ended {
                     lines: count + 1,
                     cut: Some(LineFault::TooLong),
                 });
             }
-            NextLine::Cut => {
+            Found::Cut => {
                 write_cut(alloc, output, LineFault::CutLine)?;
                 return Ok(Ended {
                     lines: count + 1,

@@ -148,11 +148,12 @@ fn refused_from<R: Wait>(
     Ok((wanted, ended))
 }
 
+// The first line alone takes room: the others stand in it.
 #[test]
 fn each_growth_refused_at_a_desk(rt: HostRuntime) -> Result<(), Fail> {
     let (wanted, ended) = refused_from(&rt, rt.alloc(), 0, 5)?;
     assert!(rt;
-        wanted > 0 && ended == 5,
+        wanted > 0 && ended == 1,
         "{wanted} lines S31, {ended} ends"
     );
     Ok(())
@@ -162,7 +163,7 @@ fn each_growth_refused_at_a_desk(rt: HostRuntime) -> Result<(), Fail> {
 fn each_growth_refused_later_at_a_desk(rt: HostRuntime) -> Result<(), Fail> {
     let (wanted, ended) = refused_from(&rt, rt.alloc(), 5, 14)?;
     assert!(rt;
-        wanted > 0 && ended == 9,
+        wanted > 0 && ended == 0,
         "{wanted} lines S31, {ended} ends"
     );
     Ok(())

@@ -10,6 +10,8 @@ use Rattle.till_request.specs.declared.act.LineFault.{LineFault}
 use Rattle.till_request.specs.declared.act.LineFault.TheVariants as line
 use Rattle.till_request.specs.declared.line.NextLine.{NextLine}
 use Rattle.till_request.specs.declared.line.NextLine.TheVariants.{Line, TooLong, Cut, End}
+use Rattle.till_request.specs.declared.line.Found.{Found}
+use Rattle.till_request.specs.declared.line.Found.TheVariants as found
 use Rattle.till_request.specs.declared.line.InputFault.{InputFault}
 use Rattle.till_request.specs.declared.line.InputFault.TheVariants as input
 use Rattle.till_request.specs.declared.line.LineReadFault.{LineReadFault}
@@ -62,6 +64,13 @@ Takes old new (Line line) = Consumes old new (line.items ++ 10 ∷ []) × IsLine
 Takes old new TooLong = TakesTooLong old new
 Takes old new Cut = TakesCut old new
 Takes old new End = Consumes old new [] × IsAtEnd new
+
+-- what was taken from the input, by what was found, where the line is this
+abbrev pub Finds : Option (List ℕ) → Option (List ℕ) → List ℕ → Found → Type 0
+Finds old new line found.Line = Consumes old new (line ++ 10 ∷ []) × IsLine line
+Finds old new line found.TooLong = TakesTooLong old new
+Finds old new line found.Cut = TakesCut old new
+Finds old new line found.End = Consumes old new [] × IsAtEnd new
 
 -- a line was taken with its LF, and it stands for this
 abbrev pub TakesLine : Option (List ℕ) → Option (List ℕ) → Role → Result Act LineFault → Type 0

@@ -21,7 +21,10 @@ pub use act::{Act, Answer, Bytes, LineFault, Reply, Request, Role};
 pub use block::Block;
 pub use device::{DeviceFault, LineIn, LineOut};
 pub use grammar::{LINE_WORDS, parse_line, parse_words, split_words};
-pub use line::{InputFault, LINE_BYTES, LineReadFault, NextLine, next_byte, next_line, read_line};
+pub use line::{
+    Found, InputFault, LINE_BYTES, LineReadFault, NextLine, find_line, next_byte, next_line,
+    read_line,
+};
 pub use numbers::{number_u32, number_u64};
 pub use parts::{few_parts, first_part};
 pub use short_text::{ShortText, put_reply};

@@ -21,32 +21,32 @@ returns-in_err-make_way-clause-broken g c =
     on_err_always _ (breaks_gone (g.P.Speaker.says c.args.speaker.now) (g.P.Speaker.drops c.args.speaker.now) _ _ _ _ _ _ _ _ _ c.turns.count w.0
     c.turns.invariant.talks w.1 c.in_err-make_way.ensures.none)
 
-pub returns-in_err-line-clause-broken : goal.returns-in_err-line-clause-broken
-returns-in_err-line-clause-broken g c =
+pub returns-in_err-find_line-clause-broken : goal.returns-in_err-find_line-clause-broken
+returns-in_err-find_line-clause-broken g c =
     let way = gathers_way (g.P.Speaker.says c.args.speaker.now) (g.P.Speaker.drops c.args.speaker.now) _ _ _ _ _ _ _ _ _ c.turns.count c.turns.invariant.talks
     c.in_ok-make_way.ensures.ok in
     on_err_always _ (breaks_read (g.P.Speaker.says c.args.speaker.now) (g.P.Speaker.drops c.args.speaker.now) _ _ _ _ _ _ _ _ c.turns.count
-    c.in_err-line.ensures.given.0 way c.in_err-line.ensures.given.1 c.in_err-line.ensures.given.2)
+    c.in_err-find_line.ensures.given.0 way c.in_err-find_line.ensures.given.1 c.in_err-find_line.ensures.given.2)
 
 pub returns-in_err-hold_answer-in-Line-clause-broken : goal.returns-in_err-hold_answer-in-Line-clause-broken
 returns-in_err-hold_answer-in-Line-clause-broken g c =
-    let t = rw c.in-Line.is at c.in_ok-line.ensures.taken in
+    let t = rw c.in-Line.is at c.in_ok-find_line.ensures.taken in
     let way = gathers_way (g.P.Speaker.says c.args.speaker.now) (g.P.Speaker.drops c.args.speaker.now) _ _ _ _ _ _ _ _ _ c.turns.count c.turns.invariant.talks
     c.in_ok-make_way.ensures.ok in
     on_err_always _ (breaks_spoken (g.P.Speaker.says c.args.speaker.now) (g.P.Speaker.drops c.args.speaker.now)
-    (λ x. x.bytes.items) _ _ _ _ _ _ _ _ c.make_way.new.held c.hold_answer.new.held c.turns.count c.in-Line.line.items way t.1 t.0
+    (λ x. x.bytes.items) _ _ _ _ _ _ _ _ c.make_way.new.held c.hold_answer.new.held c.turns.count c.find_line.new.line.items way t.1 t.0
     (rw c.deref.ensures.value at c.in_err-hold_answer-in-Line.ensures.err))
 
 pub returns-in-End-clause-said : goal.returns-in-End-clause-said
 returns-in-End-clause-said g c =
-    let t = rw c.in-End.is at c.in_ok-line.ensures.taken in
+    let t = rw c.in-End.is at c.in_ok-find_line.ensures.taken in
     let way = gathers_way (g.P.Speaker.says c.args.speaker.now) (g.P.Speaker.drops c.args.speaker.now) _ _ _ _ _ _ _ _ _ c.turns.count c.turns.invariant.talks
     c.in_ok-make_way.ensures.ok in
     ends_here (g.P.Speaker.says c.args.speaker.now) (g.P.Speaker.drops c.args.speaker.now) _ _ _ _ _ _ _ _ c.turns.count way t.0 t.1
 
 pub returns-in_err-hold_cut-in-TooLong-clause-broken : goal.returns-in_err-hold_cut-in-TooLong-clause-broken
 returns-in_err-hold_cut-in-TooLong-clause-broken g c =
-    let t = rw c.in-TooLong.is at c.in_ok-line.ensures.taken in
+    let t = rw c.in-TooLong.is at c.in_ok-find_line.ensures.taken in
     let w = c.in_err-hold_cut-in-TooLong.ensures.err in
     let way = gathers_way (g.P.Speaker.says c.args.speaker.now) (g.P.Speaker.drops c.args.speaker.now) _ _ _ _ _ _ _ _ _ c.turns.count c.turns.invariant.talks
     c.in_ok-make_way.ensures.ok in
@@ -55,7 +55,7 @@ returns-in_err-hold_cut-in-TooLong-clause-broken g c =
 
 pub returns-in-TooLong-clause-said : goal.returns-in-TooLong-clause-said
 returns-in-TooLong-clause-said g c =
-    let t = rw c.in-TooLong.is at c.in_ok-line.ensures.taken in
+    let t = rw c.in-TooLong.is at c.in_ok-find_line.ensures.taken in
     let way = gathers_way (g.P.Speaker.says c.args.speaker.now) (g.P.Speaker.drops c.args.speaker.now) _ _ _ _ _ _ _ _ _ c.turns.count c.turns.invariant.talks
     c.in_ok-make_way.ensures.ok in
     ends_cut (g.P.Speaker.says c.args.speaker.now) (g.P.Speaker.drops c.args.speaker.now) _ _ _ _ _ _ _ _ _ c.turns.count TooLong t.0 way t.1 (t.2, t.3)
@@ -63,7 +63,7 @@ returns-in-TooLong-clause-said g c =
 
 pub returns-in_err-hold_cut-in-Cut-clause-broken : goal.returns-in_err-hold_cut-in-Cut-clause-broken
 returns-in_err-hold_cut-in-Cut-clause-broken g c =
-    let t = rw c.in-Cut.is at c.in_ok-line.ensures.taken in
+    let t = rw c.in-Cut.is at c.in_ok-find_line.ensures.taken in
     let w = c.in_err-hold_cut-in-Cut.ensures.err in
     let way = gathers_way (g.P.Speaker.says c.args.speaker.now) (g.P.Speaker.drops c.args.speaker.now) _ _ _ _ _ _ _ _ _ c.turns.count c.turns.invariant.talks
     c.in_ok-make_way.ensures.ok in
@@ -72,7 +72,7 @@ returns-in_err-hold_cut-in-Cut-clause-broken g c =
 
 pub returns-in-Cut-clause-said : goal.returns-in-Cut-clause-said
 returns-in-Cut-clause-said g c =
-    let t = rw c.in-Cut.is at c.in_ok-line.ensures.taken in
+    let t = rw c.in-Cut.is at c.in_ok-find_line.ensures.taken in
     let way = gathers_way (g.P.Speaker.says c.args.speaker.now) (g.P.Speaker.drops c.args.speaker.now) _ _ _ _ _ _ _ _ _ c.turns.count c.turns.invariant.talks
     c.in_ok-make_way.ensures.ok in
     ends_cut (g.P.Speaker.says c.args.speaker.now) (g.P.Speaker.drops c.args.speaker.now) _ _ _ _ _ _ _ _ _ c.turns.count CutLine t.0 way t.1 (t.2, t.3, t.4)
@@ -80,17 +80,17 @@ returns-in-Cut-clause-said g c =
 
 pub turns-preserved : goal.turns-preserved
 turns-preserved g c =
-    let t = rw c.in-Line.is at c.in_ok-line.ensures.taken in
+    let t = rw c.in-Line.is at c.in_ok-find_line.ensures.taken in
     let way = gathers_way (g.P.Speaker.says c.args.speaker.now) (g.P.Speaker.drops c.args.speaker.now) _ _ _ _ _ _ _ _ _ c.turns.count c.turns.invariant.talks
     c.in_ok-make_way.ensures.ok in
     record {
-      talks = gathers_more (g.P.Speaker.says c.args.speaker.now) (g.P.Speaker.drops c.args.speaker.now) _ _ _ _ _ _ _ _ _ _ c.turns.count c.in-Line.line.items
-          way t.1 t.0 (rw c.deref.ensures.value at c.in_ok-hold_answer-in-Line.ensures.ok);
-      within = omega (arith, c.in_ok-line.ensures.used);
-      reads = rose_left c.args.left.now c.turns.left c.next_line.new.left (omega arith) (omega (arith, c.in_ok-line.ensures.left)) c.turns.invariant.reads
-          c.in_ok-line.ensures.counted;
-      asked = rose_left c.args.left.now c.turns.left c.next_line.new.left (omega arith) (omega (arith, c.in_ok-line.ensures.left)) c.turns.invariant.asked
-          c.in_ok-line.ensures.asked;
-      read = rose_more c.turns.invariant.read c.in_ok-line.ensures.failed;
+      talks = gathers_more (g.P.Speaker.says c.args.speaker.now) (g.P.Speaker.drops c.args.speaker.now) _ _ _ _ _ _ _ _ _ _ c.turns.count
+          c.find_line.new.line.items way t.1 t.0 (rw c.deref.ensures.value at c.in_ok-hold_answer-in-Line.ensures.ok);
+      within = omega (arith, c.in_ok-find_line.ensures.used);
+      reads = rose_left c.args.left.now c.turns.left c.find_line.new.left (omega arith) (omega (arith, c.in_ok-find_line.ensures.left)) c.turns.invariant.reads
+          c.in_ok-find_line.ensures.counted;
+      asked = rose_left c.args.left.now c.turns.left c.find_line.new.left (omega arith) (omega (arith, c.in_ok-find_line.ensures.left)) c.turns.invariant.asked
+          c.in_ok-find_line.ensures.asked;
+      read = rose_more c.turns.invariant.read c.in_ok-find_line.ensures.failed;
       write = rose_more c.turns.invariant.write c.in_ok-make_way.ensures.failed;
     }
