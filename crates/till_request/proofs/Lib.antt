@@ -1,7 +1,6 @@
 pub mod Apart
 pub mod Counts
 pub mod Faults
-pub mod Forms
 pub mod Numerals
 pub mod Out
 pub mod Parted

@@ -1,9 +1,13 @@
 -- A text cut at its first separator.
 use Rattle.std.proofs.Common.{◌≡◌, ℕ, ◌+◌, ◌<◌, ◌≤◌, List, [], ◌∷◌, length, take, drop, Bool, true, false, cond, ltb}
-use Rattle.std.proofs.Common.{Some, None, refl, ap, subst, arith, ◌-◌}
+use Rattle.std.proofs.Common.{Some, None, refl, sym, ap, subst, arith, ◌-◌, ◌∙◌, ◌≢◌, ◌⊎◌, inl, inr, get_or, length-drop, append_assoc}
 use Rattle.std.proofs.lemmas.Grind.{common_steps}
 use Rattle.std.specs.List.{slice_split, position, position_or_len}
 use Rattle.std.proofs.lemmas.List.Splits.{slice_split_first, length-slice_split}
+use Rattle.std.proofs.lemmas.List.{drop-drop, get_or-drop, map-append}
+use Rattle.std.proofs.lemmas.List.Sums.{position_or_len_is}
+use Rattle.std.proofs.lemmas.Bool.{eq-eqb, ne_eqb}
+use Rattle.std.proofs.lemmas.Bool.Decides.{eqb_tells}
 use Rattle.std.proofs.Common.{Bor, map, ◌++◌, eqb, length-append}
 use borrow.Author.Tests.{ltb-true, ltb-false, eqb-true}
 
@@ -49,3 +53,70 @@ parts_and_more p xs rest parts n all full =
     let same : length parts ≡ n = eqb-true _ _ full in
     let mapped : length (map (λ w. w.now) parts) ≡ length parts = grind (arith, common_steps) in
     omega (arith, length-append (map (λ w. w.now) parts) (slice_split p rest), length-slice_split p rest)
+
+-- no separator stands from one place up to another
+abbrev pub NoneFrom : ℕ → List ℕ → ℕ → ℕ → Type 0
+NoneFrom sep xs start at = (k : ℕ) → start ≤ k → k < at → get_or xs k 0 ≢ sep
+
+none_ahead : (sep : ℕ) (xs : List ℕ) (start at : ℕ) → start ≤ at → NoneFrom sep xs start at
+    → (k : ℕ) → k < at - start → eqb (get_or (drop start xs) k 0) sep ≡ false
+none_ahead sep xs start at l none k h =
+    ne_eqb _ _ (λ e. none (start + k) (omega arith) (omega (arith, l, h)) (sym (get_or-drop start xs k 0) ∙ e))
+
+-- the part that ends at a separator, and what stands behind it
+part_up_to : (sep : ℕ) (xs : List ℕ) (start at : ℕ) → start ≤ at → at < length xs → NoneFrom sep xs start at → get_or xs at 0 ≡ sep
+    → slice_split (λ b. eqb b sep) (drop start xs) ≡ take (at - start) (drop start xs) ∷ slice_split (λ b. eqb b sep) (drop (at + 1) xs)
+part_up_to sep xs start at l h none found =
+    let p : ℕ → Bool = λ b. eqb b sep in
+    let many : length (drop start xs) ≡ length xs - start = length-drop start xs in
+    let there : start + (at - start) ≡ at = omega (arith, l) in
+    let place : position_or_len p (drop start xs) ≡ at - start =
+    position_or_len_is p (drop start xs) (at - start) 0 (omega (arith, many, h)) (none_ahead sep xs start at l none)
+    (λ _. eq-eqb _ _ (get_or-drop start xs (at - start) 0 ∙ ap (λ i. get_or xs i 0) there ∙ found)) in
+    let behind : drop (at - start + 1) (drop start xs) ≡ drop (at + 1) xs =
+    drop-drop (at - start + 1) start xs ∙ ap (λ n. drop n xs) (omega (arith, l)) in
+    let P : ℕ → Type 0 = λ n. slice_split p (drop start xs) ≡ take n (drop start xs) ∷ slice_split p (drop (n + 1) (drop start xs)) in
+    subst P place (slice_split_first p (drop start xs) 0 (omega (arith, place, many, h, l)))
+    ∙ ap (λ t. take (at - start) (drop start xs) ∷ slice_split p t) behind
+
+-- the part that no separator ends
+part_to_the_end : (sep : ℕ) (xs : List ℕ) (start at : ℕ) → start ≤ at → at ≡ length xs → NoneFrom sep xs start at
+    → slice_split (λ b. eqb b sep) (drop start xs) ≡ drop start xs ∷ []
+part_to_the_end sep xs start at l e none =
+    let p : ℕ → Bool = λ b. eqb b sep in
+    let many : length (drop start xs) ≡ length xs - start = length-drop start xs in
+    let place : position_or_len p (drop start xs) ≡ at - start =
+    position_or_len_is p (drop start xs) (at - start) 0 (omega (arith, many, e)) (none_ahead sep xs start at l none)
+    (λ low. absurd (omega (arith, low, many, e))) in
+    none_before p (drop start xs) (omega (arith, place, many, e))
+
+pushed : (parts more : List (Bor (List ℕ))) (part : Bor (List ℕ)) → more ≡ parts ++ part ∷ []
+    → map (λ w. w.now) more ≡ map (λ w. w.now) parts ++ part.now ∷ []
+pushed parts more part e = ap (λ t. map (λ w. w.now) t) e ∙ map-append (λ w. w.now) parts (part ∷ [])
+
+-- a part more, which ends at a separator
+pub part_more : (sep : ℕ) (all : List (List ℕ)) (xs : List ℕ) (start at : ℕ) (parts more : List (Bor (List ℕ))) (part : Bor (List ℕ))
+    → map (λ w. w.now) parts ++ slice_split (λ b. eqb b sep) (drop start xs) ≡ all → more ≡ parts ++ part ∷ []
+    → part.now ≡ take (at - start) (drop start xs) → start ≤ at → at < length xs → NoneFrom sep xs start at → get_or xs at 0 ≡ sep
+    → map (λ w. w.now) more ++ slice_split (λ b. eqb b sep) (drop (at + 1) xs) ≡ all
+part_more sep all xs start at parts more part so e is l h none found =
+    let p : ℕ → Bool = λ b. eqb b sep in
+    ap (λ t. t ++ slice_split p (drop (at + 1) xs)) (pushed parts more part e)
+    ∙ append_assoc (map (λ w. w.now) parts) (part.now ∷ []) (slice_split p (drop (at + 1) xs))
+    ∙ ap (λ t. map (λ w. w.now) parts ++ t) (ap (λ t. t ∷ slice_split p (drop (at + 1) xs)) is ∙ sym (part_up_to sep xs start at l h none found)) ∙ so
+
+-- the last part
+pub part_last : (sep : ℕ) (all : List (List ℕ)) (xs : List ℕ) (start at : ℕ) (parts more : List (Bor (List ℕ))) (part : Bor (List ℕ))
+    → map (λ w. w.now) parts ++ slice_split (λ b. eqb b sep) (drop start xs) ≡ all → more ≡ parts ++ part ∷ []
+    → part.now ≡ drop start xs → start ≤ at → at ≡ length xs → NoneFrom sep xs start at
+    → map (λ w. w.now) more ≡ all
+part_last sep all xs start at parts more part so e is l h none =
+    pushed parts more part e
+    ∙ ap (λ t. map (λ w. w.now) parts ++ t) (ap (λ t. t ∷ []) is ∙ sym (part_to_the_end sep xs start at l h none)) ∙ so
+
+-- one place further on
+pub none_further : (sep : ℕ) (xs : List ℕ) (start at : ℕ) → NoneFrom sep xs start at → get_or xs at 0 ≢ sep → NoneFrom sep xs start (at + 1)
+none_further sep xs start at none f k low high = by_last (eqb_tells k at) where
+  by_last : ((eqb k at ≡ true) × (k ≡ at)) ⊎ ((eqb k at ≡ false) × (k ≢ at)) → get_or xs k 0 ≢ sep
+  by_last (inl t) = subst (λ i. get_or xs i 0 ≢ sep) (sym t.1) f
+  by_last (inr t) = none k low (omega (arith, high, t.1))

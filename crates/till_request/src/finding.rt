@@ -1,74 +1,87 @@
 //! The form of a line's words.
-ghost use Rattle.std.specs.Prelude.{◌≡◌, map, find, slice_index};
+ghost use Rattle.std.specs.Prelude.{◌≡◌, ◌∷◌, [], map, find, slice_index};
 ghost use Rattle.till_request.specs.Grammar.{template, all_forms, part_fits, fits, suits};
 ghost use Rattle.till_request.specs.Told.{layout_told, report_told, point_told, till_told};
+ghost use Rattle.till_request.specs.declared.form.Part.TheVariants.{Word, Value};
+ghost use Rattle.till_request.specs.declared.form.Form.TheVariants as forms;
 ghost use Rattle.till_request.specs.Told.{four_told, five_told, form_told};
 
 use crate::act::Role;
 use crate::form::{
-    AmountVerb, Form, Keyword, Part, PointVerb, ReportVerb, TransactionVerb, may_send, sender_of,
-    text_of,
+    AmountVerb, Form, Keyword, PointVerb, ReportVerb, TransactionVerb, may_send, sender_of, text_of,
 };
 use bpf_model::context::Layout;
 
-/// Whether the word may stand there.
-fn part_takes(part: Part, word: &[u8]) -> bool
-    ensures { result ≡ part_fits part word.now }
+/// Whether the word is this fixed one.
+fn is_word(word: &[u8], keyword: Keyword) -> bool
+    ensures { result ≡ part_fits (Word keyword) word.now }
 {
-    match part {
-        Part::Word(keyword) => word == text_of(keyword),
-        Part::Value => !word.is_empty(),
+    word == text_of(keyword)
+}
+
+/// Whether a value may stand there.
+fn is_value(word: &[u8]) -> bool
+    ensures { result ≡ part_fits Value word.now }
+{
+    !word.is_empty()
+}
+
+/// Whether the words are these fixed ones with a value between them.
+fn three_fit(first: Keyword, third: Keyword, words: &[&[u8]]) -> bool
+    ensures { result ≡ fits (Word first ∷ Value ∷ Word third ∷ []) (map (λ w. w.now) words.now) }
+{
+    match words {
+        [a, b, c] => is_word(a, first) && is_value(b) && is_word(c, third),
+        _ => false,
     }
 }
 
-/// Whether the words have these parts.
-fn has_parts(parts: &[Part], words: &[&[u8]]) -> bool
-    ensures { result ≡ fits parts.now (map (λ w. w.now) words.now) }
+/// Whether the words are these fixed ones with a value between them, and a value.
+fn four_fit(first: Keyword, third: Keyword, words: &[&[u8]]) -> bool
+    ensures { result ≡ fits (Word first ∷ Value ∷ Word third ∷ Value ∷ []) (map (λ w. w.now) words.now) }
 {
-    if parts.len() != words.len() {
-        return false;
+    match words {
+        [a, b, c, d] => is_word(a, first) && is_value(b) && is_word(c, third) && is_value(d),
+        _ => false,
     }
-    for i in 0..parts.len() {
-        if !part_takes(parts[i], words[i]) {
-            return false;
+}
+
+/// Whether the words are these fixed ones with a value between them, and two values.
+fn five_fit(first: Keyword, third: Keyword, words: &[&[u8]]) -> bool
+    ensures { result ≡ fits (Word first ∷ Value ∷ Word third ∷ Value ∷ Value ∷ []) (map (λ w. w.now) words.now) }
+{
+    match words {
+        [a, b, c, d, e] => {
+            is_word(a, first) && is_value(b) && is_word(c, third) && is_value(d) && is_value(e)
         }
+        _ => false,
     }
-    true
+}
+
+/// Whether the words are a load's for this layout.
+fn load_fits(layout: Layout, words: &[&[u8]]) -> bool
+    ensures { result ≡ fits (template (forms.Load layout)) (map (λ w. w.now) words.now) }
+{
+    match words {
+        [a, b, c, d] => {
+            is_word(a, Keyword::Load(layout)) && is_value(b) && is_value(c) && is_value(d)
+        }
+        _ => false,
+    }
 }
 
 /// Whether the words have this form.
 fn has_form(form: Form, words: &[&[u8]]) -> bool
     ensures { result ≡ fits (template form) (map (λ w. w.now) words.now) }
 {
-    let till = Part::Word(Keyword::Till);
-    let disp = Part::Word(Keyword::Disp);
-    let value = Part::Value;
     match form {
-        Form::Amount(verb) => {
-            let verb = Part::Word(Keyword::Amount(verb));
-            has_parts(&[till, value, verb, value, value], words)
-        }
-        Form::Point(verb) => {
-            let verb = Part::Word(Keyword::Point(verb));
-            has_parts(&[till, value, verb, value], words)
-        }
-        Form::Transaction(verb) => {
-            let verb = Part::Word(Keyword::Transaction(verb));
-            has_parts(&[till, value, verb, value, value], words)
-        }
-        Form::Report(verb) => {
-            let verb = Part::Word(Keyword::Report(verb));
-            has_parts(&[disp, value, verb], words)
-        }
-        Form::Up => has_parts(&[disp, value, Part::Word(Keyword::Up), value], words),
-        Form::Flow => has_parts(
-            &[disp, value, Part::Word(Keyword::Flow), value, value],
-            words,
-        ),
-        Form::Load(layout) => {
-            let word = Part::Word(Keyword::Load(layout));
-            has_parts(&[word, value, value, value], words)
-        }
+        Form::Amount(verb) => five_fit(Keyword::Till, Keyword::Amount(verb), words),
+        Form::Point(verb) => four_fit(Keyword::Till, Keyword::Point(verb), words),
+        Form::Transaction(verb) => five_fit(Keyword::Till, Keyword::Transaction(verb), words),
+        Form::Report(verb) => three_fit(Keyword::Disp, Keyword::Report(verb), words),
+        Form::Up => four_fit(Keyword::Disp, Keyword::Up, words),
+        Form::Flow => five_fit(Keyword::Disp, Keyword::Flow, words),
+        Form::Load(layout) => load_fits(layout, words),
     }
 }
 

@@ -30,16 +30,19 @@ pub fn few_parts<'a, const N: usize>(text: &'a [u8], separator: u8) -> Option<Ar
         (λ parts. map (λ w. w.now) parts.items ≡ slice_split (λ b. b == separator) text.now) }
 {
     let mut parts = ArrayVec::new();
-    let mut rest = text;
-    'parts: loop {
-        if parts.is_full() {
-            return None;
-        }
-        let (part, more) = first_part(rest, separator);
-        parts.push(part);
-        match more {
-            Some(bytes) => rest = bytes,
-            None => return Some(parts),
+    let mut start = 0;
+    'bytes: for at in 0..text.len() {
+        if text[at] == separator {
+            if parts.is_full() {
+                return None;
+            }
+            parts.push(&text[start..at]);
+            start = at + 1;
         }
     }
+    if parts.is_full() {
+        return None;
+    }
+    parts.push(&text[start..]);
+    Some(parts)
 }

@@ -182,12 +182,11 @@ fn put_answer(text: &mut ShortText, answer: &Answer)
     }
 }
 
-/// The line of an answer.
-pub fn answer_to(answer: &Answer) -> ShortText
-    ensures { result.bytes ≡ answer_line answer.now }
+/// Puts an answer's line into an empty text.
+pub fn put_line(text: &mut ShortText, answer: &Answer)
+    requires { text.old.bytes ≡ [] }
+    ensures { text.new.bytes ≡ answer_line answer.now }
 {
-    let mut text = ShortText::new();
-    put_answer(&mut text, answer);
+    put_answer(text, answer);
     text.push_str("\n");
-    text
 }

@@ -7,7 +7,7 @@ ghost use Rattle.till_request.specs.Answer.{answer_line};
 
 use crate::act::Answer;
 use crate::device::{DeviceFault, LineOut};
-use crate::short_text::answer_to;
+use crate::short_text::{ShortText, put_line};
 use std::alloc::Global;
 use thiserror::Error;
 
@@ -49,7 +49,8 @@ pub fn write_answer<O: LineOut>(
 {
     // An answer's line needs no memory.
     let _ = alloc;
-    let line = answer_to(answer);
+    let mut line = ShortText::new();
+    put_line(&mut line, answer);
     match write_all(output, line.as_str().as_bytes()) {
         Ok(()) => Ok(()),
         Err(DeviceFault) => Err(WriteFault::Write),

@@ -1,10 +1,12 @@
-use Rattle.std.proofs.Common.{◌≡◌, ◌++◌, length, map, eqb}
+use Rattle.std.proofs.Common.{◌≡◌, ◌≤◌, ◌++◌, map, drop, eqb}
 use Rattle.std.specs.List.{slice_split}
+use Rattle.till_request.proofs.Parted.{NoneFrom}
 use Rattle.till_request.proofs.parts.few_parts.Given as goal
 
--- the parts so far, and then those of the rest
-abbrev pub invariant-parts : goal.invariant-parts
-invariant-parts g l = map (λ w. w.now) l.parts.items ++ slice_split (λ b. eqb b l.separator) l.rest ≡ slice_split (λ b. eqb b l.separator) l.text
-
-abbrev pub decreases-parts : goal.decreases-parts
-decreases-parts g l = length l.rest
+-- the parts so far, and then those of what stands behind the last separator
+abbrev pub invariant-bytes : goal.invariant-bytes
+invariant-bytes g l = record {
+  within : l.start ≤ l.at;
+  parts : map (λ w. w.now) l.parts.items ++ slice_split (λ b. eqb b l.separator) (drop l.start l.text) ≡ slice_split (λ b. eqb b l.separator) l.text;
+  none : NoneFrom l.separator l.text l.start l.at;
+}
