@@ -1,11 +1,14 @@
 -- Counters that are the same where they are declared.
-use Rattle.std.proofs.Common.{◌≡◌, ℕ, ◌/◌, ◌%◌, ◌^◌, ◌<◌, ◌≤◌, ◌⊎◌, length, ◌∙◌, sym, inl, inr, arith, eq-eqb, refl, replicate, None}
+use Rattle.std.proofs.Common.{◌≡◌, ℕ, ◌/◌, ◌%◌, ◌^◌, ◌*◌, ◌<◌, ◌≤◌, ◌⊎◌, length, ◌∙◌, sym, ap, inl, inr, arith, eq-eqb, refl, replicate, Some, None}
 use Rattle.std.specs.Prelude.{IsTrue}
 use Rattle.std.proofs.lemmas.List.{get_or_past}
 use Rattle.std.proofs.lemmas.Bool.{cases_lt}
 use Rattle.bpf_model.specs.Machine.{Counters, counter}
 use Rattle.interp.specs.Depends.{Agrees}
-use Rattle.site_core.specs.Decide.{is_declared, counts}
+use Rattle.site_core.specs.Decide.{is_declared, count_of, counts}
+use Rattle.std.proofs.Math.Nat.{one-le-pow, div-lt_iff_lt-mul, div-eq_of_lt}
+use Rattle.std.proofs.Math.Pow.{pow_mono}
+use Rattle.std.specs.Prelude.{if◌then◌else◌, ◌==◌}
 
 at-place : (a b : Counters) (k : ℕ) → length a ≡ 32 → length b ≡ 32 → (k < 32 → counter a k ≡ counter b k) → (k < 32) ⊎ (32 ≤ k) → counter b k ≡ counter a k
 at-place a b k la lb same (inl lt) = sym (same lt)
@@ -14,6 +17,14 @@ at-place a b k la lb same (inr le) = get_or_past b k (0, 0) (omega (arith, lb)) 
 pub all-agree : (declared : ℕ) (a b : Counters) → length a ≡ 32 → length b ≡ 32
     → ((k : ℕ) → k < 32 → IsTrue (is_declared declared k) → counter a k ≡ counter b k) → Agrees declared b a
 all-agree declared a b la lb same = λ k bit. at-place a b k la lb (λ lt. same k lt (eq-eqb (declared / 2 ^ k % 2) 1 bit)) (cases_lt k 32)
+
+-- above the last declared counter none is noted
+pub none_above : (mask : ℕ) (before after : Counters) (c k : ℕ) → mask / 2 ^ c ≡ 0 → c ≤ k → count_of mask before after k ≡ None
+none_above mask before after c k e l =
+    let some : 1 ≤ 2 ^ c = one-le-pow c 2 (omega arith) in
+    let below : mask < 1 * 2 ^ c = (div-lt_iff_lt-mul {k = 2 ^ c} {x = mask} {y = 1} some).0 (omega (arith, e)) in
+    let none : mask / 2 ^ k ≡ 0 = div-eq_of_lt (omega (arith, below, pow_mono {i = c} {j = k} l)) in
+    ap (λ q. if q % 2 == 1 then Some ((counter before k).0, (counter after k).0) else None) none
 
 -- without a declared counter none is noted
 pub none-counted : (before after : Counters) → counts 0 before after ≡ replicate 32 None

@@ -128,10 +128,11 @@ pub fn note_counts(
     requires { noted.old ≡ replicate COUNTERS None }
     ensures { noted.new ≡ counts mask before.now after.now }
 {
-    if mask == 0 {
-        return;
-    }
     for c in 0..32 {
+        // None is declared from here on.
+        if mask >> c == 0 {
+            return;
+        }
         if let Some(count) = count_of(mask, before, after, c) {
             noted[c as usize] = Some(count);
         }

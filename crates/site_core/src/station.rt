@@ -277,6 +277,7 @@ impl Station {
     }
 
     /// The context of this layout that a program is given.
+    #[inline(always)]
     pub fn context(&self, layout: Layout, till: u32, moment: u64, question: &Question) -> Context
         ensures context { result ≡ context layout self.now till moment question.now }
         ensures layout { layout_of result ≡ layout }
