@@ -44,6 +44,11 @@ impl<'a> Loads<'a> {
 
     /// Keeps bytes of a line as long as it may be a load.
     fn keep(&mut self, bytes: &[u8]) {
+        // One look tells most lines.
+        if self.line.is_empty() && matches!(bytes.first(), Some(first) if *first != b'l') {
+            self.is_other = true;
+            return;
+        }
         for byte in bytes {
             if self.is_other {
                 return;

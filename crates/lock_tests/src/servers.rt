@@ -159,7 +159,7 @@ fn leaves_at_once<R: Net<Listener = TcpListener, Stream = TcpStream> + Clock>(
     };
     let at = listeners.till.local_addr()?;
     let _peer = TcpStream::connect(rt, at)?;
-    let mut doors = TcpDoors::new(rt, alloc, &listeners.till, &Silent, Role::Till, 1);
+    let mut doors = TcpDoors::new(rt, &listeners.till, &Silent, Role::Till, 1);
     match doors.next() {
         Ok((_input, output)) => Ok(output.writer.nodelay()?),
         Err(_) => Err(Fail::from("a door")),

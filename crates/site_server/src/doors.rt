@@ -5,25 +5,22 @@ ghost use Rattle.site_server.specs.Pauses.{longer_pause, told_of};
 
 use crate::notices::{Breach, Notices};
 use line_session::{Doors, Ended, SessionFault};
-use std::alloc::Global;
-use std::io::BufReader;
 use std::net::{TcpListener, TcpStream};
 use std::time::{Clock, Duration};
 use std::{io, thread};
-use till_request::devices::{StreamIn, StreamOut};
+use till_request::devices::{Ahead, StreamIn, StreamOut};
 use till_request::{DeviceFault, Role};
 
-type Connection = (StreamIn<BufReader<TcpStream>>, StreamOut<TcpStream>);
+type Connection = (Ahead<StreamIn<TcpStream>>, StreamOut<TcpStream>);
 
 /// The connections of a listener, which other workers may share.
 ///
-/// A connection's lines are read through a buffer of its own, and its answers leave at once, without a delay that
+/// A connection's lines are read ahead, in blocks of 4,096 bytes, and its answers leave at once, without a delay that
 /// gathers them. Where a connection can't be opened, as for want of descriptors, an operator is told the first time,
 /// and the worker waits before it asks again: 10 milliseconds at first, then twice as long each time, at most a second.
 #[derive(Drop)]
 pub struct TcpDoors<'a, R: Clock, N: Notices> {
     rt: &'a R,
-    alloc: Global,
     listener: &'a TcpListener,
     notices: &'a N,
     role: Role,
@@ -59,7 +56,6 @@ impl<'a, R: Clock, N: Notices> TcpDoors<'a, R, N> {
     /// The doors of a listener, for the worker of a role with a pass. None was asked for yet.
     pub fn new(
         rt: &'a R,
-        alloc: Global,
         listener: &'a TcpListener,
         notices: &'a N,
         role: Role,
@@ -70,7 +66,6 @@ impl<'a, R: Clock, N: Notices> TcpDoors<'a, R, N> {
     {
         TcpDoors {
             rt,
-            alloc,
             listener,
             notices,
             role,
@@ -83,14 +78,13 @@ impl<'a, R: Clock, N: Notices> TcpDoors<'a, R, N> {
     fn connect(&self) -> io::Result<Connection> {
         let (writer, _) = self.listener.accept()?;
         writer.set_nodelay(true)?;
-        let stream = writer.try_clone()?;
-        let reader = BufReader::new(self.alloc, stream)?;
-        let input = StreamIn {
+        let reader = writer.try_clone()?;
+        let input = Ahead::new(StreamIn {
             reader,
             reads: 0,
             failures: 0,
             asked: 0,
-        };
+        });
         let output = StreamOut {
             writer,
             failures: 0,
@@ -112,7 +106,7 @@ impl<'a, R: Clock, N: Notices> TcpDoors<'a, R, N> {
 }
 
 impl<R: Clock, N: Notices> Doors for TcpDoors<'_, R, N> {
-    type In = StreamIn<BufReader<TcpStream>>;
+    type In = Ahead<StreamIn<TcpStream>>;
 
     type Out = StreamOut<TcpStream>;
 
@@ -134,9 +128,9 @@ impl<R: Clock, N: Notices> Doors for TcpDoors<'_, R, N> {
         }
     }
 
-    // The bytes of a line that came with the one before stand in the connection's buffer.
+    // The bytes of a line that came with the one before were read ahead.
     fn has_line(&self, input: &Self::In) -> bool {
-        input.reader.buffer().contains(&b'\n')
+        input.holds_line()
     }
 
     fn ended(&self, outcome: &Result<Ended, SessionFault>) {

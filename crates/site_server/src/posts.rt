@@ -61,7 +61,7 @@ fn serve_post<L: Yard, J: Journal, N: Notices, A: Release, R: Wait + Clock>(
     ensures id { result.0.id ≡ pass.id }
 {
     let role = crew.role(pass.id());
-    let doors = TcpDoors::new(rt, alloc, port, notices, role, pass.id());
+    let doors = TcpDoors::new(rt, port, notices, role, pass.id());
     let mut doors = HeldDoors { doors, release };
     serve_pass(rt, alloc, yard, pass, role, &mut doors, connections)
 }

@@ -6,9 +6,9 @@ use std::alloc::Global;
 use std::test::Fail;
 use till_request::devices::{Ahead, MemoryIn, MemoryOut};
 use till_request::{
-    Act, Answer, Block, Bytes, LineFault, LineIn, LineReadFault, Reply, Request, Role, ShortText,
-    WriteFault, few_parts, first_part, parse_line, put_reply, read_line, spell_act,
-    spelling_is_read, write_answer,
+    Act, Answer, Block, Bytes, Found, LineFault, LineIn, LineReadFault, Reply, Request, Role,
+    ShortText, WriteFault, few_parts, find_line, first_part, parse_line, put_reply, read_line,
+    spell_act, spelling_is_read, write_answer,
 };
 
 /// A script of these bytes, in whole pieces.
@@ -382,6 +382,26 @@ fn bytes_of_a_line_are_held(rt: HostRuntime) -> Result<(), Fail> {
         let (line, reads, byte) = held_of(rt.alloc(), text.as_bytes())?;
         assert_eq!(rt; line.as_slice(), held.as_bytes());
         assert_eq!(rt; (reads, byte), (left, behind));
+    }
+    Ok(())
+}
+
+#[test]
+fn lines_share_their_room(rt: HostRuntime) -> Result<(), Fail> {
+    let alloc = rt.alloc();
+    let mut ahead = Ahead::new(script(alloc, b"till 1 show 1\nx\ny").ok_or("no memory")?);
+    let mut line = Vec::new(alloc);
+    let mut left = 100;
+    assert!(rt; !ahead.holds_line());
+    for (bytes, more) in [("till 1 show 1", true), ("x", false)] {
+        let found = find_line(&mut ahead, &mut line, &mut left);
+        assert_eq!(rt; found.ok(), Some(Found::Line));
+        assert_eq!(rt; line.as_slice(), bytes.as_bytes());
+        assert_eq!(rt; ahead.holds_line(), more);
+    }
+    for (last, reads) in [(Found::Cut, 82), (Found::End, 81)] {
+        let found = find_line(&mut ahead, &mut line, &mut left);
+        assert_eq!(rt; (found.ok(), left), (Some(last), reads));
     }
     Ok(())
 }

@@ -1,9 +1,11 @@
 //! Readers and writers in memory, which cut and fail as they are told to, and those of the system.
 ghost use Rattle.std.specs.Prelude.{◌≡◌, ◌↔◌, ◌<◌, ◌≤◌, ◌-◌, ◌^◌};
-ghost use Rattle.std.specs.Prelude.{min, [], Some, IfOk, IsTrue, is_err, drop, take, length};
+ghost use Rattle.std.specs.Prelude.{min, [], Some, IfOk, IsTrue, is_err, drop, take, length, true, false, ℕ};
 ghost use Rattle.std.specs.Io.KnownBytes.{ReadConsumes, WriteAppends, prepend_known};
 ghost use Rattle.till_request.specs.Count.{RoseBy, one_if};
+ghost use Rattle.till_request.specs.Blocks.{EndsBehind};
 ghost use Rattle.till_request.specs.Devices.{piece_size, one_less};
+ghost use Rattle.till_request.specs.Line.{HasNoLf};
 
 use crate::block::Block;
 use crate::device::{DeviceFault, LineIn, LineOut};
@@ -173,6 +175,14 @@ impl<I: LineIn + Drop> Ahead<I> {
             failures: 0,
             calls: 0,
         }
+    }
+
+    /// Whether an LF was read ahead, so that the line which ends there can be read without the device.
+    pub fn holds_line(&self) -> bool
+        ensures there { result ≡ true → (count : ℕ) × EndsBehind count self.now.block }
+        ensures none { result ≡ false → HasNoLf self.now.block }
+    {
+        self.block.holds_lf()
     }
 }
 
