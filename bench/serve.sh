@@ -12,8 +12,8 @@
 #     bench/serve.sh LINES --sync [MICROSECONDS]
 #
 # With --null: presets and `show` on 8 and on 64 connections, in turns beside a server that answers without a site
-# (bench/null_server.c), 8 times LINES in all each, as a table in Markdown of the medians of TURNS turns, 7 where it isn't
-# said, and their ratios. With BYTES that server takes a lock twice for each line and appends so many bytes to a list; it
+# (bench/null_server.c) and one that serves a site in C (bench/site_server.c), 8 times LINES in all each, as a table in
+# Markdown of the medians of TURNS turns, 7 where it isn't said, and the ratios to the server without a site. With BYTES that server takes a lock twice for each line and appends so many bytes to a list; it
 # may hold the lock for FIRST and SECOND nanoseconds more, and write the memory of READY such pieces before it serves.
 #
 #     bench/serve.sh LINES --null [TURNS [BYTES [FIRST SECOND [READY]]]]
@@ -54,7 +54,9 @@ connections = 1
 END
         : >"$work/said"
         rm -f "$work/day.journal"
-        if [ -n "$null" ]; then
+        if [ "$null" = site_server ]; then
+            "$work/site_server" "$port" "$1" </dev/null 2>"$work/said" &
+        elif [ -n "$null" ]; then
             # shellcheck disable=SC2086 # BYTES and what stands behind it are words of their own
             "$work/null_server" "$port" "$1" $bytes </dev/null 2>"$work/said" &
         else
@@ -124,6 +126,7 @@ medians() {
 
 if [ "$kept" = --null ]; then
     cc -O2 -pthread -o "$work/null_server" "$here/null_server.c"
+    cc -O2 -pthread -o "$work/site_server" "$here/site_server.c"
     kept='' all=$((8 * lines)) turns=${3:-7} bytes="${4:-} ${5:-} ${6:-} ${7:-}"
     echo '| line | connections | server | lines a second | p50, us | p99, us | p99.9, us |'
     echo '|---|---|---|---|---|---|---|'
@@ -131,22 +134,27 @@ if [ "$kept" = --null ]; then
         lines=$((all / connections))
         for line in 'till 1 preset 1 5000' 'till 1 show 1'; do
             turn=0
-            rm -f "$work/ours" "$work/theirs"
+            rm -f "$work"/*.turns
             while [ "$turn" -lt "$turns" ]; do
-                measure "$connections" "$two" "$connections" "$line" >>"$work/ours"
-                null=1
-                measure "$connections" "$two" "$connections" "$line" >>"$work/theirs"
-                null=''
+                for null in '' site_server null_server; do
+                    measure "$connections" "$two" "$connections" "$line" >>"$work/${null:-fc}.turns"
+                done
                 turn=$((turn + 1))
             done
-            echo "$line $connections $(medians "$work/ours") $(medians "$work/theirs")" | awk '{
+            echo "$line $connections $(medians "$work/fc.turns") $(medians "$work/site_server.turns")" \
+                "$(medians "$work/null_server.turns")" | awk '{
                 split($0, w, " ")
-                n = NF - 8
+                n = NF - 12
                 head = "| " w[3] " | " w[n] " |"
-                printf "%s fc | %.0f | %.1f | %.1f | %.1f |\n", head, w[n + 1], w[n + 2], w[n + 3], w[n + 4]
-                printf "%s no site | %.0f | %.1f | %.1f | %.1f |\n", head, w[n + 5], w[n + 6], w[n + 7], w[n + 8]
-                printf "%s ratio | %.2f | %.2f | %.2f | %.2f |\n", head, w[n + 1] / w[n + 5], w[n + 2] / w[n + 6],
-                    w[n + 3] / w[n + 7], w[n + 4] / w[n + 8]
+                format = "%s %s | %.0f | %.1f | %.1f | %.1f |\n"
+                printf format, head, "fc", w[n + 1], w[n + 2], w[n + 3], w[n + 4]
+                printf format, head, "a site in C", w[n + 5], w[n + 6], w[n + 7], w[n + 8]
+                printf format, head, "no site", w[n + 9], w[n + 10], w[n + 11], w[n + 12]
+                format = "%s %s | %.2f | %.2f | %.2f | %.2f |\n"
+                printf format, head, "fc, of no site", w[n + 1] / w[n + 9], w[n + 2] / w[n + 10], w[n + 3] / w[n + 11],
+                    w[n + 4] / w[n + 12]
+                printf format, head, "a site in C, of no site", w[n + 5] / w[n + 9], w[n + 6] / w[n + 10], w[n + 7] / w[n + 11],
+                    w[n + 8] / w[n + 12]
             }'
         done
     done
