@@ -13,8 +13,9 @@
 #
 # With --null: presets and `show` on 8 and on 64 connections, in turns beside a server that answers without a site
 # (bench/null_server.c) and one that serves a site in C (bench/site_server.c), 8 times LINES in all each, as a table in
-# Markdown of the medians of TURNS turns, 7 where it isn't said, and the ratios to the server without a site. With BYTES that server takes a lock twice for each line and appends so many bytes to a list; it
-# may hold the lock for FIRST and SECOND nanoseconds more, and write the memory of READY such pieces before it serves.
+# Markdown of the medians of TURNS turns, 7 where it isn't said, and the ratios to the server without a site. With BYTES
+# the server without a site takes a lock twice for each line and appends so many bytes to a list; it may hold the lock
+# for FIRST and SECOND nanoseconds more, and write the memory of READY such pieces before it serves.
 #
 #     bench/serve.sh LINES --null [TURNS [BYTES [FIRST SECOND [READY]]]]
 #
@@ -153,8 +154,8 @@ if [ "$kept" = --null ]; then
                 format = "%s %s | %.2f | %.2f | %.2f | %.2f |\n"
                 printf format, head, "fc, of no site", w[n + 1] / w[n + 9], w[n + 2] / w[n + 10], w[n + 3] / w[n + 11],
                     w[n + 4] / w[n + 12]
-                printf format, head, "a site in C, of no site", w[n + 5] / w[n + 9], w[n + 6] / w[n + 10], w[n + 7] / w[n + 11],
-                    w[n + 8] / w[n + 12]
+                printf format, head, "a site in C, of no site", w[n + 5] / w[n + 9], w[n + 6] / w[n + 10],
+                    w[n + 7] / w[n + 11], w[n + 8] / w[n + 12]
             }'
         done
     done
