@@ -1,0 +1,122 @@
+#!/usr/bin/env python3
+"""Runs the program's tables of cases, the files below cases/ that end in .table. Such a file begins with a comment
+(lines that begin with '#'), then says what is done with its rows, then lists them, a row a line, its columns parted by
+' | '. An empty line and a line that begins with '#' are no rows. In a column \\n is a new line, \\t a tab, \\\\ a
+backslash, \\xHH a byte, and ~N*TEXT~ is TEXT, N times.
+
+    run: COMMAND    the shell runs COMMAND for each row, in the table's folder, with `fc` on the path: $1, $2, .. are the
+                    row's columns but the last, and what is printed, without the new line at its end, is the last
+    play: CONFIG    the rows up to an empty line are one play of the site in the file CONFIG: a line of its script each,
+                    and what it answers. A play that is cut off or ends with another status than 0 has a last row
+                    'status | N'; where a row begins with '<', it is no line of the script but a further line of the
+                    answer of the row above it
+
+Each row is a case of its own, of a play each play. Prints each case that differs, and then 'N passed, M failed'.
+usage: tools/run_tables.py PROGRAM [WORD]    WORD: only the tables whose path has it
+"""
+import os
+import re
+import subprocess
+import sys
+import tempfile
+from concurrent.futures import ThreadPoolExecutor
+
+HERE = os.path.dirname(os.path.dirname(os.path.realpath(__file__)))
+LINE = re.compile(r"\\(n|t|\\|x[0-9a-f]{2})")
+TIMES = re.compile(r"~(\d+)\*(.*?)~")
+
+
+def plain(column):
+    """Returns what a column says, as bytes."""
+    column = TIMES.sub(lambda it: it[2] * int(it[1]), column)
+    whole, at = b"", 0
+    for it in LINE.finditer(column):
+        whole += column[at : it.start()].encode()
+        whole += {"n": b"\n", "t": b"\t", "\\": b"\\"}.get(it[1]) or bytes.fromhex(it[1][1:])
+        at = it.end()
+    return whole + column[at:].encode()
+
+
+def rows_of(path):
+    """Returns what a table does, with what, and its rows as (number of the line, columns), with None for an empty line."""
+    kind, what, rows = None, None, []
+    with open(path, encoding="utf-8") as file:
+        for number, line in enumerate(file, 1):
+            line = line.rstrip("\n")
+            if line.startswith("#"):
+                continue
+            if kind is None and line:
+                kind, _, what = line.partition(": ")
+                if kind not in ("run", "play") or not what:
+                    sys.exit(f"{path}:{number}: 'run: COMMAND' or 'play: CONFIG' is wanted here")
+            elif line:
+                rows.append((number, line.split(" | ")))
+            else:
+                rows.append(None)
+    return kind, what, rows
+
+
+def run(command, folder, program, row):
+    """Returns what the command prints for a row, and what it should."""
+    *given, wanted = row
+    with tempfile.TemporaryDirectory() as room:
+        os.symlink(program, f"{room}/fc")
+        how = {"cwd": folder, "stdin": subprocess.DEVNULL, "stdout": subprocess.PIPE, "stderr": subprocess.PIPE}
+        how["env"] = {**os.environ, "PATH": f"{room}:{os.environ['PATH']}", "ROOM": room}
+        ran = subprocess.run([b"sh", b"-c", command.encode(), b"", *map(plain, given)], timeout=60, **how)
+    return ran.stdout.removesuffix(b"\n"), plain(wanted), ran.stderr
+
+
+def play(config, folder, program, rows):
+    """Returns what a play of the rows prints, and what it should."""
+    script, wanted, status = b"", b"", b"0"
+    for row in rows:
+        first, last = plain(row[0]), plain(row[-1])
+        if first == b"status":
+            status = last
+        else:
+            if first != b"<":
+                script += first + b"\n"
+            wanted += last + b"\n" if len(row) > 1 else b""
+    ran = subprocess.run([program, "play", config, "-"], cwd=folder, input=script, capture_output=True, timeout=60)
+    return ran.stdout + b"status %d\n" % ran.returncode, wanted + b"status " + status + b"\n", ran.stderr
+
+
+def cases_of(path, program):
+    """Returns the cases of a table: the place of each, and a call that gives what is printed, what is wanted, and what
+    standard error says."""
+    kind, what, rows = rows_of(path)
+    folder, short = os.path.dirname(path), os.path.relpath(path, HERE)
+    if kind == "run":
+        return [(f"{short}:{it[0]}", lambda row=it[1]: run(what, folder, program, row)) for it in rows if it]
+    plays, open_play = [], []
+    for it in [*rows, None]:
+        if it:
+            open_play.append(it)
+        elif open_play:
+            plays.append(open_play)
+            open_play = []
+    return [(f"{short}:{it[0][0]}", lambda it=it: play(what, folder, program, [row for _, row in it])) for it in plays]
+
+
+def main():
+    if len(sys.argv) not in (2, 3):
+        sys.exit(__doc__)
+    program, word = os.path.realpath(sys.argv[1]), sys.argv[2] if len(sys.argv) > 2 else ""
+    found = sorted(f"{at}/{name}" for at, _, names in os.walk(f"{HERE}/cases") for name in names)
+    cases = [it for path in found if path.endswith(".table") and word in path for it in cases_of(path, program)]
+    with ThreadPoolExecutor(os.cpu_count()) as pool:
+        results = list(pool.map(lambda it: it[1](), cases))
+    failed = 0
+    for (place, _), (printed, wanted, said) in zip(cases, results):
+        if printed != wanted:
+            failed += 1
+            print(f"{place}: printed, wanted, and what standard error says:")
+            for it in (printed, wanted, said):
+                print("  " + it.decode(errors="replace")[:600].replace("\n", "\n  "))
+    print(f"{len(cases) - failed} passed, {failed} failed")
+    return 1 if failed or not cases else 0
+
+
+if __name__ == "__main__":
+    sys.exit(main())
