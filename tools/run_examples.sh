@@ -15,7 +15,12 @@ passed=0 failed=0
 for document in "$@"; do
     folder=$work/$(basename "$document" .md)
     mkdir -p "$folder/run" "$folder/parts"
-    ln -s "$program" "$folder/run/fc"
+    cat >"$folder/run/fc" <<FC
+#!/bin/sh
+if [ "\${1-}" = --unproved ]; then exec "$here/fc" "\$@"; fi
+exec "$program" "\$@"
+FC
+    chmod +x "$folder/run/fc"
     ln -s "$here/examples" "$folder/run/examples"
     awk -v parts="$folder/parts" '
         /^```console$/ { inside = 1; next }
@@ -36,7 +41,7 @@ for document in "$@"; do
     for command in "$folder"/parts/*.command; do
         [ -f "$command" ] || continue
         part=${command%.command}
-        (cd "$folder/run" && timeout 60 sh "$command") >"$part.printed" 2>"$part.errors" </dev/null
+        (cd "$folder/run" && timeout 300 sh "$command") >"$part.printed" 2>"$part.errors" </dev/null
         if cmp -s "$part.printed" "$part.wanted"; then
             passed=$((passed + 1))
         else
