@@ -1,21 +1,14 @@
-//! The program `fc`: words and files in, answers and an exit status out. All that it says is made by `console`.
+//! The program `fc`: words and files in, answers and an exit status out.
 #![tactic(auto)]
 
-mod answers;
-mod faults;
-mod files;
+mod closing;
 mod jobs;
-mod kept;
-mod loads;
 mod operator;
-mod progress;
-mod report;
 mod serve;
 mod synced;
 
-use console::{CommandFault, Job, command};
-use faults::out_of_memory;
-use jobs::{USAGE, do_job};
+use file_jobs::{CommandFault, Job, USAGE, command, out_of_memory};
+use jobs::do_job;
 use std::io::{self, ErrorKind};
 use std::process::ExitCode;
 

@@ -1,8 +1,10 @@
 //! The page of an audited journal.
+use crate::audits::tell_journal_fault;
 use crate::faults::out_of_memory;
-use crate::jobs::{DONE, settings_and, tell_journal_fault};
 use crate::kept::refuse_history;
 use crate::progress::{Progress, Watch, Watched};
+use crate::settings::settings_and;
+use crate::statuses::DONE;
 use day_page::Page;
 use decision_journal::read_entries;
 use site_core::{Site, audit};

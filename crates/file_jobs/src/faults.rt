@@ -1,12 +1,11 @@
 //! What is said where something is refused or fails: one line of words on standard error, with the file and the
 //! place. Whether anybody reads it changes no exit status.
 use crate::files::name_of;
-use crate::jobs::{FAILED, REFUSED};
+use crate::statuses::{FAILED, REFUSED};
 use console::{
     AsmFault, ConfigFault, ConfigFlaw, JournalFlaw, ProgramFileFault, ProgramFlaw, asm_flaw,
 };
 use decision_journal::JournalFault;
-use site_server::CloseRefusal;
 use std::alloc::AllocError;
 use std::fmt::{self, Display};
 use std::io::{self, ErrorKind};
@@ -180,21 +179,6 @@ pub fn tell_journal(rt: &HostRuntime, word: &str, line: Option<u32>, flaw: &Jour
         None => Place::of(word),
     };
     complain(rt, place, flaw, code);
-}
-
-/// Refuses to close a site of a configuration.
-pub fn refuse_close(rt: &HostRuntime, word: &str, why: CloseRefusal) -> u8 {
-    let code = match why {
-        CloseRefusal::PassMissing => "C1",
-        CloseRefusal::NotInHistory(_, _) => "C2",
-        CloseRefusal::OtherConfig => "C3",
-    };
-    complain(rt, Place::of(word), &why, code);
-    let printed = match why {
-        CloseRefusal::NotInHistory(pass, number) => println!(rt; "{code} {pass} {number}"),
-        _ => println!(rt; "{code}"),
-    };
-    once_printed(rt, printed, REFUSED)
 }
 
 /// Says why a script ended within this line.

@@ -1,0 +1,26 @@
+//! What the program does for words that name files: programs told, scripts played, journals audited and shown.
+#![tactic(auto)]
+
+mod answers;
+mod audits;
+mod faults;
+mod files;
+mod kept;
+mod loads;
+mod plays;
+mod programs;
+mod progress;
+mod report;
+mod settings;
+mod statuses;
+
+pub use audits::audit_files;
+pub use console::{CommandFault, Job, Serve, Settings, command};
+pub use faults::{Place, cannot_read, complain, out_of_memory, refuse, say};
+pub use files::is_input;
+pub use kept::{Kept, open_journal};
+pub use plays::{play_files, play_input};
+pub use programs::{Tell, tell_file};
+pub use report::report_files;
+pub use settings::settings_of;
+pub use statuses::{DONE, FAILED, REFUSED, USAGE};
