@@ -1,4 +1,4 @@
-//! Tests of what is read and written: points, lines, sessions, journals, configurations, command lines, texts of jobs,
+//! Tests of what is read and written: points, lines, sessions, journals, configurations, command lines,
 //! reports of a day and plays. They stand apart from those crates, so that the gate proves each of these once.
 #![tactic(auto)]
 
@@ -6,8 +6,6 @@
 mod configurations;
 #[cfg(test)]
 mod days;
-#[cfg(test)]
-mod jobs;
 #[cfg(test)]
 mod journals;
 #[cfg(test)]
