@@ -1,4 +1,4 @@
-//! Tests of what is read and written: points, lines, sessions, journals, configurations, command lines,
+//! Tests of what is read and written: points, lines, sessions, journals, configurations,
 //! reports of a day and plays. They stand apart from those crates, so that the gate proves each of these once.
 #![tactic(auto)]
 
@@ -16,5 +16,3 @@ mod plays;
 mod points;
 #[cfg(test)]
 mod sessions;
-#[cfg(test)]
-mod words;
