@@ -1,9 +1,7 @@
-//! Tests of what is read and written: points, lines, sessions, journals, configurations,
-//! reports of a day and plays. They stand apart from those crates, so that the gate proves each of these once.
+//! Tests of what is read and written: points, lines, sessions, journals, reports of a day and
+//! plays. They stand apart from those crates, so that the gate proves each of these once.
 #![tactic(auto)]
 
-#[cfg(test)]
-mod configurations;
 #[cfg(test)]
 mod days;
 #[cfg(test)]
