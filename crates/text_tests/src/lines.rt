@@ -1,14 +1,11 @@
-//! What no clause says: worked lines and answers, and a call of each public function with ample
-//! memory.
-use bpf_model::context::Layout;
-use fuelling_point::{DispenserEvent, Order};
+//! What devices in memory do, what is read of them ahead, and how a reading that fails is told. Lines and answers
+//! themselves are tables of cases, `cases/play/line_forms.table` and those beside it.
 use std::alloc::Global;
 use std::test::Fail;
 use till_request::devices::{Ahead, MemoryIn, MemoryOut};
 use till_request::{
-    Act, Answer, Block, Bytes, Found, LineFault, LineIn, LineReadFault, Reply, Request, Role,
-    ShortText, WriteFault, few_parts, find_line, first_part, parse_line, put_reply, read_line,
-    spell_act, spelling_is_read, write_answer,
+    Answer, Block, Found, LineIn, LineReadFault, Role, WriteFault, find_line, read_line,
+    write_answer,
 };
 
 /// A script of these bytes, in whole pieces.
@@ -18,255 +15,14 @@ fn script(alloc: Global, text: &[u8]) -> Option<MemoryIn> {
 }
 
 #[test]
-fn each_form_is_read_and_spelled(rt: HostRuntime) -> Result<(), Fail> {
-    spelling_is_read();
-    let lines = [
-        "till 1 release 2 18446744073709551615",
-        "till 64 preset 32 100",
-        "till 1 price 8 1899",
-        "till 1 open 1",
-        "till 1 close 1",
-        "till 1 show 1",
-        "till 1 suspend 1",
-        "till 1 resume 1",
-        "till 1 stop 4294967295",
-        "till 1 lock 1 1",
-        "till 2 unlock 1 1",
-        "till 1 clear 1 0",
-        "disp 1 up 1",
-        "disp 1 down",
-        "disp 1 started",
-        "disp 1 flow 2500 1390",
-        "disp 1 fault",
-        "disp 1 repaired",
-        "disp 1 order",
-        "load 15 4294967295 79101800000000009500000000000000",
-        "load2 15 4294967295 79104000000000009500000000000000",
-    ];
-    for line in lines {
-        match parse_line(rt.alloc(), Role::All, line.as_bytes()) {
-            Ok(act) => assert_eq!(rt; spell_act(rt.alloc(), &act)?.as_str(), line),
-            Err(_) => assert!(rt; false),
-        }
-    }
-    Ok(())
-}
-
-#[test]
-fn lines_stand_for_acts(rt: HostRuntime) -> Result<(), Fail> {
+fn a_failed_reading_is_no_line(rt: HostRuntime) {
     let alloc = rt.alloc();
-    let request = Request::Release(2, 8000);
-    let released = parse_line(alloc, Role::Till, b"till 1 release 2 8000");
-    assert_eq!(rt; released, Ok(Act::Till { till: 1, request }));
-    let event = DispenserEvent::Flowed(2500, 1390);
-    let flowed = parse_line(alloc, Role::Dispenser, b"disp 3 flow 2500 1390");
-    assert_eq!(rt; flowed, Ok(Act::Dispenser { point: 3, event }));
-    let bytes = Bytes::from_slice(alloc, &[149, 0, 171])?;
-    let loaded = parse_line(alloc, Role::Owner, b"load 2 3 9500aB");
-    assert_eq!(rt;
-        loaded,
-        Ok(Act::Load {
-            slot: 2,
-            mask: 3,
-            layout: Layout::One,
-            bytes
-        })
-    );
-    let bytes = Bytes::from_slice(alloc, &[149])?;
-    let loaded = parse_line(alloc, Role::All, b"load2 15 0 95");
-    assert_eq!(rt;
-        loaded,
-        Ok(Act::Load {
-            slot: 15,
-            mask: 0,
-            layout: Layout::Two,
-            bytes
-        })
-    );
-    Ok(())
-}
-
-#[test]
-fn texts_are_parted(rt: HostRuntime) {
-    let (first, rest) = first_part(b"12:0:9", b':');
-    assert!(rt; first == b"12".as_slice());
-    assert!(rt; rest.is_some());
-    let (whole, none) = first_part(b"12", b':');
-    assert!(rt; whole == b"12".as_slice());
-    assert!(rt; none.is_none());
-    match few_parts::<3>(b"12:0:9", b':') {
-        Some(parts) => assert_eq!(rt; parts.len(), 3),
-        None => assert!(rt; false),
-    }
-    assert!(rt; few_parts::<2>(b"12:0:9", b':').is_none());
-}
-
-#[test]
-fn replies_are_spelled(rt: HostRuntime) {
-    let mut text = ShortText::new();
-    put_reply(&mut text, &Reply::Granted(8000, 3));
-    assert_eq!(rt; text.as_str(), " granted 8000 by 3");
-}
-
-#[test]
-fn lines_are_refused(rt: HostRuntime) {
-    for (role, line, fault) in [
-        (Role::Till, "disp 1 up 1", LineFault::BadLine),
-        (Role::Till, "load 0 0 95", LineFault::BadLine),
-        (Role::Till, "load2 0 0 95", LineFault::BadLine),
-        (Role::Dispenser, "load2 0 0 95", LineFault::BadLine),
-        (Role::Owner, "load1 0 0 95", LineFault::BadLine),
-        (Role::Owner, "load2 0 0 9g", LineFault::BadNumber),
-        (Role::Owner, "till 1 open 1", LineFault::BadLine),
-        (Role::Dispenser, "till 1 open 01", LineFault::BadLine),
-        (Role::Till, "till 1 sell 1", LineFault::BadLine),
-        (Role::Till, "till 1  open 1", LineFault::BadLine),
-        (Role::Till, "till 1 open 1 ", LineFault::BadLine),
-        (Role::Till, "till x open 1 1", LineFault::BadLine),
-        (Role::All, "", LineFault::BadLine),
-        (Role::Owner, "load 0 0 ", LineFault::BadLine),
-        (Role::Owner, "load 0 0 950", LineFault::BadNumber),
-        (Role::Owner, "load 0 0 9g", LineFault::BadNumber),
-        (Role::Till, "till 1 open 01", LineFault::BadNumber),
-        (Role::Till, "till 1 open 1\r", LineFault::BadNumber),
-        (Role::Till, "till 4294967296 open 1", LineFault::BadNumber),
-        (Role::Till, "till 1 release 1 08000", LineFault::BadNumber),
-        (Role::Till, "till 1 release 1 +8", LineFault::BadNumber),
-        (
-            Role::Till,
-            "till 1 release 1 18446744073709551616",
-            LineFault::BadNumber,
-        ),
-    ] {
-        assert_eq!(rt;
-            parse_line(rt.alloc(), role, line.as_bytes()),
-            Err(fault),
-            "{line}"
-        );
-    }
-}
-
-#[test]
-fn answers_are_written(rt: HostRuntime) -> Result<(), Fail> {
-    let shown = Reply::Point {
-        state: 5,
-        nozzle: 0,
-        amount: 1,
-        volume: 2,
-        limit: 3000,
-        preset: 0,
-        unpaid: 2,
-    };
-    for (answer, want) in [
-        (
-            Answer::Entered {
-                number: 1,
-                reply: Reply::Done,
-            },
-            "1 done\n",
-        ),
-        (
-            Answer::Entered {
-                number: 3,
-                reply: Reply::Granted(8000, 1),
-            },
-            "3 granted 8000 by 1\n",
-        ),
-        (
-            Answer::Entered {
-                number: 1,
-                reply: Reply::Version(4096),
-            },
-            "1 version 4096\n",
-        ),
-        (
-            Answer::Entered {
-                number: 5,
-                reply: Reply::Order(Order::Authorise(8000)),
-            },
-            "5 order authorise 8000\n",
-        ),
-        (
-            Answer::Entered {
-                number: 5,
-                reply: Reply::Order(Order::Suspend),
-            },
-            "5 order suspend\n",
-        ),
-        (
-            Answer::Entered {
-                number: 5,
-                reply: Reply::Order(Order::Resume),
-            },
-            "5 order resume\n",
-        ),
-        (
-            Answer::Entered {
-                number: 5,
-                reply: Reply::Order(Order::Stop),
-            },
-            "5 order stop\n",
-        ),
-        (
-            Answer::Entered {
-                number: 6,
-                reply: shown,
-            },
-            "6 point 5 0 1 2 3000 0 2\n",
-        ),
-        (
-            Answer::Entered {
-                number: 2,
-                reply: Reply::Refused(22, Some(2)),
-            },
-            "2 S22 2\n",
-        ),
-        (
-            Answer::Entered {
-                number: 10,
-                reply: Reply::Refused(27, None),
-            },
-            "10 S27\n",
-        ),
-        (Answer::JournalFull, "S29\n"),
-        (Answer::OutOfMemory, "S31\n"),
-        (Answer::Line(LineFault::TooLong), "L1\n"),
-        (Answer::Line(LineFault::BadLine), "L2\n"),
-        (Answer::Line(LineFault::BadNumber), "L3\n"),
-        (Answer::Line(LineFault::CutLine), "L4\n"),
-        (Answer::Program(1, None, None), "V1\n"),
-        (Answer::Program(9, Some(0), None), "V9 0\n"),
-        (Answer::Program(11, Some(3), Some(0)), "V11 3 0\n"),
-    ] {
-        let mut output = MemoryOut::new(rt.alloc(), vec![in rt.alloc(); 2, 1]?, None);
-        assert_eq!(rt; write_answer(rt.alloc(), &mut output, &answer), Ok(()));
-        assert_eq!(rt; output.bytes.as_slice(), want.as_bytes());
-    }
-    Ok(())
-}
-
-#[test]
-fn input_is_read_line_by_line(rt: HostRuntime) {
-    let alloc = rt.alloc();
-    let Some(mut input) = script(alloc, b"till 1 open 1\n\ntill 1 open 02\ntill 1") else {
+    let Some(mut input) = script(alloc, b"till 1 open 1\n") else {
         return assert!(rt; false);
     };
     let mut left = 100;
-    let request = Request::OpenPoint(1);
-    let act = Act::Till { till: 1, request };
-    assert_eq!(rt;
-        read_line(alloc, Role::Till, &mut input, &mut left),
-        Ok(Some(act))
-    );
+    assert!(rt; read_line(alloc, Role::Till, &mut input, &mut left).is_ok());
     assert_eq!(rt; input.at, 14);
-    for fault in [LineFault::BadLine, LineFault::BadNumber, LineFault::CutLine] {
-        let read = read_line(alloc, Role::Till, &mut input, &mut left);
-        assert_eq!(rt; read, Err(LineReadFault::Line(fault)));
-    }
-    assert_eq!(rt;
-        read_line(alloc, Role::Till, &mut input, &mut left),
-        Ok(None)
-    );
     input.good = Some(0);
     assert_eq!(rt;
         read_line(alloc, Role::Till, &mut input, &mut left),
@@ -278,21 +34,6 @@ fn input_is_read_line_by_line(rt: HostRuntime) {
         Err(LineReadFault::ReadsSpent)
     );
     assert_eq!(rt; input.failures, 1);
-}
-
-#[test]
-fn a_line_has_8400_bytes(rt: HostRuntime) -> Result<(), Fail> {
-    let alloc = rt.alloc();
-    for (length, fault) in [(8400, LineFault::BadLine), (8401, LineFault::TooLong)] {
-        let mut bytes = vec![in alloc; b'a'; length]?;
-        assert_eq!(rt; parse_line(alloc, Role::All, &bytes), Err(fault));
-        bytes.push(b'\n')?;
-        let mut input = MemoryIn::new(bytes, Vec::new(alloc), None);
-        let mut left = 10_000;
-        let read = read_line(alloc, Role::All, &mut input, &mut left);
-        assert_eq!(rt; read, Err(LineReadFault::Line(fault)));
-    }
-    Ok(())
 }
 
 #[test]
