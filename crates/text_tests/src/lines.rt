@@ -4,8 +4,8 @@ use std::alloc::Global;
 use std::test::Fail;
 use till_request::devices::{Ahead, MemoryIn, MemoryOut};
 use till_request::{
-    Answer, Block, Found, LineIn, LineReadFault, Role, WriteFault, find_line, read_line,
-    write_answer,
+    Act, Answer, Block, Found, LineIn, LineReadFault, Request, Role, WriteFault, find_line,
+    read_line, write_answer,
 };
 
 /// A script of these bytes, in whole pieces.
@@ -21,7 +21,12 @@ fn a_failed_reading_is_no_line(rt: HostRuntime) {
         return assert!(rt; false);
     };
     let mut left = 100;
-    assert!(rt; read_line(alloc, Role::Till, &mut input, &mut left).is_ok());
+    let request = Request::OpenPoint(1);
+    let act = Act::Till { till: 1, request };
+    assert_eq!(rt;
+        read_line(alloc, Role::Till, &mut input, &mut left),
+        Ok(Some(act))
+    );
     assert_eq!(rt; input.at, 14);
     input.good = Some(0);
     assert_eq!(rt;

@@ -1,4 +1,5 @@
-//! Sessions over memory devices, with a desk that numbers what it is asked.
+//! Sessions over devices in memory that fail, and at doors that do, with a desk that numbers what it is asked; what is
+//! written at once. What peers hear is `cases/serve/lines_of_roles` and those beside it.
 use line_session::{Clock, Desk, Doors, Ended, SessionFault, session, session_ahead, worker};
 use std::alloc::Global;
 use std::test::Fail;
@@ -67,48 +68,6 @@ const SCRIPT: &[u8] =
 const TEXT: &[u8] = b"1 granted 1 by 7\nL2\nL3\nL2\nL2\n2 granted 2 by 7\nL4\n";
 
 #[test]
-fn lines_are_answered_in_order(rt: HostRuntime) -> Result<(), Fail> {
-    let ended = Ended {
-        lines: 7,
-        cut: Some(LineFault::CutLine),
-    };
-    match answers(rt.alloc(), SCRIPT, None, None) {
-        Some((Ok(end), text)) => {
-            assert_eq!(rt; end, ended);
-            assert_eq!(rt; text.as_slice(), TEXT);
-        }
-        _ => assert!(rt; false),
-    }
-    match answers(rt.alloc(), b"", None, None) {
-        Some((Ok(end), text)) => assert!(rt;
-            end.lines == 0 && end.cut.is_none() && text.is_empty()
-        ),
-        _ => assert!(rt; false),
-    }
-    Ok(())
-}
-
-#[test]
-fn a_long_line_ends_a_session(rt: HostRuntime) -> Result<(), Fail> {
-    let mut script = vec![in rt.alloc(); b'a'; 8401]?;
-    script.extend_from_slice(b"\ntill 1 open 1\n")?;
-    match answers(rt.alloc(), &script, None, None) {
-        Some((Ok(end), text)) => {
-            assert_eq!(rt;
-                end,
-                Ended {
-                    lines: 1,
-                    cut: Some(LineFault::TooLong)
-                }
-            );
-            assert_eq!(rt; text.as_slice(), b"L1\n".as_slice());
-        }
-        _ => assert!(rt; false),
-    }
-    Ok(())
-}
-
-#[test]
 fn a_failed_call_ends_a_session(rt: HostRuntime) {
     for good in 0..SCRIPT.len() as u64 {
         match answers(rt.alloc(), SCRIPT, Some(good), None) {
@@ -127,6 +86,20 @@ fn a_failed_call_ends_a_session(rt: HostRuntime) {
             }
             None => assert!(rt; false),
         }
+    }
+    // No call fails: each line is answered, and the clock is asked for those that the desk is.
+    match answers(rt.alloc(), SCRIPT, None, None) {
+        Some((end, text)) => {
+            assert_eq!(rt;
+                end,
+                Ok(Ended {
+                    lines: 7,
+                    cut: Some(LineFault::CutLine)
+                })
+            );
+            assert_eq!(rt; text.as_slice(), TEXT);
+        }
+        None => assert!(rt; false),
     }
 }
 
