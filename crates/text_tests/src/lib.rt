@@ -1,9 +1,7 @@
-//! Tests of what is read and written: points, lines, sessions, lines of a journal and reports of a day. They stand
-//! apart from those crates, so that the gate proves each of these once.
+//! Tests of what no word of the program reaches: devices that fail, what is held of a device, sessions over both, and
+//! words that nothing prints. They stand apart from those crates, so that the gate proves each of these once.
 #![tactic(auto)]
 
-#[cfg(test)]
-mod days;
 #[cfg(test)]
 mod journals;
 #[cfg(test)]

@@ -2,7 +2,6 @@
 //! written at once. What peers hear is `cases/serve/lines_of_roles` and those beside it.
 use line_session::{Clock, Desk, Doors, Ended, SessionFault, session, session_ahead, worker};
 use std::alloc::Global;
-use std::test::Fail;
 use till_request::devices::{MemoryIn, MemoryOut};
 use till_request::{Act, Answer, DeviceFault, LineFault, Reply, Role};
 
