@@ -1,7 +1,8 @@
 //! Decisions that are run outside the site, and what happens in between.
 
-use crate::scripts::{ASKED, Does, FIVE_THOUSAND, OPEN, load, play, start};
+use crate::scripts::{ASKED, Does, FIVE_THOUSAND, OPEN, idle, load, load_for, play, start};
 use fuelling_point::DispenserEvent;
+use reg_types::Layout;
 use site_core::{
     Begin, Commit, Config, Ready, Site, Why, fresh_differs_nowhere, one_difference_is_first,
     programs_alone_decide,
@@ -16,7 +17,10 @@ const COUNTED: [u8; 24] = [
     0xb7, 1, 0, 0, 0, 0, 0, 0, 0xb7, 2, 0, 0, 1, 0, 0, 0, 0x85, 0, 0, 0, 2, 0, 0, 0,
 ];
 
-pub(crate) const RELEASE: Request = Request::Release(1, 8000);
+/// R0 is 1.
+const ONE: [u8; 8] = [0xb7, 0, 0, 0, 1, 0, 0, 0];
+
+const RELEASE: Request = Request::Release(1, 8000);
 
 /// The run that a draft gives, or none where there is no draft.
 fn ran(begin: Begin) -> Option<Ready> {
@@ -26,18 +30,13 @@ fn ran(begin: Begin) -> Option<Ready> {
     }
 }
 
-pub(crate) fn decide(site: &Site, till: u32, request: Request) -> Result<Ready, Fail> {
+fn decide(site: &Site, till: u32, request: Request) -> Result<Ready, Fail> {
     let begin = site.begin(till, 0, &request)?;
     Ok(ran(begin).ok_or("no program would be run")?)
 }
 
 /// Commits by pass 2: the entry's reply, or why it is stale.
-pub(crate) fn commit(
-    rt: &impl Abort,
-    site: &mut Site,
-    ready: Ready,
-    want: Result<(u32, Reply), Why>,
-) {
+fn commit(rt: &impl Abort, site: &mut Site, ready: Ready, want: Result<(u32, Reply), Why>) {
     let got = match site.commit(2, ready) {
         Ok(Commit::Done(answered)) => Some(Ok((answered.number, answered.reply))),
         Ok(Commit::Stale(why)) => Some(Err(why)),
@@ -46,20 +45,7 @@ pub(crate) fn commit(
     assert!(rt; got == Some(want));
 }
 
-/// What is shown of an idle point without amounts.
-fn idle() -> Reply {
-    Reply::Point {
-        state: 3,
-        nozzle: 0,
-        amount: 0,
-        volume: 0,
-        limit: 0,
-        preset: 0,
-        unpaid: 0,
-    }
-}
-
-pub(crate) fn open(point: u32) -> (Does, Reply) {
+fn open(point: u32) -> (Does, Reply) {
     (Does::Till(1, Request::OpenPoint(point)), Reply::Done)
 }
 
@@ -77,7 +63,7 @@ fn opened(rt: &impl Abort, alloc: Global) -> Result<Site, Fail> {
 }
 
 /// Decides on a site and commits at once.
-pub(crate) fn decide_now(
+fn decide_now(
     rt: &impl Abort,
     site: &mut Site,
     request: Request,
@@ -112,6 +98,19 @@ fn a_run_on_another_context_is_stale(rt: HostRuntime) -> Result<(), Fail> {
     commit(&rt, &mut site, ready, Err(Why::Context(12)));
     assert_eq!(rt; site.history().len(), 3);
     Ok(())
+}
+
+#[test]
+fn another_number_of_open_points_is_another_context(rt: HostRuntime) -> Result<(), Fail> {
+    let alloc = rt.alloc();
+    let mut site = start(alloc)?;
+    let version = Reply::Version(1);
+    load_for(&rt, alloc, &mut site, 0, 0, Layout::Two, &ONE, version)?;
+    play(&rt, &mut site, 0, &[OPEN]);
+    let ready = decide(&site, 1, RELEASE)?;
+    play(&rt, &mut site, 0, &[open(2)]);
+    commit(&rt, &mut site, ready, Err(Why::Context(72)));
+    decide_now(&rt, &mut site, RELEASE, (4, Reply::Granted(1, 1)))
 }
 
 #[test]
