@@ -3,8 +3,7 @@
 //! device's.
 ghost use Rattle.std.specs.Prelude.{◌≡◌, [], None};
 
-use crate::journals::journal_of;
-use crate::sites::STATION;
+use crate::sites::{DELIVERY, STATION, journal_of};
 use console::{audit_journal, read_config};
 use decision_journal::{Entry, JournalFault, read_entries, write_entries};
 use line_session::{Clock, Doors, Ended, SessionFault, session, worker};
@@ -18,13 +17,7 @@ use std::test::Fail;
 use till_request::devices::{MemoryIn, MemoryOut};
 use till_request::{DeviceFault, Role};
 
-/// A delivery that is paid.
-const DELIVERY: &str =
-    "load 0 0 79101800000000009500000000000000\ntill 1 open 1\ndisp 1 up 1\ntill 1 release 1 8000\ndisp 1 order\n\
-        disp 1 started\ndisp 1 flow 2500 1390\ndisp 1 down\ntill 1 lock 1 1\ntill 2 lock 1 1\ntill 2 clear 1 1\n\
-        till 1 clear 1 1\ntill 1 clear 1 1\ntill 1 show 1\n";
-
-/// What it is answered.
+/// What the delivery is answered.
 const ANSWERS: &str =
     "1 version 1\n2 done\n3 done\n4 granted 8000 by 1\n5 order authorise 8000\n6 done\n7 done\n8 done\n9 done\n\
         10 S27\n11 S27\n12 done\n13 S28\n14 point 3 0 0 0 0 0 0\n";
@@ -120,12 +113,10 @@ fn station(alloc: Global) -> Result<Config, Fail> {
     Ok(settings.config)
 }
 
-/// The delivery at a device that gives so many bytes at most a read, and of which so many reads are good.
-fn delivery(alloc: Global, each: usize, good: Option<u64>) -> Result<MemoryIn, Fail> {
+/// The delivery at a device of which so many reads are good.
+fn delivery(alloc: Global, good: Option<u64>) -> Result<MemoryIn, Fail> {
     let bytes = Vec::from_slice(alloc, DELIVERY.as_bytes())?;
-    let mut input = MemoryIn::new(bytes, Vec::new(alloc), good);
-    input.each = each;
-    Ok(input)
+    Ok(MemoryIn::new(bytes, Vec::new(alloc), good))
 }
 
 /// A device that takes so many bytes at most a write, and of which so many writes are good.
@@ -156,7 +147,7 @@ fn seen_by<R: Wait>(
 }
 
 fn seen_after_reads<R: Wait>(rt: &R, alloc: Global, good: u64) -> Result<Seen, Fail> {
-    let input = delivery(alloc, 4096, Some(good))?;
+    let input = delivery(alloc, Some(good))?;
     seen_by(rt, alloc, input, answers(alloc, 4096, None))
 }
 
@@ -182,7 +173,7 @@ fn fails_at_each_read(rt: HostRuntime) -> Result<(), Fail> {
 }
 
 fn seen_after_writes<R: Wait>(rt: &R, alloc: Global, good: u64) -> Result<Seen, Fail> {
-    let input = delivery(alloc, 4096, None)?;
+    let input = delivery(alloc, None)?;
     seen_by(rt, alloc, input, answers(alloc, 4, Some(good)))
 }
 
@@ -208,18 +199,6 @@ fn fails_at_each_write(rt: HostRuntime) -> Result<(), Fail> {
         assert_eq!(rt; seen, want, "after {good} writes");
     }
     assert!(rt; false, "no session ended");
-    Ok(())
-}
-
-// However the script is cut, the answers are the same.
-#[test]
-fn each_cut_is_answered_alike(rt: HostRuntime) -> Result<(), Fail> {
-    let alloc = rt.alloc();
-    for size in [1usize, 2, 3, 7, 40, 4096] {
-        let input = delivery(alloc, size, None)?;
-        let seen = seen_by(&rt, alloc, input, answers(alloc, size, None))?;
-        assert_eq!(rt; seen, WHOLE, "pieces of {size}");
-    }
     Ok(())
 }
 

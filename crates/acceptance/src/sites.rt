@@ -1,4 +1,4 @@
-//! Sites and scripts that are played on them.
+//! A site, a delivery that is paid there, and its journal.
 use console::{play, read_config};
 use std::alloc::Global;
 use till_request::devices::{MemoryIn, MemoryOut};
@@ -8,18 +8,15 @@ pub const STATION: &str =
     "tills = 2\nprice_slot = 2\nprices = [1799, 1849, 0, 0, 0, 0, 0, 0]\n[[point]]\nrelease = 0\npreset = 1\n\
         [[point]]\nrelease = 0\npreset = 1\n[[counter]]\nvalue = 0\nbound = 2\n";
 
-/// The same with one till, one point and no counter.
-pub const KIOSK: &str =
-    "tills = 1\nprice_slot = 2\nprices = [1799, 1849, 0, 0, 0, 0, 0, 0]\n[[point]]\nrelease = 0\npreset = 1\n";
+/// A delivery that is paid: 14 lines.
+pub const DELIVERY: &str =
+    "load 0 0 79101800000000009500000000000000\ntill 1 open 1\ndisp 1 up 1\ntill 1 release 1 8000\ndisp 1 order\n\
+        disp 1 started\ndisp 1 flow 2500 1390\ndisp 1 down\ntill 1 lock 1 1\ntill 2 lock 1 1\ntill 2 clear 1 1\n\
+        till 1 clear 1 1\ntill 1 clear 1 1\ntill 1 show 1\n";
 
-/// The kiosk with counter 0 of at most 2.
-pub const KIOSK_WITH_COUNTER: &str =
-    "tills = 1\nprice_slot = 2\nprices = [1799, 1849, 0, 0, 0, 0, 0, 0]\n[[point]]\nrelease = 0\npreset = 1\n\
-        [[counter]]\nvalue = 0\nbound = 2\n";
-
-/// What a play of a script on a site writes, where the play ends well.
-pub fn answers(alloc: Global, site: &str, script: &str) -> Option<Vec<u8>> {
-    let settings = read_config(alloc, site.as_bytes()).ok()?;
+/// What a play of a script on the site writes, where the play ends well.
+fn answers(alloc: Global, script: &str) -> Option<Vec<u8>> {
+    let settings = read_config(alloc, STATION.as_bytes()).ok()?;
     let bytes = Vec::from_slice(alloc, script.as_bytes()).ok()?;
     let mut input = MemoryIn::new(bytes, Vec::new(alloc), None);
     let mut output = MemoryOut::new(alloc, Vec::new(alloc), None);
@@ -30,10 +27,14 @@ pub fn answers(alloc: Global, site: &str, script: &str) -> Option<Vec<u8>> {
     Some(output.bytes)
 }
 
-/// Whether a play of a script on a site is answered by this text.
-pub fn is_answered(alloc: Global, site: &str, script: &str, text: &str) -> bool {
-    match answers(alloc, site, script) {
-        Some(written) => written.as_slice() == text.as_bytes(),
-        None => false,
+/// The journal of the delivery.
+pub fn journal_of(alloc: Global) -> Option<String> {
+    let script = format!(in alloc; "{DELIVERY}journal\n").ok()?;
+    let text = String::from_utf8(answers(alloc, script.as_str())?).ok()?;
+    let mut journal = String::new(alloc);
+    for line in text.as_str().lines().skip(14) {
+        journal.push_str(line).ok()?;
+        journal.push_str("\n").ok()?;
     }
+    Some(journal)
 }
