@@ -1,12 +1,9 @@
 use counters::Counters;
 
+// No word tells of counters that are taken over, and no configuration has the greatest bound.
 #[test]
-fn counters_stay_within_their_bounds(rt: HostRuntime) {
-    let mut counters = Counters::new([(1, 2); 32]);
-    assert_eq!(rt; (counters.get(3), counters.bound(3)), (1, 2));
-    assert!(rt; counters.add(3, 1) && !counters.add(3, 1) && !counters.add(31, u64::MAX));
-    assert!(rt; !counters.take(3, 3) && counters.take(3, 2) && counters.take(31, 1));
-    assert_eq!(rt; (counters.get(3), counters.get(31)), (0, 0));
+fn counters_are_adopted_and_reach_the_greatest_bound(rt: HostRuntime) {
+    let mut counters = Counters::new([(0, 2); 32]);
     counters.adopt(8, &Counters::new([(1, 2); 32]));
     assert_eq!(rt; (counters.get(3), counters.get(31)), (1, 0));
     let mut full = Counters::new([(u64::MAX, u64::MAX); 32]);

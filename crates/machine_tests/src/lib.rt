@@ -1,25 +1,13 @@
-//! Tests of the machine: opcodes, decoding, jumps, the verifier, the interpreter, helpers, slots and the assembler.
-//! They stand apart from those crates, so that the gate proves each of these once and not once more with its tests.
+//! Tests of the machine: what its crates tell in Rattle and no word of the program prints. They stand apart from those
+//! crates, so that the gate proves each of these once and not once more with its tests.
 #![tactic(auto)]
 
 #[cfg(test)]
 mod assembler;
 #[cfg(test)]
-mod contexts;
-#[cfg(test)]
 mod counting;
 #[cfg(test)]
-mod decoding;
-#[cfg(test)]
-mod files;
-#[cfg(test)]
-mod helping;
-#[cfg(test)]
 mod jumps;
-#[cfg(test)]
-mod moves;
-#[cfg(test)]
-mod opcodes;
 #[cfg(test)]
 mod operating;
 #[cfg(test)]

@@ -1,20 +1,10 @@
 use stack_map::StackMap;
 
-#[test]
-fn marked_places_are_set(rt: HostRuntime) {
-    let mut map = StackMap::empty();
-    assert!(rt; map.all_set(512, 0) && !map.all_set(511, 1));
-    map.mark(504, 8);
-    assert!(rt; map.all_set(504, 8) && !map.all_set(503, 2));
-    let mut other = StackMap::empty();
-    other.mark(500, 8);
-    map.meet(&other);
-    assert!(rt; map.all_set(504, 4) && !map.all_set(504, 5) && !map.all_set(503, 1));
-}
-
+// No bytes are set wherever they stand, and any bytes can be cleared: programs clear eight at a multiple of eight.
 #[test]
 fn cleared_places_are_gone(rt: HostRuntime) {
     let mut map = StackMap::empty();
+    assert!(rt; map.all_set(512, 0));
     map.mark(56, 24);
     map.clear(60, 8);
     assert!(rt; map.all_set(56, 4) && map.all_set(68, 12));

@@ -42,17 +42,3 @@ fn a_run_is_carried_over(rt: HostRuntime) {
     assert_eq!(rt; answer, 1);
     assert_eq!(rt; value, 1);
 }
-
-// It answers the u64 at 64, behind a context of the first layout.
-#[test]
-fn a_longer_context_is_read_to_its_end(rt: HostRuntime) {
-    let bytes = [0x79, 0x10, 64, 0, 0, 0, 0, 0, 0x95, 0, 0, 0, 0, 0, 0, 0];
-    let program = verify(rt.alloc(), &bytes, 0, Layout::Two).expect(&rt, "a program");
-    assert_eq!(rt; program.layout(), Layout::Two);
-    let mut context = [0; 80];
-    context[64] = 7;
-    context[65] = 1;
-    let mut counters = Counters::new([(0, 0); 32]);
-    let answer = run(&program, &Context::Two(context), &EMPTY, &mut counters);
-    assert_eq!(rt; answer, 263);
-}
