@@ -13,4 +13,4 @@ lines() {
     done
     printf '%s\n' "load2 0 0 $(printf %s "$@" 9500000000000000)" 'till 1 release 1 8000'
 }
-lines "$@" | fc play kiosk.toml - | tail -n 1 | cut -d ' ' -f 2-
+lines "$@" | fc play ../audit/one_point.toml - | tail -n 1 | cut -d ' ' -f 2-

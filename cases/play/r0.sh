@@ -4,5 +4,5 @@
 # usage: r0.sh UNIT..
 set -u
 program=$(printf %s "$@" 9500000000000000)
-printf '%s\n' "load 0 0 $program" 'till 1 open 1' 'till 1 release 1 8000' journal | fc play kiosk.toml - |
+printf '%s\n' "load 0 0 $program" 'till 1 open 1' 'till 1 release 1 8000' journal | fc play ../audit/one_point.toml - |
     sed -n 's/.* ; 0 1 \([0-9]*\) .*/\1/p'
