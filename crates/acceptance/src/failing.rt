@@ -151,25 +151,33 @@ fn seen_after_reads<R: Wait>(rt: &R, alloc: Global, good: u64) -> Result<Seen, F
     seen_by(rt, alloc, input, answers(alloc, 4096, None))
 }
 
-#[test]
-fn fails_at_each_read(rt: HostRuntime) -> Result<(), Fail> {
-    let alloc = rt.alloc();
+/// What a session saw that so many good reads and writes left with so many lines entered and out.
+fn failed(ended: SessionFault, entries: usize, lines: usize) -> Seen {
+    let failed = match ended {
+        SessionFault::Write => (0, 1),
+        _ => (1, 0),
+    };
+    Seen {
+        ended: Err(ended),
+        failed,
+        entries,
+        lines,
+        is_front: true,
+    }
+}
+
+/// After how many good reads a session that fails at the next one leaves anything else; the last has none that fails.
+fn unlike_after_reads<R: Wait>(rt: &R, alloc: Global) -> Result<Option<u64>, Fail> {
     let mut good = 0u64;
     for upto in 0..=DELIVERY.len() {
         let lines = lines_in(DELIVERY.as_bytes().get(..upto).ok_or("a front")?);
-        let want = Seen {
-            ended: Err(SessionFault::Read),
-            failed: (1, 0),
-            entries: lines,
-            lines,
-            is_front: true,
-        };
-        let seen = seen_after_reads(&rt, alloc, good)?;
-        assert_eq!(rt; seen, want, "after {good} reads");
+        if seen_after_reads(rt, alloc, good)? != failed(SessionFault::Read, lines, lines) {
+            return Ok(Some(good));
+        }
         good = good.wrapping_add(1);
     }
-    assert_eq!(rt; seen_after_reads(&rt, alloc, good)?, WHOLE);
-    Ok(())
+    let is_whole = seen_after_reads(rt, alloc, good)? == WHOLE;
+    Ok(if is_whole { None } else { Some(good) })
 }
 
 fn seen_after_writes<R: Wait>(rt: &R, alloc: Global, good: u64) -> Result<Seen, Fail> {
@@ -177,28 +185,25 @@ fn seen_after_writes<R: Wait>(rt: &R, alloc: Global, good: u64) -> Result<Seen, 
     seen_by(rt, alloc, input, answers(alloc, 4, Some(good)))
 }
 
-// The event of the answer whose write failed stays entered.
-#[test]
-fn fails_at_each_write(rt: HostRuntime) -> Result<(), Fail> {
-    let alloc = rt.alloc();
-    let mut faults = 0u64;
+/// The same of writes, of which there are over 14. The event of the answer whose write failed stays entered.
+fn unlike_after_writes<R: Wait>(rt: &R, alloc: Global) -> Result<Option<u64>, Fail> {
     for good in 0..100u64 {
-        let seen = seen_after_writes(&rt, alloc, good)?;
-        if seen == WHOLE {
-            assert!(rt; good == faults && good > 14);
-            return Ok(());
+        let seen = seen_after_writes(rt, alloc, good)?;
+        if seen == WHOLE && good > 14 {
+            return Ok(None);
         }
-        faults = faults.wrapping_add(1);
-        let want = Seen {
-            ended: Err(SessionFault::Write),
-            failed: (0, 1),
-            entries: seen.lines.wrapping_add(1),
-            lines: seen.lines,
-            is_front: true,
-        };
-        assert_eq!(rt; seen, want, "after {good} writes");
+        if seen != failed(SessionFault::Write, seen.lines.wrapping_add(1), seen.lines) {
+            return Ok(Some(good));
+        }
     }
-    assert!(rt; false, "no session ended");
+    Ok(Some(100))
+}
+
+#[test]
+fn fails_at_each_call(rt: HostRuntime) -> Result<(), Fail> {
+    let alloc = rt.alloc();
+    assert_eq!(rt; unlike_after_reads(&rt, alloc)?, None);
+    assert_eq!(rt; unlike_after_writes(&rt, alloc)?, None);
     Ok(())
 }
 

@@ -154,32 +154,19 @@ fn a_refused_release_is_sent_again(rt: HostRuntime) -> Result<(), Fail> {
     Ok(())
 }
 
+// A release, presets that count, and a delivery.
 #[test]
-fn each_growth_refused_in_a_release(rt: HostRuntime) -> Result<(), Fail> {
-    let (wanted, ended) = refused_in(rt.alloc(), KIOSK, RELEASE, 4).ok_or("another answer")?;
-    assert!(rt;
-        wanted > 0 && ended == 1,
-        "{wanted} lines S31, {ended} ends"
-    );
-    Ok(())
-}
-
-#[test]
-fn each_growth_refused_in_counted_presets(rt: HostRuntime) -> Result<(), Fail> {
-    let (wanted, ended) = refused_in(rt.alloc(), STATION, COUNTED, 5).ok_or("another answer")?;
-    assert!(rt;
-        wanted > 0 && ended == 1,
-        "{wanted} lines S31, {ended} ends"
-    );
-    Ok(())
-}
-
-#[test]
-fn each_growth_refused_in_a_delivery(rt: HostRuntime) -> Result<(), Fail> {
-    let (wanted, ended) = refused_in(rt.alloc(), STATION, DELIVERY, 14).ok_or("another answer")?;
-    assert!(rt;
-        wanted > 0 && ended == 1,
-        "{wanted} lines S31, {ended} ends"
-    );
+fn each_growth_refused(rt: HostRuntime) -> Result<(), Fail> {
+    for (site, script, lines) in [
+        (KIOSK, RELEASE, 4),
+        (STATION, COUNTED, 5),
+        (STATION, DELIVERY, 14),
+    ] {
+        let (wanted, ended) = refused_in(rt.alloc(), site, script, lines).ok_or("another answer")?;
+        assert!(rt;
+            wanted > 0 && ended == 1,
+            "{script}{wanted} lines S31, {ended} ends"
+        );
+    }
     Ok(())
 }
