@@ -3,7 +3,7 @@
 use bpf_model::instruction::{Condition, Operator, Size, Source, Width};
 
 /// What a token stands for.
-#[derive(Clone, Copy, PartialEq, Eq)]
+#[derive(Clone, Copy)]
 pub enum Token {
     Register(Width, u8),
     /// A number, or none over 2^64 - 1.

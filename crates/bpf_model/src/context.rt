@@ -4,7 +4,7 @@ ghost use Rattle.std.specs.Prelude.{◌≡◌, ◌≤◌, length};
 ghost use Rattle.bpf_model.specs.Layouts.{context_len, layout_of, bytes_of};
 
 /// Which fields a program's context has, and so how many bytes (this profile).
-#[derive(Clone, Copy, Debug, PartialEq, Eq)]
+#[derive(Clone, Copy, PartialEq, Eq)]
 pub enum Layout {
     One,
     Two,
@@ -25,7 +25,7 @@ impl Layout {
 }
 
 /// The bytes that a program is given, by the layout that it was loaded for.
-#[derive(Clone, Copy, Debug, PartialEq, Eq)]
+#[derive(Clone, Copy, PartialEq, Eq)]
 pub enum Context {
     One([u8; 64]),
     Two([u8; 80]),

@@ -6,7 +6,7 @@ use std::alloc::AllocError;
 use thiserror::Error;
 
 /// What the words ask for. Files are named as the words name them.
-#[derive(Debug, Drop)]
+#[derive(Drop)]
 pub enum Job {
     /// No words: the configuration and the script stand on standard input.
     NoWords,

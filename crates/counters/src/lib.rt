@@ -11,7 +11,7 @@ ghost use Rattle.bpf_model.specs.declared.limits.TheConstants.{COUNTERS};
 use std::marker::Model;
 
 /// 32 counters, each with its value and its bound. A value is at most its bound.
-#[derive(Clone, Copy, Debug, PartialEq, Eq, Drop)]
+#[derive(Clone, Copy, Drop)]
 pub struct Counters {
     cells: [(u64, u64); 32],
 }

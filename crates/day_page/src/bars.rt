@@ -25,7 +25,7 @@ impl fmt::Display for Name {
 }
 
 /// What a bar's length counts.
-#[derive(Clone, Copy, PartialEq, Eq, Drop)]
+#[derive(Clone, Copy, Drop)]
 pub(crate) enum Unit {
     Cents,
     Times,

@@ -54,7 +54,7 @@ impl fmt::Display for Thousandths {
 }
 
 /// A date of the calendar that is in use, in UTC.
-#[derive(Clone, Copy, Debug, PartialEq, Eq, Drop)]
+#[derive(Clone, Copy, Drop)]
 pub(crate) struct Date {
     pub year: u64,
     pub month: u64,

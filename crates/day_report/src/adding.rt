@@ -67,7 +67,7 @@ pub struct Totals {
 }
 
 /// An unpaid transaction: its point, its number there, cents, centilitres, and the till that holds it, or 0.
-#[derive(Clone, Copy, Debug, PartialEq, Eq, Drop)]
+#[derive(Clone, Copy, Drop)]
 pub struct Unpaid {
     pub point: usize,
     pub number: u32,

@@ -8,7 +8,7 @@ use crate::rulings::{Asked, Decision};
 use std::alloc::{AllocError, Global};
 
 /// Which part of the decisions is counted.
-#[derive(Clone, Copy, Debug, PartialEq, Eq, Drop)]
+#[derive(Clone, Copy, Drop)]
 pub enum Deciding {
     Releases,
     Presets,

@@ -9,7 +9,7 @@ use std::alloc::{AllocError, Global};
 use till_request::{Act, Reply};
 
 /// A load that was answered with a version: its entry, its slot, and the moment that was told last before it, or 0.
-#[derive(Clone, Copy, Debug, PartialEq, Eq, Drop)]
+#[derive(Clone, Copy, Drop)]
 pub struct Load {
     pub number: u32,
     pub moment: u64,

@@ -16,7 +16,7 @@ use till_request::{Act, Reply, Request};
 
 /// A transaction that a till cleared: the entry and the moment of its clear, the amount in cents and the volume in
 /// centilitres.
-#[derive(Clone, Copy, Debug, PartialEq, Eq, Drop)]
+#[derive(Clone, Copy, Drop)]
 pub struct Sale {
     pub number: u32,
     pub moment: u64,
@@ -120,7 +120,7 @@ pub fn find_sales(alloc: Global, points: usize, entries: &[Entry]) -> Result<Sol
 }
 
 /// Which part of the sales is added up.
-#[derive(Clone, Copy, Debug, PartialEq, Eq, Drop)]
+#[derive(Clone, Copy, Drop)]
 pub enum Part {
     All,
     /// Those of the point of this number.
@@ -133,7 +133,7 @@ pub enum Part {
 
 /// How many sales, and how many cents and centilitres. The sums of 64-bit numbers are kept in 128 bits, so that none of
 /// any list is too large.
-#[derive(Clone, Copy, Debug, PartialEq, Eq, Drop)]
+#[derive(Clone, Copy, Drop)]
 pub struct Sum {
     pub count: u64,
     pub cents: u128,

@@ -18,7 +18,7 @@ const STEPS: usize = 2000;
 const SPAN: u64 = 600;
 
 /// Along what a picture is drawn.
-#[derive(Clone, Copy, Debug, PartialEq, Eq, Drop)]
+#[derive(Clone, Copy, Drop)]
 pub enum Axis {
     /// Along the entries, from 1 to this many.
     Entries(usize),

@@ -3,9 +3,7 @@ use crate::faults::{cannot_read, refuse_length, say, tell_program, tell_text};
 use crate::files::{Text, read_file};
 use crate::statuses::REFUSED;
 use bpf_model::context::Layout;
-use console::{
-    MOST_BYTES, asm_file, dis_file, dis_flaw, dis_units_file, verify_file, verify_flaw,
-};
+use console::{MOST_BYTES, asm_file, dis_file, dis_flaw, dis_units_file, verify_file, verify_flaw};
 use std::io;
 
 /// What is told of one file.

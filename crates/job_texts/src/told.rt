@@ -8,7 +8,7 @@ use std::alloc::{AllocError, Global};
 pub const REFUSED: u8 = 1;
 
 /// What is printed on standard output, and the exit status.
-#[derive(Debug, Drop)]
+#[derive(Drop)]
 pub struct Told {
     pub text: String,
     pub status: u8,

@@ -34,7 +34,7 @@ fn say<O: LineOut>(alloc: Global, output: &mut O, answer: &Answer) -> Result<(),
 }
 
 /// Answers the lines of a role by a desk, at the moments of a clock.
-#[derive(Clone, Copy, Debug, Drop)]
+#[derive(Clone, Copy, Drop)]
 pub struct AtDesk {
     pub role: Role,
 }

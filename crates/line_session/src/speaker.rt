@@ -4,7 +4,7 @@ use thiserror::Error;
 use till_request::LineOut;
 
 /// Why a line was not answered, or its answer is not out.
-#[derive(Clone, Copy, Debug, PartialEq, Eq, Drop, Error)]
+#[derive(Clone, Copy, Debug, Drop, Error)]
 pub enum SpeakFault {
     /// N2: the device failed.
     #[error("a write failed")]

@@ -12,7 +12,7 @@ use thiserror::Error;
 pub const MOST_BYTES: usize = 65_536;
 
 /// Why a file is no program file.
-#[derive(Clone, Copy, Debug, PartialEq, Eq, Drop, Error)]
+#[derive(Clone, Copy, Debug, Drop, Error)]
 pub enum ProgramFileFault {
     /// L1.
     #[error("over 65,536 bytes")]

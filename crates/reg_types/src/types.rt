@@ -15,7 +15,7 @@ use stack_map::StackMap;
 
 /// What is known of a register: nothing, that it holds a number or which one, or where it points: so many bytes from
 /// the context's first byte, 0 to 80, or from the stack's end, -512 to 0.
-#[derive(Clone, Copy, Debug, PartialEq, Eq)]
+#[derive(Clone, Copy, PartialEq, Eq)]
 pub enum RegType {
     Unset,
     Num,
@@ -25,7 +25,7 @@ pub enum RegType {
 }
 
 /// What a program is loaded on: the counters that it declares, as a mask, and the layout of its contexts.
-#[derive(Clone, Copy, Debug, PartialEq, Eq)]
+#[derive(Clone, Copy)]
 pub struct Terms {
     pub mask: u32,
     pub layout: Layout,
@@ -34,7 +34,7 @@ pub struct Terms {
 /// What is known before an instruction: the types of registers 0 to 10, which bytes of the stack are set, and for each
 /// of the stack's 64 aligned places of eight bytes, from the lowest on, a note of the pointer that is kept there: 0 for
 /// none, 1 to 81 for `Ctx(0)` to `Ctx(80)`, and 82 to 594 for `Stk(-512)` to `Stk(0)`, for both layouts alike.
-#[derive(Clone, Copy, Debug, PartialEq, Eq)]
+#[derive(Clone, Copy)]
 pub struct Fact {
     pub types: [RegType; 11],
     pub stack: StackMap,
@@ -42,14 +42,14 @@ pub struct Fact {
 }
 
 /// What is known before the unit `at`.
-#[derive(Clone, Copy, Debug, PartialEq, Eq)]
+#[derive(Clone, Copy)]
 pub struct Stored {
     pub at: u32,
     pub fact: Fact,
 }
 
 /// The fact that is carried from an instruction to the next, and the unit that it comes to, if it comes to one.
-#[derive(Clone, Copy, Debug, PartialEq, Eq)]
+#[derive(Clone, Copy)]
 pub struct Running {
     pub at: Option<u32>,
     pub fact: Fact,
@@ -57,7 +57,7 @@ pub struct Running {
 
 /// The bytes of the stack that an instruction writes, `len` of them from `at` on, with the type of the pointer that it
 /// keeps there, or `Unset` where it sets them.
-#[derive(Clone, Copy, Debug, PartialEq, Eq)]
+#[derive(Clone, Copy)]
 pub struct Mark {
     pub at: u32,
     pub len: u32,
@@ -65,7 +65,7 @@ pub struct Mark {
 }
 
 /// What is wrong with an instruction under a fact.
-#[derive(Clone, Copy, Debug, PartialEq, Eq)]
+#[derive(Clone, Copy)]
 pub enum Flaw {
     FallsOff,
     WriteR10,
@@ -82,7 +82,7 @@ pub enum Flaw {
 }
 
 /// Where an instruction can lead to: nowhere, to the next one, by a jump, or to either, the jump's target first.
-#[derive(Clone, Copy, PartialEq, Eq)]
+#[derive(Clone, Copy)]
 pub enum Successors {
     End,
     Next(u32),

@@ -5,7 +5,7 @@ use std::fmt;
 use thiserror::Error;
 
 /// A key of a configuration.
-#[derive(Clone, Copy, Debug, PartialEq, Eq)]
+#[derive(Clone, Copy, Debug)]
 pub enum Key {
     Tills,
     PriceSlot,
@@ -61,7 +61,7 @@ impl fmt::Display for Key {
 }
 
 /// A table of a configuration: the document, one of its points or counters by their place from 0, or `[serve]`.
-#[derive(Clone, Copy, Debug, PartialEq, Eq)]
+#[derive(Clone, Copy, Debug)]
 pub enum Section {
     Top,
     Point(usize),
@@ -82,7 +82,7 @@ impl fmt::Display for Section {
 }
 
 /// A value of a configuration: the one at a key, or an item of a list, by its place from 0.
-#[derive(Clone, Copy, Debug, PartialEq, Eq)]
+#[derive(Clone, Copy, Debug)]
 pub enum Place {
     At(Section, Key),
     Price(usize),
@@ -103,7 +103,7 @@ impl fmt::Display for Place {
 }
 
 /// What a value has to be.
-#[derive(Clone, Copy, Debug, PartialEq, Eq, Error)]
+#[derive(Clone, Copy, Debug, Error)]
 pub enum Type {
     #[error("a whole number")]
     Integer,

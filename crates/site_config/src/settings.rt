@@ -2,7 +2,7 @@
 use site_core::Config;
 
 /// Where and how to serve.
-#[derive(Clone, Copy, Debug, PartialEq, Eq)]
+#[derive(Clone, Copy)]
 pub struct Serve {
     pub till_port: u32,
     pub dispenser_port: u32,

@@ -7,7 +7,7 @@ use crate::question::Kind;
 use byteorder::{ByteOrder, LittleEndian};
 
 /// A field of a context, of four or eight bytes.
-#[derive(Clone, Copy, Debug, PartialEq, Eq)]
+#[derive(Clone, Copy)]
 pub enum Field {
     Four(u32),
     Eight(u64),

@@ -237,7 +237,7 @@ pub enum Begin {
 }
 
 /// What became of a decision that was run outside. A stale one has changed nothing.
-#[derive(Clone, Copy, Debug, PartialEq, Eq, Drop)]
+#[derive(Clone, Copy, PartialEq, Eq, Drop)]
 pub enum Commit {
     Done(Answered),
     Stale(Why),

@@ -1,7 +1,7 @@
 //! What a decision is about.
 
 /// What is decided.
-#[derive(Clone, Copy, Debug, PartialEq, Eq, Drop)]
+#[derive(Clone, Copy, PartialEq, Eq, Drop)]
 pub enum Kind {
     Release,
     Preset,
@@ -10,7 +10,7 @@ pub enum Kind {
 
 /// What is asked, and the slot whose program decides. A price has point 0, all else product 0. `asked` is an amount in
 /// cents, or a price in thousandths.
-#[derive(Clone, Copy, Debug, PartialEq, Eq, Drop)]
+#[derive(Clone, Copy, Drop)]
 pub struct Question {
     pub kind: Kind,
     pub point: u32,

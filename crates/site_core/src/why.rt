@@ -1,7 +1,7 @@
 //! Why a decision that was run outside isn't entered.
 
 /// The first thing in which the site differs from what the run was made on, in this order.
-#[derive(Clone, Copy, Debug, PartialEq, Eq, Drop)]
+#[derive(Clone, Copy, PartialEq, Eq, Drop)]
 pub enum Why {
     /// The version that is installed now, if any. None too where the site lacks the till or the point.
     Version(Option<u32>),

@@ -18,7 +18,7 @@ pub trait Gate {
 }
 
 /// Runs each draft at once.
-#[derive(Clone, Copy, Debug, PartialEq, Eq, Drop)]
+#[derive(Clone, Copy, Drop)]
 pub struct Straight {
     pub calls: u64,
 }

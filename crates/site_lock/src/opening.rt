@@ -7,7 +7,7 @@ use site_core::{Answered, Draft, Event, What};
 use till_request::Request;
 
 /// What a till asks at a moment, and the pass by which it asks.
-#[derive(Clone, Copy, Debug, PartialEq, Eq, Drop)]
+#[derive(Clone, Copy, Drop)]
 pub(super) struct TillCall {
     pub pass: u32,
     pub till: u32,

@@ -34,7 +34,7 @@ impl Yard for Brand {
 }
 
 /// An answer: the entry's number, its moment (0 for a dispenser's event and a load), what was asked, and the reply.
-#[derive(Debug, Drop)]
+#[derive(Drop)]
 pub struct Receipt {
     pub number: u32,
     pub moment: u64,

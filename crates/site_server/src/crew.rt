@@ -5,7 +5,7 @@ ghost use Rattle.site_server.specs.Crews.{IsCrew, passes_of, role_of};
 use till_request::Role;
 
 /// How many workers serve tills, 1 to 64, and how many serve dispensers, 1 to 31. One more serves the owner.
-#[derive(Clone, Copy, Debug, PartialEq, Eq)]
+#[derive(Clone, Copy)]
 pub struct Crew {
     tills: u32,
     dispensers: u32,

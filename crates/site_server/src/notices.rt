@@ -4,7 +4,7 @@ use std::{fmt, io};
 use till_request::{LineFault, Role};
 
 /// Why a session ended before its peer had said all it wanted.
-#[derive(Clone, Copy, Debug, PartialEq, Eq, Drop)]
+#[derive(Clone, Copy, Drop)]
 pub enum Breach {
     /// A line that ended it: L1 or L4.
     Line(LineFault),

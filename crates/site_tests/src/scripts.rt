@@ -18,7 +18,7 @@ pub(crate) const ASKED: [u8; 8] = [0x79, 0x10, 0x18, 0, 0, 0, 0, 0];
 /// R0 is 5,000.
 pub(crate) const FIVE_THOUSAND: [u8; 8] = [0xb7, 0, 0, 0, 0x88, 0x13, 0, 0];
 
-#[derive(Clone, Copy, Debug, Drop)]
+#[derive(Clone, Copy, Drop)]
 pub(crate) enum Does {
     Till(u32, Request),
     Disp(u32, DispenserEvent),

@@ -23,20 +23,13 @@ fn a_failed_reading_is_no_line(rt: HostRuntime) {
     let mut left = 100;
     let request = Request::OpenPoint(1);
     let act = Act::Till { till: 1, request };
-    assert_eq!(rt;
-        read_line(alloc, Role::Till, &mut input, &mut left),
-        Ok(Some(act))
-    );
+    assert!(rt; read_line(alloc, Role::Till, &mut input, &mut left) == Ok(Some(act)));
     assert_eq!(rt; input.at, 14);
     input.good = Some(0);
-    assert_eq!(rt;
-        read_line(alloc, Role::Till, &mut input, &mut left),
-        Err(LineReadFault::Read)
-    );
+    assert!(rt; read_line(alloc, Role::Till, &mut input, &mut left) == Err(LineReadFault::Read));
     left = 0;
-    assert_eq!(rt;
-        read_line(alloc, Role::Till, &mut input, &mut left),
-        Err(LineReadFault::ReadsSpent)
+    assert!(rt;
+        read_line(alloc, Role::Till, &mut input, &mut left) == Err(LineReadFault::ReadsSpent)
     );
     assert_eq!(rt; input.failures, 1);
 }
@@ -141,13 +134,13 @@ fn lines_share_their_room(rt: HostRuntime) -> Result<(), Fail> {
     assert!(rt; !ahead.holds_line());
     for (bytes, more) in [("till 1 show 1", true), ("x", false)] {
         let found = find_line(&mut ahead, &mut line, &mut left);
-        assert_eq!(rt; found.ok(), Some(Found::Line));
+        assert!(rt; found.ok() == Some(Found::Line));
         assert_eq!(rt; line.as_slice(), bytes.as_bytes());
         assert_eq!(rt; ahead.holds_line(), more);
     }
     for (last, reads) in [(Found::Cut, 82), (Found::End, 81)] {
         let found = find_line(&mut ahead, &mut line, &mut left);
-        assert_eq!(rt; (found.ok(), left), (Some(last), reads));
+        assert!(rt; (found.ok(), left) == (Some(last), reads));
     }
     Ok(())
 }

@@ -11,7 +11,7 @@ use std::alloc::{AllocError, Global};
 use std::marker::Model;
 
 /// A list of bytes.
-#[derive(Debug, Drop)]
+#[derive(Drop)]
 pub struct Bytes {
     items: Vec<u8>,
 }
@@ -71,7 +71,7 @@ impl PartialEq for Bytes {
 
 /// What a till asks. A point comes first; Release and Preset have an amount, Price a product and a
 /// price, Lock, Unlock and Clear a transaction's number.
-#[derive(Clone, Copy, Debug, PartialEq, Eq, Drop)]
+#[derive(Clone, Copy, PartialEq, Eq, Drop)]
 pub enum Request {
     Release(u32, u64),
     Preset(u32, u64),
@@ -88,7 +88,7 @@ pub enum Request {
 }
 
 /// What happens at the site.
-#[derive(Debug, PartialEq, Drop)]
+#[derive(PartialEq, Drop)]
 pub enum Act {
     Till {
         till: u32,
@@ -128,7 +128,7 @@ pub enum Reply {
 }
 
 /// Who sends lines, and so which lines he may send.
-#[derive(Clone, Copy, Debug, PartialEq, Eq, Drop)]
+#[derive(Clone, Copy, Drop)]
 pub enum Role {
     Till,
     Dispenser,
@@ -152,7 +152,7 @@ pub enum LineFault {
 }
 
 /// What a line is answered.
-#[derive(Clone, Copy, Debug, PartialEq, Eq, Drop)]
+#[derive(Clone, Copy, Drop)]
 pub enum Answer {
     /// An entry's number and the site's reply.
     Entered { number: u32, reply: Reply },
