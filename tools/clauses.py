@@ -1,0 +1,120 @@
+#!/usr/bin/env python3
+"""Lists the clauses of the public functions, and what of them differs from another commit's. A function is named by its
+crate, its type or trait and its own name; its clauses are what stands behind `requires` and `ensures`, with blanks and
+ends of lines alike. What a crate of tests promises isn't listed.
+
+usage: tools/clauses.py              prints each clause, a line each
+       tools/clauses.py COMMIT       prints what differs here from COMMIT: lines that went ('-') and came ('+')
+       tools/clauses.py COMMIT OTHER the same of the commit OTHER in place of this folder
+"""
+import os
+import re
+import subprocess
+import sys
+import tempfile
+
+HERE = os.path.dirname(os.path.dirname(os.path.realpath(__file__)))
+OPENERS, CLOSERS = "([{", ")]}"
+HEAD = re.compile(
+    r"(?P<owner>\b(?:impl|(?:pub(?:\([a-z]+\))? )?trait)\b[^;{]*\{)|(?P<function>\b(?P<public>pub )?fn (?P<name>\w+))"
+)
+CLAUSE = re.compile(r"\s*(requires|ensures)\b\s*([A-Za-z_][\w-]*)?\s*(?=\{)")
+
+
+def bare(text):
+    """Returns a text without its comments, and with each literal text emptied, as long as before."""
+    blank = lambda it: re.sub(r"[^\n]", " ", it[0])
+    return re.sub(r'//[^\n]*|"(?:\\.|[^"\\])*"|b?\'(?:\\.|[^\'\\])\'', blank, text, flags=re.S)
+
+
+def end_of(text, at):
+    """Returns where the bracket that opens at a place is closed, one behind it."""
+    depth = 0
+    for place in range(at, len(text)):
+        if text[place] in OPENERS:
+            depth += 1
+        elif text[place] in CLOSERS:
+            depth -= 1
+            if depth == 0:
+                return place + 1
+    return len(text)
+
+
+def clauses_behind(text, at):
+    """Returns the clauses of a function whose name ends at a place."""
+    depth, place = 0, at
+    while place < len(text):
+        if depth == 0 and (text[place] in "{;" or re.match(r"\s(requires|ensures)\b", text[place : place + 10])):
+            break
+        depth += (text[place] in OPENERS) - (text[place] in CLOSERS)
+        place += 1
+    found = []
+    while it := CLAUSE.match(text, place):
+        place = end_of(text, it.end())
+        found.append((it[1], it[2] or "", " ".join(text[it.end() : place].split())))
+    return found
+
+
+def owner_of(head):
+    """Returns the name that an impl block's or a trait's functions go by, and whether they are public as they stand."""
+    words = " ".join(head[:-1].split())
+    if "trait " in words:
+        return re.search(r"trait (\w+)", words)[1], words.startswith("pub trait")
+    return re.sub(r"^impl(<[^>]*>)? ?", "", words), " for " in words
+
+
+def clauses_of(path, crate):
+    """Yields each clause of a file's public functions as one line."""
+    with open(path, encoding="utf-8") as file:
+        text = bare(file.read())
+    owners = []
+    for it in HEAD.finditer(text):
+        if it["owner"]:
+            owners.append((*owner_of(it[0]), end_of(text, it.end() - 1)))
+            continue
+        owner, is_public = next(((name, public) for name, public, end in reversed(owners) if it.start() < end), ("", False))
+        if it["public"] or is_public:
+            name = "::".join(filter(None, (crate, owner, it["name"])))
+            for kind, label, clause in clauses_behind(text, it.end()):
+                yield f"{name}: {kind} {label} {clause}".replace("  ", " ")
+
+
+def listed(root):
+    """Returns all clauses below a folder, sorted."""
+    lines = []
+    with open(f"{root}/crates.txt", encoding="utf-8") as file:
+        crates = [line.split()[0].rstrip(":") for line in file if ":" in line and not line.startswith("#")]
+    for crate in crates:
+        if crate.endswith("_tests") or crate in ("acceptance", "refused_memory"):
+            continue
+        for at, _, names in os.walk(f"{root}/crates/{crate}/src"):
+            for name in names:
+                if name.endswith(".rt") and name != "tests.rt":
+                    lines += clauses_of(f"{at}/{name}", crate)
+    return sorted(lines)
+
+
+def listed_at(commit):
+    """Returns all clauses of a commit."""
+    with tempfile.TemporaryDirectory() as room:
+        packed = subprocess.run(["git", "archive", commit, "crates", "crates.txt"], cwd=HERE, stdout=subprocess.PIPE, check=True)
+        subprocess.run(["tar", "-x", "-C", room], input=packed.stdout, check=True)
+        return listed(room)
+
+
+def main():
+    commits = sys.argv[1:]
+    if len(commits) > 2 or any(it.startswith("-") for it in commits):
+        sys.exit(__doc__)
+    now = listed_at(commits[1]) if len(commits) == 2 else listed(HERE)
+    if not commits:
+        print("\n".join(now))
+        return 0
+    before = listed_at(commits[0])
+    gone, come = [it for it in before if it not in set(now)], [it for it in now if it not in set(before)]
+    print("\n".join([f"- {it}" for it in gone] + [f"+ {it}" for it in come]))
+    print(f"{len(before)} clauses before, {len(now)} now; {len(gone)} went, {len(come)} came")
+    return 0
+
+
+sys.exit(main())
