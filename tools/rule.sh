@@ -1,0 +1,198 @@
+#!/bin/sh
+# Compiles a rule in C and lets it be verified. Prints its units as `fc asm` does, and on standard error how many they
+# are, the mask of the counters that it uses, and the layout of its request. With -o the units go to FILE.hex, and that
+# line to standard output. What can't be loaded is told with its line of C, and leaves FILE.hex as it was.
+# usage: tools/rule.sh [-o FILE.hex] FILE.c    or FILE.o, an object that was compiled before
+# LLVM is what stands behind the names of the compiler and its tools (LLVM=-19 for clang-19); FC is the program to ask.
+# Status as of fc: 0 done, 1 the rule is refused, 2 the words are wrong, 3 a tool or a file can't be had.
+set -u
+here=$(CDPATH='' cd -- "$(dirname -- "$(readlink -f -- "$0")")/.." && pwd -P) || exit 3
+fc=${FC-$here/fc}
+LLVM=${LLVM-}
+
+say() { echo "rule.sh: $*" >&2; }
+stop() {
+    status=$1
+    shift
+    say "$*"
+    exit "$status"
+}
+usage() {
+    echo 'usage: tools/rule.sh [-o FILE.hex] FILE.c' >&2
+    exit 2
+}
+
+need_tools() {
+    for tool in clang llvm-objdump llvm-objcopy; do
+        command -v "$tool$LLVM" >/dev/null ||
+            stop 3 "there is no $tool$LLVM here; Debian's packages are clang$LLVM and llvm$LLVM"
+    done
+    "$fc" --version >/dev/null || stop 3 "$fc doesn't run"
+}
+
+# Functions are put where they are called, and loops of a constant number of turns written out, however large: the site
+# takes neither calls nor jumps backwards. A switch becomes no table, and an if stays a branch, which is shorter here.
+compile() {
+    "clang$LLVM" --target=bpfel -mcpu=v3 -O2 -g -ffreestanding -Wall -Wextra -fmacro-backtrace-limit=1 \
+        -fno-jump-tables -mllvm -inline-threshold=20000 -mllvm -unroll-threshold=20000 \
+        -mllvm -two-entry-phi-node-folding-threshold=0 -I "$here/examples/c" -c -o "$object" -- "$1" >&2 || exit 1
+}
+
+# The first bytes of an object: ELF, 64 bits, the least byte first, and 247 for BPF.
+look_at_target() {
+    begins=$(od -An -v -tx1 -N20 "$object" | tr -d ' \n')
+    case $begins in
+        7f454c460201????????????????????????f700) ;;
+        7f454c46*) stop 1 "$source: compiled for another target: clang --target=bpfel" ;;
+        *) stop 1 "$source: no object file" ;;
+    esac
+}
+
+# The section of the rule, its units, and where in the source each of them stands.
+read_section() {
+    "llvm-objdump$LLVM" -h "$object" | awk '$NF == "TEXT" && $3 !~ /^0+$/ { print $2 }' >"$work/sections"
+    section=$(grep -x -e rule -e rule2 "$work/sections" | head -n 1)
+    case $section in
+        rule) layout=1 ;;
+        rule2) layout=2 ;;
+        *) stop 1 "$source: no rule: begin it by RULE(name, request)" ;;
+    esac
+    "llvm-objcopy$LLVM" -O binary --only-section="$section" "$object" "$work/bytes" || exit 3
+    od -An -v -tx1 "$work/bytes" | tr -d ' \n' | fold -w 16 >"$work/hex"
+    echo >>"$work/hex"
+    "llvm-objdump$LLVM" -d -l --no-show-raw-insn -j "$section" "$object" | awk '
+        /^; .*:[0-9]+$/ { place = substr($0, 3) }
+        /^ *[0-9]+:/ { print $1 place }' >"$work/places"
+    "llvm-objdump$LLVM" -r "$object" | awk -v section="$section" '
+        /^RELOCATION RECORDS/ { inside = $NF == "[" section "]:"; next }
+        inside && $1 ~ /^[0-9a-f]+$/' >"$work/references"
+}
+
+# Tells what is wrong at a unit, with its line of C, and ends.
+fault() {
+    place=$(sed -n "s/^$1://p" "$work/places")
+    line=${place##*:}
+    file=${place%:*}
+    file=${file#"$PWD/"}
+    case $line in
+        '' | *[!0-9]*) stop 1 "$source: unit $1: $2" ;;
+    esac
+    say "$file:$line: unit $1: $2"
+    [ ! -r "$file" ] || sed -n "${line}p" "$file" >&2
+    exit 1
+}
+
+# All code has to be one function in one section.
+look_at_functions() {
+    "llvm-objdump$LLVM" -t "$object" | awk '$3 == "F" { print $4, $6 }' >"$work/functions"
+    [ "$(grep -c '^rule2\{0,1\} ' "$work/functions")" = 1 ] || stop 1 "$source: two rules: a file has one"
+    grep -vx "$section" "$work/sections" >"$work/others" || return 0
+    read -r other <"$work/others"
+    name=$(sed -n "s/^$other //p" "$work/functions" | head -n 1)
+    words="a second function, $name, in a second section, $other: make it static inline"
+    unit=$(unit_of "$name" || unit_of "$other") && fault "$unit" "$words"
+    stop 1 "$source: $words"
+}
+
+# The first unit that refers to a name.
+unit_of() {
+    awk -v name="$1" '$3 == name { print $1; exit }' "$work/references" >"$work/reference"
+    read -r offset <"$work/reference" && echo $((0x$offset / 8))
+}
+
+# What a linker would have to fill in.
+look_at_references() {
+    read -r offset type name <"$work/references" || return 0
+    unit=$((0x$offset / 8))
+    case $name in
+        .*) name='' ;;
+        *) name=", $name" ;;
+    esac
+    case $type in
+        R_BPF_64_32) fault "$unit" "a function that isn't here$name: a rule calls its own and the helpers alone" ;;
+        *) fault "$unit" "a table of constants or a global variable$name: use a switch, or a counter" ;;
+    esac
+}
+
+# Calls of the rule itself, and jumps backwards: a jump's distance stands in its offset, of gotol (06) in its imm.
+look_at_jumps() {
+    awk '
+        wide { wide = 0; next }
+        { opcode = substr($0, 1, 2); wide = opcode == "18" }
+        opcode == "85" && substr($0, 3, 1) == 1 { print NR - 1, "a function that calls itself: write its turns out"; exit }
+        opcode == "85" || opcode !~ /[56de]$/ { next }
+        substr($0, opcode == "06" ? 15 : 7, 1) ~ /[89a-f]/ {
+            print NR - 1, "a loop that isn'\''t unrolled: give it a constant number of turns, or #pragma unroll"
+            exit
+        }' "$work/hex" >"$work/flaw"
+    read -r unit words <"$work/flaw" || return 0
+    fault "$unit" "$words"
+}
+
+# The counters that the code names: the constant last put into r1 before each call of the helpers 1 to 3.
+find_mask() {
+    awk '/^b701/ { counter = substr($0, 9, 2) } /^850000000[123]/ { print counter }' "$work/hex" |
+        sort -u >"$work/counters"
+    mask=0
+    while read -r counter; do
+        [ $((0x$counter)) -gt 31 ] || mask=$((mask | 1 << 0x$counter))
+    done <"$work/counters"
+}
+
+verify() {
+    accepted=$("$fc" verify --counters "$mask" --context "$layout" "$work/hex" 2>"$work/said") && return
+    words=$(sed -n "s|^fc: $work/hex: ||p" "$work/said")
+    case $words in
+        'unit '*)
+            words=${words#unit }
+            fault "${words%%:*}" "${words#*: }"
+            ;;
+        ?*) stop 1 "$source: $words" ;;
+    esac
+    cat "$work/said" >&2
+    stop 3 "$fc gave no answer"
+}
+
+source='' kept=''
+while [ $# -gt 0 ]; do
+    case $1 in
+        -o)
+            [ $# -gt 1 ] || usage
+            kept=$2
+            shift
+            ;;
+        -*) usage ;;
+        *)
+            [ -z "$source" ] || usage
+            source=$1
+            ;;
+    esac
+    shift
+done
+case $source in *.c | *.o) ;; *) usage ;; esac
+if [ ! -f "$source" ] || [ ! -r "$source" ]; then stop 3 "$source can't be read"; fi
+need_tools
+work=$(mktemp -d) || stop 3 "no folder can be made below ${TMPDIR:-/tmp}"
+trap 'rm -rf "$work"' EXIT
+object=$source
+case $source in
+    *.c)
+        object=$work/rule.o
+        compile "$source"
+        ;;
+esac
+look_at_target
+read_section
+look_at_functions
+look_at_references
+look_at_jumps
+find_mask
+verify
+told="$accepted, mask $mask, layout $layout"
+if [ -n "$kept" ]; then
+    if ! cp "$work/hex" "$kept.new" || ! mv "$kept.new" "$kept"; then stop 3 "$kept can't be written"; fi
+    echo "$told"
+else
+    cat "$work/hex"
+    echo "$told" >&2
+fi
