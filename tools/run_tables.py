@@ -11,11 +11,15 @@ backslash, \\xHH a byte, and ~N*TEXT~ is TEXT, N times.
                     'status | N'; where a row begins with '<', it is no line of the script but a further line of the
                     answer of the row above it
 
+A line 'needs: COMMAND..' in front of that names what the machine may be without: then the table is skipped, with a word
+that says so. Where LLVM is set (LLVM=-19), it stands behind each of these names.
+
 Each row is a case of its own, of a play each play. Prints each case that differs, and then 'N passed, M failed'.
 usage: tools/run_tables.py PROGRAM [WORD]    WORD: only the tables whose path has it
 """
 import os
 import re
+import shutil
 import subprocess
 import sys
 import tempfile
@@ -37,6 +41,12 @@ def plain(column):
     return whole + column[at:].encode()
 
 
+def wanting(commands):
+    """Returns the first of some commands that this machine is without."""
+    names = [name + os.environ.get("LLVM", "") for name in commands.split()]
+    return next((name for name in names if not shutil.which(name)), None)
+
+
 def rows_of(path):
     """Returns what a table does, with what, and its rows as (number of the line, columns), with None for an empty line."""
     kind, what, rows = None, None, []
@@ -45,7 +55,12 @@ def rows_of(path):
             line = line.rstrip("\n")
             if line.startswith("#"):
                 continue
-            if kind is None and line:
+            if kind is None and line.startswith("needs: "):
+                name = wanting(line.removeprefix("needs: "))
+                if name:
+                    print(f"{os.path.relpath(path, HERE)} is skipped: there is no {name} here")
+                    return "run", "true", []
+            elif kind is None and line:
                 kind, _, what = line.partition(": ")
                 if kind not in ("run", "play") or not what:
                     sys.exit(f"{path}:{number}: 'run: COMMAND' or 'play: CONFIG' is wanted here")
