@@ -21,11 +21,14 @@
  * cents; of a price every other number grants what is asked. A file has one rule.
  */
 #define RULE(rule_name, argument) \
-	__attribute__((section("rule"), used)) uint64_t rule_name(const struct request *argument)
+	__attribute__((section("rule"), used)) uint64_t rule_name(FORECOURT_ARGUMENT(request, argument))
 
 /** Begins a rule that needs a field of struct request2. The site takes it by load2. */
 #define RULE2(rule_name, argument) \
-	__attribute__((section("rule2"), used)) uint64_t rule_name(const struct request2 *argument)
+	__attribute__((section("rule2"), used)) uint64_t rule_name(FORECOURT_ARGUMENT(request2, argument))
+
+/* A rule that grants the same to all may leave its request unread. */
+#define FORECOURT_ARGUMENT(type, argument) const struct type *argument __attribute__((unused))
 
 /** The answer that grants nothing. */
 #define DENY UINT64_C(0)
