@@ -1,6 +1,6 @@
 #!/usr/bin/env python3
-"""Holds the documentation's table of the context's fields against the definition from which contexts are laid: each
-field's place, bytes and layouts, and the word for what stands there.
+"""Holds the documentation's table of the context's fields, and the header for rules in C, against the definition from
+which contexts are laid: each field's place, bytes and layouts, and the word for what stands there.
 
     fields.py     the last line is 'N passed, M failed', of fields and of the layouts' lengths
 """
@@ -13,6 +13,7 @@ ROOT = os.path.join(os.path.dirname(os.path.abspath(__file__)), "..")
 DOCUMENT = "docs/use/writing-rules.md"
 FIELDS = "crates/site_core/specs/Context.antt"
 LENGTHS = "crates/bpf_model/specs/Layouts.antt"
+HEADER = "examples/c/forecourt.h"
 HEAD = "| at | bytes | layouts | what stands there |"
 SIZES = {"Four": 4, "Eight": 8}
 # Which word of the table stands for a term of the definition.
@@ -34,6 +35,16 @@ WORDS = {
     "(open_points s)": "open",
     "0": "zero",
 }
+# Which field of C stands for a word of the table, where it has another name.
+MEMBERS = {
+    "asked": "amount",
+    "busy_points": "busy",
+    "cleared": "cents",
+    "clears": "transactions",
+    "open_points": "open",
+}
+STRUCTS = {"1": "request", "2": "request2"}
+C_SIZES = {"uint32_t": 4, "uint64_t": 8}
 
 
 def text_of(path):
@@ -76,8 +87,24 @@ def documented():
         yield int(at), int(size), layouts, re.match(r"\w+", told)[0]
 
 
-def main():
-    fields, rows = list(defined()), list(documented())
+def members(struct):
+    """Each field of a struct of the header: its place, bytes and word, as its declaration has them."""
+    body = one(rf"^struct {struct} {{\n(.*?)^}};", text_of(HEADER), f"{HEADER}: struct {struct}")
+    place = 0
+    for kind, name in re.findall(r"^\t(\w+) (\w+);$", body, re.MULTILINE):
+        yield place, C_SIZES[kind], MEMBERS.get(name, name)
+        place += C_SIZES[kind]
+
+
+def asserted(struct):
+    """The same, as its static assertions have them."""
+    assertion = rf"^FORECOURT_AT\((\d+), (\d+), {struct}, (\w+)\);$"
+    for place, size, name in re.findall(assertion, text_of(HEADER), re.MULTILINE):
+        yield int(place), int(size), MEMBERS.get(name, name)
+
+
+def compare(fields, rows, where):
+    """Returns how many fields are as they are defined, and how many aren't."""
     passed = failed = 0
     for at in range(max(len(fields), len(rows))):
         field, row = (list_of[at] if at < len(list_of) else None for list_of in (fields, rows))
@@ -85,7 +112,18 @@ def main():
             passed += 1
         else:
             failed += 1
-            print(f"field {at + 1}: {FIELDS} has {field}, {DOCUMENT} has {row}")
+            print(f"field {at + 1}: {FIELDS} has {field}, {where} has {row}")
+    return passed, failed
+
+
+def main():
+    fields = list(defined())
+    passed, failed = compare(fields, list(documented()), DOCUMENT)
+    for number, struct in STRUCTS.items():
+        laid = [(place, size, word) for place, size, layouts, word in fields if number in layouts.split(", ")]
+        for found, where in ((members, "its declaration"), (asserted, "its assertion")):
+            good, bad = compare(laid, list(found(struct)), f"{HEADER}: struct {struct}, {where},")
+            passed, failed = passed + good, failed + bad
     lengths = text_of(LENGTHS)
     for name, number in (("One", "1"), ("Two", "2")):
         length = int(one(rf"^context_len layout\.{name} = (\d+)$", lengths, f"{LENGTHS}: layout {number}"))
