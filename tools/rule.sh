@@ -33,9 +33,10 @@ need_tools() {
 # Functions are put where they are called, and loops of a constant number of turns written out, however large: the site
 # takes neither calls nor jumps backwards. A switch becomes no table, and an if stays a branch, which is shorter here.
 compile() {
-    "clang$LLVM" --target=bpfel -mcpu=v3 -O2 -g -ffreestanding -Wall -Wextra -fmacro-backtrace-limit=1 \
-        -fno-jump-tables -mllvm -inline-threshold=20000 -mllvm -unroll-threshold=20000 \
-        -mllvm -two-entry-phi-node-folding-threshold=0 -I "$here/examples/c" -c -o "$object" -- "$1" >&2 || exit 1
+    "clang$LLVM" --target=bpfel -mcpu=v3 -O2 -g -ffreestanding -fno-jump-tables \
+        -mllvm -inline-threshold=20000 -mllvm -unroll-threshold=20000 -mllvm -two-entry-phi-node-folding-threshold=0 \
+        -Wall -Wextra -Werror=implicit-function-declaration -fmacro-backtrace-limit=1 -fno-crash-diagnostics \
+        -I "$here/examples/c" -c -o "$object" -- "$1" >&2 || exit 1
 }
 
 # The first bytes of an object: ELF, 64 bits, the least byte first, and 247 for BPF.
