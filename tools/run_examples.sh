@@ -1,15 +1,17 @@
 #!/bin/sh
 # Runs the examples of the documents: in each block marked `console`, a line that begins with `$ ` is a command (with
 # its text up to END, where it says <<'END'), and what stands below it is what it must print on standard output. The
-# commands of one document run in one new folder, with `fc` and `examples` in it. Prints each example that differs, and
-# then 'N passed, M failed'.
+# commands of one document run in one new folder, with `fc`, `examples` and `tools` in it. A block whose mark has words
+# behind it, as `console clang`, needs these commands: where the machine is without one it is skipped, with a word that
+# says so. Prints each example that differs, and then 'N passed, M failed'.
 # usage: tools/run_examples.sh PROGRAM DOCUMENT..
 set -u
 program=$(readlink -f -- "$1") || exit 1
 shift
 here=$(CDPATH='' cd -- "$(dirname -- "$0")/.." && pwd -P) || exit 1
 work=$(mktemp -d) || exit 1
-export TMPDIR=$work
+TMPDIR=$work FC=$program
+export TMPDIR FC
 trap 'rm -rf "$work"' EXIT
 passed=0 failed=0
 for document in "$@"; do
@@ -21,9 +23,18 @@ if [ "\${1-}" = --unproved ]; then exec "$here/fc" "\$@"; fi
 exec "$program" "\$@"
 FC
     chmod +x "$folder/run/fc"
-    ln -s "$here/examples" "$folder/run/examples"
-    awk -v parts="$folder/parts" '
-        /^```console$/ { inside = 1; next }
+    ln -s "$here/examples" "$here/tools" "$folder/run/"
+    awk -v parts="$folder/parts" -v document="$document" '
+        /^```console( |$)/ {
+            inside = 1
+            for (i = 2; i <= NF; i++)
+                if (system("command -v " $i " >/dev/null")) {
+                    print document ":" NR ": a block is skipped: there is no " $i " here"
+                    inside = 0
+                    break
+                }
+            next
+        }
         /^```/ { inside = 0; text = 0; next }
         !inside { next }
         text { print > command; if ($0 == "END") text = 0; next }
