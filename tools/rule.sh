@@ -105,6 +105,7 @@ unit_of() {
 look_at_references() {
     read -r offset type name <"$work/references" || return 0
     unit=$((0x$offset / 8))
+    ! grep -qx "$section $name" "$work/functions" || fault "$unit" "the rule calls itself: write its turns out"
     case $name in
         .*) name='' ;;
         *) name=", $name" ;;
@@ -115,12 +116,11 @@ look_at_references() {
     esac
 }
 
-# Calls of the rule itself, and jumps backwards: a jump's distance stands in its offset, of gotol (06) in its imm.
+# Jumps backwards: a jump's distance stands in its offset, of gotol (06) in its imm.
 look_at_jumps() {
     awk '
         wide { wide = 0; next }
         { opcode = substr($0, 1, 2); wide = opcode == "18" }
-        opcode == "85" && substr($0, 3, 1) == 1 { print NR - 1, "a function that calls itself: write its turns out"; exit }
         opcode == "85" || opcode !~ /[56de]$/ { next }
         substr($0, opcode == "06" ? 15 : 7, 1) ~ /[89a-f]/ {
             print NR - 1, "a loop that isn'\''t unrolled: give it a constant number of turns, or #pragma unroll"

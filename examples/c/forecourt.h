@@ -152,8 +152,9 @@ struct record {
 	/** The amount of the delivery that is under way, in cents. */
 	uint64_t amount;
 };
-_Static_assert(sizeof(struct record) == 16 && offsetof(struct record, nozzle) == 4 && offsetof(struct record, amount) == 8,
-	       "a record has 16 bytes");
+_Static_assert(sizeof(struct record) == 16, "a record has 16 bytes");
+_Static_assert(offsetof(struct record, nozzle) == 4, "record.nozzle isn't at its place");
+_Static_assert(offsetof(struct record, amount) == 8, "record.amount isn't at its place");
 
 /*
  * The helpers. Each call is an assembler statement of its own, which no compiler merges with another: the site takes a
