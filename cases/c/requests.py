@@ -1,6 +1,7 @@
 #!/usr/bin/env python3
 """Sends a rule in C 2,000 requests at random, with lines between them that change the site, and holds each answer
-against what the rule means, written down below. A rule that stands in assembler too has to answer all lines alike.
+and the counters against what the rule means, written down below. A rule that stands in assembler too has to answer all
+lines alike.
 
     requests.py NAME              the units in examples/c/NAME.hex, and those of examples/rules/NAME.bpf if it is there
     requests.py NAME FILE.hex     the units in that file in place of the first
@@ -29,7 +30,7 @@ class Rule:
         self.word = "load2" if "Layout: 2" in head else "load"
         self.kind = KINDS[re.search(r"Slot: (\w+)", head)[1]]
         self.slot = list(KINDS.values()).index(self.kind)
-        self.mask = re.search(r"Mask: (\d+)", head)[1]
+        self.mask = int(re.search(r"Mask: (\d+)", head)[1])
 
     def answers(self, units, lines):
         """Returns what a play of the lines answers, with a rule of these units, without the entries' numbers."""
@@ -245,16 +246,22 @@ def quota_by_product(site, it):
 
 
 def requests_to(rule, meaning):
-    """Returns the lines for a site with this rule, and of each request its place, what is asked and what is granted."""
-    site, requests = Site(), []
+    """Returns the lines for a site with this rule, what some of them should be answered, by their places, and how many
+    requests are granted as they are asked."""
+    site, wanted, full = Site(), {}, 0
     for _ in range(REQUESTS):
         site.pass_time()
         request = Request(site, rule.kind)
         granted = min(request.asked, meaning(site, request))
-        requests.append((len(site.lines), request.asked, granted))
+        full += granted == request.asked
+        wanted[len(site.lines)] = f"granted {granted} by 1" if granted else "S24 1"
         site.send(request.line)
+        for counter, value in site.counters.items():
+            if rule.mask >> counter & 1:
+                wanted[len(site.lines)] = f"{value} 900000000"
+                site.send(f"counter {counter}")
         request.follow(site, granted)
-    return site.lines, requests
+    return site.lines, wanted, full
 
 
 def main():
@@ -266,16 +273,14 @@ def main():
         texts.append(subprocess.run(["fc", "asm", twin], stdout=subprocess.PIPE, text=True, check=True).stdout)
     random.seed(name)
     rule = Rule(name)
-    lines, requests = requests_to(rule, globals()[name])
+    lines, wanted, full = requests_to(rule, globals()[name])
     played = [rule.answers(units, lines) for units in texts]
     for at, (line, answers) in enumerate(zip(lines, zip(*played))):
         if len(set(answers)) != 1:
             sys.exit(f"line {at + 1}, {line}: in C {answers[0]}, in assembler {answers[1]}")
-    for at, _, granted in requests:
-        wanted = f"granted {granted} by 1" if granted else "S24 1"
-        if played[0][at] != wanted:
-            sys.exit(f"line {at + 1}, {lines[at]}: {played[0][at]}, and it means {wanted}")
-    full = sum(asked == granted for _, asked, granted in requests)
+    for at, answer in wanted.items():
+        if played[0][at] != answer:
+            sys.exit(f"line {at + 1}, {lines[at]}: {played[0][at]}, and it means {answer}")
     print("the same" if ENOUGH <= full <= REQUESTS - ENOUGH else f"{full} were granted as they were asked")
 
 
