@@ -114,6 +114,14 @@ def cases_of(path, program):
     return [(f"{short}:{it[0][0]}", lambda it=it: play(what, folder, program, [row for _, row in it])) for it in plays]
 
 
+def tried(case):
+    """Returns what a case gives, or says that it came to no end."""
+    try:
+        return case()
+    except subprocess.TimeoutExpired as late:
+        return b"no end within %d seconds" % late.timeout, b"an end", late.stderr or b""
+
+
 def main():
     if len(sys.argv) not in (2, 3):
         sys.exit(__doc__)
@@ -121,7 +129,7 @@ def main():
     found = sorted(f"{at}/{name}" for at, _, names in os.walk(f"{HERE}/cases") for name in names)
     cases = [it for path in found if path.endswith(".table") and word in path for it in cases_of(path, program)]
     with ThreadPoolExecutor(os.cpu_count()) as pool:
-        results = list(pool.map(lambda it: it[1](), cases))
+        results = list(pool.map(lambda it: tried(it[1]), cases))
     failed = 0
     for (place, _), (printed, wanted, said) in zip(cases, results):
         if printed != wanted:
