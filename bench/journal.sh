@@ -2,10 +2,10 @@
 # Plays scripts of so many lines, audits the journals that this gives, and prints for each step its lines per second and its
 # most memory, beside sha256sum over the same journal.
 # Usage: bench/journal.sh [ENTRIES ..]; without numbers 1000, 100000 and 1048576, which is a full journal.
-# The program is crates/fc/out/fc, which ./fc builds, or $FC.
+# The program is out/fc, which ./fc builds, or $FC.
 set -eu
 here=$(CDPATH='' cd -- "$(dirname -- "$0")" && pwd -P)
-fc=${FC:-$here/../crates/fc/out/fc}
+fc=${FC:-$here/../out/fc}
 [ -x /usr/bin/time ] || { echo "journal.sh: GNU time is not at /usr/bin/time" >&2; exit 1; }
 [ -x "$fc" ] || { echo "journal.sh: $fc is not there; ./fc --version builds it" >&2; exit 1; }
 site=$here/station.toml

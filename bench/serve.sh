@@ -19,10 +19,10 @@
 #
 #     bench/serve.sh LINES --null [TURNS [BYTES [FIRST SECOND [READY]]]]
 #
-# The program is crates/fc/out/fc, which ./fc builds, or $FC.
+# The program is out/fc, which ./fc builds, or $FC.
 set -eu
 here=$(CDPATH='' cd -- "$(dirname -- "$0")" && pwd -P)
-fc=${FC:-$here/../crates/fc/out/fc}
+fc=${FC:-$here/../out/fc}
 [ -x "$fc" ] || { echo "bench: build the program first: ./fc --version" >&2; exit 1; }
 work=$(mktemp -d)
 trap 'kill "$served" 2>/dev/null || true; rm -rf "$work"' EXIT

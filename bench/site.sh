@@ -5,10 +5,10 @@
 # entries are as large as fc's.
 # Usage: bench/site.sh [LINES ..]; without numbers 100000 and 1048576, which is a full journal. TURNS is the number of
 # turns, 7 where it isn't set. Answers, journals and what the audits say have to be the same.
-# The program is crates/fc/out/fc, which ./fc builds, or $FC.
+# The program is out/fc, which ./fc builds, or $FC.
 set -eu
 here=$(CDPATH='' cd -- "$(dirname -- "$0")" && pwd -P)
-fc=${FC:-$here/../crates/fc/out/fc}
+fc=${FC:-$here/../out/fc}
 station=$here/station.toml
 [ -x "$fc" ] || { echo "site.sh: $fc is not there; ./fc --version builds it" >&2; exit 1; }
 work=$(mktemp -d)
