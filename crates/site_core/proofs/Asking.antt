@@ -1,4 +1,4 @@
--- A question that was asked in one state is asked in another that shows the same context.
+-- A question that is asked in one state is also asked in another state that gives the same context.
 use Rattle.std.proofs.Common.{◌≡◌, ℕ, ◌<◌, ◌≤◌, ◌&&◌, Bool, true, false, length, Option, Some, None, Ok, Err, refl, ap, ◌∙◌, sym, arith}
 use Rattle.std.specs.Prelude.{if◌then◌else◌, nat_lt}
 use Rattle.std.specs.Result.{result_ok}
@@ -37,7 +37,7 @@ some-same p q h = cc
 
 -- ---- what was asked
 
--- a preset that was asked is one of a ready point
+-- A preset that is asked is asked at a point that is ready, for an amount in range.
 record AsksPreset (config : ConfigValue) (s : SiteState) (n amount : ℕ) (q : Question) : Type 0 where
   point : PointState
   is_point : at_number s.points n ≡ Some point
@@ -59,7 +59,7 @@ asks-preset config s n amount q (Some p) at h =
     in
     record { point = p; is_point = at; question = all.2; within = all.0; ready = all.1 }
 
--- a price that was asked is in its range, and no point was busy
+-- A price that is asked is in its range, and no point is busy.
 record AsksPrice (config : ConfigValue) (s : SiteState) (product price : ℕ) (q : Question) : Type 0 where
   question : q ≡ record { kind = kind.Price; point = 0; product = product; asked = price; slot = config.price_slot }
   within : (is_within 1 product 8 && is_within 1 price 9999999) ≡ true
@@ -78,7 +78,7 @@ asks-price config s product price q h =
     let all = price-ok (is_within 1 product 8 && is_within 1 price 9999999) bad_amount (first_busy s) asked q h in
     record { question = all.2; within = all.0; free = all.1 }
 
--- ---- where it is routed
+-- ---- the question that a request is routed to
 
 at-none : (s : SiteState) (n : ℕ) (q : Question) → at_number s.points n ≡ None → at_point s n q ≡ None
 unfolding at_point
@@ -88,7 +88,7 @@ at-some : (s : SiteState) (n : ℕ) (q : Question) (p : PointState) → at_numbe
 unfolding at_point
 at-some s n q p some = rw (some, at_point)
 
--- a question that is routed to a point is of that point
+-- A question that is routed to a point is the question at that point.
 record Routes (s : SiteState) (n : ℕ) (asked q : Question) : Type 0 where
   point : PointState
   is_point : at_number s.points n ≡ Some point
@@ -98,7 +98,7 @@ routes : (s : SiteState) (n : ℕ) (asked q : Question) (o : Option PointState) 
 routes s n asked q None at h = absurd (none-some q (sym (at-none s n asked at) ∙ h))
 routes s n asked q (Some p) at h = record { point = p; is_point = at; question = sym (some-same asked q (sym (at-some s n asked p at) ∙ h)) }
 
--- what is asked is what is routed
+-- The question that is asked is the one that the request is routed to.
 asked-routed-request : (config : ConfigValue) (s : SiteState) (r : Request) (q : Question) → question_of config s r ≡ Some q
     → routed_request config s r ≡ Some q
 asked-routed-request config s (request.Release n amount) q h =
@@ -197,7 +197,7 @@ pub asked-again : (layout : Layout) (config other : ConfigValue) (s t : SiteStat
 asked-again layout config other s t till moment r q was h routed fits same =
     by-till layout config other s t till moment r q was (is_till config till) (is_till other till) h routed fits same
 
--- ---- what is asked fits the place where it is granted
+-- ---- a question that is asked is well asked
 
 some-none : (p : PointState) → ◌≡◌ {A = Option PointState} (Some p) None → ⊥
 some-none p h = cc
@@ -225,7 +225,7 @@ well-till config s r q false h = absurd (none-some q h)
 pub well-asked : (config : ConfigValue) (s : SiteState) (till : ℕ) (r : Request) (q : Question) → asked_question config s till r ≡ Some q → WellAsked s q
 well-asked config s till r q h = well-till config s r q (is_till config till) h
 
--- a till that asks is there
+-- The number of a till that exists isn't 0.
 first-till : (till tills : ℕ) → is_within 1 till tills ≡ true → 0 < till
 first-till till tills h = grind (arith, nat_tests, h)
 

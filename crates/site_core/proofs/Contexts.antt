@@ -1,4 +1,4 @@
--- What two equal contexts say of the states that they were made in.
+-- What two equal contexts say about the states in which they were made.
 use Rattle.std.proofs.Common.{◌≡◌, ℕ, ◌+◌, ◌%◌, ◌<◌, Bool, true, false, List, [], ◌∷◌, ◌++◌, length, take, map, replicate, Option, Some, None, refl, ap, ◌∙◌}
 use Rattle.std.proofs.Common.{sym, arith, get_or, zero, suc, cond}
 use Rattle.std.specs.Prelude.{◌==◌, ◌||◌, ◌-◌, count_by, find, option_map}
@@ -25,7 +25,7 @@ use Rattle.site_core.specs.Context.{context, fields, laid, told, of_point}
 
 -- ---- fields
 
--- a field of four bytes
+-- The four bytes from a place on.
 four : List ℕ → ℕ → List ℕ
 four bytes at = get_or bytes at 0 ∷ get_or bytes (at + 1) 0 ∷ get_or bytes (at + 2) 0 ∷ get_or bytes (at + 3) 0 ∷ []
 
@@ -35,7 +35,8 @@ four-same x y fits small h =
     let theirs : little_number 4 (little_bytes 4 y ++ []) ≡ y = little_number-reads_back 4 y [] (omega (arith, small)) in
     sym mine ∙ ap (λ bytes. little_number 4 (bytes ++ [])) h ∙ theirs
 
--- the state of the question's point stands at 12, the number of busy points at 44, and that of its transactions at 48
+-- In a context the state of the question's point is at byte 12, the number of busy points at byte 44, and the number of the point's unpaid
+-- transactions at byte 48.
 laid-state : (a b c x : ℕ) (rest : List Field) → get_or (laid (Four a ∷ Four b ∷ Four c ∷ Four x ∷ rest)) 12 0 ≡ x % 256
 unfolding laid
 laid-state a b c x rest = refl
@@ -61,7 +62,7 @@ unfolding context
 context-layout layouts.One s till moment q = refl
 context-layout layouts.Two s till moment q = refl
 
--- contexts of one layout and the same bytes
+-- Contexts of the same layout and with the same bytes are the same.
 pub same-context : (a b : Context) → layout_of a ≡ layout_of b → bytes_of a ≡ bytes_of b → a ≡ b
 same-context (contexts.One x) (contexts.One y) l h = ap (λ bytes. contexts.One bytes) h
 same-context (contexts.Two x) (contexts.Two y) l h = ap (λ bytes. contexts.Two bytes) h
@@ -116,7 +117,7 @@ of-point : (s : SiteState) (q : Question) (n : ℕ) (p : PointState) (field : Po
     → of_point s q field ≡ field p
 of-point s q n p field is at = ap (λ m. told (at_number s.points m) field) is ∙ ap (λ o. told o field) at
 
--- both points are ready, or none
+-- Where the contexts are the same, both points are ready or neither is.
 pub same-ready : (layout : Layout) (s t : SiteState) (till moment n m : ℕ) (q r : Question) (p o : PointState) → q.point ≡ n → at_number s.points n ≡ Some p
     → r.point ≡ m → at_number t.points m ≡ Some o → bytes_of (context layout s till moment q) ≡ bytes_of (context layout t till moment r)
     → is_ready p.state ≡ is_ready o.state
@@ -127,7 +128,7 @@ same-ready layout s t till moment n m q r p o at here there_at there same =
     context-state layout t till moment r ∙ ap (λ x. x % 256) (of-point t r m o (λ x. state_number x.state) there_at there) in
     by-byte p.state ∙ ap ready-byte (sym mine ∙ ap (λ bytes. get_or bytes 12 0) same ∙ theirs) ∙ sym (by-byte o.state)
 
--- both have as many transactions
+-- Where the contexts are the same, both points have the same number of unpaid transactions.
 pub same-unpaid : (layout : Layout) (s t : SiteState) (till moment n m : ℕ) (q r : Question) (p o : PointState) → q.point ≡ n → at_number s.points n ≡ Some p
     → r.point ≡ m → at_number t.points m ≡ Some o → of_point s q (λ x. length x.unpaid) < 4294967296 → length o.unpaid < 2
     → bytes_of (context layout s till moment q) ≡ bytes_of (context layout t till moment r) → length p.unpaid ≡ length o.unpaid
@@ -178,7 +179,7 @@ first-none : (s : SiteState) → busy_points s ≡ 0 → first_busy s ≡ None
 unfolding first_busy busy_points
 first-none s h = ap (option_map (λ (p : PointState). p.state)) (none-counted s.points (counted s.points ∙ h))
 
--- no point is busy in either
+-- Where the contexts are the same and no point is busy in one state, none is busy in the other.
 pub same-busy : (layout : Layout) (s t : SiteState) (till moment : ℕ) (q r : Question) → busy_points s < 4294967296 → first_busy t ≡ None
     → bytes_of (context layout s till moment q) ≡ bytes_of (context layout t till moment r) → first_busy s ≡ None
 same-busy layout s t till moment q r fits none same =
@@ -218,7 +219,7 @@ view-there : (s : SiteState) → there (view_of s).points ≡ (view_of s).count
 unfolding view_of seen_points
 view-there s = there-seen s.points (32 - length s.points)
 
--- views of the same points and prices have as many points
+-- Views with the same points and prices are the same: they also count the same number of points.
 pub same-view : (s t : SiteState) (now view : View) → now ≡ view_of s → view ≡ view_of t → now.points ≡ view.points → now.prices ≡ view.prices → now ≡ view
 same-view s t now view mine theirs points prices =
     let many : now.count ≡ view.count =
@@ -226,7 +227,7 @@ same-view s t now view mine theirs points prices =
     (λ (v : View). there v.points) theirs ∙ view-there t ∙ ap (λ (v : View). v.count) (sym theirs) in
     λ i. record { count = many i; points = points i; prices = prices i }
 
--- ---- the context that is laid
+-- ---- the fields that the code lays
 
 pub shared-first : (s : SiteState) (till moment : ℕ) (q : Question) → take 13 (fields layouts.Two s till moment q) ≡ fields layouts.One s till moment q
 shared-first s till moment q = refl

@@ -1,4 +1,4 @@
--- How a decision comes out.
+-- The effect of a decision in each case.
 use Rattle.std.proofs.Common.{◌≡◌, ℕ, List, Some, None, Ok, Err, refl, ap, ◌∙◌}
 use Rattle.decision_journal.specs.declared.entries.Entry.{Entry}
 use Rattle.till_request.specs.declared.act.Reply.{Reply}

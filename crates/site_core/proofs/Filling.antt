@@ -1,4 +1,4 @@
--- Filling the first places of a list of fixed length; the view that a station keeps.
+-- Lists of fixed length that are filled from the front, and the view that a station keeps.
 use Rattle.std.proofs.Common.{◌≡◌, ℕ, zero, suc, ◌-◌, ◌<◌, ◌≤◌, List, [], ◌∷◌, ◌++◌, length, map, take, replicate, set, get_or, refl, ap, arith, ◌∙◌, sym}
 use Rattle.std.proofs.lemmas.List.{length-set}
 use Rattle.bpf_model.specs.declared.machine.View.{View}
@@ -19,14 +19,14 @@ set-map f z [] i n x lt = absurd (omega arith)
 set-map f z (y ∷ ys) zero n x lt = refl
 set-map f z (y ∷ ys) (suc i) n x lt = ap (λ r. f y ∷ r) (set-map f z ys i n x (omega arith))
 
--- what is seen of points of which one changed
+-- What is seen of the points after one of them changed.
 pub seen-set : (points : List PointState) (i : ℕ) (p : PointState) → i < length points → set (seen_points points) i (seen p) ≡ seen_points (set points i p)
 unfolding seen_points
 seen-set points i p lt =
     let same : length (set points i p) ≡ length points = length-set points i p in
     set-map seen no_point points i (32 - length points) p lt ∙ ap (λ n. map seen (set points i p) ++ replicate (32 - n) no_point) (sym same)
 
--- a view of the points and prices of a state
+-- A view with the points and prices of a state is that state's view.
 pub view-is : (s : SiteState) (v : View) → v.count ≡ length s.points → v.points ≡ seen_points s.points → v.prices ≡ s.prices → v ≡ view_of s
 unfolding view_of
 view-is s v count points prices = λ i. record { count = count i; points = points i; prices = prices i }
@@ -45,7 +45,7 @@ pub cut-last : {T : Type 0} → (xs : List T) (x y : T) → take (length xs) (se
 cut-last [] x y = refl
 cut-last (z ∷ zs) x y = ap (λ r. z ∷ r) (cut-last zs x y)
 
--- what a station keeps where one of its points became another
+-- The invariant of a station still holds after one of its points and its place in the view changed.
 pub keeps-seen : (points : List PointState) (view : View) (i : ℕ) (p : PointState) (one : PointView) → i < length points → length points ≤ 32
     → length view.prices ≡ 8 → view.count ≡ length points → view.points ≡ seen_points points → one ≡ seen p
     → (length (set points i p) ≤ 32) × (length view.prices ≡ 8) × (view.count ≡ length (set points i p))

@@ -19,7 +19,7 @@ use Rattle.site_core.specs.Context.{context}
 use Rattle.site_core.specs.Decide.{Effect, denied, grant, granted_point, command_of, after_command, verdict, counts}
 use Rattle.site_core.proofs.Points.{at_number-read}
 
--- what the point became
+-- The point after its answer.
 after-is : (a : Answer (Option ℕ)) (p new : PointState) (outcome : Result (Option ℕ) PointFault) → FollowsTable a p outcome new
     → (elim a as (λ _. PointState) [ Ok o ↦ o.0 | Err f ↦ p ]) ≡ new
 after-is (Ok (q, given)) p new outcome h = sym h.1
@@ -44,7 +44,7 @@ grant-is s till r q p new outcome one le is answers =
     grant-some s till r q p (at_number-read s.points q.point p one le is) ∙ ap
     (λ x. (g, with_point s q.point x)) (after-is (command_step p till (command_of q.kind g)) p new outcome answers)
 
--- one more transaction at one point
+-- One more transaction at one point keeps the site's numbers within the bounds of one more entry.
 pub bounded-with : (k : ℕ) (s : SiteState) (n : ℕ) (p new : PointState) → Bounded k s → n ≤ length s.points → 1 ≤ n → p ≡ get_or s.points (n - 1) p
     → new.last ≤ p.last + 1 → Bounded (k + 1) (with_point s n new)
 bounded-with k s n p new b le one is last =
@@ -113,10 +113,10 @@ module _ (s : SiteState) (till moment r : ℕ) (q : Question) (v : Version) (c :
       verdict-grant s till moment r g.0 q v c g.1 some refl
       ∙ ap effect-of (sym (settled-grant (with_counters s c) till v.number r q some) ∙ is)
 
-  -- the decision, by what is told and what is left
+  -- The effect of the decision, from the reply and the state that settling gives.
   pub verdict-is : verdict s till moment q v r c ≡ record { reply = given; run = Some made-run; after = new }
   verdict-is = verdict-by (r == 0) refl
 
--- a run changes no number that is bounded
+-- A run changes none of the numbers that are bounded.
 pub bounded-counted : (k : ℕ) (s : SiteState) (c : Counters) → Bounded k s → Bounded k (with_counters s c)
 bounded-counted k s c b = record { last = b.last; cleared = b.cleared; clears = b.clears }

@@ -1,4 +1,4 @@
--- What a run made outside the site says of the site's own step.
+-- What a run outside the site says about the site's own step.
 use Rattle.std.proofs.Common.{◌≡◌, ℕ, List, ◌∷◌, length, arith, Bool, true, false, Option, Some, None, Ok, Err, refl, ap, ◌∙◌, sym, subst}
 use Rattle.std.specs.Prelude.{◌⊎◌, reverse, ◌==◌, if◌then◌else◌, IsSome, is_some, ◌<◌, Result, IfOk}
 use Rattle.std.specs.declared.alloc.AllocError.{AllocError}
@@ -43,7 +43,7 @@ use Rattle.site_core.proofs.Lawful.{Asked}
 use Rattle.site_core.proofs.Undecided.{effect-tells}
 use Rattle.site_core.proofs.Asking.{ok-is, none-some, asked-routed}
 
--- ---- the step of a request that asks a program
+-- ---- the step for a request that asks a program
 
 asked-request : (config : ConfigValue) (past : List Entry) (s : SiteState) (till moment : ℕ) (r : Request) (q : Question) → question_of config s r ≡ Some q
     → asked config past s till moment r ≡ decided past s till moment (Ok q)
@@ -62,7 +62,7 @@ pub effect-decided : (config : ConfigValue) (past : List Entry) (s : SiteState) 
     → asked_question config s till r ≡ Some q → effect config past s moment (act.Till till r) ≡ decided past s till moment (Ok q)
 effect-decided config past s till moment r q h = asked-till config past s till moment r q (is_till config till) h
 
--- a till's entry loads nothing
+-- A till's entry loads no program, so the slots still agree with the history.
 pub agrees-till : (slots : SlotsValue) (past : List Entry) (entry : Entry) (till : ℕ) (r : Request) → Agrees slots past → entry.act ≡ act.Till till r
     → Agrees slots (entry ∷ past)
 agrees-till slots past entry till r a is =
@@ -72,7 +72,7 @@ agrees-till slots past entry till r a is =
       versions = rw (none, versions) a.versions;
     }
 
--- a settled run is the step's
+-- A run that is settled does what the step does.
 pub performs-settled : (config : ConfigValue) (past : List Entry) (s new : SiteState) (slots : SlotsValue) (draft : DraftValue) (q : Question) (r0 : ℕ)
     (after : Counters) (entry : Entry) → entry.moment ≡ draft.moment → entry.act ≡ act.Till draft.till draft.request → StillAsked config s slots draft q
     → Agrees slots past → outcome draft.version.program draft.context draft.view s.counters ≡ Ended r0 after
@@ -95,7 +95,7 @@ performs-settled config past s new slots draft q r0 after entry moment_is act_is
       good = subst GoodLoad (sym act_is) tt;
     }
 
--- ---- whether it runs one
+-- ---- whether the step runs a program
 
 answer-run : (s : SiteState) (n : ℕ) (a : Answer (Option ℕ)) → (command_effect s n a).run ≡ None
 answer-run s n (Ok (p, cleared)) = refl
@@ -132,7 +132,7 @@ till-run : (config : ConfigValue) (past : List Entry) (s : SiteState) (till mome
 till-run config past s till moment r true h = request-run config past s till moment r h
 till-run config past s till moment r false h = refl
 
--- no program is run where none is asked, or where none is installed
+-- No program is run where no question is asked, or where no program is installed in its slot.
 pub runs-none : (config : ConfigValue) (past : List Entry) (s : SiteState) (till moment : ℕ) (r : Request)
     → (asked_question config s till r ≡ None) ⊎ ((q : Question) × (asked_question config s till r ≡ Some q) × (in_force q.slot past ≡ None))
     → (effect config past s moment (act.Till till r)).run ≡ None
@@ -147,7 +147,7 @@ verdict-run s till moment q v r c false some =
     let g = grant (record s { counters = c }) till q r in
     subst (λ (e : Effect). IsSome e.run) (sym (verdict-grant s till moment r g.0 q v c g.1 some refl)) refl
 
--- else the version in force is run
+-- Where a question is asked and its slot has a version in force, a program is run.
 pub runs-some : (config : ConfigValue) (past : List Entry) (s : SiteState) (till moment : ℕ) (r : Request) (q : Question) (v : Version)
     → asked_question config s till r ≡ Some q → in_force q.slot past ≡ Some v → IsSome (effect config past s moment (act.Till till r)).run
 runs-some config past s till moment r q v h some =
@@ -155,9 +155,9 @@ runs-some config past s till moment r q v h some =
     subst (λ (e : Effect). IsSome e.run) (sym (effect-decided config past s till moment r q h ∙ decided-some past s till moment q v some))
     (verdict-run s till moment q v x.0 x.1 (x.0 == 0) refl)
 
--- ---- a draft
+-- ---- what `begin` returns
 
--- where no program is run, the reply is neither a grant nor S24
+-- Where no program is run, the reply is neither a grant nor S24.
 undecided : (site : SiteValue) (till moment : ℕ) (r : Request) → run_now site till moment r ≡ None → is_decided (reply_now site till moment r) ≡ false
 undecided site till moment r none =
     effect-tells site.config (reverse site.history) site.state moment (act.Till till r) ∙ ap (λ (run : Option Run). is_some run) none
@@ -179,7 +179,7 @@ begins-none config history s slots till moment r agrees (inr h) =
       state = s;
     }) till moment r (runs-none config (reverse history) s till moment r (inr (h.0, h.1, agrees.in_force h.0.slot ∙ h.2)))
 
--- what is entered after Direct, in the same state, is neither a grant nor S24
+-- Where `begin` returned Direct and the request is entered in the same state, the reply is neither a grant nor S24.
 pub direct-undecided : (old new : SiteValue) (pass till moment number : ℕ) (r : Request) (reply : Reply) → Begins old till moment r begin.Direct
     → length old.history < 1048576 → Enters old pass moment (act.Till till r) number reply new → is_decided reply ≡ false
 unfolding entered
@@ -213,14 +213,14 @@ begun config history s slots till moment r draft agrees d =
       counters_are = d.counters_are;
     }
 
--- a decision begins as its draft says, where the history isn't full
+-- Where the history isn't full, what is shown for a draft or for none is what `begin` promises.
 pub begins : (config : ConfigValue) (history : List Entry) (s : SiteState) (slots : SlotsValue) (till moment : ℕ) (r : Request) (b : Begin)
     → Agrees slots (reverse history) → length history < 1048576 → Drafts config s slots till moment r (drafted b)
     → Begins (record { config = config; history = history; state = s }) till moment r b
 begins config history s slots till moment r begin.Direct agrees less d = inr (begins-none config history s slots till moment r agrees d)
 begins config history s slots till moment r (begin.Run draft) agrees less d = (less, begun config history s slots till moment r draft agrees d)
 
--- the same of a call that may be refused memory
+-- As `begins`, of a call that may also run out of memory.
 pub begins-ok : (config : ConfigValue) (history : List Entry) (s : SiteState) (slots : SlotsValue) (till moment : ℕ) (r : Request)
     (result : Result Begin AllocError) → Agrees slots (reverse history) → length history < 1048576
     → IfOk result (λ b. Drafts config s slots till moment r (drafted b))
@@ -228,7 +228,7 @@ pub begins-ok : (config : ConfigValue) (history : List Entry) (s : SiteState) (s
 begins-ok config history s slots till moment r (Ok b) agrees less d = begins config history s slots till moment r b agrees less d
 begins-ok config history s slots till moment r (Err e) agrees less d = d
 
--- the slots show what the history shows
+-- The run's basis by the slots is its basis by the history.
 pub basis-is : (config : ConfigValue) (history : List Entry) (s : SiteState) (slots : SlotsValue) (draft : DraftValue) → Agrees slots (reverse history)
     → basis_in config s slots draft ≡ basis (record { config = config; history = history; state = s }) draft
 basis-is config history s slots draft agrees =

@@ -1,4 +1,4 @@
--- What `==` says of lists of pairs of numbers.
+-- `==` on lists of pairs of numbers decides whether they are equal.
 use Rattle.std.proofs.Common.{arith, ℕ, ◌≡◌, ap, ◌&&◌, nat_eq}
 use Rattle.std.specs.Bool.{Decides}
 use Rattle.std.proofs.lemmas.Bool.Decides.{nat_tests}

@@ -1,4 +1,4 @@
--- What a point's answer does to the site.
+-- The effect of a point's answer on the site.
 use Rattle.std.proofs.Common.{◌≡◌, ℕ, ◌+◌, ◌-◌, ◌<◌, ◌≤◌, List, length, Option, Some, None, Result, Ok, Err, slice_set, refl, arith, ap, ◌∙◌, sym, get_or, suc}
 use Rattle.std.proofs.Common.{zero}
 use Rattle.std.specs.Prelude.{unwrap_or}
@@ -31,17 +31,17 @@ at_number-past items n lt =
     let past = slice_get_past items (n - 1) (omega arith) in
     grind (arith, nat_tests, past)
 
--- there is no point of the number
+-- There is no point of this number.
 pub at_number-none : {T : Type 0} → (items : List T) (n : ℕ) → ((1 ≤ n) × (n ≤ length items) → ⊥) → at_number items n ≡ None
 at_number-none items zero nowhere = at_number-zero items
 at_number-none items (suc k) nowhere = at_number-past items (suc k) (grind arith)
 
--- a command at no point
+-- A command where there is no such point.
 pub commanded-none : (s : SiteState) (till n : ℕ) (command : Command) → at_number s.points n ≡ None → commanded s till n command ≡ replied no_such_point s
 unfolding commanded
 commanded-none s till n command none = rw (none, commanded)
 
--- a command at a point
+-- A command where there is such a point.
 pub commanded-some : (s : SiteState) (till n : ℕ) (command : Command) (p : PointState) → at_number s.points n ≡ Some p
     → commanded s till n command ≡ command_effect s n (command_step p till command)
 unfolding commanded
@@ -61,17 +61,17 @@ ok_effect s n (Ok (q, given)) p new cleared h =
     rw (same, h.1) refl
 ok_effect s n (Err f) p new cleared h = absurd (let e : Ok cleared ≡ Err f = h.0 in cc)
 
--- the point that is read at a number
+-- The point of a number is the one that is read at its place.
 pub at_number-read : {T : Type 0} → (items : List T) (n : ℕ) (x : T) → 1 ≤ n → n ≤ length items → x ≡ get_or items (n - 1) x → at_number items n ≡ Some x
 at_number-read items n x one le is = at_number-within items n x one le ∙ ap Some (sym is)
 
--- the same point put back
+-- A state in which a point is replaced by itself is unchanged.
 same_points : (s : SiteState) (n : ℕ) (p : PointState) → p ≡ get_or s.points (n - 1) p → s ≡ with_point s n p
 same_points s n p is =
     let back : slice_set s.points (n - 1) p ≡ s.points = ap (λ x. slice_set s.points (n - 1) x) is ∙ set-get_or s.points (n - 1) p in
     ap (λ (x : List PointState). record s { points = x }) (sym back)
 
--- a refused command leaves the point as it was
+-- The effect of a command that the point refused.
 pub commanded-err : (s : SiteState) (till n : ℕ) (command : Command) (p new : PointState) (fault : PointFault) → 1 ≤ n → n ≤ length s.points
     → p ≡ get_or s.points (n - 1) p → FollowsTable (command_step p till command) p (Err fault) new
     → commanded s till n command ≡ replied (fault_reply fault) (with_point s n new)
@@ -80,14 +80,14 @@ commanded-err s till n command p new fault one le is answers =
     commanded-some s till n command p (at_number-read s.points n p one le is) ∙ e.0 ∙ ap
     (λ x. replied (fault_reply fault) x) (same_points s n p is ∙ ap (λ x. with_point s n x) (sym e.1))
 
--- a command that was taken
+-- The effect of a command that the point took.
 pub commanded-ok : (s : SiteState) (till n : ℕ) (command : Command) (p new : PointState) (cleared : Option ℕ) → 1 ≤ n → n ≤ length s.points
     → p ≡ get_or s.points (n - 1) p → FollowsTable (command_step p till command) p (Ok cleared) new → commanded s till n command ≡ replied reply.Done
     (record (with_point s n new) { cleared = s.cleared + unwrap_or cleared 0; clears = s.clears + clears_by cleared })
 commanded-ok s till n command p new cleared one le is answers =
     commanded-some s till n command p (at_number-read s.points n p one le is) ∙ ok_effect s n (command_step p till command) p new cleared answers
 
--- an event at no point
+-- An event where there is no such point.
 pub reported-none : (s : SiteState) (n : ℕ) (event : DispenserEvent) → at_number s.points n ≡ None → reported s n event ≡ replied no_such_point s
 unfolding reported
 reported-none s n event none = rw (none, reported)
@@ -131,14 +131,14 @@ pub show-some : (s : SiteState) (n : ℕ) (p : PointState) → 1 ≤ n → n ≤
 unfolding show_reply
 show-some s n p one le is = let some = at_number-read s.points n p one le is in rw (some, show_reply)
 
--- what a point answered to an event, refused or not
+-- The effect of an event, refused or not.
 pub reported-is : (s : SiteState) (n : ℕ) (event : DispenserEvent) (p new : PointState) (outcome : Result (Option Order) PointFault) → 1 ≤ n
     → n ≤ length s.points → p ≡ get_or s.points (n - 1) p → FollowsTable (event_step p event) p outcome new
     → reported s n event ≡ replied (event_reply outcome) (with_point s n new)
 reported-is s n event p new (Ok order) one le is answers = reported-ok s n event p new order one le is answers
 reported-is s n event p new (Err fault) one le is answers = reported-err s n event p new fault one le is answers
 
--- the questions of a point that is there, and of one that isn't
+-- The questions at a point that exists, and at one that doesn't.
 pub release-none : (config : ConfigValue) (s : SiteState) (n amount : ℕ) → at_number s.points n ≡ None → release_question config s n amount ≡ Err no_such_point
 unfolding release_question
 release-none config s n amount none = rw (none, release_question)

@@ -75,7 +75,7 @@ pub price-no : (busy : Option State) (product price slot : ℕ) → refuses (pri
 price-no busy product price slot =
     busy-no (is_within 1 product 8 && is_within 1 price 9999999) busy (record { kind = kind.Price; point = 0; product = product; asked = price; slot = slot })
 
--- ---- what each event gives
+-- ---- the effect of each event
 
 abbrev Tells : Effect → Type 0
 Tells e = is_decided e.reply ≡ is_some e.run

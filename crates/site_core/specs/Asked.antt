@@ -1,4 +1,5 @@
--- Representation: what a draft keeps of the state in which it was made, and what the steps inside `begin` and `commit` say. No reader has to believe it.
+-- Representation: what a draft keeps of the state in which it was made, and what the contracts of the steps inside `begin` and `commit` say.
+-- No reader has to believe it.
 use Rattle.std.specs.Prelude.{◌≡◌, ℕ, ◌<◌, ◌⊎◌, if◌then◌else◌, length, Option, Some, None, Result, Ok, Err}
 use Rattle.std.specs.Result.{result_ok}
 use Rattle.fuelling_point.specs.Table.{PointState}
@@ -16,18 +17,19 @@ use Rattle.site_core.specs.Decide.{is_till, release_question, preset_question, p
 use Rattle.site_core.specs.Draft.{DraftValue, Basis, basis_of, routed}
 use Rattle.site_core.specs.Differences.{IsFresh, Differs}
 
--- the question that a request puts to a program, where nothing refuses it before
+-- The question that a request asks a program in this state: none where the request is refused before a program is looked for, and none for a
+-- request that no program decides.
 abbrev pub question_of : ConfigValue → SiteState → Request → Option Question
 question_of config s (request.Release n amount) = result_ok (release_question config s n amount)
 question_of config s (request.Preset n amount) = result_ok (preset_question config s n amount)
 question_of config s (request.Price product price) = result_ok (price_question config s product price)
 question_of config s _ = None
 
--- the same of a till, which has to be there
+-- As `question_of`, of a request by this till: none too where the site has no such till.
 abbrev pub asked_question : ConfigValue → SiteState → ℕ → Request → Option Question
 asked_question config s till request = if is_till config till then question_of config s request else None
 
--- the draft was made in some state in which nothing refused its request
+-- The draft was made in some state in which its request was not refused: its context and its view are those of that state.
 pub record WasAsked (draft : DraftValue) : Type 0 where
   pub config : ConfigValue
   pub state : SiteState
@@ -36,12 +38,12 @@ pub record WasAsked (draft : DraftValue) : Type 0 where
   pub context_is : draft.context ≡ bytes_of (context draft.version.program.layout state draft.till draft.moment question)
   pub view_is : draft.view ≡ view_of state
 
--- numbers of the context that have room in their four bytes
+-- The counts in a context fit into their four bytes each.
 pub record FitsContext (s : SiteState) (q : Question) : Type 0 where
   pub busy : busy_points s < 4294967296
   pub unpaid : of_point s q (λ (p : PointState). length p.unpaid) < 4294967296
 
--- the draft of a request in this state
+-- The draft is the one that this request gets in this state: its question is asked, and a version is installed in the question's slot.
 pub record IsDraft (config : ConfigValue) (s : SiteState) (slots : SlotsValue) (till moment : ℕ) (request : Request) (draft : DraftValue) : Type 0 where
   pub question : Question
   pub asked : asked_question config s till request ≡ Some question
@@ -53,18 +55,18 @@ pub record IsDraft (config : ConfigValue) (s : SiteState) (slots : SlotsValue) (
   pub view_is : draft.view ≡ view_of s
   pub counters_are : draft.counters ≡ s.counters
 
--- a draft, or none where no program would be run
+-- The draft of this request in this state, or none where no program would be run: nothing is asked, or no version is installed.
 abbrev pub Drafts : ConfigValue → SiteState → SlotsValue → ℕ → ℕ → Request → Option DraftValue → Type 0
 Drafts config s slots till moment request None =
     (asked_question config s till request ≡ None)
     ⊎ ((q : Question) × (asked_question config s till request ≡ Some q) × (version_in slots q.slot ≡ None))
 Drafts config s slots till moment request (Some draft) = IsDraft config s slots till moment request draft
 
--- what the draft's run would be made on in this state
+-- What the draft's run would be made on if it were made in this state.
 abbrev pub basis_in : ConfigValue → SiteState → SlotsValue → DraftValue → Basis
 basis_in config s slots draft = basis_of (version_in slots) s draft.till draft.moment (routed config s draft.till draft.request)
 
--- the draft's question is asked in this state too, of the same version on the same basis
+-- In this state too the draft's request asks the question, of the same version, with the same context and view, and no declared counter differs.
 pub record StillAsked (config : ConfigValue) (s : SiteState) (slots : SlotsValue) (draft : DraftValue) (q : Question) : Type 0 where
   pub asked : asked_question config s draft.till draft.request ≡ Some q
   pub well : WellAsked s q
@@ -74,7 +76,7 @@ pub record StillAsked (config : ConfigValue) (s : SiteState) (slots : SlotsValue
   pub view_is : view_of s ≡ draft.view
   pub fresh : IsFresh (basis_in config s slots draft) draft
 
--- the question of now, or the first difference
+-- What a comparison of a draft with this state returns: the question that is asked in this state, or the first difference.
 abbrev pub Compares : ConfigValue → SiteState → SlotsValue → DraftValue → Result Question Why → Type 0
 Compares config s slots draft (Ok q) = StillAsked config s slots draft q
 Compares config s slots draft (Err why) = Differs (basis_in config s slots draft) draft why

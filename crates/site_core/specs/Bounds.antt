@@ -1,14 +1,14 @@
--- Representation: how far a site's numbers have come after some entries.
+-- Representation: bounds on a site's numbers after a given number of entries.
 use Rattle.std.specs.Prelude.{ℕ, ◌*◌, ◌≤◌, All}
 use Rattle.fuelling_point.specs.Table.{PointState}
 use Rattle.site_core.specs.State.{SiteState}
 
--- after n entries no point has numbered more than n transactions, and each entry cleared at most one of them
+-- The bounds after n entries: no point has given out more than n transaction numbers, and each entry cleared at most one transaction.
 pub record Bounded (n : ℕ) (s : SiteState) : Type 0 where
   pub last : All (λ (p : PointState). p.last ≤ n) s.points
   pub cleared : s.cleared ≤ 999999999 * n
   pub clears : s.clears ≤ n
 
--- how far they have come where the history has room for one entry more
+-- The bounds where the history has room for one more entry.
 abbrev pub HasRoom : SiteState → Type 0
 HasRoom s = Bounded 1048575 s

@@ -1,4 +1,4 @@
--- Definitions: the bytes that a program is given, as a table of fields (this profile).
+-- Definitions: the context, which is the bytes that a program is given, as a table of fields (this profile).
 use Rattle.std.specs.Prelude.{ℕ, List, [], ◌∷◌, ◌++◌, length, Option, Some, None}
 use Rattle.byteorder.specs.Endian.{little_bytes}
 use Rattle.fuelling_point.specs.Table.{PointState}
@@ -19,20 +19,20 @@ kind_number Release = 1
 kind_number Preset = 2
 kind_number Price = 3
 
--- a field of a point, or 0
+-- A field of the point, or 0 where there is no point.
 abbrev pub told : Option PointState → (PointState → ℕ) → ℕ
 told None field = 0
 told (Some p) field = field p
 
--- a field of the question's point, or 0 for a price
+-- A field of the point that the question is about, or 0 where there is no such point, as for a price.
 abbrev pub of_point : SiteState → Question → (PointState → ℕ) → ℕ
 of_point s q field = told (at_number s.points q.point) field
 
--- the nozzle's number, or the product whose price is asked
+-- The product whose price is asked, or else the number of the point's nozzle, which is the number of its product.
 abbrev pub product_of : SiteState → Question → ℕ
 product_of s q = elim q.kind [ Price ↦ q.product | _ ↦ of_point s q (λ p. p.nozzle) ]
 
--- the fields that both layouts have, in their order: 64 bytes
+-- The fields that both layouts begin with, in their order: 64 bytes.
 abbrev pub shared_fields : SiteState → ℕ → ℕ → Question → List Field
 shared_fields s till moment q =
     Four till
@@ -50,7 +50,7 @@ shared_fields s till moment q =
     ∷ Eight s.cleared
     ∷ []
 
--- those that the second layout has behind them: 16 bytes
+-- The fields that the second layout has after the shared ones: 16 bytes.
 abbrev pub further_fields : SiteState → List Field
 further_fields s = Eight s.clears ∷ Four (open_points s) ∷ Four 0 ∷ []
 
@@ -58,17 +58,17 @@ abbrev pub fields : Layout → SiteState → ℕ → ℕ → Question → List F
 fields layouts.One s till moment q = shared_fields s till moment q
 fields layouts.Two s till moment q = shared_fields s till moment q ++ further_fields s
 
--- how many bytes a field has
+-- How many bytes a field takes.
 abbrev pub size_of : Field → ℕ
 size_of (Four x) = 4
 size_of (Eight x) = 8
 
--- a field's bytes, the least first
+-- The bytes of a field, the least significant first.
 abbrev pub field_bytes : Field → List ℕ
 field_bytes (Four x) = little_bytes 4 x
 field_bytes (Eight x) = little_bytes 8 x
 
--- the bytes of fields, one field behind another
+-- The bytes of the fields, one field after another.
 unfoldable pub laid : List Field → List ℕ
 laid [] = []
 laid (field ∷ rest) = field_bytes field ++ laid rest

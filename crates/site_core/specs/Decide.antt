@@ -1,4 +1,4 @@
--- Definitions: how a release, a preset or a price is decided (this profile). In these definitions a history stands with its newest entry first.
+-- Definitions: how a release, a preset or a price is decided (this profile). In these definitions a history has its newest entry first.
 use Rattle.std.specs.Prelude.{◌≡◌, ◌≤◌, ℕ, ◌-◌, ◌/◌, ◌%◌, ◌^◌, min, Bool, true, false, ◌&&◌, ◌==◌, nat_lt, nat_le, if◌then◌else◌, List, length, map, slice_set}
 use Rattle.std.specs.Prelude.{slice_index_or, Option, Some, None, Result, Ok, Err}
 use Rattle.std.specs.List.{range_with_len}
@@ -24,13 +24,13 @@ use Rattle.site_core.specs.declared.question.Question.{Question}
 use Rattle.program_slots.specs.Slots.{Version}
 use Rattle.site_core.specs.History.{in_force}
 
--- What an event gives: the reply, the run of a program where there was one, and the state after.
+-- What an event results in: the reply, the run of a program if there was one, and the state after it.
 pub record Effect : Type 0 where
   pub reply : Reply
   pub run : Option Run
   pub after : SiteState
 
--- a reply without a run
+-- The effect that is this reply, with no run and with this state after it.
 abbrev pub replied : Reply → SiteState → Effect
 replied r s = record { reply = r; run = None; after = s }
 
@@ -52,7 +52,7 @@ bad_amount = refused 25
 abbrev pub transactions_full : Reply
 transactions_full = refused 26
 
--- WrongState, NoProgram, Denied
+-- S22, which names the point's state; S23, which names the slot; S24, which names the version.
 abbrev pub wrong_state : State → Reply
 wrong_state state = refused_with 22 (state_number state)
 
@@ -62,13 +62,13 @@ no_program slot = refused_with 23 slot
 abbrev pub denied : ℕ → Reply
 denied version = refused_with 24 version
 
--- a grant or S24: what a program's answer alone gives
+-- The reply is a grant or S24: the two replies that only a program's answer leads to.
 abbrev pub is_decided : Reply → Bool
 is_decided (reply.Granted amount version) = true
 is_decided (reply.Refused number value) = number == 24
 is_decided _ = false
 
--- what follows, or the refusal where the test fails
+-- The rest where the test is true, or else the refusal.
 abbrev pub need : {T : Type 0} → Bool → Reply → Result T Reply → Result T Reply
 need test refusal rest = if test then rest else Err refusal
 
@@ -78,11 +78,11 @@ is_within least x greatest = nat_le least x && nat_le x greatest
 abbrev pub is_till : ConfigValue → ℕ → Bool
 is_till config till = is_within 1 till config.tills
 
--- the slots of a point's releases and presets
+-- The slot that decides a point's releases, and the slot that decides its presets.
 abbrev pub slots_of : ConfigValue → ℕ → ℕ × ℕ
 slots_of config n = slice_index_or config.points (n - 1) (0, 0)
 
--- the question that a release at a point asks the slot's program, or the refusal before it
+-- The question that a release at a point asks the slot's program, or the refusal that comes before a program is looked for.
 abbrev pub release_at : PointState → ℕ → ℕ → ℕ → Result Question Reply
 release_at p n amount slot =
     need (is_within 1 amount 999999999) bad_amount
@@ -104,7 +104,8 @@ unfoldable pub preset_question : ConfigValue → SiteState → ℕ → ℕ → R
 preset_question config s n amount =
     elim (at_number s.points n) [ None ↦ Err no_such_point | Some p ↦ preset_at p n amount (slots_of config n).1 ]
 
--- a price isn't changed while a delivery is authorised or under way
+-- The question that a price change asks, or its refusal. A price isn't changed while any point is in one of states 5 to 9: `busy` is the state of
+-- the first such point.
 abbrev pub price_at : Option State → ℕ → ℕ → ℕ → Result Question Reply
 price_at busy product price slot =
     need (is_within 1 product 8 && is_within 1 price 9999999) bad_amount
@@ -116,13 +117,14 @@ price_at busy product price slot =
 abbrev pub price_question : ConfigValue → SiteState → ℕ → ℕ → Result Question Reply
 price_question config s product price = price_at (first_busy s) product price config.price_slot
 
--- what the program's answer r grants: the least of what is asked, of r, and for a release of the point's preset where there is one; a price is granted in full
+-- What is granted where the program answered r: the least of the amount that is asked, of r, and, for a release, of the point's preset where there
+-- is one (0 is none). A price is granted as it is asked.
 abbrev pub granted_point : Kind → ℕ → ℕ → ℕ → ℕ
 granted_point Release asked r preset = if preset == 0 then min asked r else min (min asked r) preset
 granted_point Preset asked r preset = min asked r
 granted_point Price asked r preset = asked
 
--- what a point becomes by a command that it takes
+-- The point after a command. It is unchanged where it refuses the command.
 abbrev pub after_command : PointState → ℕ → Command → PointState
 after_command p till command = elim (command_step p till command) [ Ok o ↦ o.0 | Err _ ↦ p ]
 
@@ -130,7 +132,7 @@ abbrev pub command_of : Kind → ℕ → Command
 command_of Release granted = command.Release granted
 command_of _ granted = command.Preset granted
 
--- the grant, and the state after it
+-- The amount that is granted where the program answered r, and the state after the grant. A question with no point is a price.
 unfoldable pub grant : SiteState → ℕ → Question → ℕ → ℕ × SiteState
 grant s till q r =
     elim (at_number s.points q.point) [
@@ -140,24 +142,24 @@ grant s till q r =
       | None ↦ (q.asked, record s { prices = slice_set s.prices (q.product - 1) q.asked })
     ]
 
--- what is asked fits the place where it is granted: a price is asked for a product, and is in its range
+-- A question at no point of this site names a product from 1 to 8, and asks a price of at most 9,999,999.
 abbrev pub WellAsked : SiteState → Question → Type 0
 WellAsked s q = at_number s.points q.point ≡ None → (1 ≤ q.product) × (q.product ≤ 8) × (q.asked ≤ 9999999)
 
--- bit c of the declared mask is set
+-- Bit c of the mask of declared counters is set.
 abbrev pub is_declared : ℕ → ℕ → Bool
 is_declared mask c = mask / 2 ^ c % 2 == 1
 
--- a declared counter's value before and after
+-- The values of counter c before and after a run, if the counter is declared.
 abbrev pub count_of : ℕ → Counters → Counters → ℕ → Option (ℕ × ℕ)
 count_of mask before after c =
     if is_declared mask c then Some ((counter before c).0, (counter after c).0) else None
 
--- the same for each of the 32 counters
+-- The values before and after, if declared, of each of the 32 counters.
 unfoldable pub counts : ℕ → Counters → Counters → List (Option (ℕ × ℕ))
 counts mask before after = map (λ c. count_of mask before after c) (range_with_len 0 32)
 
--- the decision, where the version in force answered r and left these counters
+-- The effect of a decision in which the version in force answered r and left these counters.
 unfoldable pub verdict : SiteState → ℕ → ℕ → Question → Version → ℕ → Counters → Effect
 verdict s till moment q v r counters =
     let counted : SiteState = record s { counters = counters } in
@@ -173,13 +175,14 @@ verdict s till moment q v r counters =
     (let g : ℕ × SiteState = grant counted till q r in
     record { reply = reply.Granted g.0 v.number; run = Some run; after = g.1 })
 
--- r and the counters after a run. One that doesn't end counts as a denial, so that the step is a function; every
--- program that is loaded is good, and so has no such run.
+-- The answer and the counters after a run. A run that doesn't end counts as a denial, so that the step is a function. Every
+-- program that is loaded is good, and a good program has no such run.
 abbrev pub ran : Outcome → Counters → ℕ × Counters
 ran (Ended r counters) before = (r, counters)
 ran _ before = (0, before)
 
--- the refusals before a program is looked for; else the program in force in the question's slot is run on the site as it stands
+-- The effect of a question: its refusal, if it was refused before a program is looked for; or else S23 where the question's slot has no program,
+-- and where it has one the decision of that program, run on the current state.
 unfoldable pub decided : List Entry → SiteState → ℕ → ℕ → Result Question Reply → Effect
 decided past s till moment (Err refusal) = replied refusal s
 decided past s till moment (Ok q) =

@@ -1,4 +1,4 @@
--- Definitions: how a site differs from what a draft was made on.
+-- Definitions: how a site differs from the state on which a draft was made.
 use Rattle.std.specs.Prelude.{◌≡◌, ◌≢◌, ℕ, ◌-◌, ◌<◌, ◌≤◌, IsTrue, List, length, slice_get, Some, option_map}
 use Rattle.bpf_model.specs.Machine.{Counters, counter}
 use Rattle.program_slots.specs.Slots.{Version}
@@ -8,13 +8,13 @@ use Rattle.site_core.specs.Draft.{DraftValue, Basis}
 use Rattle.site_core.specs.declared.why.Why.{Why}
 use Rattle.site_core.specs.declared.why.Why.TheVariants as why
 
--- the least place, from 0, at which two lists differ
+-- The first place, counted from 0, at which two lists differ.
 pub record FirstDiffers {T : Type 0} (a b : List T) (at : ℕ) : Type 0 where
   pub within : at < length a
   pub differs : slice_get a at ≢ slice_get b at
   pub same_before : (k : ℕ) → k < at → slice_get a k ≡ slice_get b k
 
--- the least declared counter, in its value or its bound, that differs
+-- The declared counter of the least number whose value or bound differs.
 pub record CounterDiffers (declared : ℕ) (a b : Counters) (c : ℕ) : Type 0 where
   pub within : c < 32
   pub declares : IsTrue (is_declared declared c)
@@ -28,8 +28,8 @@ pub record IsFresh (now : Basis) (draft : DraftValue) : Type 0 where
   pub view : now.view ≡ draft.view
   pub counters : Agrees draft.version.program.declared draft.counters now.counters
 
--- The first difference: of versions, else of contexts by their least byte, else of points and of prices by their least number, else of declared
--- counters by the least. Points and products are numbered from 1. A version and a counter are told as they are now.
+-- The first difference, in this order: the version, the first byte of the context, the first point, the first price, the first declared
+-- counter. Points and products are numbered from 1. The version's number and the counter's value are those of now, not of the draft.
 abbrev pub Differs : Basis → DraftValue → Why → Type 0
 Differs now draft (why.Version number) =
     (now.version ≢ Some draft.version) × (number ≡ option_map (λ (v : Version). v.number) now.version)

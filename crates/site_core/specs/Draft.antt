@@ -1,4 +1,4 @@
--- Definitions: a decision that is run outside the site.
+-- Definitions: a decision whose program is run outside the site.
 use Rattle.std.specs.Prelude.{◌≡◌, ℕ, if◌then◌else◌, List, [], Option, Some, None}
 use Rattle.till_request.specs.declared.act.Request.{Request}
 use Rattle.till_request.specs.declared.act.Request.TheVariants as request
@@ -15,7 +15,7 @@ use Rattle.site_core.specs.State.{SiteState, at_number, view_of}
 use Rattle.site_core.specs.Context.{context}
 use Rattle.site_core.specs.Decide.{is_till, slots_of}
 
--- What a run is made from: who asks what at which moment, and the version, context, view and counters that it is made on.
+-- What a run outside the site starts from: which till asks what at which moment, and the version, context, view and counters of the run.
 pub record DraftValue : Type 0 where
   pub till : ℕ
   pub moment : ℕ
@@ -25,21 +25,22 @@ pub record DraftValue : Type 0 where
   pub view : View
   pub counters : Counters
 
--- A draft that was run: what its program answered, and the counters after.
+-- A draft that was run, with its program's answer and the counters after the run.
 pub record ReadyValue : Type 0 where
   pub draft : DraftValue
   pub r0 : ℕ
   pub after : Counters
 
--- the draft's own program, context, view and counters give this answer and these counters
+-- The draft's program, run on the draft's context, view and counters, ends with this answer and these counters.
 abbrev pub Ran : DraftValue → ℕ → Counters → Type 0
 Ran draft r0 after = outcome draft.version.program draft.context draft.view draft.counters ≡ Ended r0 after
 
--- a question at a point, where there is one
+-- The question, where the site has a point of number n.
 unfoldable pub at_point : SiteState → ℕ → Question → Option Question
 at_point s n q = elim (at_number s.points n) [ None ↦ None | Some _ ↦ Some q ]
 
--- the question that a request puts to a program, whatever refuses it in this state; none where there is no such point, and for all that no program decides
+-- The question that a request asks a program, even where this state refuses the request. None where there is no such point, and none for a
+-- request that no program decides.
 abbrev pub routed_request : ConfigValue → SiteState → Request → Option Question
 routed_request config s (request.Release n amount) =
     at_point s n (record { kind = Release; point = n; product = 0; asked = amount; slot = (slots_of config n).0 })
@@ -49,19 +50,19 @@ routed_request config s (request.Price product price) =
     Some (record { kind = Price; point = 0; product = product; asked = price; slot = config.price_slot })
 routed_request config s _ = None
 
--- the same of a till, which has to be there
+-- As `routed_request`, of a request by this till: none too where the site has no such till.
 abbrev pub routed : ConfigValue → SiteState → ℕ → Request → Option Question
 routed config s till request = if is_till config till then routed_request config s request else None
 
--- What a run would be made on now: the context is of the layout of the version in the slot. There is no version where
--- the till or the point isn't there.
+-- What a run would be made on now. The context has the layout of the version in the slot. There is no version where
+-- the till or the point doesn't exist.
 pub record Basis : Type 0 where
   pub version : Option Version
   pub context : List ℕ
   pub view : View
   pub counters : Counters
 
--- the bytes of the context that this version would be given; none without a version
+-- The bytes of the context that this version would be given. Without a version there are none.
 abbrev pub context_for : Option Version → SiteState → ℕ → ℕ → Question → List ℕ
 context_for None s till moment q = []
 context_for (Some v) s till moment q = bytes_of (context v.program.layout s till moment q)

@@ -1,4 +1,4 @@
--- Representation: how the fields of a site hang together, and what the steps inside a call say. No reader has to believe it.
+-- Representation: how the fields of a site relate to each other, and what the contracts of the steps inside a call say. No reader has to believe it.
 use Rattle.std.specs.Prelude.{◌≡◌, ℕ, ◌+◌, ◌≤◌, ◌==◌, if◌then◌else◌, List, ◌∷◌, length, reverse, None, All}
 use Rattle.decision_journal.specs.declared.entries.Entry.{Entry}
 use Rattle.till_request.specs.declared.act.Act.{Act}
@@ -21,13 +21,13 @@ use Rattle.site_core.specs.Legal.{Legal, GoodLoad, GoodLoads}
 use Rattle.site_core.specs.Histories.{load_refusal, AcceptedLoads}
 use Rattle.decision_journal.specs.Journal.{IsWritten}
 
--- the slots hold what the history, the newest entry first, has loaded
+-- The slots hold what the history has loaded. The history has its newest entry first.
 pub record Agrees (slots : SlotsValue) (past : List Entry) : Type 0 where
   pub in_force : (slot : ℕ) → in_force slot past ≡ version_in slots slot
   pub versions : versions past ≡ length slots.programs
 
--- the history is legal, its loads are accepted and its entries can be written, and the site has the state that it leaves and the versions
--- that it has loaded
+-- The invariant of a site. The history, oldest entry first, is legal, its loads are accepted and good, and its entries can be written; the state
+-- is the one that it leaves, within its bounds, and the slots hold the versions that it has loaded.
 pub record Keeps (config : ConfigValue) (history : List Entry) (state : SiteState) (slots : SlotsValue) : Type 0 where
   pub legal : Legal config (reverse history) state
   pub agrees : Agrees slots (reverse history)
@@ -38,7 +38,8 @@ pub record Keeps (config : ConfigValue) (history : List Entry) (state : SiteStat
   pub points : length state.points ≡ length config.points
   pub bounded : Bounded (length history) state
 
--- an event was performed as the step says, and written into an entry, and the slots agree once that stands
+-- An event was performed as the step says and was written into the entry p, and the slots agree with the history once an entry with its act and
+-- its reply is added.
 pub record Performs (config : ConfigValue) (past : List Entry) (old : SiteState) (moment : ℕ) (act : Act) (p : Entry) (new : SiteState)
     (slots : SlotsValue) : Type 0 where
   pub act_is : p.act ≡ act
@@ -48,23 +49,23 @@ pub record Performs (config : ConfigValue) (past : List Entry) (old : SiteState)
   pub accepted : load_refusal p.act ≡ None
   pub good : GoodLoad p.act
 
--- a load was answered as the step says, and the slots agree once its entry stands
+-- A load was answered as the step says, and the slots agree with the history once its entry is added.
 pub record Loads (old : SlotsValue) (slot : ℕ) (program : ProgramText) (past : List Entry) (reply : Reply) (new : SlotsValue) : Type 0 where
   pub reply_is : load_reply slot past ≡ reply
   pub agrees : (entry : Entry) → entry.act ≡ act.Load slot program.declared program.layout program.bytes → entry.reply ≡ reply → Agrees new (entry ∷ past)
 
--- an entry in which no event is written yet
+-- An entry with a number and a pass, in which no event is written yet.
 abbrev pub blank : ℕ → ℕ → Entry
 blank number pass = record { number = number; pass = pass; moment = 0; act = act.Dispenser 0 event.Down; reply = reply.Done; run = None }
 
--- the entry that a performed event makes
+-- The entry p of a performed event, with the number and the pass that it has after this history.
 abbrev pub made : List Entry → ℕ → Entry → Entry
 made history pass p = record { number = length history + 1; pass = pass; moment = p.moment; act = p.act; reply = p.reply; run = p.run }
 
 abbrev pub with_counters : SiteState → Counters → SiteState
 with_counters s counters = record s { counters = counters }
 
--- what is told where a version answered r, and the state after it: a denial changes nothing
+-- The reply where a version answered r, and the state after it. A denial changes nothing.
 unfoldable pub settled : SiteState → ℕ → Question → ℕ → ℕ → Reply × SiteState
 settled s till q version r =
     if r == 0 then (denied version, s)

@@ -1,7 +1,7 @@
--- Definitions: a site's configuration, and its limits (this profile).
+-- Definitions: the configuration of a site, and the limits of its values (this profile).
 use Rattle.std.specs.Prelude.{ℕ, ◌≤◌, List, length, All}
 
--- A point's pair is the slot of its releases and that of its presets; a counter's pair is its value and its bound.
+-- The values of a configuration. A point's pair is the slot of its releases and the slot of its presets; a counter's pair is its value and its bound.
 pub record ConfigValue : Type 0 where
   pub tills : ℕ
   pub price_slot : ℕ
@@ -9,11 +9,12 @@ pub record ConfigValue : Type 0 where
   pub points : List (ℕ × ℕ)
   pub counters : List (ℕ × ℕ)
 
--- a counter's value is at most its bound, and the bound at most 2^63 - 1
+-- A counter's value is at most its bound, and its bound is at most 2^63 - 1.
 abbrev pub IsCounter : ℕ × ℕ → Type 0
 IsCounter p = (p.0 ≤ p.1) × (p.1 ≤ 9223372036854775807)
 
--- all is in its range: 1 to 64 tills, 1 to 32 points, slots 0 to 15, prices in thousandths up to 9,999,999, and each counter in its own
+-- Each value is in its range: 1 to 64 tills, 1 to 32 points, slots 0 to 15, prices in thousandths up to 9,999,999, and each counter as `IsCounter`
+-- says.
 pub record IsConfig (c : ConfigValue) : Type 0 where
   pub some_till : 1 ≤ c.tills
   pub tills : c.tills ≤ 64
@@ -24,6 +25,6 @@ pub record IsConfig (c : ConfigValue) : Type 0 where
   pub slots : All (λ p. (p.0 ≤ 15) × (p.1 ≤ 15)) c.points
   pub counters : All IsCounter c.counters
 
--- how many entries a history may have
+-- How many entries a history may have at most.
 abbrev pub most_entries : ℕ
 most_entries = 1048576

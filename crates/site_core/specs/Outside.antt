@@ -1,10 +1,10 @@
--- Promises: what `begin` and `commit` say.
+-- Promises: what the contracts of `begin` and `commit` say.
 --
--- For a caller. `run_now` is the run that the site's step would make for a till's request as the site stands, and `reply_now` its reply. `begin`
--- answers Direct exactly where there is no such run or the history is full; where no program is run the reply is neither a grant nor S24. Else it
--- answers a draft, which `Begun` ties to the site. `commit` is Done exactly where `IsFresh`: nothing
--- that the draft's run depends on differs; it is then one step of the site at the draft's moment. Else it is Stale, with the first difference,
--- and nothing has changed.
+-- For a caller: `run_now` is the run that the site's step would make now for a till's request, and `reply_now` is its reply. `begin` returns Direct
+-- exactly where there is no such run or the history is full; where no program is run, the reply is neither a grant nor S24. Otherwise `begin`
+-- returns a draft, which `Begun` relates to the site. `commit` returns Done exactly where `IsFresh` holds: nothing that the draft's run depends on
+-- differs. It is then one step of the site at the draft's moment. Otherwise `commit` returns Stale with the first difference, and nothing has
+-- changed.
 use Rattle.std.specs.Prelude.{◌≡◌, ℕ, ◌<◌, ◌⊎◌, false, IsSome, length, reverse, Option, Some, None}
 use Rattle.decision_journal.specs.declared.entries.Run.{Run}
 use Rattle.till_request.specs.declared.act.Request.{Request}
@@ -21,20 +21,20 @@ use Rattle.site_core.specs.Draft.{DraftValue, ReadyValue, Basis, basis_of, route
 use Rattle.site_core.specs.Differences.{IsFresh, Differs}
 use Rattle.site_core.specs.Site.{SiteValue, Enters}
 
--- what the draft's run would be made on now
+-- What the draft's run would be made on now.
 abbrev pub basis : SiteValue → DraftValue → Basis
 basis site draft =
     basis_of (λ slot. in_force slot (reverse site.history)) site.state draft.till draft.moment (routed site.config site.state draft.till draft.request)
 
--- the run that the step would make for a till's request now, if any
+-- The run that the step would make for a till's request now, if any.
 abbrev pub run_now : SiteValue → ℕ → ℕ → Request → Option Run
 run_now site till moment request = (effect site.config (reverse site.history) site.state moment (act.Till till request)).run
 
--- the reply that the step would give to it
+-- The reply that the step would give to a till's request now.
 abbrev pub reply_now : SiteValue → ℕ → ℕ → Request → Reply
 reply_now site till moment request = (effect site.config (reverse site.history) site.state moment (act.Till till request)).reply
 
--- The draft of a request for which the step would run a program now: it keeps the request, and all that this run would be made on.
+-- The step would run a program for this request now, and the draft holds the request and all that this run would be made on.
 pub record Begun (site : SiteValue) (till moment : ℕ) (request : Request) (draft : DraftValue) : Type 0 where
   pub till_is : draft.till ≡ till
   pub moment_is : draft.moment ≡ moment
@@ -43,12 +43,13 @@ pub record Begun (site : SiteValue) (till moment : ℕ) (request : Request) (dra
   pub fresh : IsFresh (basis site draft) draft
   pub counters_are : draft.counters ≡ site.state.counters
 
--- the draft by which a decision begins, if it does by one
+-- The draft that `begin` returned, if it returned one.
 abbrev pub drafted : Begin → Option DraftValue
 drafted begin.Direct = None
 drafted (begin.Run draft) = Some draft
 
--- Direct: the history is full; or the step would run no program now, and so its reply is neither a grant nor S24.
+-- What the result of `begin` says. Direct: the history is full, or the step would run no program now and its reply is neither a grant nor S24.
+-- Run: the history has room, and the draft is as `Begun` says.
 abbrev pub Begins : SiteValue → ℕ → ℕ → Request → Begin → Type 0
 Begins site till moment request begin.Direct =
     (length site.history ≡ 1048576)

@@ -1,4 +1,4 @@
--- Definitions: what each event does at a site (this profile). In these definitions a history stands with its newest entry first.
+-- Definitions: what each event does at a site (this profile). In these definitions a history has its newest entry first.
 use Rattle.std.specs.Prelude.{◌≡◌, ℕ, ◌+◌, nat_lt, nat_le, if◌then◌else◌, List, length, Option, Some, None, unwrap_or, Result, Ok, Err}
 use Rattle.fuelling_point.specs.Table.{PointState, Answer, command_step, event_step}
 use Rattle.fuelling_point.specs.States.{state_number}
@@ -21,7 +21,7 @@ use Rattle.site_core.specs.History.{versions}
 use Rattle.site_core.specs.Decide.{Effect, replied, refused, wrong_state, no_such_point, no_such_till, is_till, decided, release_question, preset_question}
 use Rattle.site_core.specs.Decide.{price_question}
 
--- a point's refusal as a reply
+-- The reply for a refusal by a point.
 abbrev pub fault_reply : PointFault → Reply
 fault_reply (WrongState state) = wrong_state state
 fault_reply TransactionsFull = refused 26
@@ -30,25 +30,25 @@ fault_reply NoSuchTransaction = refused 28
 fault_reply NoOrder = refused 33
 fault_reply Unexpected = refused 34
 
--- what a Show tells
+-- The reply to a Show of this point.
 abbrev pub shown : PointState → Reply
 shown p = reply.Point (state_number p.state) p.nozzle p.amount p.volume p.limit p.preset (length p.unpaid)
 
 unfoldable pub show_reply : SiteState → ℕ → Reply
 show_reply s n = elim (at_number s.points n) [ None ↦ no_such_point | Some p ↦ shown p ]
 
--- one for an amount that was cleared
+-- How many transactions a command cleared: 1 where it cleared an amount, or else 0.
 abbrev pub clears_by : Option ℕ → ℕ
 clears_by None = 0
 clears_by (Some amount) = 1
 
--- what a point answered to a till's command; what a Clear clears joins the total, and is counted
+-- The effect of a till's command to which the point answered this. The amount that a Clear cleared is added to the total, and is counted.
 abbrev pub command_effect : SiteState → ℕ → Answer (Option ℕ) → Effect
 command_effect s n (Err fault) = replied (fault_reply fault) s
 command_effect s n (Ok (point, cleared)) =
     replied reply.Done (record (with_point s n point) { cleared = s.cleared + unwrap_or cleared 0; clears = s.clears + clears_by cleared })
 
--- a till's command that needs no decision
+-- The effect of a till's command that needs no decision.
 unfoldable pub commanded : SiteState → ℕ → ℕ → Command → Effect
 commanded s till n command =
     elim (at_number s.points n) [ None ↦ replied no_such_point s | Some p ↦ command_effect s n (command_step p till command) ]
@@ -61,17 +61,17 @@ abbrev pub event_reply : Result (Option Order) PointFault → Reply
 event_reply (Ok order) = order_reply order
 event_reply (Err fault) = fault_reply fault
 
--- what a point answered to its dispenser
+-- The effect of a dispenser's event to which the point answered this.
 abbrev pub event_effect : SiteState → ℕ → Answer (Option Order) → Effect
 event_effect s n (Err fault) = replied (fault_reply fault) s
 event_effect s n (Ok (point, order)) = replied (order_reply order) (with_point s n point)
 
--- what a dispenser reports
+-- The effect of a dispenser's event.
 unfoldable pub reported : SiteState → ℕ → DispenserEvent → Effect
 reported s n event =
     elim (at_number s.points n) [ None ↦ replied no_such_point s | Some p ↦ event_effect s n (event_step p event) ]
 
--- what a till of the site asks
+-- The effect of a request by a till that the site has.
 abbrev pub asked : ConfigValue → List Entry → SiteState → ℕ → ℕ → Request → Effect
 asked config past s till moment (request.Release n amount) = decided past s till moment (release_question config s n amount)
 asked config past s till moment (request.Preset n amount) = decided past s till moment (preset_question config s n amount)
@@ -86,28 +86,29 @@ asked config past s till moment (request.Unlock n number) = commanded s till n (
 asked config past s till moment (request.Clear n number) = commanded s till n (command.Clear number)
 asked config past s till moment (request.Show n) = replied (show_reply s n) s
 
--- NoSuchSlot, VersionsFull, or the next version
+-- The reply to a load: S32 where there is no such slot, S30 where there are 4,096 versions already, or else the next version.
 abbrev pub load_reply : ℕ → List Entry → Reply
 load_reply slot past =
     if nat_le slot 15 then if nat_lt (versions past) 4096 then reply.Version (versions past + 1) else refused 30 else refused 32
 
--- what an event gives
+-- The effect of an event.
 abbrev pub effect : ConfigValue → List Entry → SiteState → ℕ → Act → Effect
 effect config past s moment (act.Till till request) =
     if is_till config till then asked config past s till moment request else replied no_such_till s
 effect config past s moment (act.Dispenser n event) = reported s n event
 effect config past s moment (act.Load slot mask layout bytes) = replied (load_reply slot past) s
 
--- the moment that is entered: a till's request has its own, all else has 0
+-- The moment that the entry has: a till's request has its own, all other acts have 0.
 abbrev pub entered_moment : Act → ℕ → ℕ
 entered_moment (act.Till till request) moment = moment
 entered_moment _ moment = 0
 
--- the entry of an event
+-- The entry that an act of this pass makes after the history, with its effect's reply and run.
 abbrev pub entry_of : List Entry → ℕ → ℕ → Act → Effect → Entry
 entry_of past pass moment act e = record { number = length past + 1; pass = pass; moment = entered_moment act moment; act = act; reply = e.reply; run = e.run }
 
--- The site's step: from a configuration, the entries so far and a state, by an event of a pass at a moment, to the next entry and the next state.
+-- The site's step: with this configuration, after these entries, in state s, an act of this pass at this moment makes this entry and leaves the
+-- state `after`.
 pub record Step (config : ConfigValue) (past : List Entry) (s : SiteState) (pass moment : ℕ) (act : Act) (entry : Entry) (after : SiteState) : Type 0 where
   pub enters : entry ≡ entry_of past pass moment act (effect config past s moment act)
   pub leaves : after ≡ (effect config past s moment act).after

@@ -1,4 +1,4 @@
-//! The first places at which what a run is made on differs.
+//! Finds the first place at which the current state differs from what a run was made on.
 
 ghost use Rattle.std.specs.Prelude.{◌≡◌, ◌≢◌, ◌↔◌, ◌<◌, IsTrue, ◌^◌, length, MatchOption, MatchResult, Some, None};
 ghost use Rattle.std.specs.Prelude.{option_map, IfSome};
@@ -16,7 +16,7 @@ use program_slots::Slots;
 use reg_types::Program;
 use std::sync::Arc;
 
-/// The version in a slot: its number and its program.
+/// Returns the number and the program of the version in a slot.
 pub fn look_up(slots: &Slots, slot: u32) -> Option<(u32, &Arc<Program>)>
     ensures { MatchOption result (version_in slots.now slot ≡ None)
         (λ v. version_in slots.now slot ≡ Some (record { number = v.0; program = arc_value v.1.now })) }
@@ -63,7 +63,7 @@ pub fn first_price(a: &[u32; 8], b: &[u32; 8]) -> Option<u32>
     None
 }
 
-/// Whether the counter isn't declared, or is the same in value and bound.
+/// Returns true where the counter isn't declared, or is the same in value and bound.
 fn is_same_counter(declared: u32, a: &Counters, b: &Counters, c: u32) -> bool
     requires { c < COUNTERS }
     ensures { IsTrue result ↔ (IsTrue (is_declared declared c) → counter a.now c ≡ counter b.now c) }
@@ -77,7 +77,7 @@ fn is_same_counter(declared: u32, a: &Counters, b: &Counters, c: u32) -> bool
 pub fn first_counter(declared: u32, a: &Counters, b: &Counters) -> Option<u32>
     ensures { MatchOption result (Agrees declared b.now a.now) (CounterDiffers declared a.now b.now) }
 {
-    // There are 32 counters in each.
+    // Reading from both shows the prover that each holds 32 counters.
     let _counters = (a.get(0), b.get(0));
     for c in 0..32 {
         if !is_same_counter(declared, a, b, c) {
@@ -93,7 +93,8 @@ fn is_same_program(a: &Program, b: &Program) -> bool
     a.declared() == b.declared() && a.layout() == b.layout() && a.bytes() == b.bytes()
 }
 
-/// Whether this is the version in the slot; the error is the number that is in it now.
+/// Returns Ok where this is the version in the slot. The error is the number of the version that is in the slot now, if
+/// any.
 pub fn is_version(
     slots: &Slots,
     slot: u32,

@@ -1,4 +1,4 @@
-//! The configuration.
+//! The configuration of a site.
 
 ghost use Rattle.std.specs.Prelude.{◌≡◌, ◌<◌, ◌↔◌, IfOk, IfSome, IsTrue, is_some};
 ghost use Rattle.site_core.specs.Limits.{ConfigValue, IsConfig};
@@ -8,12 +8,12 @@ ghost use Rattle.site_core.specs.Decide.{is_till, slots_of};
 use std::alloc::{AllocError, Global};
 use std::marker::Model;
 
-/// The greatest bound of a counter: what the text of a configuration can write.
+/// The greatest bound of a counter: the greatest number that the text of a configuration can contain.
 const MOST_COUNTER: u64 = 9_223_372_036_854_775_807;
 
-/// What a site is made from: its number of tills, the slot of price changes, the prices of products 1 to 8 in
-/// thousandths, for each point the slots of its releases and of its presets, and the counters' values and bounds. All
-/// of it is in its range.
+/// The configuration that a site is started from: how many tills there are, the slot of price changes, the prices of
+/// products 1 to 8 in thousandths, for each point the slots of its releases and of its presets, and the values and
+/// bounds of the counters. Every value is in its range.
 #[derive(Drop)]
 pub struct Config {
     tills: u32,
@@ -46,9 +46,9 @@ impl Model for Config {
 }
 
 impl Config {
-    /// The configuration, exactly where there are 1 to 64 tills and 1 to 32 points, slots are 0 to 15, prices at most
-    /// 9,999,999 (0 for none), and each counter's value is at most its bound and that at most 2^63 - 1. Takes no
-    /// memory.
+    /// Makes a configuration. Returns None exactly where a value is out of its range: there are 1 to 64 tills and 1 to
+    /// 32 points, slots are 0 to 15, a price is at most 9,999,999 (0 for none), a counter's value is at most its bound,
+    /// and a bound is at most 2^63 - 1. Allocates no memory.
     pub fn new(
         tills: u32,
         price_slot: u32,
@@ -100,7 +100,7 @@ impl Config {
         })
     }
 
-    /// The same configuration once more. The error is want of memory.
+    /// Returns a copy of the configuration. The error is that memory ran out.
     pub fn copied(&self, alloc: Global) -> Result<Config, AllocError>
         ensures { IfOk result (λ config. config ≡ self.now) }
     {
@@ -114,7 +114,7 @@ impl Config {
         })
     }
 
-    /// Whether the two are the same in every part.
+    /// Returns whether the two configurations are the same in every part.
     pub fn is_same(&self, other: &Config) -> bool
         ensures { IsTrue result ↔ (self.now ≡ other.now) }
     {
@@ -128,7 +128,7 @@ impl Config {
             && is_same_counters(self.counters.as_slice(), other.counters.as_slice())
     }
 
-    /// Whether there is a till of this number.
+    /// Returns whether the site has a till of this number.
     pub(crate) fn has_till(&self, till: u32) -> bool
         ensures there { result ≡ is_till self.now till }
         ensures numbered { OnTrue result (0 < till) }
@@ -142,7 +142,7 @@ impl Config {
         self.price_slot
     }
 
-    /// The prices of products 1 to 8 in thousandths, 0 for none.
+    /// Returns the prices of products 1 to 8 in thousandths, 0 for none.
     pub fn prices(&self) -> [u32; 8]
         ensures { result ≡ self.now.prices }
     {
@@ -155,14 +155,14 @@ impl Config {
         self.counters
     }
 
-    /// The slot of a point's releases, or 0 where there is no such point.
+    /// Returns the slot of a point's releases, or 0 where there is no such point.
     pub(crate) fn release_slot(&self, n: u32) -> u32
         ensures { result ≡ (slots_of self.now n).0 }
     {
         self.slots_of(n).0
     }
 
-    /// The slot of a point's presets, or 0.
+    /// Returns the slot of a point's presets, or 0 where there is no such point.
     pub(crate) fn preset_slot(&self, n: u32) -> u32
         ensures { result ≡ (slots_of self.now n).1 }
     {
@@ -180,7 +180,7 @@ impl Config {
         }
     }
 
-    /// The slots of each point's releases and presets: 1 to 32 pairs.
+    /// Returns for each point the slots of its releases and of its presets: 1 to 32 pairs.
     pub fn points(&self) -> &[(u32, u32)]
         ensures points { result.now ≡ self.now.points }
         ensures range { IsConfig self.now }
@@ -189,7 +189,7 @@ impl Config {
     }
 }
 
-// That a comparison of pairs decides whether they are equal is a lemma, which each of these two brings.
+// Each of these two functions states once, as its contract, that comparing pairs decides whether they are equal.
 fn is_same_points(a: &[(u32, u32)], b: &[(u32, u32)]) -> bool
     ensures { IsTrue result ↔ (a.now ≡ b.now) }
 {

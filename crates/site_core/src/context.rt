@@ -1,4 +1,4 @@
-//! The bytes that a program is given.
+//! The context: the bytes that a program is given.
 
 ghost use Rattle.std.specs.Prelude.{◌≡◌, length};
 ghost use Rattle.site_core.specs.Context.{kind_number, size_of, field_bytes, laid};
@@ -14,7 +14,7 @@ pub enum Field {
 }
 
 impl Field {
-    /// How many bytes it has.
+    /// Returns how many bytes the field takes.
     fn size(self) -> usize
         ensures { result ≡ size_of self }
     {
@@ -24,7 +24,7 @@ impl Field {
         }
     }
 
-    /// Puts its bytes, the least first, into bytes that have room for just these.
+    /// Writes the field's bytes, the least significant first, into a slice of exactly its size.
     fn put(self, bytes: &mut [u8])
         requires { length bytes.old ≡ size_of self }
         ensures { bytes.new ≡ field_bytes self }
@@ -36,7 +36,7 @@ impl Field {
     }
 }
 
-/// The number of a kind in the context.
+/// Returns the number that stands for a kind in the context.
 pub fn kind_number(kind: Kind) -> u32
     ensures { result ≡ kind_number kind }
 {
@@ -47,7 +47,7 @@ pub fn kind_number(kind: Kind) -> u32
     }
 }
 
-/// Lays the fields into bytes that have room for just these, one field behind another.
+/// Writes the fields, one after another, into a slice of exactly their size.
 pub fn lay(fields: &[Field], bytes: &mut [u8])
     requires { length bytes.old ≡ length (laid fields.now) }
     ensures { bytes.new ≡ laid fields.now }

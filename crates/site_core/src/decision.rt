@@ -1,4 +1,4 @@
-//! What a decision asks, grants and counts.
+//! What a decision asks, what it grants, and which counters its run changed.
 
 ghost use Rattle.std.specs.Prelude.{◌≡◌, ◌<◌, ◌≤◌, IfOk, None, replicate};
 ghost use Rattle.site_core.specs.Decide.{release_at, preset_at, price_at, granted_point, command_of, counts, count_of};
@@ -13,13 +13,14 @@ use till_request::Reply;
 /// The greatest amount that a release or a preset may ask for, in cents.
 const GREATEST_AMOUNT: u64 = 999_999_999;
 
-/// The products of a site.
+/// How many products a site has.
 const PRODUCTS: u32 = 8;
 
-/// The greatest price of a litre, in tenths of a cent.
+/// The greatest price of a litre, in thousandths.
 const GREATEST_PRICE: u64 = 9_999_999;
 
-/// The question of a release at a point, or its refusal before a program is looked for: S25, S22, S26.
+/// Returns the question that a release at a point asks. The error is the refusal that comes before a program is looked
+/// for: the first that holds of S25, S22 and S26.
 pub fn release_at(point: &Point, n: u32, amount: u64, slot: u32) -> Result<Question, Reply>
     ensures question { result ≡ release_at point.now n amount slot }
     ensures point { IfOk result (λ q. q.point ≡ n) }
@@ -43,7 +44,7 @@ pub fn release_at(point: &Point, n: u32, amount: u64, slot: u32) -> Result<Quest
     })
 }
 
-/// The question of a preset at a point, or its refusal: S25, S22.
+/// Returns the question that a preset at a point asks. The error is its refusal: S25, or else S22.
 pub fn preset_at(point: &Point, n: u32, amount: u64, slot: u32) -> Result<Question, Reply>
     ensures question { result ≡ preset_at point.now n amount slot }
     ensures point { IfOk result (λ q. q.point ≡ n) }
@@ -64,7 +65,8 @@ pub fn preset_at(point: &Point, n: u32, amount: u64, slot: u32) -> Result<Questi
     })
 }
 
-/// The question of a price change, or its refusal: S25, or S22 with the state of the first busy point.
+/// Returns the question that a price change asks. The error is its refusal: S25, or else S22 with the state of the
+/// first busy point.
 pub fn price_at(busy: Option<State>, product: u32, price: u64, slot: u32) -> Result<Question, Reply>
     ensures question { result ≡ price_at busy product price slot }
     ensures fits { IfOk result (λ q. (1 ≤ q.product) × (q.product ≤ PRODUCTS) × (q.asked ≤ GREATEST_PRICE)) }
@@ -84,7 +86,7 @@ pub fn price_at(busy: Option<State>, product: u32, price: u64, slot: u32) -> Res
     }
 }
 
-/// What the program's answer grants; the preset is the point's.
+/// Returns what is granted for the program's answer `r0`. `preset` is the point's preset, 0 for none.
 pub fn granted_point(kind: Kind, asked: u64, r0: u64, preset: u64) -> u64
     ensures { result ≡ granted_point kind asked r0 preset }
 {
@@ -96,7 +98,7 @@ pub fn granted_point(kind: Kind, asked: u64, r0: u64, preset: u64) -> u64
     }
 }
 
-/// The point's command by which a grant is done.
+/// Returns the command that carries out a grant at its point.
 pub fn command_of(kind: Kind, granted: u64) -> Command
     ensures { result ≡ command_of kind granted }
 {
@@ -106,7 +108,7 @@ pub fn command_of(kind: Kind, granted: u64) -> Command
     }
 }
 
-/// A declared counter's value before and after.
+/// Returns the values of a counter before and after a run, if the mask declares it.
 fn count_of(mask: u32, before: &Counters, after: &Counters, c: u32) -> Option<(u64, u64)>
     requires { c < COUNTERS }
     ensures { result ≡ count_of mask before.now after.now c }
@@ -118,7 +120,8 @@ fn count_of(mask: u32, before: &Counters, after: &Counters, c: u32) -> Option<(u
     }
 }
 
-/// Notes the declared counters' values before and after, in the counters' order, where none is noted yet.
+/// Writes the values of the declared counters before and after a run into `noted`, each at its counter's place. `noted`
+/// must hold no values yet.
 pub fn note_counts(
     mask: u32,
     before: &Counters,
@@ -129,7 +132,7 @@ pub fn note_counts(
     ensures { noted.new ≡ counts mask before.now after.now }
 {
     for c in 0..32 {
-        // None is declared from here on.
+        // No further counter is declared.
         if mask >> c == 0 {
             return;
         }

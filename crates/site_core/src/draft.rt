@@ -1,4 +1,4 @@
-//! A decision whose program is run outside the site.
+//! Decisions whose program is run outside the site.
 
 ghost use Rattle.std.specs.Prelude.{◌≡◌, IfOk, length};
 
@@ -21,7 +21,7 @@ use std::marker::Model;
 use std::sync::Arc;
 use till_request::{Act, Request};
 
-/// What a run needs of a site, as it stood when the decision began. It keeps that nothing refused the request there.
+/// What a run needs of a site, as it was when the decision began. The request wasn't refused in that state.
 #[derive(Drop)]
 pub struct Draft {
     till: u32,
@@ -68,8 +68,8 @@ impl Draft {
     ghost use Rattle.site_core.specs.Asked.{Drafts, Compares};
     ghost use Rattle.site_core.specs.Outside.{drafted};
 
-    /// How a request's decision begins as the site stands: by a draft, or at once where no program would be run. The
-    /// error is want of memory.
+    /// Returns a draft of the decision that a request asks for in the current state, or `Direct` where no program would
+    /// be run. The error is that memory ran out.
     pub(crate) fn begin(
         config: &Config,
         station: &Station,
@@ -101,7 +101,7 @@ impl Draft {
         }))
     }
 
-    /// Runs the program. It takes no memory.
+    /// Runs the program. Allocates no memory.
     pub fn run(self) -> Ready
         ensures { result.draft ≡ self }
     {
@@ -114,8 +114,8 @@ impl Draft {
         }
     }
 
-    /// The question, where a run would be made on the same version, context, view and declared counters now; else the
-    /// first difference.
+    /// Returns the question if a run now would be made on the same version, context, view and declared counters. The
+    /// error is the first difference.
     fn compare(&self, config: &Config, station: &Station, slots: &Slots) -> Result<Question, Why>
         requires { length station.now.points ≡ length config.now.points }
         ensures { Compares config.now station.now slots.now self.now result }
@@ -146,8 +146,8 @@ impl Draft {
     }
 }
 
-/// A draft that was run. It keeps that its answer and the counters after are the program's, on the draft's own context,
-/// view and counters.
+/// A draft that was run. The answer and the counters after the run are those of the draft's program on the draft's own
+/// context, view and counters.
 #[derive(Drop)]
 pub struct Ready {
     draft: Draft,
@@ -174,9 +174,9 @@ impl Ready {
     ghost use Rattle.site_core.specs.Differences.{IsFresh, Differs};
     ghost use Rattle.site_core.specs.Asked.{basis_in};
 
-    /// Does what the program answered, where nothing that its run depends on differs now; else the first difference,
-    /// and nothing changes. Counters that the program doesn't declare stay as they are now, and a release is bounded by
-    /// the preset of now.
+    /// Does what the program answered and writes the entry, if nothing that the run depends on differs now. Counters
+    /// that the program doesn't declare keep their current values, and a release is bounded by the point's current
+    /// preset. The error is the first difference; the station is then unchanged.
     pub(crate) fn settle(
         &self,
         config: &Config,
@@ -229,14 +229,14 @@ impl Ready {
     }
 }
 
-/// How a decision begins: where no program would be run it is made under the lock.
+/// How a decision begins: with a draft to run, or directly, as one step under the lock.
 #[derive(Drop)]
 pub enum Begin {
     Direct,
     Run(Draft),
 }
 
-/// What became of a decision that was run outside. A stale one has changed nothing.
+/// What became of a decision that was run outside the site: it was entered, or it is stale and changed nothing.
 #[derive(Clone, Copy, PartialEq, Eq, Drop)]
 pub enum Commit {
     Done(Answered),

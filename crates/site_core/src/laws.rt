@@ -1,4 +1,4 @@
-//! Laws of the definitions.
+//! Laws that follow from the definitions.
 
 ghost use Rattle.std.specs.Prelude.{◌≡◌, ℕ, List, is_some};
 ghost use Rattle.decision_journal.specs.declared.entries.Entry.{Entry};
@@ -12,12 +12,12 @@ ghost use Rattle.site_core.specs.Differences.{IsFresh, Differs};
 ghost use Rattle.site_core.specs.Audit.{OwnAudit};
 ghost use Rattle.site_core.specs.declared.why.Why.{Why};
 
-/// Where nothing differs, no first difference is told: a commit is done exactly where it isn't stale.
+/// Where nothing differs there is no first difference. So a commit is done exactly where it isn't stale.
 pub fn fresh_differs_nowhere()
     ensures { (now : Basis) (draft : DraftValue) (why : Why) → IsFresh now draft → Differs now draft why → ⊥ }
 {}
 
-/// One difference alone is the first.
+/// There is only one first difference.
 pub fn one_difference_is_first()
     ensures { (now : Basis) (draft : DraftValue) (a b : Why) → Differs now draft a → Differs now draft b → a ≡ b }
 {}
@@ -28,7 +28,7 @@ pub fn programs_alone_decide()
         is_decided (effect config past s moment act).reply ≡ is_some (effect config past s moment act).run }
 {}
 
-/// An audit of a site's own history gives that very site, unless memory was wanting.
+/// An audit of a site's own history returns that site, unless memory runs out.
 pub fn audit_of_its_own_history()
     ensures { OwnAudit }
 {}

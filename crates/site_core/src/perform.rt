@@ -26,7 +26,7 @@ use std::alloc::{AllocError, Global};
 use std::sync::Arc;
 use till_request::{Act, Bytes, Reply, Request};
 
-/// Does what the event asks, and writes it into its entry. All growth comes before the first change.
+/// Does what the event asks, and writes it into its entry. All memory is allocated before the first change.
 pub fn perform(
     alloc: Global,
     config: &Config,
@@ -81,7 +81,7 @@ pub fn perform(
     Ok(())
 }
 
-/// Makes a version.
+/// Installs a program in a slot as a new version, and returns the reply to the load.
 fn load(slots: &mut Slots, slot: u32, program: Arc<Program>) -> Result<Reply, AllocError>
     ensures reply { IfOk result (λ reply. (past : List Entry) → Agrees slots.old past
         → Loads slots.old slot (arc_value program) past reply slots.new) }
@@ -95,7 +95,7 @@ fn load(slots: &mut Slots, slot: u32, program: Arc<Program>) -> Result<Reply, Al
     }
 }
 
-/// Answers a till.
+/// Does what a till asks, and returns the reply. Where a program is run, `ran` becomes its run.
 fn ask(
     config: &Config,
     station: &mut Station,
@@ -145,7 +145,8 @@ fn ask(
     }
 }
 
-/// The question that a request puts to a program, where nothing refuses it before.
+/// Returns the question that a request asks a program. None where the request is refused before a program is looked
+/// for, and for requests that no program decides.
 pub fn asked_question(
     config: &Config,
     station: &Station,
@@ -166,7 +167,8 @@ pub fn asked_question(
     }
 }
 
-/// The question that a request puts to a program, whatever refuses it: none where there is no such till or point.
+/// Returns the question that a request asks a program, even where the state refuses the request. None where there is no
+/// such till or point, and for requests that no program decides.
 pub fn routed(config: &Config, station: &Station, till: u32, request: &Request) -> Option<Question>
     ensures { result ≡ routed config.now station.now till request.now }
 {
@@ -193,7 +195,7 @@ pub fn routed(config: &Config, station: &Station, till: u32, request: &Request) 
     }
 }
 
-/// A question at a point, where there is one.
+/// Returns the question at a point, or None where there is no such point.
 #[tactic(auto, unfolding(crate::specs::Draft::at_point))]
 fn routed_to(station: &Station, kind: Kind, n: u32, asked: u64, slot: u32) -> Option<Question>
     ensures { let question : Question = record { kind = kind; point = n; product = 0; asked = asked; slot = slot } in
@@ -209,7 +211,7 @@ fn routed_to(station: &Station, kind: Kind, n: u32, asked: u64, slot: u32) -> Op
     })
 }
 
-/// Runs the program in force, and does what it answered.
+/// Runs the program in force in the question's slot, does what it answers, and returns the reply.
 fn decide(
     station: &mut Station,
     slots: &Slots,

@@ -1,6 +1,6 @@
 //! What a decision is about.
 
-/// What is decided.
+/// The kind of thing that is decided.
 #[derive(Clone, Copy, PartialEq, Eq, Drop)]
 pub enum Kind {
     Release,
@@ -8,8 +8,8 @@ pub enum Kind {
     Price,
 }
 
-/// What is asked, and the slot whose program decides. A price has point 0, all else product 0. `asked` is an amount in
-/// cents, or a price in thousandths.
+/// What is asked, and the slot whose program decides it. A price has point 0; releases and presets have product 0.
+/// `asked` is an amount in cents, or a price in thousandths.
 #[derive(Clone, Copy, Drop)]
 pub struct Question {
     pub kind: Kind,

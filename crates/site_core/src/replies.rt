@@ -1,4 +1,4 @@
-//! The refusals of a site, and what a point's answers are as replies.
+//! The refusals of a site, and the replies for what a point answers.
 
 ghost use Rattle.std.specs.Prelude.{◌≡◌};
 ghost use Rattle.site_core.specs.Decide.{wrong_state, no_program, denied};
@@ -19,7 +19,7 @@ pub const BAD_AMOUNT: Reply = Reply::Refused(25, None);
 /// S26: two transactions are unpaid.
 pub const TRANSACTIONS_FULL: Reply = Reply::Refused(26, None);
 
-/// S27: the transaction isn't the till's.
+/// S27: the transaction isn't this till's.
 const NOT_YOUR_TRANSACTION: Reply = Reply::Refused(27, None);
 
 /// S28: there is no unpaid transaction of this number.
@@ -34,10 +34,10 @@ pub const NO_SUCH_SLOT: Reply = Reply::Refused(32, None);
 /// S33: no order is pending.
 const NO_ORDER: Reply = Reply::Refused(33, None);
 
-/// S34: the dispenser's event isn't for this state.
+/// S34: the dispenser's event isn't possible in this state.
 const UNEXPECTED: Reply = Reply::Refused(34, None);
 
-/// S22: the request isn't for this state.
+/// S22: the request isn't possible in this state.
 pub fn wrong_state(state: State) -> Reply
     ensures { result ≡ wrong_state state }
 {
@@ -51,14 +51,14 @@ pub fn no_program(slot: u32) -> Reply
     Reply::Refused(23, Some(slot))
 }
 
-/// S24: the version denied.
+/// S24: the program of this version denied the request.
 pub fn denied(version: u32) -> Reply
     ensures { result ≡ denied version }
 {
     Reply::Refused(24, Some(version))
 }
 
-/// The reply to a dispenser.
+/// Returns the reply to a dispenser.
 pub fn event_reply(outcome: Result<Option<Order>, PointFault>) -> Reply
     ensures { result ≡ event_reply outcome }
 {
@@ -69,7 +69,7 @@ pub fn event_reply(outcome: Result<Option<Order>, PointFault>) -> Reply
     }
 }
 
-/// The reply to what a point refused.
+/// Returns the reply for a refusal by a point.
 pub fn fault_reply(fault: PointFault) -> Reply
     ensures { result ≡ fault_reply fault }
 {

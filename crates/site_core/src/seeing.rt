@@ -7,7 +7,7 @@ ghost use Rattle.bpf_model.specs.declared.limits.TheConstants.{POINTS};
 use fuelling_point::Point;
 use helpers::PointView;
 
-/// What a program sees of a point.
+/// Returns what a program sees of a point.
 pub fn seen(point: &Point) -> PointView
     ensures { result ≡ seen point.now }
 {
@@ -18,8 +18,8 @@ pub fn seen(point: &Point) -> PointView
     }
 }
 
-/// Puts what is seen now into its place. Nothing is written where it is there already: other threads' cores then keep
-/// the place as they have it.
+/// Stores what is seen of a point now in its place. Writes nothing where the place holds it already, so that other
+/// cores keep the place in their caches.
 pub fn renew(place: &mut PointView, now: PointView)
     ensures { place.new ≡ now }
 {
@@ -28,7 +28,7 @@ pub fn renew(place: &mut PointView, now: PointView)
     }
 }
 
-/// What programs see of all points, with zeros in the places of those that aren't there.
+/// Returns what programs see of all points, with zeros in the places of points that don't exist.
 pub fn seen_points(points: &[Point]) -> [PointView; 32]
     requires { length points.now ≤ POINTS }
     ensures { result ≡ seen_points points.now }

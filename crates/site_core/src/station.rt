@@ -1,4 +1,4 @@
-//! The site's state between two events.
+//! The state of a site between two events.
 
 ghost use Rattle.std.specs.Prelude.{option_copied, ◌≡◌, ℕ, ◌+◌, ◌<◌, ◌≤◌, IfOk, length, replicate, Some, None};
 ghost use Rattle.std.specs.Bool.{OnTrue, OnFalse};
@@ -34,11 +34,12 @@ use std::alloc::{AllocError, Global};
 use std::marker::Model;
 use till_request::Reply;
 
-/// The points, prices, counters, the cleared total and how many transactions were cleared.
+/// The state of a site: its points, prices and counters, the total of cleared amounts in cents, and how many
+/// transactions were cleared.
 #[derive(Drop)]
 pub struct Station {
     points: Vec<Point>,
-    /// What programs can ask of the points, kept as they stand, and the prices.
+    /// What programs can ask about the points, updated whenever a point changes, and the prices.
     view: View,
     counters: Counters,
     cleared: u64,
@@ -65,7 +66,7 @@ impl Model for Station {
 }
 
 impl Station {
-    /// The state that the configuration names.
+    /// Makes the state in which a site of this configuration starts. The error is that memory ran out.
     pub fn start(alloc: Global, config: &Config) -> Result<Station, AllocError>
         ensures { IfOk result (λ s. s ≡ opening_state config.now) }
     {
@@ -87,7 +88,7 @@ impl Station {
         })
     }
 
-    /// Whether there is a point of this number.
+    /// Returns whether the site has a point of this number.
     fn has_point(&self, n: u32) -> bool
         ensures there { OnTrue result ((1 ≤ n) × (n ≤ length self.now.points)) }
         ensures none { OnFalse result (at_number self.now.points n ≡ None) }
@@ -95,7 +96,7 @@ impl Station {
         n >= 1 && n as usize <= self.points.len()
     }
 
-    /// Does what a till asks of a point without a decision.
+    /// Carries out a till's command at a point that needs no decision, and returns the reply.
     pub fn command(&mut self, till: u32, n: u32, command: Command) -> Reply
         requires bounded { HasRoom self.old }
         requires till { 0 < till }
@@ -120,7 +121,8 @@ impl Station {
         }
     }
 
-    /// Takes what a dispenser reports, or hands out the point's order.
+    /// Carries out a dispenser's event at a point, and returns the reply: where the dispenser asks for it, the point's
+    /// order.
     pub fn report(&mut self, n: u32, event: DispenserEvent) -> Reply
         requires { HasRoom self.old }
         ensures effect { reported self.old n event ≡ replied result self.new }
@@ -136,7 +138,7 @@ impl Station {
         event_reply(outcome)
     }
 
-    /// What a till is told of a point.
+    /// Returns the reply to a till's Show of a point.
     pub fn show(&self, n: u32) -> Reply
         ensures { result ≡ show_reply self.now n }
     {
@@ -155,7 +157,7 @@ impl Station {
         }
     }
 
-    /// The point of this number.
+    /// Returns the point of this number, counted from 1.
     pub fn point(&self, n: u32) -> Option<&Point>
         ensures { option_copied result ≡ at_number self.now.points n }
     {
@@ -165,7 +167,7 @@ impl Station {
         self.points.get(n as usize - 1)
     }
 
-    /// The question that a release asks, or its refusal before a program is looked for.
+    /// Returns the question that a release asks. The error is the refusal that comes before a program is looked for.
     pub fn release_question(&self, config: &Config, n: u32, amount: u64) -> Result<Question, Reply>
         requires { length self.now.points ≡ length config.now.points }
         ensures question { result ≡ release_question config.now self.now n amount }
@@ -177,7 +179,7 @@ impl Station {
         }
     }
 
-    /// The question that a preset asks, or its refusal.
+    /// Returns the question that a preset asks. The error is the refusal that comes before a program is looked for.
     pub fn preset_question(&self, config: &Config, n: u32, amount: u64) -> Result<Question, Reply>
         requires { length self.now.points ≡ length config.now.points }
         ensures question { result ≡ preset_question config.now self.now n amount }
@@ -189,7 +191,8 @@ impl Station {
         }
     }
 
-    /// The question that a price asks, or its refusal.
+    /// Returns the question that a price change asks. The error is the refusal that comes before a program is looked
+    /// for.
     pub fn price_question(
         &self,
         config: &Config,
@@ -202,7 +205,7 @@ impl Station {
         price_at(self.first_busy(), product, price, config.price_slot())
     }
 
-    /// The state of the first point with a delivery authorised or under way.
+    /// Returns the state of the first point at which a delivery is authorised or under way.
     #[tactic(auto, unfolding(crate::specs::State::first_busy))]
     fn first_busy(&self) -> Option<State>
         ensures { result ≡ first_busy self.now }
@@ -252,14 +255,14 @@ impl Station {
         }
     }
 
-    /// What a program can ask of the site.
+    /// Returns what a program can ask about the site by calls.
     pub fn view(&self) -> &View
         ensures { result.now ≡ view_of self.now }
     {
         &self.view
     }
 
-    /// A counter's value and bound, for counters 0 to 31.
+    /// Returns the value and the bound of a counter, for counters 0 to 31.
     pub fn counter(&self, c: u32) -> Option<(u64, u64)>
         ensures { result ≡ counter_of self.now c }
     {
@@ -276,7 +279,7 @@ impl Station {
         &self.counters
     }
 
-    /// The context of this layout that a program is given.
+    /// Returns the context of this layout that a program is given for the question.
     #[inline(always)]
     pub fn context(&self, layout: Layout, till: u32, moment: u64, question: &Question) -> Context
         ensures context { result ≡ context layout self.now till moment question.now }
@@ -298,7 +301,8 @@ impl Station {
         }
     }
 
-    /// The fields of a context in their order, those of both layouts and then the second layout's own.
+    /// Returns the fields of a context in their order: those that both layouts share, and then those that only the
+    /// second layout has.
     fn fields(&self, till: u32, moment: u64, question: &Question) -> [Field; 16]
         ensures fields { result ≡ fields Layout.Two self.now till moment question.now }
         ensures fits { FitsContext self.now question.now }
@@ -325,7 +329,7 @@ impl Station {
         ]
     }
 
-    /// The nozzle's number, or the product whose price is asked.
+    /// Returns the product whose price is asked, or else the number of the point's nozzle.
     fn product_of(&self, question: &Question) -> u32
         ensures { result ≡ product_of self.now question.now }
     {
@@ -335,7 +339,8 @@ impl Station {
         }
     }
 
-    /// Runs a program on the site as it stands, and notes each counter that it declares before and after.
+    /// Runs a program on the current state and returns its answer. Writes the values before and after of each counter
+    /// that it declares into `noted`.
     pub fn run(
         &mut self,
         program: &Program,
@@ -359,7 +364,8 @@ impl Station {
         r0
     }
 
-    /// Takes the declared counters that a run left, which was made on those of now and on this view; and notes them.
+    /// Takes over the declared counters that a run outside the site left, and writes their values before and after into
+    /// `noted`. The run must have been made on the current values of these counters and on the current view.
     pub fn adopt(
         &mut self,
         program: &Program,
@@ -391,7 +397,7 @@ impl Station {
         note_counts(program.declared(), &was, &self.counters, noted);
     }
 
-    /// Does what a version's answer allows, and tells it.
+    /// Does what a version's answer allows, and returns the reply.
     pub fn settle(&mut self, till: u32, question: &Question, version: u32, r0: u64) -> Reply
         requires bounded { HasRoom self.old }
         requires till { 0 < till }
@@ -406,7 +412,7 @@ impl Station {
         Reply::Granted(self.grant(till, question, r0), version)
     }
 
-    /// Grants what is asked, as far as the program's answer goes.
+    /// Grants what is asked, as far as the program's answer allows, and returns what was granted.
     fn grant(&mut self, till: u32, question: &Question, r0: u64) -> u64
         requires bounded { HasRoom self.old }
         requires till { 0 < till }
@@ -427,7 +433,8 @@ impl Station {
         granted
     }
 
-    /// The state, the nozzle and the number of transactions of a point, or 0.
+    /// Returns the state, the nozzle and how many unpaid transactions a point has, or zeros where there is no such
+    /// point.
     fn told_of(&self, n: u32) -> (u32, u32, u32)
         ensures state { result.0 ≡ told (at_number self.now.points n) (λ p. state_number p.state) }
         ensures nozzle { result.1 ≡ told (at_number self.now.points n) (λ p. p.nozzle) }

@@ -1,16 +1,17 @@
-//! Why a decision that was run outside isn't entered.
+//! Why a decision that was run outside the site isn't entered.
 
-/// The first thing in which the site differs from what the run was made on, in this order.
+/// The first thing, in this order, in which the site differs from what the run was made on.
 #[derive(Clone, Copy, PartialEq, Eq, Drop)]
 pub enum Why {
-    /// The version that is installed now, if any. None too where the site lacks the till or the point.
+    /// Another version is installed now, or none. This is the number of the installed version; it is None too where the
+    /// site has no such till or point.
     Version(Option<u32>),
-    /// The least place in the context, from 0 to 63, or to 79 in a context of the second layout.
+    /// The context differs, first at this place: 0 to 63, or 0 to 79 in a context of the second layout.
     Context(u32),
-    /// The least point, from 1.
+    /// What programs see of a point differs, first at the point of this number, counted from 1.
     PointDiffers(u32),
-    /// The least product, from 1.
+    /// A price differs, first that of the product of this number, counted from 1.
     PriceDiffers(u32),
-    /// The least declared counter, and its value now.
+    /// A declared counter differs, first the counter of this number, which has this value now.
     Counter(u32, u64),
 }
