@@ -1,4 +1,4 @@
--- Promises: what a new version changes, and when each refusal comes.
+-- Promises: what a new version changes, and when each error is returned.
 use Rattle.std.specs.Prelude.{◌≡◌, ◌≢◌, ℕ, ◌+◌, ◌<◌, ◌≤◌, [], ◌∷◌, ◌++◌, length, slice_set, Some, Result, Ok, Err}
 use Rattle.bpf_model.specs.Program.{ProgramText}
 use Rattle.program_slots.specs.Value.{SlotsValue}
@@ -6,7 +6,7 @@ use Rattle.program_slots.specs.Slots.{version_in}
 use Rattle.program_slots.specs.declared.SlotFault.{SlotFault}
 use Rattle.program_slots.specs.declared.SlotFault.TheVariants.{NoSuchSlot, VersionsFull, OutOfMemory}
 
--- A new version has the next number; its slot names it, and each other slot keeps its version.
+-- The program became a new version with the next number. It is in its slot, and each other slot keeps its version.
 pub record Installs (old : SlotsValue) (slot : ℕ) (program : ProgramText) (number : ℕ) (new : SlotsValue) : Type 0 where
   pub number_is : number ≡ length old.programs + 1
   pub programs_are : new.programs ≡ old.programs ++ program ∷ []
@@ -14,7 +14,7 @@ pub record Installs (old : SlotsValue) (slot : ℕ) (program : ProgramText) (num
   pub in_slot : version_in new slot ≡ Some (record { number = number; program = program })
   pub elsewhere : (other : ℕ) → other ≢ slot → version_in new other ≡ version_in old other
 
--- when each answer comes: a slot over 15 is told first; want of memory may stand for a version
+-- When each result is returned. A slot over 15 is reported first. Memory can run out only where a version could otherwise be made.
 abbrev pub Refuses : SlotsValue → ℕ → Result ℕ SlotFault → Type 0
 Refuses old slot (Ok number) = (slot < 16) × (length old.programs < 4096)
 Refuses old slot (Err NoSuchSlot) = 16 ≤ slot

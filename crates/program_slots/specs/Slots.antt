@@ -1,4 +1,4 @@
--- Definitions: what is installed. There are 16 slots, 0 to 15, and versions are numbered from 1 over all slots (this profile).
+-- Definitions: which version is in a slot. There are 16 slots, 0 to 15, and versions are numbered from 1 over all slots (this profile).
 use Rattle.std.specs.Prelude.{ℕ, ◌-◌, nat_le, if◌then◌else◌, [], ◌∷◌, slice_get, slice_index_or, Option, Some, None}
 use Rattle.std.specs.List.{repeat}
 use Rattle.bpf_model.specs.Program.{ProgramText}
@@ -7,11 +7,11 @@ use Rattle.program_slots.specs.Value.{SlotsValue}
 abbrev pub no_versions : SlotsValue
 no_versions = record { installed = repeat 16 (None ∷ []); programs = [] }
 
--- the number of the slot's version
+-- The number of the version in a slot.
 abbrev pub number_in : SlotsValue → ℕ → Option ℕ
 number_in v slot = slice_index_or v.installed slot None
 
--- the program of a version, which are numbered from 1
+-- The program of a version. Versions are numbered from 1.
 abbrev pub program_of : SlotsValue → ℕ → Option ProgramText
 program_of v number = if nat_le 1 number then slice_get v.programs (number - 1) else None
 
@@ -20,7 +20,7 @@ pub record Version : Type 0 where
   pub number : ℕ
   pub program : ProgramText
 
--- the version that is installed in a slot
+-- The version of the number that a slot holds.
 abbrev pub version_of : SlotsValue → Option ℕ → Option Version
 version_of v None = None
 version_of v (Some n) = elim (program_of v n) [ Some p ↦ Some (record { number = n; program = p }) | None ↦ None ]

@@ -1,4 +1,4 @@
--- Representation: what the fields of slots stand for, and what holds of them.
+-- Representation: what the fields of `Slots` mean, and its invariant.
 use Rattle.std.specs.Prelude.{◌≡◌, ℕ, ◌≤◌, length, map, Option, Some, None, All}
 use Rattle.std.specs.Arc.{arc_value}
 use Rattle.program_slots.specs.Value.{SlotsValue}
@@ -7,7 +7,7 @@ use Rattle.program_slots.specs.declared.Slots.TheInside.{Inside}
 abbrev pub slots_view : Inside → SlotsValue
 slots_view s = record { installed = s.installed; programs = map (λ program. arc_value program) s.programs.items }
 
--- a slot's number is that of a version
+-- The slot is empty, or its number is that of a version.
 abbrev pub IsVersion : ℕ → Option ℕ → Type 0
 IsVersion count None = Unit {0}
 IsVersion count (Some n) = (1 ≤ n) × (n ≤ count)

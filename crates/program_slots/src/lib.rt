@@ -1,4 +1,5 @@
-//! Slots for programs: each load makes a new version, which is never used again, and a slot names its newest.
+//! Slots for programs. Each load makes a new version, whose number is never used again, and a slot holds the number of
+//! its newest version.
 #![tactic(auto)]
 
 ghost use Rattle.std.specs.Prelude.{◌≡◌, ◌≢◌, ℕ, ◌+◌, MatchOption, OnErr, IfOk, Some, None};
@@ -12,7 +13,7 @@ use std::marker::Model;
 use std::sync::Arc;
 use thiserror::Error;
 
-/// How many versions there can be, over all slots.
+/// How many versions there can be in total, over all slots.
 pub const VERSIONS: usize = 4096;
 
 /// How many slots there are.
@@ -49,7 +50,7 @@ impl Model for Slots {
 }
 
 impl Slots {
-    /// No version, and 16 empty slots. Takes no memory.
+    /// Makes 16 empty slots with no version. Allocates no memory.
     pub fn new(alloc: Global) -> Self
         ensures { result ≡ no_versions }
     {
@@ -59,11 +60,11 @@ impl Slots {
         }
     }
 
-    /// Makes a version of the program and names it in the slot. Versions are numbered from 1; every other slot keeps
-    /// its own.
+    /// Makes the program a new version, installs it in the slot and returns its number. Versions are numbered from 1.
+    /// Every other slot keeps its version.
     ///
-    /// `NoSuchSlot` for a slot over 15, else `VersionsFull` where there are 4,096 versions, else `OutOfMemory` where a
-    /// growth was refused. After a refusal all is as before; the program is given up.
+    /// The error is `NoSuchSlot` for a slot over 15, or else `VersionsFull` where there are 4,096 versions, or else
+    /// `OutOfMemory` where an allocation failed. After an error nothing has changed, and the program is dropped.
     pub fn install(&mut self, slot: u32, program: Arc<Program>) -> Result<u32, SlotFault>
         ensures step { IfOk result (λ number. Installs self.old slot (arc_value program) number self.new) }
         ensures refusal { Refuses self.old slot result }
@@ -83,7 +84,7 @@ impl Slots {
         Ok(number)
     }
 
-    /// The number of the slot's version, or none for an empty slot and for a slot over 15.
+    /// Returns the number of the version in a slot, or None for an empty slot and for a slot over 15.
     pub fn installed(&self, slot: u32) -> Option<u32>
         ensures { result ≡ number_in self.now slot }
     {
@@ -94,7 +95,7 @@ impl Slots {
         }
     }
 
-    /// The program of a version, or none where there is no version of this number.
+    /// Returns the program of a version, or None where there is no version of this number.
     pub fn version(&self, number: u32) -> Option<&Arc<Program>>
         ensures { MatchOption result (program_of self.now number ≡ None)
             (λ program. program_of self.now number ≡ Some (arc_value program.now)) }
