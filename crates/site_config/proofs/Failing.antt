@@ -1,4 +1,4 @@
--- Reading that fails at a step fails.
+-- Where one step of reading fails, reading fails as a whole.
 use Rattle.std.proofs.Common.{◌≡◌, ℕ, ℤ, List, [], ◌∷◌, ◌++◌, Result, Ok, Err, refl, sym}
 use Rattle.site_config.specs.declared.fault.ConfigFault.{ConfigFault}
 use Rattle.site_config.specs.declared.fault.ConfigFault.TheVariants.{K1, K2, K3, OutOfMemory}
@@ -11,7 +11,7 @@ fails_on K2 r g e = rw e
 fails_on K3 r g e = rw e
 fails_on OutOfMemory r g e = tt
 
--- the first number of the rest is out of range
+-- Where the first number of the rest is out of range, reading the whole list fails.
 pub fails_front : (f : ConfigFault) (front : List ℕ) (low high : ℕ) (zs : List ℤ) (z : ℤ) (rest : List ℤ) (whole : Result (List ℕ) ConfigFault)
     → with_front front (all_ranged low high zs) ≡ whole → zs ≡ z ∷ rest → Fails f (ranged low high z) → Fails f whole
 fails_front f front low high zs z rest whole read split e =

@@ -1,4 +1,4 @@
--- The keys of a table.
+-- The keys of a table, as the code and as the definitions go through them.
 use Rattle.std.proofs.Common.{◌≡◌, ℕ, List, [], ◌∷◌, Bool, ◌&&◌, String, Global, BTreeMap, string_bytes, refl, ap}
 use Rattle.std.specs.List.{list_all}
 use Rattle.std.specs.BTreeMap.{keys}

@@ -1,4 +1,4 @@
--- A list that was read is as long as what it was read from.
+-- A list that was read is as long as the list that it was read from.
 use Rattle.std.proofs.Common.{◌≡◌, ℕ, ℤ, pos, negsuc, suc, ◌≤◌, List, [], ◌∷◌, length, Bool, true, false, ◌&&◌, nat_le, cond, Result, Ok, Err, refl, ap, sym}
 use Rattle.site_config.specs.declared.fault.ConfigFault.{ConfigFault}
 use Rattle.site_config.specs.Document.{◌>>=◌}

@@ -1,4 +1,4 @@
--- Definitions: reading with a fault, and the document of some bytes.
+-- Definitions: reading that can fail with a fault, and the document in some bytes.
 use Rattle.std.specs.Prelude.{◌≡◌, ℕ, List, ◌++◌, Option, Some, None, Result, Ok, Err, if◌then◌else◌}
 use Rattle.std.specs.Str.{is_utf8}
 use Rattle.toml.specs.Data.{Members}
@@ -11,12 +11,13 @@ abbrev pub ◌>>=◌ : {A B : Type 0} → Result A ConfigFault → (A → Result
 (Ok x) >>= f = f x
 (Err e) >>= f = Err e
 
--- the value, or a fault
+-- The value, or the fault where there is no value.
 abbrev pub or_fault : {A : Type 0} → ConfigFault → Option A → Result A ConfigFault
 or_fault f (Some x) = Ok x
 or_fault f None = Err f
 
--- What a function returned, seen by view, is what reading gives, unless memory ran out.
+-- Reading fails with this fault; running out of memory says nothing about reading. `Gives`: what a function returned, seen through `view`, is
+-- what reading gives, unless memory ran out.
 abbrev pub Fails : {Y : Type 0} → ConfigFault → Result Y ConfigFault → Type 0
 Fails OutOfMemory read = Unit {0}
 Fails f read = read ≡ Err f
@@ -25,10 +26,10 @@ abbrev pub Gives : {X Y : Type 0} → (X → Y) → Result X ConfigFault → Res
 Gives view (Ok x) read = read ≡ Ok (view x)
 Gives view (Err e) read = Fails e read
 
--- the document that these bytes are
+-- The document in these bytes, or K1.
 unfoldable pub document_of : List ℕ → Result Members ConfigFault
 document_of bytes = if is_utf8 bytes then or_fault K1 (parse_document bytes) else Err K1
 
--- a front that was read, before the rest
+-- The front that was read already, followed by what the rest reads as.
 abbrev pub with_front : {A : Type 0} → List A → Result (List A) ConfigFault → Result (List A) ConfigFault
 with_front front rest = rest >>= (λ xs. Ok (front ++ xs))

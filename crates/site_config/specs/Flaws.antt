@@ -1,4 +1,4 @@
--- Definitions: the number of what is told of a configuration, and what it tells (this profile).
+-- Definitions: the fault number of each flaw of a configuration, and the position that it reports (this profile).
 use Rattle.std.specs.Prelude.{◌≡◌, ℕ, List, Bool, Option, Some, None, Result, Ok, Err}
 use Rattle.site_config.specs.declared.fault.ConfigFault.{ConfigFault}
 use Rattle.site_config.specs.declared.fault.ConfigFault.TheVariants as fault
@@ -22,18 +22,19 @@ fault_of (OverBound counter value bound) = fault.K3
 fault_of (SamePort first second port) = fault.K3
 fault_of OutOfMemory = fault.OutOfMemory
 
--- the line and the column of a text that is no document
+-- The line and the column of a flaw in a text that isn't a document; other flaws have no position.
 abbrev pub position_of : ConfigFlaw → Option (ℕ × ℕ)
 position_of (NotUtf8 line column) = Some (line, column)
 position_of (NotToml line column message) = Some (line, column)
 position_of flaw = None
 
--- What a function returned, seen by view, is what reading gives, unless memory ran out: a flaw is of the fault that reading has.
+-- What a function returned, seen through `view`, is what reading gives, unless memory ran out. A flaw that was returned has the number of the
+-- fault that reading gives.
 abbrev pub Finds : {X Y : Type 0} → (X → Y) → Result X ConfigFlaw → Result Y ConfigFault → Type 0
 Finds view (Ok x) read = read ≡ Ok (view x)
 Finds view (Err flaw) read = Fails (fault_of flaw) read
 
--- a section has such a key
+-- The section has a key of this name.
 abbrev pub is_key_of : Section → List ℕ → Bool
 is_key_of Top name = is_top_key name
 is_key_of (Point place) name = is_point_key name

@@ -1,22 +1,22 @@
--- Definitions: a configuration that stands before a script in one stream (this profile). A line `---` ends it.
+-- Definitions: a configuration that comes before a script in one stream (this profile). A line `---` ends it.
 use Rattle.std.specs.Prelude.{◌≡◌, ◌⊎◌, ℕ, ◌<◌, ◌-◌, ◌||◌, nat_le, Bool, true, false, if◌then◌else◌, List, [], ◌∷◌, length, take, drop, Option, Some, None}
 use Rattle.std.specs.Str.{bytes_eq}
 use Rattle.std.specs.Io.KnownBytes.{Consumes, IsAtEnd}
 
--- the bytes are a line `---`, or end with one
+-- The bytes are a line `---`, or end with one.
 abbrev pub ends_head : List ℕ → Bool
 ends_head bytes =
     bytes_eq bytes (45 ∷ 45 ∷ 45 ∷ 10 ∷ []) || bytes_eq (drop (length bytes - 5) bytes) (10 ∷ 45 ∷ 45 ∷ 45 ∷ 10 ∷ [])
 
--- what stands before that line, or all of it where there is none
+-- The bytes before that line, or all bytes where they don't end with one.
 abbrev pub before_end : List ℕ → List ℕ
 before_end bytes = if ends_head bytes then take (length bytes - 4) bytes else bytes
 
--- the configuration, of at most 65,536 bytes
+-- The configuration in the bytes. None where it has over 65,536 bytes.
 abbrev pub head_part : List ℕ → Option (List ℕ)
 head_part bytes = if nat_le (length (before_end bytes)) 65536 then Some (before_end bytes) else None
 
--- these bytes were taken: they end with the first line `---`, or they are all, or too many
+-- These bytes were taken from the input. They end with the first line `---`, or the input ended, or they are more than 65,540.
 pub record IsHead (old new : Option (List ℕ)) (bytes : List ℕ) : Type 0 where
   pub taken : Consumes old new bytes
   pub first : (k : ℕ) → k < length bytes → ends_head (take k bytes) ≡ false

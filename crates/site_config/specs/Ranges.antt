@@ -1,4 +1,4 @@
--- Definitions: the ranges, lengths, counts and conditions of settings.
+-- Definitions: the ranges, lengths, counts and conditions of a configuration (K3).
 use Rattle.std.specs.Prelude.{◌≡◌, ◌==◌, ◌&&◌, ◌||◌, ◌-◌, not, nat_le, ℕ, ℤ, pos, negsuc, List, [], ◌∷◌, ◌++◌, length, replicate, Bool, true, false, Option}
 use Rattle.std.specs.Prelude.{Some, None, Result, Ok, Err, if◌then◌else◌}
 use Rattle.site_config.specs.declared.fault.ConfigFault.{ConfigFault}
@@ -10,7 +10,7 @@ use Rattle.site_core.specs.Limits.{ConfigValue}
 use Rattle.site_config.specs.Document.{◌>>=◌, document_of}
 use Rattle.site_config.specs.Typed.{Typed, typed_of}
 
--- a number from low to high
+-- The number if it is from low to high, or K3.
 abbrev pub ranged : ℕ → ℕ → ℤ → Result ℕ ConfigFault
 ranged low high (pos n) = if nat_le low n && nat_le n high then Ok n else Err K3
 ranged low high (negsuc n) = Err K3
@@ -19,7 +19,7 @@ abbrev pub demand : Bool → Result (Unit {0}) ConfigFault
 demand true = Ok tt
 demand false = Err K3
 
--- numbers from low to high
+-- The numbers if each is from low to high, or K3.
 abbrev pub all_ranged : ℕ → ℕ → List ℤ → Result (List ℕ) ConfigFault
 all_ranged low high [] = Ok []
 all_ranged low high (z ∷ zs) = do
@@ -27,14 +27,14 @@ all_ranged low high (z ∷ zs) = do
   ns ← all_ranged low high zs
   Ok (n ∷ ns)
 
--- a point's two slots
+-- The slots of a point's releases and of its presets, each from 0 to 15.
 unfoldable pub point_of : ℤ × ℤ → Result (ℕ × ℕ) ConfigFault
 point_of p = do
   r ← ranged 0 15 p.0
   s ← ranged 0 15 p.1
   Ok (r, s)
 
--- a counter's value and bound
+-- The value and the bound of a counter. The value is at most the bound.
 unfoldable pub counter_of : ℤ × ℤ → Result (ℕ × ℕ) ConfigFault
 counter_of p = do
   v ← ranged 0 9223372036854775807 p.0
@@ -49,26 +49,26 @@ each_of one (p ∷ ps) = do
   qs ← each_of one ps
   Ok (q ∷ qs)
 
--- 8 prices
+-- The prices of a site: there must be 8.
 unfoldable pub prices_of : List ℤ → Result (List ℕ) ConfigFault
 prices_of zs = do
   eight ← demand (length zs == 8)
   all_ranged 0 9999999 zs
 
--- 1 to 32 points
+-- The points of a site: there must be 1 to 32.
 unfoldable pub points_of : List (ℤ × ℤ) → Result (List (ℕ × ℕ)) ConfigFault
 points_of ps = do
   some ← demand (nat_le 1 (length ps) && nat_le (length ps) 32)
   each_of point_of ps
 
--- at most 32 counters; those not named have 0 and 0
+-- The 32 counters of a site, of which at most 32 are given. The others have value 0 and bound 0.
 unfoldable pub counters_of : List (ℤ × ℤ) → Result (List (ℕ × ℕ)) ConfigFault
 counters_of ps = do
   few ← demand (nat_le (length ps) 32)
   qs ← each_of counter_of ps
   Ok (qs ++ replicate (32 - length qs) (0, 0))
 
--- ports that are all different, workers and connections
+-- Where and how to serve: three ports that are all different, how many workers, and how many connections.
 unfoldable pub serve_of : Served → Result Serve ConfigFault
 serve_of s = do
   t ← ranged 1 65535 s.till_port
@@ -86,7 +86,7 @@ serve_from (Some s) = do
   r ← serve_of s
   Ok (Some r)
 
--- what a configuration says, without where it lies in memory
+-- The values that a configuration says.
 pub record Told : Type 0 where
   pub config : ConfigValue
   pub serve : Option Serve
@@ -104,7 +104,7 @@ told_of d = do
 abbrev pub told : Settings → Told
 told s = record { config = s.config; serve = s.serve }
 
--- what a text says: K1 before K2, K2 before K3
+-- What the text of a configuration says, or its fault: K1 comes before K2, and K2 before K3.
 unfoldable pub config_of : List ℕ → Result Told ConfigFault
 config_of bytes = do
   doc ← document_of bytes

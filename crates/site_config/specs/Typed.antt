@@ -1,4 +1,4 @@
--- Definitions: a document by its keys and types.
+-- Definitions: the keys of a document, and the types of their values (K2).
 use Rattle.std.specs.Prelude.{◌==◌, ◌&&◌, ◌||◌, ℕ, ℤ, List, [], ◌∷◌, codes, Bool, true, false, Option, Some, None, Result, Ok, Err, option_and_then}
 use Rattle.std.specs.Prelude.{if◌then◌else◌}
 use Rattle.std.specs.Str.{bytes_eq}
@@ -9,7 +9,7 @@ use Rattle.site_config.specs.declared.raw.Raw.{Raw}
 use Rattle.site_config.specs.declared.raw.Served.{Served}
 use Rattle.site_config.specs.Document.{or_fault, ◌>>=◌}
 
--- the keys of each kind of table
+-- These are the keys that each kind of table has.
 unfoldable pub is_top_key : List ℕ → Bool
 is_top_key k =
     bytes_eq k (codes "tills")
@@ -19,7 +19,7 @@ is_top_key k =
 unfoldable pub is_point_key : List ℕ → Bool
 is_point_key k = bytes_eq k (codes "release") || bytes_eq k (codes "preset")
 
--- each key passes
+-- Each key of the table passes the test.
 abbrev pub has_only : (List ℕ → Bool) → Members → Bool
 has_only test no_members = true
 has_only test (member k d ms) = test k && has_only test ms
@@ -37,11 +37,11 @@ abbrev pub require : Bool → Result (Unit {0}) ConfigFault
 require true = Ok tt
 require false = Err K2
 
--- the number at a key
+-- The number that is the value of a key, or K2.
 abbrev pub integer_at : List ℕ → Members → Result ℤ ConfigFault
 integer_at key ms = or_fault K2 (option_and_then as_integer (get_member key ms))
 
--- numbers
+-- The items as numbers, or K2.
 abbrev pub integers : Items → Result (List ℤ) ConfigFault
 integers no_items = Ok []
 integers (item d ds) = do
@@ -49,7 +49,7 @@ integers (item d ds) = do
   zs ← integers ds
   Ok (z ∷ zs)
 
--- the two numbers of a table that has these keys and no other
+-- The numbers of two keys of a table, which may have no other keys.
 unfoldable pub pair_in : (List ℕ → Bool) → List ℕ → List ℕ → Data → Result (ℤ × ℤ) ConfigFault
 pair_in is_key first second d = do
   ms ← or_fault K2 (as_table d)
@@ -64,7 +64,7 @@ point_in d = pair_in is_point_key (codes "release") (codes "preset") d
 unfoldable pub counter_in : Data → Result (ℤ × ℤ) ConfigFault
 counter_in d = pair_in is_counter_key (codes "value") (codes "bound") d
 
--- each item read
+-- What each item reads as.
 abbrev pub each_in : (Data → Result (ℤ × ℤ) ConfigFault) → Items → Result (List (ℤ × ℤ)) ConfigFault
 each_in one no_items = Ok []
 each_in one (item d ds) = do
@@ -106,7 +106,7 @@ served_from (Some d) = do
 unfoldable pub served_at : Members → Result (Option Served) ConfigFault
 served_at ms = served_from (get_member (codes "serve") ms)
 
--- what stands under the keys of a document
+-- The values of the keys of a document.
 pub record Typed : Type 0 where
   pub tills : ℤ
   pub price_slot : ℤ
@@ -115,7 +115,7 @@ pub record Typed : Type 0 where
   pub counters : List (ℤ × ℤ)
   pub serve : Option Served
 
--- the document by its keys and types: another key, a missing one or a wrong type is K2
+-- The values of the keys of a document. An unknown key, a missing key or a wrong type is K2.
 unfoldable pub typed_of : Members → Result Typed ConfigFault
 typed_of ms = do
   known ← require (has_only is_top_key ms)
@@ -127,6 +127,6 @@ typed_of ms = do
   serve ← served_at ms
   Ok (record { tills = tills; price_slot = slot; prices = prices; points = points; counters = counters; serve = serve })
 
--- a document as the code has it
+-- The values of the keys, as the code holds them.
 abbrev pub seen : Raw → Typed
 seen r = record { tills = r.tills; price_slot = r.price_slot; prices = r.prices.items; points = r.points.items; counters = r.counters.items; serve = r.serve }

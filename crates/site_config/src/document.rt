@@ -1,4 +1,4 @@
-//! Bytes as a document.
+//! Reads bytes as a TOML document.
 ghost use Rattle.std.specs.Prelude.{◌≡◌, ◌+◌, ◌==◌, length, filter};
 ghost use Rattle.toml.specs.View.{table_view};
 ghost use Rattle.site_config.specs.Document.{document_of};
@@ -8,14 +8,14 @@ use crate::flaw::ConfigFlaw;
 use std::alloc::Global;
 use toml::Table;
 
-/// How many lines end in a text.
+/// Returns how many line ends a text has.
 fn lines_in(text: &[u8]) -> usize
     ensures { result ≡ length (filter (λ b. b == 10) text.now) }
 {
     text.iter().filter(|byte| **byte == b'\n').count()
 }
 
-/// How many characters the last line of a text has.
+/// Returns how many characters the last line of a text has.
 fn characters_in_last_line(text: &[u8]) -> usize {
     let line = match text.iter().rposition(|byte| *byte == b'\n') {
         Some(end) => text.get(end.saturating_add(1)..).unwrap_or(text),
@@ -24,7 +24,7 @@ fn characters_in_last_line(text: &[u8]) -> usize {
     line.iter().filter(|byte| **byte & 0xc0 != 0x80).count()
 }
 
-/// The line and the column of what stands behind a text, both from 1. A column counts characters.
+/// Returns the line and the column of what follows a text, both counted from 1. The column counts characters.
 fn position_behind(text: &[u8]) -> (usize, usize) {
     (
         lines_in(text).saturating_add(1),
@@ -32,12 +32,12 @@ fn position_behind(text: &[u8]) -> (usize, usize) {
     )
 }
 
-/// The position of a byte.
+/// Returns the line and the column of a byte.
 fn position_at(bytes: &[u8], at: usize) -> (usize, usize) {
     position_behind(bytes.get(..at).unwrap_or(bytes))
 }
 
-/// The document that the bytes are.
+/// Reads the bytes as a document. The error is `NotUtf8` or `NotToml` with its position (K1), or that memory ran out.
 #[tactic(auto, unfolding(crate::specs::Document::document_of))]
 pub fn read_document(alloc: Global, bytes: &[u8]) -> Result<Table, ConfigFlaw>
     ensures { Finds table_view result (document_of bytes.now) }

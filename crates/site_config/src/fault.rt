@@ -1,8 +1,8 @@
-//! Why a text is no settings.
+//! The number of the fault for which a configuration is refused.
 use std::alloc::{AllocError, AllocFailed};
 use thiserror::Error;
 
-/// Why a text is no settings.
+/// The number of the fault for which the text of a configuration is refused.
 #[derive(Clone, Copy, Debug, Error)]
 pub enum ConfigFault {
     #[error("the configuration isn't TOML")]

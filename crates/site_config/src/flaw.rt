@@ -1,4 +1,4 @@
-//! What exactly is at fault in a configuration's text, in words.
+//! What exactly is wrong in the text of a configuration, and the words for it.
 use crate::fault::ConfigFault;
 use std::alloc::{AllocError, AllocFailed};
 use std::fmt;
@@ -29,7 +29,7 @@ impl Key {
     ghost use Rattle.std.specs.Prelude.{◌≡◌};
     ghost use Rattle.site_config.specs.Keys.{name_of};
 
-    /// The key as it is written.
+    /// Returns the key as it is written.
     pub fn name(self) -> &'static str
         ensures { result.now ≡ name_of self }
     {
@@ -60,7 +60,8 @@ impl fmt::Display for Key {
     }
 }
 
-/// A table of a configuration: the document, one of its points or counters by their place from 0, or `[serve]`.
+/// A table of a configuration: the whole document, one of its points or counters, by its place counted from 0, or
+/// `[serve]`.
 #[derive(Clone, Copy, Debug)]
 pub enum Section {
     Top,
@@ -70,7 +71,7 @@ pub enum Section {
 }
 
 impl fmt::Display for Section {
-    /// What stands before a key: points are counted from 1 and counters from 0, as the site counts them.
+    /// Writes what comes before a key. Points are counted from 1 and counters from 0, as the site counts them.
     fn fmt<W: fmt::Write>(&self, f: &mut fmt::Formatter<W>) -> fmt::Result {
         match self {
             Section::Top => Ok(()),
@@ -81,7 +82,7 @@ impl fmt::Display for Section {
     }
 }
 
-/// A value of a configuration: the one at a key, or an item of a list, by its place from 0.
+/// A value of a configuration: the value of a key, or an item of a list, by its place counted from 0.
 #[derive(Clone, Copy, Debug)]
 pub enum Place {
     At(Section, Key),
@@ -91,7 +92,7 @@ pub enum Place {
 }
 
 impl fmt::Display for Place {
-    /// Prices and points are counted from 1 and counters from 0, as the site counts them.
+    /// Writes the place. Prices and points are counted from 1 and counters from 0, as the site counts them.
     fn fmt<W: fmt::Write>(&self, f: &mut fmt::Formatter<W>) -> fmt::Result {
         match self {
             Place::At(section, key) => write!(f, "{section}{key}"),
@@ -102,7 +103,7 @@ impl fmt::Display for Place {
     }
 }
 
-/// What a value has to be.
+/// The type that a value must have.
 #[derive(Clone, Copy, Debug, Error)]
 pub enum Type {
     #[error("a whole number")]
@@ -113,7 +114,7 @@ pub enum Type {
     Table,
 }
 
-/// How many items a list has, and how many it may have.
+/// A list, how many items it has, and the least and the most that it may have.
 #[derive(Clone, Copy)]
 struct Counted(Place, usize, usize, usize);
 
@@ -128,41 +129,41 @@ impl fmt::Display for Counted {
     }
 }
 
-/// What is at fault in a configuration's text: of all that is, the first in the order in which it is judged.
+/// What is wrong in the text of a configuration: the first flaw in the order in which the text is checked.
 #[derive(Debug, Drop, Error)]
 pub enum ConfigFlaw {
-    /// K1, at this line and column, both from 1.
+    /// K1, at this line and column, both counted from 1.
     #[error("the text isn't UTF-8")]
     NotUtf8 {
         line: usize,
         column: usize,
     },
-    /// K1, at this line and column, both from 1, with the reader's message.
+    /// K1, at this line and column, both counted from 1, with the message of the TOML reader.
     #[error("{message}")]
     NotToml {
         line: usize,
         column: usize,
         message: String,
     },
-    /// K2.
+    /// K2: a table has a key that isn't one of its keys.
     #[error("unknown key '{0}{1}'")]
     UnknownKey(Section, String),
-    /// K2.
+    /// K2: a key or a value that has to be there is missing.
     #[error("'{0}' is missing")]
     Missing(Place),
-    /// K2.
+    /// K2: a value isn't of the type that it must have.
     #[error("'{0}' is not {1}")]
     WrongType(Place, Type),
-    /// K3: the value, and the least and the most that it may be.
+    /// K3: a value, and the least and the most that it may be.
     #[error("{0} = {1} is not {2} to {3}")]
     OutOfRange(Place, i64, u64, u64),
-    /// K3: the count of a list, and the least and the most that it may have.
+    /// K3: how many items a list has, and the least and the most that it may have.
     #[error("{}", Counted(*.0, *.1, *.2, *.3))]
     WrongCount(Place, usize, usize, usize),
-    /// K3: a counter, by its place from 0, with its value and its bound.
+    /// K3: a counter, by its place counted from 0, with its value and its bound.
     #[error("counter[{0}].value = {1} is over its bound, {2}")]
     OverBound(usize, u64, u64),
-    /// K3: two keys of `[serve]` that name one port.
+    /// K3: two keys of `[serve]` that name the same port.
     #[error("serve.{0} and serve.{1} are both {2}")]
     SamePort(Key, Key, u32),
     #[error("out of memory")]
@@ -173,7 +174,7 @@ impl ConfigFlaw {
     ghost use Rattle.std.specs.Prelude.{◌≡◌};
     ghost use Rattle.site_config.specs.Flaws.{fault_of, position_of};
 
-    /// The number of the fault.
+    /// Returns the number of the fault.
     pub fn fault(&self) -> ConfigFault
         ensures { result ≡ fault_of self.now }
     {
@@ -190,7 +191,7 @@ impl ConfigFlaw {
         }
     }
 
-    /// The line and the column of a text that is no document.
+    /// Returns the line and the column at which a text stops being a document, for a K1, or None for other flaws.
     pub fn position(&self) -> Option<(usize, usize)>
         ensures { result ≡ position_of self.now }
     {

@@ -1,4 +1,4 @@
-//! A configuration that stands before a script in one stream.
+//! A configuration that comes before a script in one stream.
 ghost use Rattle.std.specs.Prelude.{◌≡◌, ◌≤◌, ◌-◌, ℕ, List, IfOk, OnErr, Err, length, option_map};
 ghost use Rattle.std.specs.Io.KnownBytes.{Consumes};
 ghost use Rattle.till_request.specs.Count.{RoseBy, one_if};
@@ -8,10 +8,10 @@ ghost use Rattle.site_config.specs.Head.{ends_head, head_part, IsHead};
 use std::alloc::Global;
 use till_request::{InputFault, LineIn, next_byte};
 
-/// The most bytes of a configuration.
+/// How many bytes a configuration may have at most.
 pub const MOST_BYTES: usize = 65_536;
 
-/// Whether the bytes end with a line `---`.
+/// Returns whether the bytes end with a line `---`.
 fn is_head_end(bytes: &[u8]) -> bool
     ensures { result ≡ ends_head bytes.now }
 {
@@ -19,10 +19,11 @@ fn is_head_end(bytes: &[u8]) -> bool
     bytes == b"---\n".as_slice() || &bytes[from..] == b"\n---\n".as_slice()
 }
 
-/// The bytes up to the first line `---`, with that line, or all bytes where there is none. What follows the line
-/// stays unread. Reading also stops where the bytes are too many for a configuration.
+/// Reads the bytes up to the first line `---` and returns them with that line, or all bytes where there is no such
+/// line. What follows the line stays unread. Reading also stops where there are too many bytes for a configuration.
 ///
-/// `left` is the number of reads that may still be made, of one byte each.
+/// `left` is how many reads may still be made, of one byte each. The error is that none is left, that the input failed,
+/// or that memory ran out.
 pub fn read_head<I: LineIn>(
     alloc: Global,
     input: &mut I,
@@ -47,7 +48,8 @@ pub fn read_head<I: LineIn>(
     }
 }
 
-/// The configuration of such bytes, which is what stands before the line `---`; none where it has over 65,536 bytes.
+/// Returns the configuration in the bytes that `read_head` returned: what comes before the line `---`. None where it
+/// has over 65,536 bytes.
 pub fn config_part(bytes: &[u8]) -> Option<&[u8]>
     ensures { option_map (λ part. part.now) result ≡ head_part bytes.now }
 {

@@ -1,4 +1,4 @@
-//! The configuration of a site, read from its text.
+//! Reads the configuration of a site from its text.
 #![tactic(auto)]
 
 mod document;

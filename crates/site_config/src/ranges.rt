@@ -1,4 +1,4 @@
-//! Ranges, lengths, counts and conditions.
+//! Checks the ranges, lengths, counts and conditions of a configuration (K3), and makes the settings.
 ghost use Rattle.std.specs.Prelude.{◌≡◌, ◌≤◌, ◌-◌, ◌++◌, length, replicate, IfOk, All};
 ghost use Rattle.toml.specs.View.{table_view};
 ghost use Rattle.site_core.specs.Limits.{IsCounter};
@@ -18,13 +18,13 @@ use crate::typed::read_typed;
 use site_core::Config;
 use std::alloc::Global;
 
-/// The most that a document can write: the greatest value and bound of a counter.
+/// The greatest value and the greatest bound of a counter: the greatest number that a document can contain.
 const MOST_COUNTER: u64 = 9_223_372_036_854_775_807;
 
-/// The greatest price of a litre.
+/// The greatest price of a litre, in thousandths.
 const MOST_PRICE: u32 = 9_999_999;
 
-/// The number, if it is from low to high.
+/// Returns the number if it is from low to high. The error is `OutOfRange`.
 fn in_range(place: Place, value: i64, low: u32, high: u32) -> Result<u32, ConfigFlaw>
     ensures read { Finds (λ x. x) result (ranged low high value) }
     ensures range { IfOk result (λ n. (low ≤ n) × (n ≤ high)) }
@@ -35,7 +35,7 @@ fn in_range(place: Place, value: i64, low: u32, high: u32) -> Result<u32, Config
     }
 }
 
-/// The number, if it is not below 0.
+/// Returns the number if it is not below 0. The error is `OutOfRange`.
 fn not_negative(place: Place, value: i64) -> Result<u64, ConfigFlaw>
     ensures { Finds (λ x. x) result (ranged 0 MOST_COUNTER value) }
 {
@@ -45,7 +45,7 @@ fn not_negative(place: Place, value: i64) -> Result<u64, ConfigFlaw>
     }
 }
 
-/// What is told of a list of a wrong count.
+/// Returns the flaw for a list with the wrong count of items.
 fn wrong_count(key: Key, count: usize, low: usize, high: usize) -> ConfigFlaw
     ensures { result ≡ ConfigFlaw.WrongCount (Place.At Section.Top key) count low high }
 {
@@ -77,7 +77,7 @@ fn make_counter(place: usize, pair: (i64, i64)) -> Result<(u64, u64), ConfigFlaw
     Ok((value, bound))
 }
 
-/// A product's price.
+/// Returns the price of a product, if it is in its range.
 fn make_price(place: usize, value: i64) -> Result<u32, ConfigFlaw>
     ensures read { Finds (λ x. x) result (ranged 0 MOST_PRICE value) }
     ensures range { IfOk result (λ price. price ≤ MOST_PRICE) }
@@ -100,7 +100,7 @@ fn each_price(alloc: Global, values: &[i64]) -> Result<Vec<u32>, ConfigFlaw>
     Ok(prices)
 }
 
-/// A list of 8 as an array.
+/// Copies a list of 8 numbers into an array.
 fn eight_of(list: &[u32]) -> [u32; 8]
     requires { length list.now ≡ 8 }
     ensures { result ≡ list.now }
@@ -146,7 +146,7 @@ fn make_points(alloc: Global, pairs: &[(i64, i64)]) -> Result<Vec<(u32, u32)>, C
     each_point(alloc, pairs)
 }
 
-/// A number of `[serve]`, from 1 on.
+/// Returns a number of `[serve]` if it is from 1 to high.
 fn serve_number(key: Key, value: i64, high: u32) -> Result<u32, ConfigFlaw>
     ensures { Finds (λ x. x) result (ranged 1 high value) }
 {
@@ -194,7 +194,7 @@ fn each_counter(alloc: Global, pairs: &[(i64, i64)]) -> Result<Vec<(u64, u64)>, 
     Ok(counters)
 }
 
-/// A list of at most 32 as an array, with 0 and 0 behind it.
+/// Copies a list of at most 32 counters into an array. The counters after them have value 0 and bound 0.
 fn table_of(list: &[(u64, u64)]) -> [(u64, u64); 32]
     requires room { length list.now ≤ COUNTERS }
     requires range { All IsCounter list.now }
@@ -227,7 +227,7 @@ fn maybe_serve(served: &Option<Served>) -> Result<Option<Serve>, ConfigFlaw>
     }
 }
 
-/// The settings that these keys say.
+/// Makes the settings from the keys of a document. The error is the first K3, or that memory ran out.
 #[tactic(auto, unfolding(crate::specs::Ranges::told_of))]
 fn make_settings(alloc: Global, raw: &Raw) -> Result<Settings, ConfigFlaw>
     ensures { Finds told result (told_of (seen raw.now)) }
@@ -250,8 +250,9 @@ fn make_settings(alloc: Global, raw: &Raw) -> Result<Settings, ConfigFlaw>
     }
 }
 
-/// The settings that a text names, or the first that is at fault in it: a flaw of the document before one of a key or a
-/// type, and these before one of a range, a count or a condition.
+/// Reads the settings from a text. The error is that memory ran out, or the first flaw in the text: a flaw of the
+/// document (K1) comes before one of a key or a type (K2), and these come before one of a range, a count or a
+/// condition (K3).
 #[tactic(auto, unfolding(crate::specs::Ranges::config_of))]
 pub fn read_settings(alloc: Global, bytes: &[u8]) -> Result<Settings, ConfigFlaw>
     ensures { Finds told result (config_of bytes.now) }
@@ -261,7 +262,7 @@ pub fn read_settings(alloc: Global, bytes: &[u8]) -> Result<Settings, ConfigFlaw
     make_settings(alloc, &raw)
 }
 
-/// The settings that a text names, or the number of its first fault.
+/// Reads the settings from a text. The error is the number of its first fault.
 pub fn read_config(alloc: Global, bytes: &[u8]) -> Result<Settings, ConfigFault>
     ensures { Gives told result (config_of bytes.now) }
 {

@@ -1,7 +1,8 @@
-//! What a configuration says.
+//! The settings: what a configuration says.
 use site_core::Config;
 
-/// Where and how to serve.
+/// Where and how to serve the site: its ports, how many workers there are for tills and for dispensers, and how many
+/// connections.
 #[derive(Clone, Copy)]
 pub struct Serve {
     pub till_port: u32,
@@ -12,7 +13,7 @@ pub struct Serve {
     pub connections: u32,
 }
 
-/// What a configuration says: the site, and where to serve it, if it says so.
+/// What a configuration says: the site, and where and how to serve it, if it says that.
 #[derive(Drop)]
 pub struct Settings {
     pub config: Config,

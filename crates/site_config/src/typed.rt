@@ -1,4 +1,4 @@
-//! A document by its keys and types.
+//! Reads the keys of a document and checks their types (K2).
 ghost use Rattle.std.specs.Prelude.{◌≡◌, ◌∷◌, List, map, Ok, option_map, option_and_then, string_bytes, codes};
 ghost use Rattle.std.specs.List.{list_all};
 ghost use Rattle.std.specs.BTreeMap.{keys};
@@ -18,14 +18,14 @@ use crate::raw::{Raw, Served};
 use std::alloc::Global;
 use toml::{Table, Value};
 
-/// The value at a key.
+/// Returns the value of a key.
 fn find_value<'a>(table: &'a Table, key: &str) -> Option<&'a Value>
     ensures { option_map (λ v. view v.now) result ≡ get_member key.now (table_view table.now) }
 {
     table.get(key)
 }
 
-/// Whether a section has such a key.
+/// Returns whether a section has a key of this name.
 fn is_known(section: Section, key: &str) -> bool
     ensures { result ≡ is_key_of section key.now }
 {
@@ -37,7 +37,7 @@ fn is_known(section: Section, key: &str) -> bool
     }
 }
 
-/// The first of a table's keys, in their order, that its section hasn't.
+/// Returns the first key of a table, in the table's order, that its section doesn't have.
 fn unknown_key(table: &Table, section: Section) -> &str {
     match table.keys().find(|key| !is_known(section, key.as_str())) {
         Some(key) => key.as_str(),
@@ -45,7 +45,7 @@ fn unknown_key(table: &Table, section: Section) -> &str {
     }
 }
 
-/// The number that a value is.
+/// Returns a value as a number. The error is `WrongType`.
 fn integer_of(value: &Value, place: Place) -> Result<i64, ConfigFlaw>
     ensures { Finds (λ x. x) result (or_fault K2 (as_integer (view value.now))) }
 {
@@ -54,7 +54,7 @@ fn integer_of(value: &Value, place: Place) -> Result<i64, ConfigFlaw>
         .ok_or(ConfigFlaw::WrongType(place, Type::Integer))
 }
 
-/// The table that a value is.
+/// Returns a value as a table. The error is `WrongType`.
 fn table_of(value: &Value, place: Place) -> Result<&Table, ConfigFlaw>
     ensures { Finds (λ t. table_view t.now) result (or_fault K2 (as_table (view value.now))) }
 {
@@ -63,7 +63,7 @@ fn table_of(value: &Value, place: Place) -> Result<&Table, ConfigFlaw>
         .ok_or(ConfigFlaw::WrongType(place, Type::Table))
 }
 
-/// The array that a value is.
+/// Returns a value as an array. The error is `WrongType`.
 fn array_of(value: &Value, place: Place) -> Result<&Vec<Value>, ConfigFlaw>
     ensures { Finds (λ v. items_view v.now.items) result (or_fault K2 (as_array (view value.now))) }
 {
@@ -72,7 +72,7 @@ fn array_of(value: &Value, place: Place) -> Result<&Vec<Value>, ConfigFlaw>
         .ok_or(ConfigFlaw::WrongType(place, Type::Array))
 }
 
-/// The number at a key.
+/// Returns the number of a key. The error is `Missing` or `WrongType`.
 fn read_integer(table: &Table, section: Section, key: Key) -> Result<i64, ConfigFlaw>
     ensures { Finds (λ x. x) result (integer_at (name_of key) (table_view table.now)) }
 {
@@ -169,7 +169,7 @@ fn has_serve_keys(table: &Table) -> bool
     all_serve(table)
 }
 
-/// The numbers of a list of prices.
+/// Returns the prices of a list as numbers.
 fn read_integers(alloc: Global, values: &[Value]) -> Result<Vec<i64>, ConfigFlaw>
     ensures { Finds (λ v. v.items) result (integers (items_view values.now)) }
 {
@@ -236,7 +236,7 @@ fn read_served(alloc: Global, value: &Value) -> Result<Served, ConfigFlaw>
     })
 }
 
-/// Points.
+/// Returns for each point of a list its two slots.
 fn read_points(alloc: Global, values: &[Value]) -> Result<Vec<(i64, i64)>, ConfigFlaw>
     ensures { Finds (λ v. v.items) result (each_in point_in (items_view values.now)) }
 {
@@ -247,7 +247,7 @@ fn read_points(alloc: Global, values: &[Value]) -> Result<Vec<(i64, i64)>, Confi
     Ok(pairs)
 }
 
-/// Counters.
+/// Returns for each counter of a list its value and its bound.
 fn read_counters(alloc: Global, values: &[Value]) -> Result<Vec<(i64, i64)>, ConfigFlaw>
     ensures { Finds (λ v. v.items) result (each_in counter_in (items_view values.now)) }
 {
@@ -258,7 +258,7 @@ fn read_counters(alloc: Global, values: &[Value]) -> Result<Vec<(i64, i64)>, Con
     Ok(pairs)
 }
 
-/// The array at a key.
+/// Returns the array of a key. The error is `Missing` or `WrongType`.
 fn find_array(table: &Table, key: Key) -> Result<&Vec<Value>, ConfigFlaw>
     ensures { Finds
         (λ v. items_view v.now.items) result
@@ -310,7 +310,8 @@ fn find_served(alloc: Global, table: &Table) -> Result<Option<Served>, ConfigFla
     }
 }
 
-/// The document by its keys and types.
+/// Reads the values of all keys of a document. The error is the first K2 (an unknown key, a missing key or a wrong
+/// type), or that memory ran out.
 #[tactic(auto, unfolding(crate::specs::Typed::typed_of))]
 pub fn read_typed(alloc: Global, table: &Table) -> Result<Raw, ConfigFlaw>
     ensures { Finds seen result (typed_of (table_view table.now)) }

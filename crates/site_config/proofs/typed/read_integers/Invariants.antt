@@ -4,6 +4,6 @@ use Rattle.site_config.specs.Document.{with_front}
 use Rattle.site_config.specs.Typed.{integers, each_in, point_in, counter_in}
 use Rattle.site_config.proofs.typed.read_integers.Given as goal
 
--- what was read, before the rest, is the whole
+-- What was read so far, followed by what the rest reads as, is what the whole list reads as.
 abbrev pub invariant-loop-value : goal.invariant-loop-value
 invariant-loop-value l = with_front l.numbers.items (integers (items_view (drop l.value-index l.values))) ≡ integers (items_view l.values)
