@@ -1,4 +1,4 @@
--- The grants and denials of all versions are the decisions of the history.
+-- The grants and denials of all versions together are as many as the decisions of the history.
 use Rattle.std.proofs.Common.{◌≡◌, ℕ, ◌+◌, ◌≤◌, ◌&&◌, Bool, true, false, not, List, [], ◌∷◌, ◌++◌, length, reverse, Option, Some, None, Result, Ok, Err, refl}
 use Rattle.std.proofs.Common.{arith, ap, ◌∙◌, sym, subst}
 use Rattle.std.specs.Prelude.{if◌then◌else◌, ◌==◌, nat_le, nat_lt, sum_by, count_by, option_to_list, fold}
@@ -48,7 +48,7 @@ use Rattle.day_report.specs.declared.counting.Deciding.TheVariants as deciding
 use Rattle.day_report.proofs.OneMore.{loads-push}
 use Rattle.day_report.proofs.SiteSales.{one-key, add-keys, no-keys}
 
--- ---- six counts are one
+-- ---- the six counts of a version add up to one
 
 one-of-six : (a : Asked) (g b : Bool) → (if (is_release a && g) && b then 1 else 0) + (if (is_release a && not g) && b then 1 else 0)
     + (if (is_preset a && g) && b then 1 else 0) + (if (is_preset a && not g) && b then 1 else 0) + (if (is_price a && g) && b then 1 else 0)
@@ -133,7 +133,7 @@ in-range : (slot : ℕ) (past : List Entry) (v : Version) → in_force slot past
 in-range slot [] v h = absurd (cc)
 in-range slot (entry ∷ earlier) v h = force-more slot earlier v (loaded entry.act entry.reply) (in-range slot earlier v) h
 
--- ---- what each act's answer decides
+-- ---- the decision in each act and its reply
 
 record DecidesOne (past : List Entry) (a : Act) (r : Reply) : Type 0 where
   count : length (option_to_list (told.decided a r)) ≡ (if is_decided r then 1 else 0)
@@ -186,7 +186,7 @@ quiet past a r h =
       fits = subst (λ o. VersionsFit (versions past) (option_to_list o)) (sym none) tt;
     }
 
--- a decision of a version in force
+-- The reply of a version in force to a request that asks it is one decision.
 says : (past : List Entry) (till : ℕ) (q : Request) (x : Asked) (r : Reply) (v : Version) (g : Bool) → asked_by q ≡ Some x → verdict_of r ≡ Some (v.number, g)
     → is_decided r ≡ true → InRange v (versions past) → DecidesOne past (act.Till till q) r
 says past till q x r v g asks gives is range =
@@ -233,7 +233,7 @@ question-says past s till moment r x (Err f) asks silent =
     subst (λ e. DecidesOne past (act.Till till r) e.reply) (sym (decided-refused past s till moment f)) (quiet past (act.Till till r) f silent)
 question-says past s till moment r x (Ok q) asks silent = version-says past s till moment q r x (in_force q.slot past) refl asks
 
--- ---- what decides nothing
+-- ---- requests and replies that are no decision
 
 fault-no : (f : PointFault) → is_decided (fault_reply f) ≡ false
 fault-no (WrongState st) = refl

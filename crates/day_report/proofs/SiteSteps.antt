@@ -1,4 +1,4 @@
--- What an entry of a legal history tells is what its site did: to the points, to the cleared total, and to the count of clears.
+-- What an entry of a legal history shows is what its site did to the points, to the cleared total and to the count of cleared transactions.
 use Rattle.std.proofs.Common.{◌≡◌, ℕ, ◌+◌, ◌-◌, ◌<◌, ◌&&◌, Bool, true, false, List, [], ◌∷◌, zero, suc, length, Option, Some, None, Result, Ok, Err, slice_set}
 use Rattle.std.proofs.Common.{slice_get, refl, arith, ap, ◌∙◌, sym, subst, get_or}
 use Rattle.std.specs.Prelude.{if◌then◌else◌, ◌==◌, nat_le, nat_lt, option_map, unwrap_or}
@@ -48,7 +48,7 @@ use Rattle.day_report.specs.Sales.{cleared_by, clearing_of, unpaid_at}
 use Rattle.day_report.specs.declared.sales.Clearing.{Clearing}
 use Rattle.day_report.proofs.Walking.{changed-at, changed-nowhere}
 
--- what a clearing pays, of the points as they stood before it
+-- The transaction that a clearing pays, where `points` are the points before it.
 abbrev pub paid : List PointState → Option Clearing → Option Transaction
 paid points None = None
 paid points (Some c) = unpaid_at points c.point c.number
@@ -61,13 +61,13 @@ abbrev pub one_of : Option Transaction → ℕ
 one_of None = 0
 one_of (Some t) = 1
 
--- what an act's answer tells is the state after it
+-- What an act and its reply show agrees with the state after it.
 pub record Tells (s : SiteState) (a : Act) (e : Effect) : Type 0 where
   pub points : with_act s.points a e.reply ≡ e.after.points
   pub cleared : e.after.cleared ≡ s.cleared + cents_of (paid s.points (clearing_of a e.reply))
   pub clears : e.after.clears ≡ s.clears + one_of (paid s.points (clearing_of a e.reply))
 
--- ---- what is refused or only told
+-- ---- replies that change nothing
 
 abbrev IsSilent : Reply → Type 0
 IsSilent (reply.Granted g v) = ⊥
@@ -100,7 +100,7 @@ fault-silent Unexpected = tt
 
 -- ---- commands
 
--- what a command clears
+-- The transaction that a command clears.
 abbrev clears-what : PointState → Command → Option Transaction
 clears-what p (command.Clear number) = find_number number p.unpaid
 clears-what p _ = None
@@ -162,7 +162,7 @@ found-clears : (o : Option Transaction) (b : Transaction → Bool) (x new : Poin
 found-clears None b x new what d h = err-clears NoSuchTransaction new d h
 found-clears (Some t) b x new what d h = (t, refl, if-clears (b t) x new NotYourTransaction (what t) d h)
 
--- a command that is taken clears what it names
+-- A command that the point takes clears the transaction that it names.
 clears-is : (p new : PointState) (till : ℕ) (c : Command) (d : Option ℕ) → IsOk (command_step p till c) new d → d ≡ amount-of (clears-what p c)
 clears-is p new till command.OpenPoint d h = if-clears _ _ new _ None d h
 clears-is p new till command.ClosePoint d h = if-clears _ _ new _ None d h
@@ -182,7 +182,7 @@ some-both m n x c h =
     let both : ◌≡◌ {A = ℕ × Command} (m, x) (n, c) = cc in
     (ap (λ (p : ℕ × Command). p.0) both, ap (λ (p : ℕ × Command). p.1) both)
 
--- what a till's command clears by its request is what it clears by its command
+-- The transaction that a request clears is the one that its command clears.
 clearing-paid : (points : List PointState) (till n : ℕ) (p : PointState) (r : Request) (c : Command) → at_number points n ≡ Some p
     → done_command r ≡ Some (n, c) → paid points (cleared_by (act.Till till r)) ≡ clears-what p c
 clearing-paid points till n p (request.OpenPoint m) c at told = let e : command.OpenPoint ≡ c =
@@ -219,7 +219,7 @@ one-amount : (o : Option Transaction) → clears_by (amount-of o) ≡ one_of o
 one-amount None = refl
 one-amount (Some t) = refl
 
--- what is done at a point is told by its request
+-- The request of an entry shows what was done at the point.
 done-points : (s : SiteState) (till n : ℕ) (p new : PointState) (r : Request) (c : Command) (d : Option ℕ) → 0 < till → at_number s.points n ≡ Some p
     → done_command r ≡ Some (n, c) → command_step p till c ≡ Ok (new, d) → with_act s.points (act.Till till r) reply.Done ≡ slice_set s.points (n - 1) new
 done-points s till n p new r c d some at told ok =
@@ -250,7 +250,7 @@ done-tells s till n r c (Some p) some at told =
 
 -- ---- decisions
 
--- a question of this kind at this point, or a refusal
+-- A question of this kind at this point, or a refusal.
 abbrev AsksAt : Kind → ℕ → Result Question Reply → Type 0
 AsksAt k n (Ok q) = (q.kind ≡ k) × (q.point ≡ n)
 AsksAt k n (Err r) = (m : ℕ) × (v : Option ℕ) × (r ≡ reply.Refused m v)
@@ -300,7 +300,7 @@ price-asks busy product price slot =
       slot = slot;
     }) refl refl
 
--- what a decision's grant does at a point is told by its request
+-- The request shows which command a grant carries out at the point.
 abbrev Grants : Kind → ℕ → Request → Type 0
 Grants k n r = (g : ℕ) → granted_command r g ≡ Some (n, command_of k g)
 
@@ -325,7 +325,7 @@ grant-at : (s : SiteState) (till r : ℕ) (q : Question) (p : PointState) → at
 unfolding grant
 grant-at s till r q p at = rw (at, grant)
 
--- the grant's reply and the state after it, of a state with other counters
+-- What the request and the granted amount show agrees with the state after the grant. The counters are not looked at.
 record GrantTells (s : SiteState) (till : ℕ) (r : Request) (v : ℕ) (g : ℕ × SiteState) : Type 0 where
   points : with_act s.points (act.Till till r) (reply.Granted g.0 v) ≡ g.1.points
   cleared : g.1.cleared ≡ s.cleared
@@ -345,7 +345,7 @@ grant-tells s till x q r v c (Some p) some at grants =
     subst (GrantTells s till r v) (sym is)
     (record { points = granted-points s till q.point (granted_point q.kind q.asked x p.preset) p q.kind r v some at grants; cleared = refl; clears = refl })
 
--- a grant of a price is at no point
+-- A grant of a price changes no point.
 price-tells : (s : SiteState) (till x : ℕ) (q : Question) (n a : ℕ) (v : ℕ) (c : Counters) → q.point ≡ 0
     → GrantTells s till (request.Price n a) v (grant (record s { counters = c }) till q x)
 price-tells s till x q n a v c nowhere =

@@ -1,4 +1,4 @@
--- Definitions: what the rules decided, what was refused, which prices were changed and which programs were loaded.
+-- Definitions: what rules decided, what was refused, which prices were changed, and which programs were loaded.
 use Rattle.std.specs.Prelude.{ℕ, ◌==◌, if◌then◌else◌, List, [], ◌∷◌, Option, Some, None, Bool, true, false}
 use Rattle.std.specs.List.{cons_option}
 use Rattle.decision_journal.specs.declared.entries.Entry.{Entry}
@@ -14,20 +14,20 @@ use Rattle.day_report.specs.declared.rulings.Decision.{Decision}
 use Rattle.day_report.specs.declared.rulings.PriceChange.{PriceChange}
 use Rattle.day_report.specs.declared.loading.Load.{Load}
 
--- what a rule is asked: a release, a preset or a price
+-- What the request asks a rule to decide: a release, a preset or a price.
 abbrev pub asked_by : Request → Option Asked
 asked_by (request.Release n amount) = Some asked.Release
 asked_by (request.Preset n amount) = Some asked.Preset
 asked_by (request.Price product price) = Some asked.Price
 asked_by _ = None
 
--- which version decided, and whether it granted: a grant, or S24 with the version that denied
+-- The version that decided, and whether it granted. The reply is then a grant, or S24 with the version that denied.
 abbrev pub verdict_of : Reply → Option (ℕ × Bool)
 verdict_of (reply.Granted amount version) = Some (version, true)
 verdict_of (reply.Refused number (Some version)) = if number == 24 then Some (version, false) else None
 verdict_of _ = None
 
--- the decision of an act that was answered so
+-- The decision in an act with this reply, if there is one.
 abbrev pub decided : Act → Reply → Option Decision
 decided (act.Till till request) reply =
     elim (asked_by request) [
@@ -39,7 +39,7 @@ decided _ reply = None
 unfoldable pub decision_of : Entry → Option Decision
 decision_of entry = decided entry.act entry.reply
 
--- the number of a refusal, S20 to S34
+-- The number of the refusal, if the reply is one.
 abbrev pub refused_as : Reply → Option ℕ
 refused_as (reply.Refused number value) = Some number
 refused_as _ = None
@@ -47,7 +47,8 @@ refused_as _ = None
 unfoldable pub refusal_of : Entry → Option ℕ
 refusal_of entry = refused_as entry.reply
 
--- a price that was granted: by which till, of which product, in thousandths, and by which version
+-- The price change in an act with this reply, if there is one: its entry's number and moment, the till, the product, the price in thousandths and
+-- the version that granted it.
 abbrev pub changed_price : ℕ → ℕ → Act → Reply → Option PriceChange
 changed_price number moment (act.Till till (request.Price product price)) (reply.Granted granted version) =
     Some (record { number = number; moment = moment; till = till; product = product; price = granted; version = version })
@@ -56,11 +57,11 @@ changed_price number moment _ _ = None
 unfoldable pub price_change_of : Entry → Option PriceChange
 price_change_of entry = changed_price entry.number entry.moment entry.act entry.reply
 
--- the moment that was told last: an entry without one tells none
+-- The last moment after an entry: the entry's own, or the one before it where the entry has none.
 abbrev pub moment_after : ℕ → Entry → ℕ
 moment_after moment entry = if entry.moment == 0 then moment else entry.moment
 
--- a load that was answered with a version: its entry, slot and version, and the moment that was told last before it
+-- The load in an act with this reply, if it was answered with a version: its entry's number, its slot and version, and the last moment before it.
 abbrev pub loaded_at : ℕ → ℕ → Act → Reply → Option Load
 loaded_at number moment (act.Load slot mask layout bytes) (reply.Version version) =
     Some (record { number = number; moment = moment; slot = slot; version = version })
@@ -69,7 +70,7 @@ loaded_at number moment _ _ = None
 unfoldable pub load_of : ℕ → Entry → Option Load
 load_of moment entry = loaded_at entry.number moment entry.act entry.reply
 
--- the loads of entries, where this moment was told last before them
+-- The loads in the entries, oldest first, where `moment` is the last moment before the entries.
 abbrev pub loads : ℕ → List Entry → List Load
 loads moment [] = []
 loads moment (entry ∷ entries) = cons_option (load_of moment entry) (loads (moment_after moment entry) entries)

@@ -1,17 +1,17 @@
--- Promises: what following an entry says of the points.
+-- Promises: what the contract of following an entry says about the points.
 use Rattle.std.specs.Prelude.{◌≡◌, ℕ, ◌+◌, ◌≤◌, List, All}
 use Rattle.fuelling_point.specs.Table.{PointState}
 use Rattle.site_core.specs.declared.site.TheConstants.{ENTRIES}
 
--- each point has numbered so many transactions at most
+-- No point has given out more than n transaction numbers.
 abbrev pub AreWithin : ℕ → List PointState → Type 0
 AreWithin n points = All (λ (p : PointState). p.last ≤ n) points
 
--- so many entries more are no more than a history has, together with the transactions of any point
+-- A history has room for this many more entries, counted together with the transactions that any point has numbered.
 abbrev pub HaveRoom : List PointState → ℕ → Type 0
 HaveRoom points entries = (n : ℕ) × AreWithin n points × (n + entries ≤ ENTRIES)
 
--- the points are these now, and each numbered at most one transaction more
+-- The points became `want`, and each point gave out at most one more transaction number.
 pub record Follows (old want new : List PointState) : Type 0 where
   pub is : new ≡ want
   pub bounded : (k : ℕ) → AreWithin k old → AreWithin (k + 1) new

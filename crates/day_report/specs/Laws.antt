@@ -1,4 +1,4 @@
--- Promises: laws of what a history adds up to.
+-- Promises: laws about what a history adds up to.
 use Rattle.std.specs.Prelude.{◌≡◌, ◌≤◌, ℕ, ◌+◌, true, false, List, length, sum_by, count_by}
 use Rattle.std.specs.List.{range_with_len, filter_map}
 use Rattle.decision_journal.specs.declared.entries.Entry.{Entry}
@@ -15,12 +15,13 @@ use Rattle.day_report.specs.declared.counting.Deciding.TheVariants as deciding
 use Rattle.day_report.specs.declared.sales.Sale.{Sale}
 use Rattle.day_report.specs.declared.sales.Part.TheVariants as part
 
--- the sales of a history of this configuration
+-- The sales of a history of a site of this configuration.
 abbrev pub sales_of : ConfigValue → List Entry → List Sale
 sales_of config history = sales (closed_points (length config.points)) history
 
--- What a journal tells is what its site came to: the points stand as the site's own, the sales are as many as it cleared and come to its
--- cleared total, and so do those of all points together, and those of all tills together, where there are as many tills or more.
+-- The sales in a journal agree with the state of its site: the points are the site's points, there are as many sales as the site cleared
+-- transactions, and they come to its cleared total. So do the sales of all points together, and the sales of all tills together, where at least
+-- the site's tills are added up.
 pub record TellsItsSite (config : ConfigValue) (history : List Entry) (state : SiteState) : Type 0 where
   pub points : stand (closed_points (length config.points)) history ≡ state.points
   pub count : count_in part.All (sales_of config history) ≡ state.clears
@@ -28,17 +29,17 @@ pub record TellsItsSite (config : ConfigValue) (history : List Entry) (state : S
   pub by_point : sum_by (λ n. cents_in (part.Point n) (sales_of config history)) (range_with_len 1 (length config.points)) ≡ state.cleared
   pub by_till : (tills : ℕ) → config.tills ≤ tills → sum_by (λ t. cents_in (part.Till t) (sales_of config history)) (range_with_len 1 tills) ≡ state.cleared
 
--- whatever the history is, if a site can have it
+-- This holds for every legal history.
 abbrev pub SalesTellTheSite : Type 0
 SalesTellTheSite = (config : ConfigValue) (history : List Entry) (state : SiteState) → LegalHistory config history state → TellsItsSite config history state
 
--- all that a version decided: releases, presets and prices, granted and denied
+-- How many decisions a version made: releases, presets and prices, granted and denied.
 abbrev pub decided_in_all : ℕ → List Decision → ℕ
 decided_in_all v ds =
     decided_by deciding.Releases true v ds + decided_by deciding.Releases false v ds + decided_by deciding.Presets true v ds
     + decided_by deciding.Presets false v ds + decided_by deciding.Prices true v ds + decided_by deciding.Prices false v ds
 
--- The grants and denials of all versions that were loaded are the decisions of the history: the answers that a rule alone gives.
+-- The grants and denials of all loaded versions together are as many as the decisions of the history: the replies that only a rule leads to.
 abbrev pub VersionsTellAllDecisions : Type 0
 VersionsTellAllDecisions =
     (config : ConfigValue) (history : List Entry) (state : SiteState) → LegalHistory config history state →

@@ -1,4 +1,4 @@
--- Definitions: what was sold. A sale is a transaction that a till cleared.
+-- Definitions: the sales of a history. A sale is a transaction that a till cleared.
 use Rattle.std.specs.Prelude.{ℕ, List, [], ◌∷◌, Option, Some, None}
 use Rattle.std.specs.List.{cons_option}
 use Rattle.fuelling_point.specs.Table.{PointState, find_number}
@@ -14,7 +14,7 @@ use Rattle.day_report.specs.Walk.{with_entry}
 use Rattle.day_report.specs.declared.sales.Clearing.{Clearing}
 use Rattle.day_report.specs.declared.sales.Sale.{Sale}
 
--- a clear that was done: the till, the point and the transaction's number
+-- What a till's Clear clears: the till, the point and the number of the transaction.
 abbrev pub cleared_by : Act → Option Clearing
 cleared_by (act.Till till (request.Clear n number)) = Some (record { till = till; point = n; number = number })
 cleared_by _ = None
@@ -23,11 +23,11 @@ abbrev pub clearing_of : Act → Reply → Option Clearing
 clearing_of act reply.Done = cleared_by act
 clearing_of act _ = None
 
--- the unpaid transaction of this number at the point of this number
+-- The unpaid transaction of number `number` at point n.
 abbrev pub unpaid_at : List PointState → ℕ → ℕ → Option Transaction
 unpaid_at points n number = elim (at_number points n) [ None ↦ None | Some p ↦ find_number number p.unpaid ]
 
--- the sale of an entry, where the points stood so before it
+-- The sale that an entry makes, if it makes one, where `points` are the points before it.
 unfoldable pub sale_of : List PointState → Entry → Option Sale
 sale_of points entry =
     elim (clearing_of entry.act entry.reply) [
@@ -39,7 +39,7 @@ sale_of points entry =
           ]
     ]
 
--- the sales of entries, the oldest first, where the points stood so before them
+-- The sales that the entries make, oldest first, where `points` are the points before the entries.
 abbrev pub sales : List PointState → List Entry → List Sale
 sales points [] = []
 sales points (entry ∷ entries) = cons_option (sale_of points entry) (sales (with_entry points entry) entries)

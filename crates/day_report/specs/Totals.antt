@@ -1,4 +1,4 @@
--- Definitions: what is added up, and what is counted.
+-- Definitions: what is added up and what is counted in a history.
 use Rattle.std.specs.Prelude.{◌≡◌, ◌<◌, ℕ, ◌+◌, ◌/◌, ◌%◌, ◌==◌, ◌&&◌, not, List, [], ◌∷◌, ◌++◌, map, length, slice_index, slice_index_or, sum_by, count_by}
 use Rattle.std.specs.Prelude.{if◌then◌else◌, Bool, true, false}
 use Rattle.day_report.specs.declared.sales.Sale.{Sale}
@@ -17,18 +17,19 @@ use Rattle.fuelling_point.specs.Table.{PointState}
 use Rattle.day_report.specs.declared.counting.Deciding.{Deciding}
 use Rattle.day_report.specs.declared.counting.Deciding.TheVariants as deciding
 
--- the hour of the day of a moment in seconds, from 0 to 23, in UTC
+-- The hour of the day, 0 to 23 in UTC, of a moment in seconds.
 abbrev pub hour_of : ℕ → ℕ
 hour_of moment = moment / 3600 % 24
 
--- which part of the sales: all, those of a point, those that a till cleared, those of an hour of the day (a sale without a moment has none)
+-- The sale is in the part: all sales, those at a point, those that a till cleared, or those of an hour of the day. A sale without a moment is in
+-- no hour.
 abbrev pub is_in : Part → Sale → Bool
 is_in part.All sale = true
 is_in (part.Point n) sale = sale.point == n
 is_in (part.Till till) sale = sale.till == till
 is_in (part.Hour hour) sale = not (sale.moment == 0) && hour_of sale.moment == hour
 
--- how many sales, how many cents, how many centilitres
+-- How many sales are in the part; the next two are their total in cents and in centilitres.
 abbrev pub count_in : Part → List Sale → ℕ
 count_in part sales = count_by (λ sale. is_in part sale) sales
 
@@ -50,33 +51,33 @@ abbrev pub is_price : Asked → Bool
 is_price asked.Price = true
 is_price _ = false
 
--- which part of the decisions: the releases, the presets, the prices, or all that a till asked
+-- The decision is in the part: the releases, the presets, the prices, or all that a till asked.
 abbrev pub is_among : Deciding → Decision → Bool
 is_among deciding.Releases d = is_release d.asked
 is_among deciding.Presets d = is_preset d.asked
 is_among deciding.Prices d = is_price d.asked
 is_among (deciding.Till till) d = d.till == till
 
--- whether a decision was a grant, or a denial
+-- The decision was a grant where the first argument is true, or else a denial.
 abbrev pub has_outcome : Bool → Decision → Bool
 has_outcome true d = d.is_granted
 has_outcome false d = not d.is_granted
 
--- whether a decision is one of this part that was granted, or denied
+-- The decision is in the part and has the outcome.
 unfoldable pub is_wanted : Deciding → Bool → Decision → Bool
 is_wanted part granted d = is_among part d && has_outcome granted d
 
--- how many of these a version decided
+-- How many decisions in the part and with the outcome a version made.
 abbrev pub decided_by : Deciding → Bool → ℕ → List Decision → ℕ
 decided_by part granted version decisions = count_by (λ (d : Decision). is_wanted part granted d && d.version == version) decisions
 
--- a sum is that of a part of the sales
+-- The sum is what a part of the sales adds up to.
 pub record IsSum (sum : Sum) (part : Part) (sales : List Sale) : Type 0 where
   pub count : sum.count ≡ count_in part sales
   pub cents : sum.cents ≡ cents_in part sales
   pub centilitres : sum.centilitres ≡ centilitres_in part sales
 
--- the parts by place, from 0: points and tills are numbered from 1, hours from 0
+-- The part at each place, counted from 0. Points and tills are numbered from 1, hours from 0.
 abbrev pub part_of_point : ℕ → Part
 part_of_point k = part.Point (k + 1)
 
@@ -86,41 +87,41 @@ part_of_till k = part.Till (k + 1)
 abbrev pub part_of_hour : ℕ → Part
 part_of_hour k = part.Hour k
 
--- so many sums, each that of the part at its place
+-- There are `count` sums, each of the part at its place.
 pub record SumsUp (part_at : ℕ → Part) (count : ℕ) (sums : List Sum) (sales : List Sale) : Type 0 where
   pub long : length sums ≡ count
   pub each : (k : ℕ) (d : Sum) → k < length sums → IsSum (slice_index_or sums k d) (part_at k) sales
 
--- so many counts, at place k that of refusals S20 + k among the numbers
+-- There are `long` counts. The count at place k is how often the number 20 + k is among the numbers.
 abbrev pub CountsNumbers : ℕ → List ℕ → List ℕ → Type 0
 CountsNumbers long counts numbers =
     (length counts ≡ long) × ((k : ℕ) → k < length counts → slice_index counts k ≡ count_by (λ n. n == 20 + k) numbers)
 
--- the counts of S20 to S34
+-- The counts of S20 to S34 among the numbers.
 abbrev pub CountsRefusals : List ℕ → List ℕ → Type 0
 CountsRefusals counts numbers = CountsNumbers 15 counts numbers
 
--- for each version below `versions`, at its own place, how many of this part of the decisions it granted and denied
+-- For each version below `versions`, at the place of its number, how many decisions in the part it granted and how many it denied.
 pub record HasOutcomes (part : Deciding) (versions : ℕ) (decisions : List Decision) (found : Outcomes) : Type 0 where
   pub granted_long : length found.granted.items ≡ versions
   pub denied_long : length found.denied.items ≡ versions
   pub granted : (v : ℕ) → v < versions → slice_index found.granted.items v ≡ decided_by part true v decisions
   pub denied : (v : ℕ) → v < versions → slice_index found.denied.items v ≡ decided_by part false v decisions
 
--- one more than the versions of a history, which are numbered from 1
+-- One more than how many versions a history has. Versions are numbered from 1.
 abbrev pub versions_of : List Entry → ℕ
 versions_of entries = length (loads 0 entries) + 1
 
--- the outcomes of what so many tills asked, till 1 first
+-- The outcomes of what each till asked, from till 1 to till `tills`.
 pub record DecidedByTills (tills versions : ℕ) (decisions : List Decision) (found : List Outcomes) : Type 0 where
   pub long : length found ≡ tills
   pub each : (k : ℕ) (d : Outcomes) → k < length found → HasOutcomes (deciding.Till (k + 1)) versions decisions (slice_index_or found k d)
 
--- an unpaid transaction of a point
+-- A transaction as an unpaid transaction of a point.
 abbrev pub unpaid_transaction : ℕ → Transaction → Unpaid
 unpaid_transaction point t = record { point = point; number = t.number; amount = t.amount; volume = t.volume; holder = t.holder }
 
--- the unpaid transactions of points, the first of which has this number
+-- The unpaid transactions of points, of which the first has number n.
 abbrev pub unpaid_from : ℕ → List PointState → List Unpaid
 unpaid_from n [] = []
 unpaid_from n (p ∷ points) = map (unpaid_transaction n) p.unpaid ++ unpaid_from (n + 1) points

@@ -1,5 +1,5 @@
--- Definitions: how the points of a site stood, as its journal tells it (this profile). The oldest entry stands first. What a command or an
--- event does at a point is the table of fuelling points.
+-- Definitions: the states of a site's points, as its journal shows them (this profile). Entries are oldest first. What a command or an event does
+-- at a point is defined by the table of fuelling points.
 use Rattle.std.specs.Prelude.{ℕ, ◌-◌, nat_lt, if◌then◌else◌, List, replicate, fold, slice_set, Option, Some, None, Ok, Err}
 use Rattle.fuelling_point.specs.Table.{PointState, fresh_point, event_step}
 use Rattle.fuelling_point.specs.declared.kinds.Command.{Command}
@@ -15,13 +15,13 @@ use Rattle.till_request.specs.declared.act.Reply.TheVariants as reply
 use Rattle.site_core.specs.State.{at_number}
 use Rattle.site_core.specs.Decide.{after_command}
 
--- a release or a preset that was granted: its point, and the command with the amount of the grant
+-- For a release or a preset that was granted: its point, and the command with the granted amount.
 abbrev pub granted_command : Request → ℕ → Option (ℕ × Command)
 granted_command (request.Release n asked) granted = Some (n, command.Release granted)
 granted_command (request.Preset n asked) granted = Some (n, command.Preset granted)
 granted_command _ granted = None
 
--- a request that was answered done: its point, and the command
+-- For a request that was answered Done: its point and its command.
 abbrev pub done_command : Request → Option (ℕ × Command)
 done_command (request.OpenPoint n) = Some (n, command.OpenPoint)
 done_command (request.ClosePoint n) = Some (n, command.ClosePoint)
@@ -33,43 +33,43 @@ done_command (request.Unlock n number) = Some (n, command.Unlock number)
 done_command (request.Clear n number) = Some (n, command.Clear number)
 done_command _ = None
 
--- what a till's request did at a point, by its answer: a refusal did nothing
+-- The command that a till's request carried out, and its point, as the reply shows. A refused request carried out none.
 abbrev pub command_told : Request → Reply → Option (ℕ × Command)
 command_told request (reply.Granted granted version) = granted_command request granted
 command_told request reply.Done = done_command request
 command_told request _ = None
 
--- the points, where the one of this number becomes another; where there is none of the number, as they were
+-- The points after the point of number n was changed. They are unchanged where there is no such point.
 unfoldable pub with_changed : List PointState → ℕ → (PointState → PointState) → List PointState
 with_changed points n becomes = elim (at_number points n) [ None ↦ points | Some p ↦ slice_set points (n - 1) (becomes p) ]
 
--- the points after a command of a till at the point of this number; tills are numbered from 1
+-- The points after a till's command at its point. Tills are numbered from 1.
 abbrev pub with_command : List PointState → ℕ → ℕ × Command → List PointState
 with_command points till c = if nat_lt 0 till then with_changed points c.0 (λ p. after_command p till c.1) else points
 
--- what a point becomes by an event of its dispenser, which it may refuse
+-- The point after an event of its dispenser. It is unchanged where it refuses the event.
 abbrev pub after_event : PointState → DispenserEvent → PointState
 after_event p event = elim (event_step p event) [ Ok o ↦ o.0 | Err _ ↦ p ]
 
--- the points after an event at the point of this number
+-- The points after an event at point n.
 abbrev pub with_event : List PointState → ℕ → DispenserEvent → List PointState
 with_event points n event = with_changed points n (λ p. after_event p event)
 
--- the points after an act that was answered so
+-- The points after an act with this reply.
 abbrev pub with_act : List PointState → Act → Reply → List PointState
 with_act points (act.Till till request) reply =
     elim (command_told request reply) [ None ↦ points | Some c ↦ with_command points till c ]
 with_act points (act.Dispenser n event) reply = with_event points n event
 with_act points (act.Load slot mask layout bytes) reply = points
 
--- the points after an entry
+-- The points after an entry.
 unfoldable pub with_entry : List PointState → Entry → List PointState
 with_entry points entry = with_act points entry.act entry.reply
 
--- the points after entries
+-- The points after a list of entries.
 abbrev pub stand : List PointState → List Entry → List PointState
 stand points entries = fold with_entry points entries
 
--- so many closed points
+-- This many closed points.
 abbrev pub closed_points : ℕ → List PointState
 closed_points count = replicate count fresh_point

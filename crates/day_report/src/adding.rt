@@ -1,4 +1,4 @@
-//! All totals of a history.
+//! Adds up all totals of a history.
 
 ghost use Rattle.std.specs.Prelude.{◌≡◌, ◌+◌, ◌≤◌, IfOk, length, not, sum_by, count_by, option_map};
 ghost use Rattle.std.specs.List.{filter_map};
@@ -20,19 +20,19 @@ use decision_journal::Entry;
 use fuelling_point::{Point, Transaction};
 use std::alloc::{AllocError, Global};
 
-/// The most points that a history is added up for.
+/// How many points a site whose history is added up may have at most.
 pub const MOST_POINTS: usize = 1000;
 
-/// The greatest number of tills.
+/// How many tills a site has at most.
 pub const TILLS: u32 = 64;
 
-/// The hours of a day.
+/// How many hours a day has.
 const HOURS: u32 = 24;
 
-/// The least number of a refusal that is an entry.
+/// The least number of a refusal that can be the reply of an entry.
 pub const FIRST_REFUSAL: u32 = 20;
 
-/// How many numbers of refusals there are from the first.
+/// How many numbers of refusals there are, from the first on.
 pub const REFUSALS: u32 = 15;
 
 /// What a history adds up to.
@@ -49,11 +49,11 @@ pub struct Totals {
     pub by_hour: Vec<Sum>,
     /// The points at the end.
     pub points: Vec<Point>,
-    /// How often S20 to S34 were answered.
+    /// How often each of S20 to S34 was the reply.
     pub refused: Vec<usize>,
     pub loads: Vec<Load>,
     pub prices: Vec<PriceChange>,
-    /// The transactions that are unpaid at the end, by point, and what they come to in cents.
+    /// The transactions that are unpaid at the end, point by point, and their total in cents.
     pub unpaid: Vec<Unpaid>,
     pub unpaid_cents: u128,
     /// How many decisions were grants, and how many denials.
@@ -66,7 +66,8 @@ pub struct Totals {
     pub tills: Vec<Outcomes>,
 }
 
-/// An unpaid transaction: its point, its number there, cents, centilitres, and the till that holds it, or 0.
+/// An unpaid transaction: its point, its number there, its amount in cents, its volume in centilitres, and the till
+/// that holds it, or 0 where none does.
 #[derive(Clone, Copy, Drop)]
 pub struct Unpaid {
     pub point: usize,
@@ -107,7 +108,7 @@ fn by_hour(alloc: Global, sales: &[Sale]) -> Result<Vec<Sum>, AllocError>
     Ok(sums)
 }
 
-/// How often each of S20 to S34 was answered, where these are the numbers of the refusals.
+/// Returns how often each of S20 to S34 is among these numbers of refusals.
 fn by_number(alloc: Global, numbers: &[u32]) -> Result<Vec<usize>, AllocError>
     ensures { IfOk result (λ counts. CountsRefusals counts.items numbers.now) }
 {
@@ -118,7 +119,7 @@ fn by_number(alloc: Global, numbers: &[u32]) -> Result<Vec<usize>, AllocError>
     Ok(counts)
 }
 
-/// The outcomes of one part of the decisions, for each version below `versions`.
+/// Returns the outcomes of one part of the decisions, for each version below `versions`.
 fn outcomes(
     alloc: Global,
     decisions: &[Decision],
@@ -133,7 +134,7 @@ fn outcomes(
     })
 }
 
-/// The outcomes of what each of the 64 tills asked.
+/// Returns for each of the 64 tills the outcomes of what it asked.
 fn by_till_asked(
     alloc: Global,
     decisions: &[Decision],
@@ -148,7 +149,7 @@ fn by_till_asked(
     Ok(found)
 }
 
-/// The unpaid transaction of the point of this number, if it is one.
+/// Returns a transaction as an unpaid transaction of the point of this number, if there is one.
 fn unpaid_as(point: usize, transaction: Option<Transaction>) -> Option<Unpaid>
     ensures { result ≡ option_map (unpaid_transaction point) transaction }
 {
@@ -162,7 +163,7 @@ fn unpaid_as(point: usize, transaction: Option<Transaction>) -> Option<Unpaid>
     })
 }
 
-/// The unpaid transactions of the points, point by point, the older of a point first.
+/// Returns the unpaid transactions of the points, point by point, the older one of a point first.
 fn unpaid_of(alloc: Global, points: &[Point]) -> Result<Vec<Unpaid>, AllocError>
     ensures { IfOk result (λ found. found.items ≡ unpaid_of points.now) }
 {
@@ -176,7 +177,7 @@ fn unpaid_of(alloc: Global, points: &[Point]) -> Result<Vec<Unpaid>, AllocError>
     Ok(found)
 }
 
-/// What unpaid transactions come to, in cents.
+/// Returns the total of unpaid transactions in cents.
 fn cents_of(unpaid: &[Unpaid]) -> u128
     ensures { result ≡ sum_by (λ (u : Unpaid). u.amount) unpaid.now }
 {
@@ -187,21 +188,21 @@ fn cents_of(unpaid: &[Unpaid]) -> u128
     cents
 }
 
-/// How many decisions were grants.
+/// Returns how many decisions were grants.
 fn granted_in(decisions: &[Decision]) -> usize
     ensures { result ≡ count_by (λ (d : Decision). d.is_granted) decisions.now }
 {
     decisions.iter().filter(|d| d.is_granted).count()
 }
 
-/// How many decisions were denials.
+/// Returns how many decisions were denials.
 fn denied_in(decisions: &[Decision]) -> usize
     ensures { result ≡ count_by (λ (d : Decision). not d.is_granted) decisions.now }
 {
     decisions.iter().filter(|d| !d.is_granted).count()
 }
 
-/// What was sold, point by point, till by till and hour by hour.
+/// What was sold at each point, by each till and in each hour.
 #[derive(Drop)]
 struct Sums {
     points: Vec<Sum>,
@@ -222,7 +223,7 @@ fn sums_of(alloc: Global, sales: &[Sale], points: usize) -> Result<Sums, AllocEr
     })
 }
 
-/// The outcomes of what was asked of programs, by what was asked and by who asked.
+/// The outcomes of the decisions, by what was asked and by which till asked.
 #[derive(Drop)]
 struct Verdicts {
     releases: Outcomes,
@@ -249,7 +250,7 @@ fn verdicts_of(
     })
 }
 
-/// What the history of a site with so many points adds up to. The error is want of memory.
+/// Adds up the history of a site that has this many points. The error is that memory ran out.
 pub fn add_up(alloc: Global, points: usize, entries: &[Entry]) -> Result<Totals, AllocError>
     requires few { length entries.now ≤ ENTRIES }
     requires points { points ≤ MOST_POINTS }

@@ -1,4 +1,4 @@
-//! How often each version granted and denied, and how often each number was refused.
+//! Counts how often each version granted and denied, and how often each refusal was the reply.
 
 ghost use Rattle.std.specs.Prelude.{◌≡◌, ◌==◌, ◌&&◌, ◌+◌, ◌-◌, ◌^◌, ◌<◌, ◌≤◌, ℕ};
 ghost use Rattle.std.specs.Prelude.{if◌then◌else◌, All, IfOk, count_by, length, slice_index};
@@ -7,13 +7,13 @@ ghost use Rattle.day_report.specs.Totals.{is_among, has_outcome, is_wanted, deci
 use crate::rulings::{Asked, Decision};
 use std::alloc::{AllocError, Global};
 
-/// Which part of the decisions is counted.
+/// The part of the decisions that is counted.
 #[derive(Clone, Copy, Drop)]
 pub enum Deciding {
     Releases,
     Presets,
     Prices,
-    /// Those that this till asked.
+    /// The decisions of what this till asked.
     Till(u32),
 }
 
@@ -34,7 +34,7 @@ fn has_outcome(granted: bool, decision: &Decision) -> bool
     decision.is_granted == granted
 }
 
-/// Whether a decision is of this part and has this outcome.
+/// Returns whether a decision is in this part and has this outcome.
 #[tactic(auto, unfolding(crate::specs::Totals::is_wanted))]
 fn is_wanted(part: Deciding, granted: bool, decision: &Decision) -> bool
     ensures { result ≡ is_wanted part granted decision.now }
@@ -42,7 +42,7 @@ fn is_wanted(part: Deciding, granted: bool, decision: &Decision) -> bool
     is_among(part, decision) && has_outcome(granted, decision)
 }
 
-/// One more at this place, where it is wanted.
+/// Adds one to the count at this place, if `wanted` is true and there is such a place.
 fn count_if(counts: &mut [u64], at: usize, wanted: bool)
     requires { All (λ n. n ≤ 2 ^ 64 - 2) counts.old }
     ensures length { length counts.new ≡ length counts.old }
@@ -54,8 +54,8 @@ fn count_if(counts: &mut [u64], at: usize, wanted: bool)
     }
 }
 
-/// For each version below `versions`, how many decisions of this part it granted, or denied. The error is want of
-/// memory.
+/// Returns for each version below `versions` how many decisions of this part it granted, or how many it denied where
+/// `granted` is false. The error is that memory ran out.
 pub fn tally(
     alloc: Global,
     decisions: &[Decision],
@@ -75,14 +75,15 @@ pub fn tally(
     Ok(counts)
 }
 
-/// For each version, from 0, how many decisions of one part it granted and how many it denied.
+/// How many decisions of one part each version granted and how many it denied, both at the place of the version's
+/// number.
 #[derive(Drop)]
 pub struct Outcomes {
     pub granted: Vec<u64>,
     pub denied: Vec<u64>,
 }
 
-/// How often this number stands among the numbers.
+/// Returns how often this number is among the numbers.
 pub fn count_of(numbers: &[u32], number: u32) -> usize
     ensures { result ≡ count_by (λ n. n == number) numbers.now }
 {

@@ -1,14 +1,15 @@
-//! Laws of what a history adds up to.
+//! Laws about what a history adds up to.
 
 ghost use Rattle.day_report.specs.Laws.{SalesTellTheSite, VersionsTellAllDecisions};
 
-/// What a journal tells of its sales is what its site came to: the points stand as the site's own, and the sales,
-/// those of all points together and those of all tills together come to its cleared total.
+/// The sales in a journal agree with the site's own state: the points are the site's points, there are as many sales as
+/// the site cleared transactions, and the sales in all, those of all points and those of all tills come to its cleared
+/// total.
 pub fn law_of_sales()
     ensures { SalesTellTheSite }
 {}
 
-/// The grants and denials of all versions together are the decisions of the history.
+/// The grants and denials of all versions together are as many as the decisions of the history.
 pub fn law_of_decisions()
     ensures { VersionsTellAllDecisions }
 {}

@@ -1,4 +1,4 @@
-//! What a site's history adds up to: sales, decisions, refusals, prices, and how the points stood.
+//! What the history of a site adds up to: its sales, decisions, refusals and prices, and the states of its points.
 #![tactic(auto)]
 
 mod adding;

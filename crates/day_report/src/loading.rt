@@ -1,4 +1,4 @@
-//! The programs that were loaded.
+//! The loads of programs in a history.
 
 ghost use Rattle.std.specs.Prelude.{◌≡◌, IfOk};
 ghost use Rattle.day_report.specs.Decisions.{load_of, loads, moment_after};
@@ -8,7 +8,8 @@ use decision_journal::Entry;
 use std::alloc::{AllocError, Global};
 use till_request::{Act, Reply};
 
-/// A load that was answered with a version: its entry, its slot, and the moment that was told last before it, or 0.
+/// A load that was answered with a version: the number of its entry, its slot, its version, and the last moment before
+/// it, or 0 where there was none. A load's own entry has no moment.
 #[derive(Clone, Copy, Drop)]
 pub struct Load {
     pub number: u32,
@@ -35,7 +36,7 @@ fn load_of(moment: u64, entry: &Entry) -> Option<Load>
     }
 }
 
-/// The moment that was told last.
+/// Returns the last moment after an entry: the entry's own, or the one before it where the entry has none.
 fn moment_after(moment: u64, entry: &Entry) -> u64
     ensures { result ≡ moment_after moment entry.now }
 {
@@ -46,7 +47,7 @@ fn moment_after(moment: u64, entry: &Entry) -> u64
     }
 }
 
-/// The loads that were answered with a version, the oldest first. The error is want of memory.
+/// Returns the loads that were answered with a version, oldest first. The error is that memory ran out.
 pub fn loads(alloc: Global, entries: &[Entry]) -> Result<Vec<Load>, AllocError>
     ensures { IfOk result (λ found. found.items ≡ loads 0 entries.now) }
 {

@@ -1,9 +1,9 @@
-//! Lists that grow by what is there.
+//! Adds an item to a list, if there is one.
 ghost use Rattle.std.specs.Prelude.{◌≡◌, ◌++◌, OnOk, option_to_list};
 
 use std::alloc::AllocError;
 
-/// Adds the item, if there is one. The error is want of memory.
+/// Adds the item to the list, if there is one. The error is that memory ran out.
 pub(crate) fn push_some<T: Copy + Drop>(
     items: &mut Vec<T>,
     item: Option<T>,

@@ -1,4 +1,4 @@
-//! What was sold: the transactions that tills cleared.
+//! The sales of a history: the transactions that tills cleared.
 
 ghost use Rattle.std.specs.Prelude.{◌≡◌, ◌≤◌, ℕ, All, IfOk, length};
 ghost use Rattle.fuelling_point.specs.Table.{PointState};
@@ -14,8 +14,8 @@ use fuelling_point::{Point, Transaction};
 use std::alloc::{AllocError, Global};
 use till_request::{Act, Reply, Request};
 
-/// A transaction that a till cleared: the entry and the moment of its clear, the amount in cents and the volume in
-/// centilitres.
+/// A transaction that a till cleared: the number and the moment of the entry that cleared it, the till, the point, the
+/// amount in cents and the volume in centilitres.
 #[derive(Clone, Copy, Drop)]
 pub struct Sale {
     pub number: u32,
@@ -26,14 +26,14 @@ pub struct Sale {
     pub volume: u64,
 }
 
-/// What a history sold, the oldest first, and the points as they stood at its end.
+/// The sales of a history, oldest first, and the points at its end.
 #[derive(Drop)]
 pub struct Sold {
     pub sales: Vec<Sale>,
     pub points: Vec<Point>,
 }
 
-/// A clear that was done.
+/// A Clear that was answered Done: its till, its point and the number of its transaction.
 #[derive(Clone, Copy)]
 struct Clearing {
     till: u32,
@@ -60,7 +60,7 @@ fn clearing_of(act: &Act, reply: &Reply) -> Option<Clearing>
     }
 }
 
-/// The unpaid transaction of this number at the point of this number.
+/// Returns the unpaid transaction of number `number` at point `n`.
 fn unpaid_at(points: &[Point], n: u32, number: u32) -> Option<Transaction>
     ensures { result ≡ unpaid_at points.now n number }
 {
@@ -70,7 +70,7 @@ fn unpaid_at(points: &[Point], n: u32, number: u32) -> Option<Transaction>
     points[n as usize - 1].find(number)
 }
 
-/// The sale of an entry, where the points stand so before it.
+/// Returns the sale that an entry makes, where `points` are the points before it.
 #[tactic(auto, unfolding(crate::specs::Sales::sale_of))]
 fn sale_of(points: &[Point], entry: &Entry) -> Option<Sale>
     ensures { result ≡ sale_of points.now entry.now }
@@ -87,8 +87,8 @@ fn sale_of(points: &[Point], entry: &Entry) -> Option<Sale>
     })
 }
 
-/// What the entries sold; the points are followed from how they stood before to how they stand after. The error is
-/// want of memory.
+/// Returns the sales of the entries. `points` are the points before the entries, and become the points after them. The
+/// error is that memory ran out.
 fn follow_sales(
     alloc: Global,
     points: &mut [Point],
@@ -107,8 +107,8 @@ fn follow_sales(
     Ok(sales)
 }
 
-/// What the entries of a site with so many points sold, and how the points stand after them. The error is want of
-/// memory.
+/// Returns the sales of the history of a site that has this many points, and the points after it. The error is that
+/// memory ran out.
 pub fn find_sales(alloc: Global, points: usize, entries: &[Entry]) -> Result<Sold, AllocError>
     requires { length entries.now ≤ ENTRIES }
     ensures sales { IfOk result (λ sold. sold.sales.items ≡ sales (closed_points points) entries.now) }
@@ -119,20 +119,20 @@ pub fn find_sales(alloc: Global, points: usize, entries: &[Entry]) -> Result<Sol
     Ok(Sold { sales, points })
 }
 
-/// Which part of the sales is added up.
+/// The part of the sales that is added up.
 #[derive(Clone, Copy, Drop)]
 pub enum Part {
     All,
-    /// Those of the point of this number.
+    /// The sales at the point of this number.
     Point(u32),
-    /// Those that this till cleared.
+    /// The sales that this till cleared.
     Till(u32),
-    /// Those whose moment is in this hour of the day, 0 to 23 in UTC.
+    /// The sales whose moment is in this hour of the day, 0 to 23 in UTC.
     Hour(u32),
 }
 
-/// How many sales, and how many cents and centilitres. The sums of 64-bit numbers are kept in 128 bits, so that none of
-/// any list is too large.
+/// How many sales there are, and their totals in cents and in centilitres. The totals add up 64-bit numbers in 128
+/// bits, so that no list can overflow them.
 #[derive(Clone, Copy, Drop)]
 pub struct Sum {
     pub count: u64,
@@ -151,7 +151,7 @@ fn is_in(part: Part, sale: &Sale) -> bool
     }
 }
 
-/// What a part of the sales adds up to.
+/// Adds up a part of the sales.
 pub fn sum_of(sales: &[Sale], part: Part) -> Sum
     ensures count { result.count ≡ count_in part sales.now }
     ensures cents { result.cents ≡ cents_in part sales.now }

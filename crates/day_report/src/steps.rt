@@ -1,4 +1,4 @@
-//! How the points stood, step by step.
+//! The states of the points, step by step, for a picture.
 
 ghost use Rattle.std.specs.Prelude.{◌≡◌, ◌+◌, ◌≤◌, ℕ, OnOk, length};
 ghost use Rattle.site_core.specs.declared.site.TheConstants.{ENTRIES};
@@ -11,22 +11,23 @@ use fuelling_point::{Point, State};
 use std::alloc::{AllocError, Global};
 use till_request::{Act, Request};
 
-/// The most steps of a picture.
+/// How many steps a picture has at most.
 const STEPS: usize = 2000;
 
-/// The least span of time, in seconds, that is drawn along time.
+/// The shortest span, in seconds, for which a picture is drawn along time.
 const SPAN: u64 = 600;
 
-/// Along what a picture is drawn.
+/// The quantity along which a picture of a history is drawn.
 #[derive(Clone, Copy, Drop)]
 pub enum Axis {
-    /// Along the entries, from 1 to this many.
+    /// The entries, from 1 to this many.
     Entries(usize),
-    /// Along the time that moments tell, from the first to the last second.
+    /// Time in seconds, from the first to the last moment of the entries.
     Time(u64, u64),
 }
 
-/// Along what a history is drawn: time, where its moments never fall and span ten minutes; else its entries.
+/// Returns the axis for a history: time, where its moments never go back and span at least ten minutes, or else its
+/// entries.
 pub fn axis_of(entries: &[Entry]) -> Axis {
     let mut first = 0;
     let mut last = 0;
@@ -47,7 +48,7 @@ pub fn axis_of(entries: &[Entry]) -> Axis {
     Axis::Time(first, last)
 }
 
-/// The step of so many in which `at` of `most` lies.
+/// Returns the step in which `at` lies, where `steps` steps cover the range from 0 to `most`.
 pub fn step_of(at: u128, most: u128, steps: usize) -> usize
     ensures { result ≤ steps }
 {
@@ -57,7 +58,7 @@ pub fn step_of(at: u128, most: u128, steps: usize) -> usize
     (at.saturating_mul(steps as u128) / most).min(steps as u128) as usize
 }
 
-/// How many steps a history has along this axis.
+/// Returns how many steps a picture has along this axis.
 fn steps_of(axis: Axis) -> usize {
     match axis {
         Axis::Entries(count) => count.min(STEPS),
@@ -65,7 +66,7 @@ fn steps_of(axis: Axis) -> usize {
     }
 }
 
-/// How many entries come before the end of each step.
+/// Returns for each step how many entries come before its end.
 fn cuts(
     alloc: Global,
     entries: &[Entry],
@@ -98,7 +99,7 @@ fn cuts(
     Ok(cuts)
 }
 
-/// The state of each of so many points in each step, step by step: those of the first step come first.
+/// The state of each point in each step. The states of the first step come first, one for each point.
 #[derive(Drop)]
 pub struct Bands {
     pub points: usize,
@@ -106,7 +107,7 @@ pub struct Bands {
     pub states: Vec<State>,
 }
 
-/// The number of the point to which an entry did something.
+/// Returns the number of the point that an entry's act names, if the act can change a point.
 fn point_of(entry: &Entry) -> Option<u32> {
     match &entry.act {
         Act::Till { request, .. } => match request {
@@ -121,7 +122,7 @@ fn point_of(entry: &Entry) -> Option<u32> {
     }
 }
 
-/// Keeps the greatest state of the point of this number.
+/// Raises the stored state of the point of this number to its current state, if that has a greater number.
 fn raise(states: &mut [State], points: &[Point], n: u32) {
     if n == 0 {
         return;
@@ -135,7 +136,8 @@ fn raise(states: &mut [State], points: &[Point], n: u32) {
     }
 }
 
-/// What the entries of a step do to the points, with the greatest state of each in it.
+/// Does what the entries of a step do to the points, and raises the stored state of each point to its greatest state in
+/// the step.
 fn follow_step(points: &mut [Point], states: &mut [State], entries: &[Entry])
     requires few { HaveRoom points.old (length entries.now) }
     ensures stand { points.new ≡ stand points.old entries.now }
@@ -149,7 +151,8 @@ fn follow_step(points: &mut [Point], states: &mut [State], entries: &[Entry])
     }
 }
 
-/// The states of the points in a step of these entries. The error is want of memory.
+/// Returns for each point its greatest state in a step of these entries, and does what they do to the points. The error
+/// is that memory ran out.
 fn step_states(
     alloc: Global,
     points: &mut [Point],
@@ -167,8 +170,8 @@ fn step_states(
     Ok(states)
 }
 
-/// How the points of a history stood: in each step the greatest state, by its number, that the point had in it. The
-/// error is want of memory.
+/// Returns the states of the points of a history: for each step and point, the state with the greatest number that the
+/// point had in the step. The error is that memory ran out.
 pub fn follow_states(
     alloc: Global,
     points: usize,
