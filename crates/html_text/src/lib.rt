@@ -1,9 +1,9 @@
-//! Text in a page of HTML.
+//! Writes text into a page of HTML.
 #![tactic(auto)]
 
 use std::fmt;
 
-/// Text of a page: no character of it is read as a mark of HTML.
+/// A text that is written with its special characters escaped, so that no character of it is read as HTML markup.
 #[derive(Clone, Copy, Drop)]
 pub struct Escaped<'a>(pub &'a str);
 
@@ -33,7 +33,7 @@ impl fmt::Display for Escaped<'_> {
     }
 }
 
-/// A character of a page's text.
+/// A character that is written escaped where it is special in HTML.
 #[derive(Clone, Copy, Drop)]
 struct Mark(char);
 
