@@ -40,7 +40,7 @@ event_alike old moment act answers.OutOfMemory b new other h k p q = absurd (p r
 event_alike old moment act (answers.Line fault) b new other h k p q = absurd h
 event_alike old moment act (answers.Program n u t) b new other h k p q = absurd h
 
--- a refusal that has numbers is the bytes' own
+-- A refusal that shows numbers is the one that the program has.
 wanted_is : (wanted : Option Refusal) (refusal : Refusal) (numbers : ℕ × (Option ℕ) × (Option ℕ)) → IsRefusal wanted refusal
     → shown_by refusal ≡ Some numbers → wanted ≡ Some refusal
 wanted_is wanted refusals.OutOfMemory numbers h e = absurd (cc)

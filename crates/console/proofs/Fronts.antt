@@ -1,4 +1,4 @@
--- Beginnings of texts, and a session that said nothing.
+-- Beginnings of texts, and sessions that answered nothing.
 use Rattle.std.proofs.Common.{◌≡◌, ℕ, List, [], ◌∷◌, ◌++◌, length, take, Option, None, Result, Ok, Err, OnErr, IfOk, inl, refl, sym, ◌∙◌, ap, subst}
 use Rattle.std.specs.Io.KnownBytes.{Appends}
 use Rattle.decision_journal.specs.Writing.{AppendsFront}

@@ -1,4 +1,4 @@
--- A line of more words than any form has is a bad line.
+-- A line with more words than any form has is a bad line.
 use Rattle.std.proofs.Common.{◌≡◌, ℕ, ◌<◌, List, [], ◌∷◌, length, Ok, Err, ap, arith}
 use Rattle.till_request.specs.declared.act.LineFault.TheVariants.{BadLine}
 use Rattle.till_request.specs.declared.act.Role.TheVariants.{All}

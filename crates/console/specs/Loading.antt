@@ -1,4 +1,4 @@
--- Definitions: a script's line that loads a program which is refused (this profile).
+-- Definitions: a line of a script that loads a program which is refused (this profile).
 use Rattle.std.specs.Prelude.{◌≡◌, ℕ, List, Option, Result, Ok, Err, ⊤}
 use Rattle.bpf_model.specs.Program.{IsGood, as_loaded}
 use Rattle.reg_types.specs.declared.refusal.Refusal.{Refusal}
@@ -10,7 +10,8 @@ use Rattle.console.specs.declared.script.ScriptLine.{ScriptLine}
 use Rattle.console.specs.declared.script.ScriptLine.TheVariants as lines
 use Rattle.console.specs.Script.{line_of}
 
--- the act is a load into this slot, whose program is refused so
+-- The act is a load into this slot, and its program is refused with this refusal. `line` is the line of the instruction that the refusal names, if
+-- it names one.
 abbrev pub IsRefusedAct : Act → ℕ → Refusal → Option (List ℕ) → Type 0
 IsRefusedAct (acts.Load number mask layout bytes) slot refusal line = (number ≡ slot) × IsExplained (as_loaded bytes mask layout) refusal line
 IsRefusedAct act slot refusal line = ⊥
@@ -19,11 +20,11 @@ abbrev pub IsRefusedBy : Result ScriptLine LineFault → ℕ → Refusal → Opt
 IsRefusedBy (Ok (lines.Act act)) slot refusal line = IsRefusedAct act slot refusal line
 IsRefusedBy asked slot refusal line = ⊥
 
--- the line asks for such a load
+-- The line asks for such a load.
 abbrev pub IsRefusedLoad : List ℕ → ℕ → Refusal → Option (List ℕ) → Type 0
 IsRefusedLoad text slot refusal line = IsRefusedBy (line_of text) slot refusal line
 
--- the act is no load, or its program is good
+-- If the act is a load, its program is good.
 abbrev pub IsGoodAct : Act → Type 0
 IsGoodAct (acts.Load number mask layout bytes) = IsGood (as_loaded bytes mask layout)
 IsGoodAct act = ⊤
@@ -32,6 +33,6 @@ abbrev pub IsGoodBy : Result ScriptLine LineFault → Type 0
 IsGoodBy (Ok (lines.Act act)) = IsGoodAct act
 IsGoodBy asked = ⊤
 
--- the line asks for no load, or for one of a good program
+-- If the line asks for a load, the program is good.
 abbrev pub IsGoodLine : List ℕ → Type 0
 IsGoodLine text = IsGoodBy (line_of text)

@@ -1,6 +1,7 @@
--- Definitions: what a script's line is answered (this profile), from the moment last set and the site that the lines before
--- it left. An act is an event of pass 1 at that moment. A load's bytes are verified first: a refused program is answered by
--- its V line and is no event. Want of memory is answered `S31`, a full journal `S29`, and both leave the site as it was.
+-- Definitions: the answer to each line of a script (this profile), given the moment that was set last and the site that the
+-- lines before it left. An act is an event of pass 1 at that moment. The bytes of a load are verified first: a refused program
+-- is answered with its V line and is no event. Where memory runs out the answer is `S31`, where the journal is full it is `S29`,
+-- and both leave the site unchanged.
 use Rattle.std.specs.Prelude.{◌≡◌, ◌≢◌, ℕ, List, [], ◌∷◌, ◌++◌, length, codes, Option, Some, None, Result, Ok, Err}
 use Rattle.std.specs.Fmt.{decimal}
 use Rattle.std.specs.List.{join_with_byte}
@@ -25,7 +26,7 @@ use Rattle.console.specs.declared.script.ScriptLine.{ScriptLine}
 use Rattle.console.specs.declared.script.ScriptLine.TheVariants as lines
 use Rattle.console.specs.Script.{line_of}
 
--- what an event is answered: its entry's number and reply, or that it isn't entered
+-- The answer to an event: the number and the reply of its entry, or why it isn't entered.
 abbrev pub EventAnswered : SiteValue → ℕ → Act → Answer → SiteValue → Type 0
 EventAnswered old moment act (answers.Entered number reply) new = (length old.history ≢ 1048576) × Enters old 1 moment act number reply new
 EventAnswered old moment act answers.JournalFull new = (length old.history ≡ 1048576) × (new ≡ old)
@@ -33,7 +34,7 @@ EventAnswered old moment act answers.OutOfMemory new = new ≡ old
 EventAnswered old moment act (answers.Line fault) new = ⊥
 EventAnswered old moment act (answers.Program number unit part) new = ⊥
 
--- the verifier's refusal of the bytes shows these numbers, and the site stays as it was
+-- The verifier refuses the program with a refusal that shows these numbers, and the site is unchanged.
 pub record ProgramRefused (old : SiteValue) (p : ProgramText) (number : ℕ) (unit part : Option ℕ) (new : SiteValue) : Type 0 where
   pub refusal : Refusal
   pub refused : IsRefused p refusal
@@ -41,16 +42,16 @@ pub record ProgramRefused (old : SiteValue) (p : ProgramText) (number : ℕ) (un
   pub shown : shown_by refusal ≡ Some (number, unit, part)
   pub same : new ≡ old
 
--- the bytes are a good program, and the verifier refuses nothing of them
+-- The program is good, and the verifier doesn't refuse it.
 pub record IsAccepted (p : ProgramText) : Type 0 where
   pub good : IsGood p
   pub accepted : refusal_of p ≡ None
 
--- a program's load as an act
+-- The act that loads a program into a slot.
 abbrev pub load_of : ℕ → ProgramText → Act
 load_of slot p = acts.Load slot p.declared p.layout p.bytes
 
--- what a load is answered: a program that is entered is accepted
+-- The answer to a load. A program whose load was entered, or found the journal full, is accepted.
 abbrev pub LoadAnswered : SiteValue → ℕ → ℕ → ProgramText → Answer → SiteValue → Type 0
 LoadAnswered old moment slot p (answers.Entered number reply) new = IsAccepted p × EventAnswered old moment (load_of slot p) (answers.Entered number reply) new
 LoadAnswered old moment slot p answers.JournalFull new = IsAccepted p × EventAnswered old moment (load_of slot p) answers.JournalFull new
@@ -63,23 +64,23 @@ ActAnswered old moment (acts.Till till request) answer new = EventAnswered old m
 ActAnswered old moment (acts.Dispenser point event) answer new = EventAnswered old moment (acts.Dispenser point event) answer new
 ActAnswered old moment (acts.Load slot mask layout bytes) answer new = LoadAnswered old moment slot (as_loaded bytes mask layout) answer new
 
--- the text is the line of such an answer
+-- The text is the line of an answer to the act.
 pub record ActSaid (old : SiteValue) (moment : ℕ) (act : Act) (text : List ℕ) (new : SiteValue) : Type 0 where
   pub answer : Answer
   pub answered : ActAnswered old moment act answer new
   pub text_is : text ≡ answer_line answer
 
--- the moment's line, which is the one that sets it
+-- The answer to the line that sets a moment, which is that line again.
 abbrev pub moment_text : ℕ → List ℕ
 moment_text n = join_with_byte 32 (codes "moment" ∷ decimal n ∷ []) ++ 10 ∷ []
 
--- a counter's value and bound; a number that no counter has is a bad number
+-- The answer to a counter's line: its value and bound, or the fault of a bad number where no counter has the number.
 abbrev pub counter_text : Option (ℕ × ℕ) → List ℕ
 counter_text (Some p) = join_with_byte 32 (codes "counter" ∷ decimal p.0 ∷ decimal p.1 ∷ []) ++ 10 ∷ []
 counter_text None = answer_line (answers.Line faults.BadNumber)
 
--- what a line is answered that asks this, and what moment and site it leaves; `journal` is answered by the journal of a history that a site of
--- this configuration can have
+-- The answer to a line that asks this, and the moment and the site after it. The answer to `journal` is the journal of a history that a site of
+-- this configuration can have.
 abbrev pub LineSaid : Result ScriptLine LineFault → ℕ × SiteValue → List ℕ → ℕ × SiteValue → Type 0
 LineSaid (Err fault) s text s' = (text ≡ answer_line (answers.Line fault)) × (s' ≡ s)
 LineSaid (Ok (lines.Act act)) s text s' = ActSaid s.1 s.0 act text s'.1 × (s'.0 ≡ s.0)
@@ -87,24 +88,24 @@ LineSaid (Ok (lines.Moment n)) s text s' = (text ≡ moment_text n) × (s' ≡ (
 LineSaid (Ok (lines.Counter c)) s text s' = (text ≡ counter_text (counter_of s.1.state c)) × (s' ≡ s)
 LineSaid (Ok lines.Journal) s text s' = (text ≡ journal_text s.1.history) × IsJournal s.1.config text × (s' ≡ s)
 
--- what a line of a script is answered
+-- The answer to a line of a script, and the moment and the site after it.
 abbrev pub Plays : ℕ × SiteValue → List ℕ → List ℕ → ℕ × SiteValue → Type 0
 Plays s line text s' = LineSaid (line_of line) s text s'
 
--- a script was answered from moment 0 on, and left some moment and site
+-- A script was answered from moment 0 on, and left some moment and site.
 pub record PlaysOut (site : SiteValue) (in_old in_new out_old out_new : Option (List ℕ)) (count : ℕ) (cut : Option LineFault) : Type 0 where
   pub moment : ℕ
   pub left : SiteValue
   pub ends : Ends Plays (0, site) (moment, left) in_old in_new out_old out_new count cut
 
--- a beginning of what would be said is out; every line that was taken up has an answer
+-- The play broke off: the output has a beginning of what would be answered, and every line that was taken up has an answer.
 pub record PlayBreaks (site : SiteValue) (in_old in_new out_old out_new : Option (List ℕ)) : Type 0 where
   pub moment : ℕ
   pub left : SiteValue
   pub breaks : Breaks Plays drops_none (0, site) (moment, left) in_old in_new out_old out_new
 
--- two plays of the same bytes on sites of one configuration that both end, behind the same output, wrote the same and left the same moment and site,
--- where neither was refused memory at a line
+-- Two plays of the same bytes from the same site, which both end and both add to the same output, wrote the same and left the same moment and site,
+-- if neither ran out of memory at a line.
 abbrev pub PlaysAlike : Type 0
 PlaysAlike =
     (site : SiteValue) (bytes out out_t out_u : List ℕ) (in_t in_u : Option (List ℕ)) (count_t count_u : ℕ) (cut_t cut_u : Option LineFault)

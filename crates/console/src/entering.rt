@@ -1,4 +1,4 @@
-//! Acts as events of a site.
+//! Enters acts as events of a site.
 ghost use Rattle.std.specs.Prelude.{◌≡◌, ℕ};
 ghost use Rattle.bpf_model.specs.Program.{ProgramText, as_loaded};
 ghost use Rattle.reg_types.specs.Shown.{IsRefused, IsRefusal, refusal_of};
@@ -11,10 +11,10 @@ use std::alloc::Global;
 use std::sync::Arc;
 use till_request::{Act, Answer, Bytes};
 
-/// The pass of all that a script asks.
+/// The pass by which a script asks everything.
 const PASS: u32 = 1;
 
-/// Enters what happens, and answers it.
+/// Enters an event at a moment, and returns the answer to it.
 fn enter_event(site: &mut Site, moment: u64, what: What) -> Answer
     ensures { EventAnswered site.old moment (act_of what) result site.new }
 {
@@ -33,7 +33,7 @@ fn enter_event(site: &mut Site, moment: u64, what: What) -> Answer
     }
 }
 
-/// The answer to bytes that were refused.
+/// Returns the answer to a load whose program the verifier refuses.
 fn answer_refusal(refusal: Refusal) -> Answer
     ensures { (old : SiteValue) (moment slot : ℕ) (p : ProgramText) → IsRefused p refusal
         → IsRefusal (refusal_of p) refusal → LoadAnswered old moment slot p result old }
@@ -44,7 +44,8 @@ fn answer_refusal(refusal: Refusal) -> Answer
     }
 }
 
-/// Verifies a load's bytes and enters the program, or answers why it is refused.
+/// Verifies the bytes of a load. Enters the load if they are accepted, and returns the answer: the entry, or why the
+/// program is refused.
 fn enter_load(
     alloc: Global,
     site: &mut Site,
@@ -65,7 +66,7 @@ fn enter_load(
     }
 }
 
-/// Enters an act of the script's pass at a moment, and answers it.
+/// Enters an act at a moment, by the script's pass, and returns the answer to it.
 pub fn enter(alloc: Global, site: &mut Site, moment: u64, act: Act) -> Answer
     ensures { ActAnswered site.old moment act result site.new }
 {

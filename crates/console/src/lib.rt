@@ -1,4 +1,4 @@
-//! What the program does with its words: a script played against a site, and what is said of files.
+//! What the program does for the words of its command line: it plays a script against a site, and reports on files.
 #![tactic(auto)]
 
 mod entering;

@@ -1,4 +1,4 @@
-//! Scripts.
+//! Plays scripts.
 ghost use Rattle.std.specs.Prelude.{◌≡◌, ◌≤◌, ◌-◌, ℕ, IfOk, OnErr, Err};
 ghost use Rattle.till_request.specs.Count.{RoseBy, one_if};
 ghost use Rattle.line_session.specs.Talk.{SpendsReads, is_read, is_write, session_reads};
@@ -11,7 +11,8 @@ use site_core::{Config, Site};
 use std::alloc::Global;
 use till_request::{LineIn, LineOut};
 
-/// Answers a script line by line, as `play`, within so many reads of one byte each.
+/// Answers a script line by line, as `play` does, with at most `left` reads of one byte each. `left` becomes how many
+/// reads remain.
 pub fn play_within<I: LineIn, O: LineOut>(
     alloc: Global,
     config: Config,
@@ -40,10 +41,10 @@ pub fn play_within<I: LineIn, O: LineOut>(
     talk_within(alloc, input, output, &Player, &mut moment, &mut site, left)
 }
 
-/// Answers a script line by line: a session over the configuration's site, from moment 0 on, of at most 67,108,864
-/// reads.
+/// Answers a script line by line, as a session with a new site of the configuration that starts at moment 0 and makes
+/// at most 67,108,864 reads.
 ///
-/// After a fault a beginning of the answers is out.
+/// After an error the output holds a beginning of the answers.
 pub fn play<I: LineIn, O: LineOut>(
     alloc: Global,
     config: Config,
@@ -65,11 +66,11 @@ pub fn play<I: LineIn, O: LineOut>(
     play_within(alloc, config, input, output, &mut left)
 }
 
-/// Whatever sizes the reads of a script give, the same is answered: two plays of the same bytes on one configuration
-/// that both end wrote the same and left the same site, where neither was refused memory at a line.
+/// The answers to a script don't depend on how its bytes are cut into reads. Two plays of the same bytes with the same
+/// configuration that both end wrote the same and left the same site, if neither ran out of memory at a line.
 ///
-/// `play` tells what it took and wrote by the bytes that its input has, whatever its device, so by this law how a
-/// script is cut changes nothing.
+/// The contract of `play` speaks only of the bytes of its input and not of the device that gives them. So by this law
+/// the sizes of the reads change nothing.
 pub fn law_of_the_cut()
     ensures { PlaysAlike }
 {}

@@ -1,4 +1,4 @@
-//! The lines of a script: those of all roles, and the script's own.
+//! Reads the lines of a script: the lines of all roles, and those that only scripts have.
 ghost use Rattle.std.specs.Prelude.{◌≡◌, map};
 ghost use Rattle.std.specs.Str.{bytes_eq};
 ghost use Rattle.till_request.specs.Gives.{Gives};
@@ -13,29 +13,29 @@ use till_request::{
 #[derive(Drop)]
 pub enum ScriptLine {
     Act(Act),
-    /// `moment N`: the moment of later requests.
+    /// `moment N` sets the moment of later requests.
     Moment(u64),
-    /// `counter C`: a counter's value and bound.
+    /// `counter C` asks for the value and the bound of a counter.
     Counter(u32),
-    /// `journal`: all entries.
+    /// `journal` asks for all entries.
     Journal,
 }
 
-/// Whether the word is this one, and the value isn't empty.
+/// Returns whether the word is this name and the value isn't empty.
 fn is_pair(word: &[u8], name: &[u8], value: &[u8]) -> bool
     ensures { result ≡ is_named word.now name.now value.now }
 {
     word == name && !value.is_empty()
 }
 
-/// The act of these words.
+/// Reads these words as an act of any role.
 fn read_act(alloc: Global, words: &[&[u8]]) -> Result<ScriptLine, LineFault>
     ensures { Gives result (act_line (map (λ w. w.now) words.now)) }
 {
     Ok(ScriptLine::Act(parse_words(alloc, Role::All, words)?))
 }
 
-/// A line of one word.
+/// Reads a line of one word.
 fn read_alone(alloc: Global, word: &[u8], words: &[&[u8]]) -> Result<ScriptLine, LineFault>
     ensures { Gives result (line_alone word.now (map (λ w. w.now) words.now)) }
 {
@@ -46,7 +46,7 @@ fn read_alone(alloc: Global, word: &[u8], words: &[&[u8]]) -> Result<ScriptLine,
     }
 }
 
-/// A line of two words.
+/// Reads a line of two words.
 fn read_with_value(
     alloc: Global,
     word: &[u8],
@@ -66,7 +66,7 @@ fn read_with_value(
     read_act(alloc, words)
 }
 
-/// The line of these words.
+/// Reads the words of a line.
 fn read_words(alloc: Global, words: &[&[u8]]) -> Result<ScriptLine, LineFault>
     ensures { Gives result (line_of_words (map (λ w. w.now) words.now)) }
 {
@@ -77,8 +77,8 @@ fn read_words(alloc: Global, words: &[&[u8]]) -> Result<ScriptLine, LineFault>
     }
 }
 
-/// What a line of a script asks, without its LF: L2 where its words have no form, else L3 where a
-/// value can't be read.
+/// Reads what a line of a script asks. The line comes without its LF. The error is L2 where the words are none of the
+/// known forms, or else L3 where a value can't be read, or that memory ran out.
 pub fn parse_script_line(alloc: Global, line: &[u8]) -> Result<ScriptLine, LineFault>
     ensures { Gives result (line_of line.now) }
 {
