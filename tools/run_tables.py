@@ -10,6 +10,11 @@ backslash, \\xHH a byte, and ~N*TEXT~ is TEXT, N times.
                     and what it answers. A play that is cut off or ends with another status than 0 has a last row
                     'status | N'; where a row begins with '<', it is no line of the script but a further line of the
                     answer of the row above it
+    audit: CONFIG JOURNAL
+                    a row is an audit of the file JOURNAL with one change, for the site in the file CONFIG. Its columns
+                    are a name, the change, what is printed and, in some rows, what standard error says. A change is
+                    LINEs/OLD/NEW/, where OLD stands once in that line; an empty column changes nothing. The status is
+                    0 where 'legal' is printed, and else 1
 
 A line 'needs: COMMAND..' in front of that names what the machine may be without: then the table is skipped, with a word
 that says so. Where LLVM is set (LLVM=-19), it stands behind each of these names.
@@ -28,6 +33,7 @@ from concurrent.futures import ThreadPoolExecutor
 HERE = os.path.dirname(os.path.dirname(os.path.realpath(__file__)))
 LINE = re.compile(r"\\(n|t|\\|x[0-9a-f]{2})")
 TIMES = re.compile(r"~(\d+)\*(.*?)~")
+CHANGE = re.compile(rb"([1-9]\d*)s/([^/]+)/([^/]*)/")
 
 
 def plain(column):
@@ -62,8 +68,8 @@ def rows_of(path):
                     return "run", "true", []
             elif kind is None and line:
                 kind, _, what = line.partition(": ")
-                if kind not in ("run", "play") or not what:
-                    sys.exit(f"{path}:{number}: 'run: COMMAND' or 'play: CONFIG' is wanted here")
+                if kind not in ("run", "play", "audit") or not what:
+                    sys.exit(f"{path}:{number}: 'run: ..', 'play: ..' or 'audit: ..' is wanted here")
             elif line:
                 rows.append((number, line.split(" | ")))
             else:
@@ -97,13 +103,44 @@ def play(config, folder, program, rows):
     return ran.stdout + b"status %d\n" % ran.returncode, wanted + b"status " + status + b"\n", ran.stderr
 
 
+def changed(journal, change):
+    """Returns a journal with a change, or None where that can't be made."""
+    if not change:
+        return journal
+    it, lines = CHANGE.fullmatch(change), journal.splitlines(keepends=True)
+    at = int(it[1]) - 1 if it else len(lines)
+    if at >= len(lines) or lines[at].count(it[2]) != 1:
+        return None
+    lines[at] = lines[at].replace(it[2], it[3])
+    return b"".join(lines)
+
+
+def audit(what, folder, program, row):
+    """Returns what an audit of a changed journal gives, and what it should."""
+    config, base = what.split()
+    _, change, verdict, *words = map(plain, row)
+    with open(f"{folder}/{base}", "rb") as file:
+        journal = changed(file.read(), change)
+    if journal is None:
+        return b"no change: " + change, verdict, b"its text doesn't stand in that line once"
+    with tempfile.TemporaryDirectory() as room:
+        with open(f"{room}/journal", "wb") as file:
+            file.write(journal)
+        how = {"cwd": room, "stdin": subprocess.DEVNULL, "capture_output": True, "timeout": 60}
+        ran = subprocess.run([program, "audit", f"{folder}/{config}", "journal"], **how)
+    said, status = ran.stderr if words else b"", 0 if verdict.startswith(b"legal") else 1
+    printed = b"%sstatus %d\n%s" % (ran.stdout, ran.returncode, said)
+    return printed, b"%s\nstatus %d\n" % (verdict, status) + b"".join(it + b"\n" for it in words), ran.stderr
+
+
 def cases_of(path, program):
     """Returns the cases of a table: the place of each, and a call that gives what is printed, what is wanted, and what
     standard error says."""
     kind, what, rows = rows_of(path)
     folder, short = os.path.dirname(path), os.path.relpath(path, HERE)
-    if kind == "run":
-        return [(f"{short}:{it[0]}", lambda row=it[1]: run(what, folder, program, row)) for it in rows if it]
+    if kind != "play":
+        case = run if kind == "run" else audit
+        return [(f"{short}:{it[0]}", lambda row=it[1]: case(what, folder, program, row)) for it in rows if it]
     plays, open_play = [], []
     for it in [*rows, None]:
         if it:
