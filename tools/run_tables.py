@@ -2,7 +2,7 @@
 """Runs the program's tables of cases, the files below cases/ that end in .table. Such a file begins with a comment
 (lines that begin with '#'), then says what is done with its rows, then lists them, a row a line, its columns parted by
 ' | '. An empty line and a line that begins with '#' are no rows. In a column \\n is a new line, \\t a tab, \\\\ a
-backslash, \\xHH a byte, and ~N*TEXT~ is TEXT, N times.
+backslash, \\xHH a byte, ~N*TEXT~ is TEXT, N times, and ~AS_ASKED~ the program of a rule that grants what is asked.
 
     run: COMMAND    the shell runs COMMAND for each row, in the table's folder, with `fc` on the path: $1, $2, .. are the
                     row's columns but the last, and what is printed, without the new line at its end, is the last
@@ -33,12 +33,13 @@ from concurrent.futures import ThreadPoolExecutor
 HERE = os.path.dirname(os.path.dirname(os.path.realpath(__file__)))
 LINE = re.compile(r"\\(n|t|\\|x[0-9a-f]{2})")
 TIMES = re.compile(r"~(\d+)\*(.*?)~")
+AS_ASKED = "79101800000000009500000000000000"
 CHANGE = re.compile(rb"([1-9]\d*)s/([^/]+)/([^/]*)/")
 
 
 def plain(column):
     """Returns what a column says, as bytes."""
-    column = TIMES.sub(lambda it: it[2] * int(it[1]), column)
+    column = TIMES.sub(lambda it: it[2] * int(it[1]), column.replace("~AS_ASKED~", AS_ASKED))
     whole, at = b"", 0
     for it in LINE.finditer(column):
         whole += column[at : it.start()].encode()
