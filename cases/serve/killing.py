@@ -9,7 +9,7 @@ import tempfile
 import threading
 import time
 
-from serving import Peer, Site
+from serving import AS_ASKED, AT_MOST_5000, COUNTED, Peer, Site
 
 SITE = """tills = 8
 price_slot = 2
@@ -17,11 +17,7 @@ prices = [1799, 1849, 0, 0, 0, 0, 0, 0]
 point = [{release = 0, preset = 1}, {release = 0, preset = 1}, {release = 0, preset = 1}, {release = 0, preset = 1}]
 counter = [{value = 0, bound = 1000000}]
 """
-RULES = [
-    "79101800000000009500000000000000",
-    "b7000000881300009500000000000000",
-    "b701000000000000b70200000100000085000000020000009500000000000000",
-]
+RULES = [AS_ASKED, AT_MOST_5000, COUNTED]
 
 
 def until_killed(peer, lines):

@@ -9,6 +9,11 @@ import time
 
 PATIENCE = 30  # seconds that any one wait may take
 
+# Programs of rules: what is asked; 5000; and 1, where that can be added to counter 0.
+AS_ASKED = "79101800000000009500000000000000"
+AT_MOST_5000 = "b7000000881300009500000000000000"
+COUNTED = "b701000000000000b70200000100000085000000020000009500000000000000"
+
 
 def free_ports(count):
     """Ports that nobody has at this moment."""
