@@ -1,0 +1,78 @@
+# fc keeps a petrol station's site: what bash completes of its words. cases/system/words holds them against --help.
+# In bash fc is a command of the shell's own too. These words are completed where the program is called by its path, as
+# /usr/local/bin/fc, and behind `enable -n fc`.
+
+# Sets `takes` to the number of files that a command takes, and `options` to its own options.
+_fc_command() {
+    takes=0 options=''
+    case $1 in
+        asm) takes=1 ;;
+        dis) takes=1 options='--units' ;;
+        verify) takes=1 options='--counters --context' ;;
+        play) takes=2 ;;
+        audit) takes=2 ;;
+        report) takes=2 ;;
+        serve) takes=1 options='--journal --sync' ;;
+    esac
+}
+
+_fc_files() {
+    compopt -o filenames 2>/dev/null
+    mapfile -t COMPREPLY < <(compgen -f -- "$1")
+}
+
+_fc_words() { mapfile -t COMPREPLY < <(compgen -W "$1" -- "$2"); }
+
+# The words behind an option that takes one: `--context 2`, or `--context=2`, which bash parts at its '='.
+_fc_value() {
+    case $1 in
+        --context) _fc_words '1 2' "$2" ;;
+        --journal) _fc_files "$2" ;;
+    esac
+}
+
+_fc() {
+    local commands='asm dis verify play audit report serve help' takes options word before name='' files=0 at
+    COMPREPLY=()
+    word=${COMP_WORDS[COMP_CWORD]}
+    before=${COMP_WORDS[COMP_CWORD - 1]}
+    if [ "$word" = = ]; then
+        word=''
+    elif [ "$before" = = ]; then
+        before=${COMP_WORDS[COMP_CWORD - 2]}
+    fi
+    if [ "$COMP_CWORD" = 1 ]; then
+        _fc_words "$commands -h --help -V --version" "$word"
+        return
+    fi
+    name=${COMP_WORDS[1]}
+    if [ "$name" = help ]; then
+        [ "$COMP_CWORD" != 2 ] || _fc_words "$commands" "$word"
+        return
+    fi
+    case $before in
+        --counters | --context | --journal)
+            _fc_value "$before" "$word"
+            return
+            ;;
+    esac
+
+    # The files that stand before this word, and the options that don't.
+    _fc_command "$name"
+    for ((at = 2; at < COMP_CWORD; at++)); do
+        case ${COMP_WORDS[at]} in
+            --counters | --context | --journal)
+                options=${options/${COMP_WORDS[at]}/}
+                at=$((at + 1))
+                [ "${COMP_WORDS[at]}" != = ] || at=$((at + 1))
+                ;;
+            -?*) options=${options/${COMP_WORDS[at]}/} ;;
+            *) files=$((files + 1)) ;;
+        esac
+    done
+    case $word in
+        -*) _fc_words "$options -h --help" "$word" ;;
+        *) [ "$files" -ge "$takes" ] || _fc_files "$word" ;;
+    esac
+}
+complete -F _fc fc
