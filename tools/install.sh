@@ -1,0 +1,138 @@
+#!/bin/sh
+# Installs the proved program below PREFIX, with its unit of systemd, its page of the manual and its words for bash:
+#   bin/fc  lib/systemd/system/fc.service  share/man/man1/fc.1  share/bash-completion/completions/fc
+# With --uninstall it takes exactly these four away; folders stay. Where DESTDIR is set all of them lie below that, and
+# the unit names the program as PREFIX has it. An older file of ours in one of these places is replaced. Where one is
+# somebody else's (a link too), that is said, and nothing is changed.
+# usage: tools/install.sh [--uninstall] PREFIX
+# Status: 0 done, 1 it can't be done, 2 the words are wrong.
+set -u
+umask 022
+here=$(CDPATH='' cd -P -- "$(dirname -- "$0")/.." && pwd) || exit 1
+program=$here/out/fc
+system=$here/examples/system
+places='bin/fc lib/systemd/system/fc.service share/man/man1/fc.1 share/bash-completion/completions/fc'
+# What all four have in their text, the program in that of its help.
+ours="a petrol station's site"
+
+say() { printf 'install.sh: %s\n' "$*" >&2; }
+stop() {
+    say "$*"
+    exit 1
+}
+usage() {
+    [ $# = 0 ] || say "$*"
+    echo 'usage: tools/install.sh [--uninstall] PREFIX' >&2
+    exit 2
+}
+
+is_ours() { [ -f "$1" ] && [ ! -L "$1" ] && LC_ALL=C grep -q "$ours" "$1"; }
+
+is_there() { [ -e "$1" ] || [ -L "$1" ]; }
+
+look_at_places() {
+    for place in $places; do
+        file=$root/$place
+        is_there "$file" || continue
+        is_ours "$file" || stop "$file is there, and is none of fc's files: nothing is changed"
+    done
+}
+
+look_at_program() {
+    [ -x "$program" ] || stop "there is no proved program in $program: ./fc --version proves and builds it"
+    is_ours "$program" || stop "$program is none of fc's programs: ./fc --version proves and builds it"
+    set -- "$here/crates.txt" "$here"/crates/*/src "$here"/crates/*/specs
+    [ -z "$(find "$@" -newer "$program.mark" -print 2>/dev/null)" ] || say "the sources are newer than $program, which is installed as it is"
+}
+
+make_folders() {
+    for place in $places; do
+        folder=$root/${place%/*}
+        mkdir -p -- "$folder" 2>/dev/null
+        [ -d "$folder" ] || stop "the folder $folder can't be made: nothing is installed"
+        [ -w "$folder" ] || stop "the folder $folder can't be written: nothing is installed"
+    done
+}
+
+# What comes to a place.
+text_of() {
+    case $1 in
+        bin/fc) cat "$program" ;;
+        *.service) sed "s|/usr/bin/fc|$prefix/bin/fc|" "$system/fc.service" ;;
+        *.1) cat "$system/fc.1" ;;
+        *) cat "$system/fc.bash" ;;
+    esac
+}
+
+mode_of() { case $1 in bin/*) echo 755 ;; *) echo 644 ;; esac; }
+
+take_new_away() {
+    for place in $places; do rm -f -- "$root/$place.new$$"; done
+}
+
+# All four are written beside their places first, and then take them: a program that runs goes on as the old one.
+put_in_place() {
+    trap take_new_away EXIT
+    trap 'exit 1' HUP INT TERM
+    for place in $places; do
+        new=$root/$place.new$$
+        { text_of "$place" >"$new" && chmod "$(mode_of "$place")" "$new"; } 2>/dev/null ||
+            stop "$root/$place can't be written: nothing is installed"
+    done
+    for place in $places; do
+        mv -f -- "$root/$place.new$$" "$root/$place" || stop "$root/$place can't be replaced: it stays as it was"
+        echo "installed $root/$place"
+    done
+}
+
+take_away() {
+    set --
+    for place in $places; do
+        file=$root/$place
+        is_there "$file" || continue
+        [ -w "${file%/*}" ] || stop "the folder ${file%/*} can't be written: nothing is taken away"
+        set -- "$@" "$file"
+    done
+    [ $# != 0 ] || say "nothing of fc is below $root/"
+    for file in "$@"; do
+        rm -f -- "$file" 2>/dev/null || stop "$file can't be taken away"
+        echo "taken away $file"
+    done
+}
+
+job=install
+case ${1-} in
+    --uninstall)
+        job=uninstall
+        shift
+        ;;
+    -h | --help)
+        sed -n '2,/^set/s/^# //p' "$0"
+        exit 0
+        ;;
+    -*) usage "there is no option $1" ;;
+esac
+[ $# -le 1 ] || usage "one PREFIX is wanted, and here are $#"
+[ -n "${1-}" ] || usage "a PREFIX is wanted, as /usr/local"
+case $1 in
+    -*) usage "there is no option $1" ;;
+    /*) ;;
+    *) usage "PREFIX begins with /, and $1 doesn't" ;;
+esac
+# A unit's line gives another meaning to these, and sed to & and |.
+case $1 in
+    *[[:space:][:cntrl:]\"\'\\%\$\;\&\|]*)
+        stop "a unit can't name a program below $1: a PREFIX has no blanks, and none of \" ' \\ % \$ ; & |"
+        ;;
+esac
+prefix=$1
+while [ "$prefix" != "${prefix%/}" ]; do prefix=${prefix%/}; done
+root=${DESTDIR-}$prefix
+[ $job = uninstall ] || look_at_program
+look_at_places
+if [ $job = install ]; then
+    make_folders
+    put_in_place
+else
+    take_away
+fi
