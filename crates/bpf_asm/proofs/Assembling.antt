@@ -10,7 +10,7 @@ use Rattle.std.proofs.lemmas.Int.{ints}
 use Rattle.std.proofs.Math.Facts.{sfits_to_z, Fits-of_lt}
 use Rattle.bpf_model.specs.declared.instruction.Operator.{Operator}
 use Rattle.bpf_model.specs.declared.instruction.Operator.TheVariants as operator
-use Rattle.bpf_model.specs.declared.instruction.Width.TheVariants.{Narrow, Full}
+use Rattle.bpf_model.specs.declared.instruction.Width.TheVariants.{Bits32, Bits64}
 use Rattle.bpf_model.specs.declared.instruction.Source.TheVariants as source
 use Rattle.bpf_model.specs.declared.instruction.Source.{Source}
 use Rattle.bpf_model.specs.declared.instruction.Width.{Width}
@@ -83,45 +83,45 @@ places_within rows h = labels_within 0 512 rows (omega arith)
 -- ---- instructions
 
 operator_small : (op : Operator) → operator_code op ≤ 13
-operator_small operator.Sum = omega arith
-operator_small operator.Difference = omega arith
-operator_small operator.Product = omega arith
-operator_small operator.Quotient = omega arith
+operator_small operator.Add = omega arith
+operator_small operator.Sub = omega arith
+operator_small operator.Mul = omega arith
+operator_small operator.Div = omega arith
 operator_small operator.Or = omega arith
 operator_small operator.And = omega arith
-operator_small operator.ShiftLeft = omega arith
-operator_small operator.ShiftRight = omega arith
-operator_small operator.Negate = omega arith
-operator_small operator.Remainder = omega arith
+operator_small operator.Lsh = omega arith
+operator_small operator.Rsh = omega arith
+operator_small operator.Neg = omega arith
+operator_small operator.Mod = omega arith
 operator_small operator.Xor = omega arith
-operator_small operator.Move = omega arith
-operator_small operator.ShiftSigned = omega arith
+operator_small operator.Mov = omega arith
+operator_small operator.Arsh = omega arith
 operator_small operator.SwapBytes = omega arith
 
 condition_small : (c : Condition) → condition_code c ≤ 13
-condition_small condition.Equal = omega arith
-condition_small condition.Over = omega arith
-condition_small condition.NotBelow = omega arith
-condition_small condition.SharesBit = omega arith
-condition_small condition.Differs = omega arith
-condition_small condition.OverSigned = omega arith
-condition_small condition.NotBelowSigned = omega arith
-condition_small condition.Below = omega arith
-condition_small condition.NotOver = omega arith
-condition_small condition.BelowSigned = omega arith
-condition_small condition.NotOverSigned = omega arith
+condition_small condition.Jeq = omega arith
+condition_small condition.Jgt = omega arith
+condition_small condition.Jge = omega arith
+condition_small condition.Jset = omega arith
+condition_small condition.Jne = omega arith
+condition_small condition.Jsgt = omega arith
+condition_small condition.Jsge = omega arith
+condition_small condition.Jlt = omega arith
+condition_small condition.Jle = omega arith
+condition_small condition.Jslt = omega arith
+condition_small condition.Jsle = omega arith
 
 source_small : (s : Source) → source_bit s ≤ 8
 source_small source.Immediate = omega arith
 source_small source.Register = omega arith
 
 arithmetic_small : (w : Width) → arithmetic_class w ≤ 7
-arithmetic_small Narrow = omega arith
-arithmetic_small Full = omega arith
+arithmetic_small Bits32 = omega arith
+arithmetic_small Bits64 = omega arith
 
 jump_small : (w : Width) → jump_class w ≤ 7
-jump_small Narrow = omega arith
-jump_small Full = omega arith
+jump_small Bits32 = omega arith
+jump_small Bits64 = omega arith
 
 size_small : (n : Size) → size_code n ≤ 3
 size_small Byte = omega arith
@@ -136,8 +136,8 @@ opcode_small (form.Load n) = let a = size_small n in omega arith
 opcode_small (form.LoadSigned n) = let a = size_small n in omega arith
 opcode_small (form.StoreImmediate n) = let a = size_small n in omega arith
 opcode_small (form.StoreRegister n) = let a = size_small n in omega arith
-opcode_small form.Goto = omega arith
-opcode_small form.GotoLong = omega arith
+opcode_small form.Ja = omega arith
+opcode_small form.Ja32 = omega arith
 opcode_small (form.Branch c w s) = let a = condition_small c in let b = source_small s in let d = jump_small w in omega arith
 opcode_small form.Call = omega arith
 opcode_small form.Exit = omega arith
@@ -149,8 +149,8 @@ not_half (form.Load n) = refl
 not_half (form.LoadSigned n) = refl
 not_half (form.StoreImmediate n) = refl
 not_half (form.StoreRegister n) = refl
-not_half form.Goto = refl
-not_half form.GotoLong = refl
+not_half form.Ja = refl
+not_half form.Ja32 = refl
 not_half (form.Branch c w s) = refl
 not_half form.Call = refl
 not_half form.Exit = refl
@@ -214,14 +214,14 @@ plain_units f p rest h offset imm more = (
 )
 
 jump_is : (f : Form) (p : Fields) (z : ℤ) → IsOf f p.dst p.src → IsOf f (jump_inst f p z).dst (jump_inst f p z).src
-jump_is form.GotoLong p z h = h
+jump_is form.Ja32 p z h = h
 jump_is (form.Arithmetic op w s) p z h = h
 jump_is form.Wide p z h = h
 jump_is (form.Load n) p z h = h
 jump_is (form.LoadSigned n) p z h = h
 jump_is (form.StoreImmediate n) p z h = h
 jump_is (form.StoreRegister n) p z h = h
-jump_is form.Goto p z h = h
+jump_is form.Ja p z h = h
 jump_is (form.Branch c w s) p z h = h
 jump_is form.Call p z h = h
 jump_is form.Exit p z h = h
@@ -236,17 +236,17 @@ jump_units f p z rest h offset imm more = (
 zero16 : FitsSigned w16 (pos 0)
 zero16 = search rules
 
--- the fields of a jump fit, whichever of them has the distance
+-- the fields of a jump fit, whichever of them holds the distance
 jump_fits : (f : Form) (p : Fields) (z : ℤ) → FitsSigned w16 z → FitsSigned w32 z → FitsSigned w32 (int_of p.imm)
     → FitsSigned w16 (jump_inst f p z).offset × FitsSigned w32 (jump_inst f p z).imm
-jump_fits form.GotoLong p z a b d = (zero16, b)
+jump_fits form.Ja32 p z a b d = (zero16, b)
 jump_fits (form.Arithmetic op w s) p z a b d = (a, d)
 jump_fits form.Wide p z a b d = (a, d)
 jump_fits (form.Load n) p z a b d = (a, d)
 jump_fits (form.LoadSigned n) p z a b d = (a, d)
 jump_fits (form.StoreImmediate n) p z a b d = (a, d)
 jump_fits (form.StoreRegister n) p z a b d = (a, d)
-jump_fits form.Goto p z a b d = (a, d)
+jump_fits form.Ja p z a b d = (a, d)
 jump_fits (form.Branch c w s) p z a b d = (a, d)
 jump_fits form.Call p z a b d = (a, d)
 jump_fits form.Exit p z a b d = (a, d)
@@ -262,14 +262,14 @@ wider z h = search rules
 
 distance_fits : (f : Form) (p : Fields) (v : Value) → target_fits f (Distance v) ≡ true → FitsSigned w32 (int_of p.imm)
     → FitsSigned w16 (jump_inst f p (int_of v)).offset × FitsSigned w32 (jump_inst f p (int_of v)).imm
-distance_fits form.GotoLong p v h d = (zero16, long_fits v h)
+distance_fits form.Ja32 p v h d = (zero16, long_fits v h)
 distance_fits (form.Arithmetic op w s) p v h d = (short_fits v h, d)
 distance_fits form.Wide p v h d = (short_fits v h, d)
 distance_fits (form.Load n) p v h d = (short_fits v h, d)
 distance_fits (form.LoadSigned n) p v h d = (short_fits v h, d)
 distance_fits (form.StoreImmediate n) p v h d = (short_fits v h, d)
 distance_fits (form.StoreRegister n) p v h d = (short_fits v h, d)
-distance_fits form.Goto p v h d = (short_fits v h, d)
+distance_fits form.Ja p v h d = (short_fits v h, d)
 distance_fits (form.Branch c w s) p v h d = (short_fits v h, d)
 distance_fits form.Call p v h d = (short_fits v h, d)
 distance_fits form.Exit p v h d = (short_fits v h, d)
@@ -319,7 +319,7 @@ module _ (labels : List Definition) (within : AreWithin 512 labels) where
   units_are at (r ∷ rows) l fit h = line_is at r.label r.says (units_from labels (at + line_len_of r.says) rows) (omega arith) fit.0 h.0
       (units_are (at + line_len_of r.says) rows (omega arith) fit.1 h.1)
 
--- the units of rows without fault are a program's
+-- the units of rows without a fault are those of a program
 pub spelled_units : (rows : List Row) → units_in rows ≤ 512 → AreRight rows → AreSound rows → AreUnits true (spelled rows)
 spelled_units rows l fit h = units_are (labels_from 0 rows) (places_within rows l) 0 rows (omega arith) fit h
 
@@ -352,7 +352,7 @@ is_fault OutOfMemory = tt
 pub fault_is : (o : Option AsmFault) (f : AsmFault) → o ≡ Some f → IsFault o f
 fault_is o f e = subst (λ p. IsFault p f) (sym e) (is_fault f)
 
--- a line's own fault is the text's
+-- a line's own fault is the fault of the text
 pub line_refused : (o r : Option AsmFault) (f : AsmFault) → IsFault o f → IsFault (or_fault o r) f
 line_refused o r (BadLine n) h = ap (λ p. or_fault p r) h
 line_refused o r (BadLabel n) h = ap (λ p. or_fault p r) h

@@ -6,7 +6,7 @@ use Rattle.std.proofs.lemmas.Bool.{cases_lt, eqb-true}
 use Rattle.std.proofs.lemmas.Bool.Decides.{nat_tests}
 use Rattle.bpf_model.specs.declared.instruction.Inst.{Inst}
 use Rattle.bpf_model.specs.declared.instruction.Width.{Width}
-use Rattle.bpf_model.specs.declared.instruction.Width.TheVariants.{Narrow, Full}
+use Rattle.bpf_model.specs.declared.instruction.Width.TheVariants.{Bits32, Bits64}
 use Rattle.bpf_model.specs.declared.instruction.Source.{Source}
 use Rattle.bpf_model.specs.declared.instruction.Source.TheVariants as source
 use Rattle.bpf_model.specs.declared.instruction.Unit.TheVariants.{First, Second}
@@ -66,8 +66,8 @@ opcode_there form.Wide h = tt
 opcode_there (form.Load n) h = tt
 opcode_there (form.StoreImmediate n) h = tt
 opcode_there (form.StoreRegister n) h = tt
-opcode_there form.Goto h = tt
-opcode_there form.GotoLong h = tt
+opcode_there form.Ja h = tt
+opcode_there form.Ja32 h = tt
 opcode_there (form.Branch c w s) h = tt
 opcode_there form.Call h = tt
 opcode_there form.Exit h = tt
@@ -122,40 +122,40 @@ module _ (i : Inst) (high : ℤ) (off : FitsSigned w16 i.offset) (imm : FitsSign
   zero_src : (i.src == 0) ≡ true → i.src ≡ 0
   zero_src h = eqb-true i.src 0 h
 
-  number_quotient : (w : Width) → Given (form.Arithmetic operator.Quotient w source.Immediate) → (is_int i.offset 0 ≡ true) ⊎ (is_int i.offset 1 ≡ true)
-      → Says (form.Arithmetic operator.Quotient w source.Immediate) i high
-  number_quotient w g (inl e) = subst (λ k. Says (form.Arithmetic operator.Quotient w source.Immediate) k high)
-      (same (form.Arithmetic operator.Quotient w source.Immediate) i i.dst 0 (pos 0) i.imm g.op refl (zero_src g.parts.src) (int_is i.offset 0 e) refl)
-      (number_line operator.Quotient 0 w i.dst i.imm high (operator_written operator.Quotient tt) (omega arith) g.dst imm
-      (number_means operator.Quotient tt w i.dst i.imm))
-  number_quotient w g (inr e) = subst (λ k. Says (form.Arithmetic operator.Quotient w source.Immediate) k high)
-      (same (form.Arithmetic operator.Quotient w source.Immediate) i i.dst 0 (pos 1) i.imm g.op refl (zero_src g.parts.src) (int_is i.offset 1 e) refl)
-      (number_line operator.Quotient 1 w i.dst i.imm high signed_quotient (omega arith) g.dst imm (signed_quotient_means w i.dst i.imm))
+  number_quotient : (w : Width) → Given (form.Arithmetic operator.Div w source.Immediate) → (is_int i.offset 0 ≡ true) ⊎ (is_int i.offset 1 ≡ true)
+      → Says (form.Arithmetic operator.Div w source.Immediate) i high
+  number_quotient w g (inl e) = subst (λ k. Says (form.Arithmetic operator.Div w source.Immediate) k high)
+      (same (form.Arithmetic operator.Div w source.Immediate) i i.dst 0 (pos 0) i.imm g.op refl (zero_src g.parts.src) (int_is i.offset 0 e) refl)
+      (number_line operator.Div 0 w i.dst i.imm high (operator_written operator.Div tt) (omega arith) g.dst imm
+      (number_means operator.Div tt w i.dst i.imm))
+  number_quotient w g (inr e) = subst (λ k. Says (form.Arithmetic operator.Div w source.Immediate) k high)
+      (same (form.Arithmetic operator.Div w source.Immediate) i i.dst 0 (pos 1) i.imm g.op refl (zero_src g.parts.src) (int_is i.offset 1 e) refl)
+      (number_line operator.Div 1 w i.dst i.imm high signed_quotient (omega arith) g.dst imm (signed_quotient_means w i.dst i.imm))
 
-  number_remainder : (w : Width) → Given (form.Arithmetic operator.Remainder w source.Immediate) → (is_int i.offset 0 ≡ true) ⊎ (is_int i.offset 1 ≡ true)
-      → Says (form.Arithmetic operator.Remainder w source.Immediate) i high
-  number_remainder w g (inl e) = subst (λ k. Says (form.Arithmetic operator.Remainder w source.Immediate) k high)
-      (same (form.Arithmetic operator.Remainder w source.Immediate) i i.dst 0 (pos 0) i.imm g.op refl (zero_src g.parts.src) (int_is i.offset 0 e) refl)
-      (number_line operator.Remainder 0 w i.dst i.imm high (operator_written operator.Remainder tt) (omega arith) g.dst imm
-      (number_means operator.Remainder tt w i.dst i.imm))
-  number_remainder w g (inr e) = subst (λ k. Says (form.Arithmetic operator.Remainder w source.Immediate) k high)
-      (same (form.Arithmetic operator.Remainder w source.Immediate) i i.dst 0 (pos 1) i.imm g.op refl (zero_src g.parts.src) (int_is i.offset 1 e) refl)
-      (number_line operator.Remainder 1 w i.dst i.imm high signed_remainder (omega arith) g.dst imm (signed_remainder_means w i.dst i.imm))
+  number_remainder : (w : Width) → Given (form.Arithmetic operator.Mod w source.Immediate) → (is_int i.offset 0 ≡ true) ⊎ (is_int i.offset 1 ≡ true)
+      → Says (form.Arithmetic operator.Mod w source.Immediate) i high
+  number_remainder w g (inl e) = subst (λ k. Says (form.Arithmetic operator.Mod w source.Immediate) k high)
+      (same (form.Arithmetic operator.Mod w source.Immediate) i i.dst 0 (pos 0) i.imm g.op refl (zero_src g.parts.src) (int_is i.offset 0 e) refl)
+      (number_line operator.Mod 0 w i.dst i.imm high (operator_written operator.Mod tt) (omega arith) g.dst imm
+      (number_means operator.Mod tt w i.dst i.imm))
+  number_remainder w g (inr e) = subst (λ k. Says (form.Arithmetic operator.Mod w source.Immediate) k high)
+      (same (form.Arithmetic operator.Mod w source.Immediate) i i.dst 0 (pos 1) i.imm g.op refl (zero_src g.parts.src) (int_is i.offset 1 e) refl)
+      (number_line operator.Mod 1 w i.dst i.imm high signed_remainder (omega arith) g.dst imm (signed_remainder_means w i.dst i.imm))
 
   number_says : (op : Operator) (w : Width) → IsTwo op → Given (form.Arithmetic op w source.Immediate) → Says (form.Arithmetic op w source.Immediate) i high
-  number_says operator.Sum w h g = subst
-      (λ k. Says (form.Arithmetic operator.Sum w source.Immediate) k high) (same (form.Arithmetic operator.Sum w source.Immediate) i i.dst 0 (pos 0) i.imm g.op
+  number_says operator.Add w h g = subst
+      (λ k. Says (form.Arithmetic operator.Add w source.Immediate) k high) (same (form.Arithmetic operator.Add w source.Immediate) i i.dst 0 (pos 0) i.imm g.op
       refl (zero_src g.parts.src) (int_is i.offset 0 g.parts.form) refl)
-      (number_line operator.Sum 0 w i.dst i.imm high (operator_written operator.Sum tt) (omega arith) g.dst imm (number_means operator.Sum tt w i.dst i.imm))
-  number_says operator.Difference w h g = subst (λ k. Says (form.Arithmetic operator.Difference w source.Immediate) k high)
-      (same (form.Arithmetic operator.Difference w source.Immediate) i i.dst 0 (pos 0) i.imm g.op refl (zero_src g.parts.src) (int_is i.offset 0 g.parts.form)
-      refl) (number_line operator.Difference 0 w i.dst i.imm high (operator_written operator.Difference tt) (omega arith) g.dst imm
-      (number_means operator.Difference tt w i.dst i.imm))
-  number_says operator.Product w h g = subst (λ k. Says (form.Arithmetic operator.Product w source.Immediate) k high)
-      (same (form.Arithmetic operator.Product w source.Immediate) i i.dst 0 (pos 0) i.imm g.op refl (zero_src g.parts.src) (int_is i.offset 0 g.parts.form)
-      refl) (number_line operator.Product 0 w i.dst i.imm high (operator_written operator.Product tt) (omega arith) g.dst imm
-      (number_means operator.Product tt w i.dst i.imm))
-  number_says operator.Quotient w h g = number_quotient w g (or_cases (is_int i.offset 0) (is_int i.offset 1) g.parts.form)
+      (number_line operator.Add 0 w i.dst i.imm high (operator_written operator.Add tt) (omega arith) g.dst imm (number_means operator.Add tt w i.dst i.imm))
+  number_says operator.Sub w h g = subst (λ k. Says (form.Arithmetic operator.Sub w source.Immediate) k high)
+      (same (form.Arithmetic operator.Sub w source.Immediate) i i.dst 0 (pos 0) i.imm g.op refl (zero_src g.parts.src) (int_is i.offset 0 g.parts.form)
+      refl) (number_line operator.Sub 0 w i.dst i.imm high (operator_written operator.Sub tt) (omega arith) g.dst imm
+      (number_means operator.Sub tt w i.dst i.imm))
+  number_says operator.Mul w h g = subst (λ k. Says (form.Arithmetic operator.Mul w source.Immediate) k high)
+      (same (form.Arithmetic operator.Mul w source.Immediate) i i.dst 0 (pos 0) i.imm g.op refl (zero_src g.parts.src) (int_is i.offset 0 g.parts.form)
+      refl) (number_line operator.Mul 0 w i.dst i.imm high (operator_written operator.Mul tt) (omega arith) g.dst imm
+      (number_means operator.Mul tt w i.dst i.imm))
+  number_says operator.Div w h g = number_quotient w g (or_cases (is_int i.offset 0) (is_int i.offset 1) g.parts.form)
   number_says operator.Or w h g = subst
       (λ k. Says (form.Arithmetic operator.Or w source.Immediate) k high)
       (same (form.Arithmetic operator.Or w source.Immediate) i i.dst 0 (pos 0) i.imm g.op refl (zero_src g.parts.src) (int_is i.offset 0 g.parts.form) refl)
@@ -164,116 +164,116 @@ module _ (i : Inst) (high : ℤ) (off : FitsSigned w16 i.offset) (imm : FitsSign
       (λ k. Says (form.Arithmetic operator.And w source.Immediate) k high) (same (form.Arithmetic operator.And w source.Immediate) i i.dst 0 (pos 0) i.imm g.op
       refl (zero_src g.parts.src) (int_is i.offset 0 g.parts.form) refl)
       (number_line operator.And 0 w i.dst i.imm high (operator_written operator.And tt) (omega arith) g.dst imm (number_means operator.And tt w i.dst i.imm))
-  number_says operator.ShiftLeft w h g = subst (λ k. Says (form.Arithmetic operator.ShiftLeft w source.Immediate) k high)
-      (same (form.Arithmetic operator.ShiftLeft w source.Immediate) i i.dst 0 (pos 0) i.imm g.op refl (zero_src g.parts.src) (int_is i.offset 0 g.parts.form)
-      refl) (number_line operator.ShiftLeft 0 w i.dst i.imm high (operator_written operator.ShiftLeft tt) (omega arith) g.dst imm
-      (number_means operator.ShiftLeft tt w i.dst i.imm))
-  number_says operator.ShiftRight w h g = subst (λ k. Says (form.Arithmetic operator.ShiftRight w source.Immediate) k high)
-      (same (form.Arithmetic operator.ShiftRight w source.Immediate) i i.dst 0 (pos 0) i.imm g.op refl (zero_src g.parts.src) (int_is i.offset 0 g.parts.form)
-      refl) (number_line operator.ShiftRight 0 w i.dst i.imm high (operator_written operator.ShiftRight tt) (omega arith) g.dst imm
-      (number_means operator.ShiftRight tt w i.dst i.imm))
-  number_says operator.Remainder w h g = number_remainder w g (or_cases (is_int i.offset 0) (is_int i.offset 1) g.parts.form)
+  number_says operator.Lsh w h g = subst (λ k. Says (form.Arithmetic operator.Lsh w source.Immediate) k high)
+      (same (form.Arithmetic operator.Lsh w source.Immediate) i i.dst 0 (pos 0) i.imm g.op refl (zero_src g.parts.src) (int_is i.offset 0 g.parts.form)
+      refl) (number_line operator.Lsh 0 w i.dst i.imm high (operator_written operator.Lsh tt) (omega arith) g.dst imm
+      (number_means operator.Lsh tt w i.dst i.imm))
+  number_says operator.Rsh w h g = subst (λ k. Says (form.Arithmetic operator.Rsh w source.Immediate) k high)
+      (same (form.Arithmetic operator.Rsh w source.Immediate) i i.dst 0 (pos 0) i.imm g.op refl (zero_src g.parts.src) (int_is i.offset 0 g.parts.form)
+      refl) (number_line operator.Rsh 0 w i.dst i.imm high (operator_written operator.Rsh tt) (omega arith) g.dst imm
+      (number_means operator.Rsh tt w i.dst i.imm))
+  number_says operator.Mod w h g = number_remainder w g (or_cases (is_int i.offset 0) (is_int i.offset 1) g.parts.form)
   number_says operator.Xor w h g = subst
       (λ k. Says (form.Arithmetic operator.Xor w source.Immediate) k high) (same (form.Arithmetic operator.Xor w source.Immediate) i i.dst 0 (pos 0) i.imm g.op
       refl (zero_src g.parts.src) (int_is i.offset 0 g.parts.form) refl)
       (number_line operator.Xor 0 w i.dst i.imm high (operator_written operator.Xor tt) (omega arith) g.dst imm (number_means operator.Xor tt w i.dst i.imm))
-  number_says operator.Move Narrow h g = subst (λ k. Says (form.Arithmetic operator.Move Narrow source.Immediate) k high)
-      (same (form.Arithmetic operator.Move Narrow source.Immediate) i i.dst 0 (pos 0) i.imm g.op refl (zero_src g.parts.src)
+  number_says operator.Mov Bits32 h g = subst (λ k. Says (form.Arithmetic operator.Mov Bits32 source.Immediate) k high)
+      (same (form.Arithmetic operator.Mov Bits32 source.Immediate) i i.dst 0 (pos 0) i.imm g.op refl (zero_src g.parts.src)
       (int_is i.offset 0 (or_false (is_int i.offset 0) g.parts.form)) refl)
-      (number_line operator.Move 0 Narrow i.dst i.imm high (operator_written operator.Move tt) (omega arith) g.dst imm
-      (number_means operator.Move tt Narrow i.dst i.imm))
-  number_says operator.Move Full h g = subst (λ k. Says (form.Arithmetic operator.Move Full source.Immediate) k high)
-      (same (form.Arithmetic operator.Move Full source.Immediate) i i.dst 0 (pos 0) i.imm g.op refl (zero_src g.parts.src)
+      (number_line operator.Mov 0 Bits32 i.dst i.imm high (operator_written operator.Mov tt) (omega arith) g.dst imm
+      (number_means operator.Mov tt Bits32 i.dst i.imm))
+  number_says operator.Mov Bits64 h g = subst (λ k. Says (form.Arithmetic operator.Mov Bits64 source.Immediate) k high)
+      (same (form.Arithmetic operator.Mov Bits64 source.Immediate) i i.dst 0 (pos 0) i.imm g.op refl (zero_src g.parts.src)
       (int_is i.offset 0 (or_false (is_int i.offset 0) g.parts.form)) refl)
-      (number_line operator.Move 0 Full i.dst i.imm high (operator_written operator.Move tt) (omega arith) g.dst imm
-      (number_means operator.Move tt Full i.dst i.imm))
-  number_says operator.ShiftSigned w h g = subst (λ k. Says (form.Arithmetic operator.ShiftSigned w source.Immediate) k high)
-      (same (form.Arithmetic operator.ShiftSigned w source.Immediate) i i.dst 0 (pos 0) i.imm g.op refl (zero_src g.parts.src) (int_is i.offset 0 g.parts.form)
-      refl) (number_line operator.ShiftSigned 0 w i.dst i.imm high (operator_written operator.ShiftSigned tt) (omega arith) g.dst imm
-      (number_means operator.ShiftSigned tt w i.dst i.imm))
-  number_says operator.Negate w h g = absurd h
+      (number_line operator.Mov 0 Bits64 i.dst i.imm high (operator_written operator.Mov tt) (omega arith) g.dst imm
+      (number_means operator.Mov tt Bits64 i.dst i.imm))
+  number_says operator.Arsh w h g = subst (λ k. Says (form.Arithmetic operator.Arsh w source.Immediate) k high)
+      (same (form.Arithmetic operator.Arsh w source.Immediate) i i.dst 0 (pos 0) i.imm g.op refl (zero_src g.parts.src) (int_is i.offset 0 g.parts.form)
+      refl) (number_line operator.Arsh 0 w i.dst i.imm high (operator_written operator.Arsh tt) (omega arith) g.dst imm
+      (number_means operator.Arsh tt w i.dst i.imm))
+  number_says operator.Neg w h g = absurd h
   number_says operator.SwapBytes w h g = absurd h
 
-  register_quotient : (w : Width) → Given (form.Arithmetic operator.Quotient w source.Register) → (is_int i.offset 0 ≡ true) ⊎ (is_int i.offset 1 ≡ true)
-      → Says (form.Arithmetic operator.Quotient w source.Register) i high
-  register_quotient w g (inl e) = subst (λ k. Says (form.Arithmetic operator.Quotient w source.Register) k high)
-      (same (form.Arithmetic operator.Quotient w source.Register) i i.dst i.src (pos 0) (pos 0) g.op refl refl (int_is i.offset 0 e)
-      (int_is i.imm 0 g.parts.imm)) (register_line operator.Quotient 0 w i.dst i.src high (operator_written operator.Quotient tt) (omega arith) g.dst g.src
-      (register_means operator.Quotient tt w i.dst i.src))
-  register_quotient w g (inr e) = subst (λ k. Says (form.Arithmetic operator.Quotient w source.Register) k high)
-      (same (form.Arithmetic operator.Quotient w source.Register) i i.dst i.src (pos 1) (pos 0) g.op refl refl (int_is i.offset 1 e)
-      (int_is i.imm 0 g.parts.imm)) (register_line operator.Quotient 1 w i.dst i.src high signed_quotient (omega arith) g.dst g.src
-      (ap (λ b. when b (Plain (form.Arithmetic operator.Quotient w source.Register) (fields i.dst i.src (exactly 1) (exactly 0)))) (same_width w)))
+  register_quotient : (w : Width) → Given (form.Arithmetic operator.Div w source.Register) → (is_int i.offset 0 ≡ true) ⊎ (is_int i.offset 1 ≡ true)
+      → Says (form.Arithmetic operator.Div w source.Register) i high
+  register_quotient w g (inl e) = subst (λ k. Says (form.Arithmetic operator.Div w source.Register) k high)
+      (same (form.Arithmetic operator.Div w source.Register) i i.dst i.src (pos 0) (pos 0) g.op refl refl (int_is i.offset 0 e)
+      (int_is i.imm 0 g.parts.imm)) (register_line operator.Div 0 w i.dst i.src high (operator_written operator.Div tt) (omega arith) g.dst g.src
+      (register_means operator.Div tt w i.dst i.src))
+  register_quotient w g (inr e) = subst (λ k. Says (form.Arithmetic operator.Div w source.Register) k high)
+      (same (form.Arithmetic operator.Div w source.Register) i i.dst i.src (pos 1) (pos 0) g.op refl refl (int_is i.offset 1 e)
+      (int_is i.imm 0 g.parts.imm)) (register_line operator.Div 1 w i.dst i.src high signed_quotient (omega arith) g.dst g.src
+      (ap (λ b. when b (Plain (form.Arithmetic operator.Div w source.Register) (fields i.dst i.src (exactly 1) (exactly 0)))) (same_width w)))
 
-  register_remainder : (w : Width) → Given (form.Arithmetic operator.Remainder w source.Register) → (is_int i.offset 0 ≡ true) ⊎ (is_int i.offset 1 ≡ true)
-      → Says (form.Arithmetic operator.Remainder w source.Register) i high
-  register_remainder w g (inl e) = subst (λ k. Says (form.Arithmetic operator.Remainder w source.Register) k high)
-      (same (form.Arithmetic operator.Remainder w source.Register) i i.dst i.src (pos 0) (pos 0) g.op refl refl (int_is i.offset 0 e)
-      (int_is i.imm 0 g.parts.imm)) (register_line operator.Remainder 0 w i.dst i.src high (operator_written operator.Remainder tt) (omega arith) g.dst g.src
-      (register_means operator.Remainder tt w i.dst i.src))
-  register_remainder w g (inr e) = subst (λ k. Says (form.Arithmetic operator.Remainder w source.Register) k high)
-      (same (form.Arithmetic operator.Remainder w source.Register) i i.dst i.src (pos 1) (pos 0) g.op refl refl (int_is i.offset 1 e)
-      (int_is i.imm 0 g.parts.imm)) (register_line operator.Remainder 1 w i.dst i.src high signed_remainder (omega arith) g.dst g.src
-      (ap (λ b. when b (Plain (form.Arithmetic operator.Remainder w source.Register) (fields i.dst i.src (exactly 1) (exactly 0)))) (same_width w)))
+  register_remainder : (w : Width) → Given (form.Arithmetic operator.Mod w source.Register) → (is_int i.offset 0 ≡ true) ⊎ (is_int i.offset 1 ≡ true)
+      → Says (form.Arithmetic operator.Mod w source.Register) i high
+  register_remainder w g (inl e) = subst (λ k. Says (form.Arithmetic operator.Mod w source.Register) k high)
+      (same (form.Arithmetic operator.Mod w source.Register) i i.dst i.src (pos 0) (pos 0) g.op refl refl (int_is i.offset 0 e)
+      (int_is i.imm 0 g.parts.imm)) (register_line operator.Mod 0 w i.dst i.src high (operator_written operator.Mod tt) (omega arith) g.dst g.src
+      (register_means operator.Mod tt w i.dst i.src))
+  register_remainder w g (inr e) = subst (λ k. Says (form.Arithmetic operator.Mod w source.Register) k high)
+      (same (form.Arithmetic operator.Mod w source.Register) i i.dst i.src (pos 1) (pos 0) g.op refl refl (int_is i.offset 1 e)
+      (int_is i.imm 0 g.parts.imm)) (register_line operator.Mod 1 w i.dst i.src high signed_remainder (omega arith) g.dst g.src
+      (ap (λ b. when b (Plain (form.Arithmetic operator.Mod w source.Register) (fields i.dst i.src (exactly 1) (exactly 0)))) (same_width w)))
 
-  narrow_move : (n : ℕ) → Given (form.Arithmetic operator.Move Narrow source.Register) → is_int i.offset n ≡ true
-      → Says (form.Arithmetic operator.Move Narrow source.Register) (inst_of (form.Arithmetic operator.Move Narrow source.Register) i.dst i.src (pos n) (pos 0))
-      high → Says (form.Arithmetic operator.Move Narrow source.Register) i high
-  narrow_move n g e h = subst (λ k. Says (form.Arithmetic operator.Move Narrow source.Register) k high)
-      (same (form.Arithmetic operator.Move Narrow source.Register) i i.dst i.src (pos n) (pos 0) g.op refl refl (int_is i.offset n e)
+  narrow_move : (n : ℕ) → Given (form.Arithmetic operator.Mov Bits32 source.Register) → is_int i.offset n ≡ true
+      → Says (form.Arithmetic operator.Mov Bits32 source.Register) (inst_of (form.Arithmetic operator.Mov Bits32 source.Register) i.dst i.src (pos n) (pos 0))
+      high → Says (form.Arithmetic operator.Mov Bits32 source.Register) i high
+  narrow_move n g e h = subst (λ k. Says (form.Arithmetic operator.Mov Bits32 source.Register) k high)
+      (same (form.Arithmetic operator.Mov Bits32 source.Register) i i.dst i.src (pos n) (pos 0) g.op refl refl (int_is i.offset n e)
       (int_is i.imm 0 g.parts.imm)) h
 
-  full_move : (n : ℕ) → Given (form.Arithmetic operator.Move Full source.Register) → is_int i.offset n ≡ true
-      → Says (form.Arithmetic operator.Move Full source.Register) (inst_of (form.Arithmetic operator.Move Full source.Register) i.dst i.src (pos n) (pos 0))
-      high → Says (form.Arithmetic operator.Move Full source.Register) i high
-  full_move n g e h = subst (λ k. Says (form.Arithmetic operator.Move Full source.Register) k high)
-      (same (form.Arithmetic operator.Move Full source.Register) i i.dst i.src (pos n) (pos 0) g.op refl refl (int_is i.offset n e)
+  full_move : (n : ℕ) → Given (form.Arithmetic operator.Mov Bits64 source.Register) → is_int i.offset n ≡ true
+      → Says (form.Arithmetic operator.Mov Bits64 source.Register) (inst_of (form.Arithmetic operator.Mov Bits64 source.Register) i.dst i.src (pos n) (pos 0))
+      high → Says (form.Arithmetic operator.Mov Bits64 source.Register) i high
+  full_move n g e h = subst (λ k. Says (form.Arithmetic operator.Mov Bits64 source.Register) k high)
+      (same (form.Arithmetic operator.Mov Bits64 source.Register) i i.dst i.src (pos n) (pos 0) g.op refl refl (int_is i.offset n e)
       (int_is i.imm 0 g.parts.imm)) h
 
-  narrow_extends : Given (form.Arithmetic operator.Move Narrow source.Register) → (is_int i.offset 8 ≡ true) ⊎ (is_int i.offset 16 ≡ true)
-      → Says (form.Arithmetic operator.Move Narrow source.Register) i high
-  narrow_extends g (inl e) = narrow_move 8 g e (extension8_line Narrow i.dst i.src high refl g.dst g.src)
-  narrow_extends g (inr e) = narrow_move 16 g e (extension16_line Narrow i.dst i.src high refl g.dst g.src)
+  narrow_extends : Given (form.Arithmetic operator.Mov Bits32 source.Register) → (is_int i.offset 8 ≡ true) ⊎ (is_int i.offset 16 ≡ true)
+      → Says (form.Arithmetic operator.Mov Bits32 source.Register) i high
+  narrow_extends g (inl e) = narrow_move 8 g e (extension8_line Bits32 i.dst i.src high refl g.dst g.src)
+  narrow_extends g (inr e) = narrow_move 16 g e (extension16_line Bits32 i.dst i.src high refl g.dst g.src)
 
-  narrow_moves : Given (form.Arithmetic operator.Move Narrow source.Register) → (is_int i.offset 0 ≡ true) ⊎ ((is_int i.offset 8 || is_int i.offset 16) ≡ true)
-      → Says (form.Arithmetic operator.Move Narrow source.Register) i high
-  narrow_moves g (inl e) = narrow_move 0 g e (register_line operator.Move 0 Narrow i.dst i.src high (operator_written operator.Move tt) (omega arith) g.dst
-      g.src (register_means operator.Move tt Narrow i.dst i.src))
+  narrow_moves : Given (form.Arithmetic operator.Mov Bits32 source.Register) → (is_int i.offset 0 ≡ true) ⊎ ((is_int i.offset 8 || is_int i.offset 16) ≡ true)
+      → Says (form.Arithmetic operator.Mov Bits32 source.Register) i high
+  narrow_moves g (inl e) = narrow_move 0 g e (register_line operator.Mov 0 Bits32 i.dst i.src high (operator_written operator.Mov tt) (omega arith) g.dst
+      g.src (register_means operator.Mov tt Bits32 i.dst i.src))
   narrow_moves g (inr e) = narrow_extends g (or_cases (is_int i.offset 8) (is_int i.offset 16) e)
 
-  full_half : Given (form.Arithmetic operator.Move Full source.Register) → (is_int i.offset 8 ≡ true) ⊎ (is_int i.offset 16 ≡ true)
-      → Says (form.Arithmetic operator.Move Full source.Register) i high
-  full_half g (inl e) = full_move 8 g e (extension8_line Full i.dst i.src high refl g.dst g.src)
-  full_half g (inr e) = full_move 16 g e (extension16_line Full i.dst i.src high refl g.dst g.src)
+  full_half : Given (form.Arithmetic operator.Mov Bits64 source.Register) → (is_int i.offset 8 ≡ true) ⊎ (is_int i.offset 16 ≡ true)
+      → Says (form.Arithmetic operator.Mov Bits64 source.Register) i high
+  full_half g (inl e) = full_move 8 g e (extension8_line Bits64 i.dst i.src high refl g.dst g.src)
+  full_half g (inr e) = full_move 16 g e (extension16_line Bits64 i.dst i.src high refl g.dst g.src)
 
-  full_extends : Given (form.Arithmetic operator.Move Full source.Register) → ((is_int i.offset 8 || is_int i.offset 16) ≡ true) ⊎ (is_int i.offset 32 ≡ true)
-      → Says (form.Arithmetic operator.Move Full source.Register) i high
+  full_extends : Given (form.Arithmetic operator.Mov Bits64 source.Register) → ((is_int i.offset 8 || is_int i.offset 16) ≡ true) ⊎ (is_int i.offset 32 ≡ true)
+      → Says (form.Arithmetic operator.Mov Bits64 source.Register) i high
   full_extends g (inl e) = full_half g (or_cases (is_int i.offset 8) (is_int i.offset 16) e)
-  full_extends g (inr e) = full_move 32 g e (extension32_line Full i.dst i.src high refl g.dst g.src)
+  full_extends g (inr e) = full_move 32 g e (extension32_line Bits64 i.dst i.src high refl g.dst g.src)
 
-  full_moves : Given (form.Arithmetic operator.Move Full source.Register)
+  full_moves : Given (form.Arithmetic operator.Mov Bits64 source.Register)
       → (is_int i.offset 0 ≡ true) ⊎ ((is_int i.offset 8 || is_int i.offset 16 || is_int i.offset 32) ≡ true)
-      → Says (form.Arithmetic operator.Move Full source.Register) i high
-  full_moves g (inl e) = full_move 0 g e (register_line operator.Move 0 Full i.dst i.src high (operator_written operator.Move tt) (omega arith) g.dst g.src
-      (register_means operator.Move tt Full i.dst i.src))
+      → Says (form.Arithmetic operator.Mov Bits64 source.Register) i high
+  full_moves g (inl e) = full_move 0 g e (register_line operator.Mov 0 Bits64 i.dst i.src high (operator_written operator.Mov tt) (omega arith) g.dst g.src
+      (register_means operator.Mov tt Bits64 i.dst i.src))
   full_moves g (inr e) = full_extends g (or_cases (is_int i.offset 8 || is_int i.offset 16) (is_int i.offset 32) e)
 
   register_says : (op : Operator) (w : Width) → IsTwo op → Given (form.Arithmetic op w source.Register) → Says (form.Arithmetic op w source.Register) i high
-  register_says operator.Sum w h g = subst
-      (λ k. Says (form.Arithmetic operator.Sum w source.Register) k high) (same (form.Arithmetic operator.Sum w source.Register) i i.dst i.src (pos 0) (pos 0)
+  register_says operator.Add w h g = subst
+      (λ k. Says (form.Arithmetic operator.Add w source.Register) k high) (same (form.Arithmetic operator.Add w source.Register) i i.dst i.src (pos 0) (pos 0)
       g.op refl refl (int_is i.offset 0 g.parts.form) (int_is i.imm 0 g.parts.imm))
-      (register_line operator.Sum 0 w i.dst i.src high (operator_written operator.Sum tt) (omega arith) g.dst g.src
-      (register_means operator.Sum tt w i.dst i.src))
-  register_says operator.Difference w h g = subst (λ k. Says (form.Arithmetic operator.Difference w source.Register) k high)
-      (same (form.Arithmetic operator.Difference w source.Register) i i.dst i.src (pos 0) (pos 0) g.op refl refl (int_is i.offset 0 g.parts.form)
-      (int_is i.imm 0 g.parts.imm)) (register_line operator.Difference 0 w i.dst i.src high (operator_written operator.Difference tt) (omega arith) g.dst g.src
-      (register_means operator.Difference tt w i.dst i.src))
-  register_says operator.Product w h g = subst
-      (λ k. Says (form.Arithmetic operator.Product w source.Register) k high)
-      (same (form.Arithmetic operator.Product w source.Register) i i.dst i.src (pos 0) (pos 0) g.op refl refl (int_is i.offset 0 g.parts.form)
-      (int_is i.imm 0 g.parts.imm)) (register_line operator.Product 0 w i.dst i.src high (operator_written operator.Product tt) (omega arith) g.dst g.src
-      (register_means operator.Product tt w i.dst i.src))
-  register_says operator.Quotient w h g = register_quotient w g (or_cases (is_int i.offset 0) (is_int i.offset 1) g.parts.form)
+      (register_line operator.Add 0 w i.dst i.src high (operator_written operator.Add tt) (omega arith) g.dst g.src
+      (register_means operator.Add tt w i.dst i.src))
+  register_says operator.Sub w h g = subst (λ k. Says (form.Arithmetic operator.Sub w source.Register) k high)
+      (same (form.Arithmetic operator.Sub w source.Register) i i.dst i.src (pos 0) (pos 0) g.op refl refl (int_is i.offset 0 g.parts.form)
+      (int_is i.imm 0 g.parts.imm)) (register_line operator.Sub 0 w i.dst i.src high (operator_written operator.Sub tt) (omega arith) g.dst g.src
+      (register_means operator.Sub tt w i.dst i.src))
+  register_says operator.Mul w h g = subst
+      (λ k. Says (form.Arithmetic operator.Mul w source.Register) k high)
+      (same (form.Arithmetic operator.Mul w source.Register) i i.dst i.src (pos 0) (pos 0) g.op refl refl (int_is i.offset 0 g.parts.form)
+      (int_is i.imm 0 g.parts.imm)) (register_line operator.Mul 0 w i.dst i.src high (operator_written operator.Mul tt) (omega arith) g.dst g.src
+      (register_means operator.Mul tt w i.dst i.src))
+  register_says operator.Div w h g = register_quotient w g (or_cases (is_int i.offset 0) (is_int i.offset 1) g.parts.form)
   register_says operator.Or w h g = subst
       (λ k. Says (form.Arithmetic operator.Or w source.Register) k high)
       (same (form.Arithmetic operator.Or w source.Register) i i.dst i.src (pos 0) (pos 0) g.op refl refl (int_is i.offset 0 g.parts.form)
@@ -284,28 +284,28 @@ module _ (i : Inst) (high : ℤ) (off : FitsSigned w16 i.offset) (imm : FitsSign
       g.op refl refl (int_is i.offset 0 g.parts.form) (int_is i.imm 0 g.parts.imm))
       (register_line operator.And 0 w i.dst i.src high (operator_written operator.And tt) (omega arith) g.dst g.src
       (register_means operator.And tt w i.dst i.src))
-  register_says operator.ShiftLeft w h g = subst (λ k. Says (form.Arithmetic operator.ShiftLeft w source.Register) k high)
-      (same (form.Arithmetic operator.ShiftLeft w source.Register) i i.dst i.src (pos 0) (pos 0) g.op refl refl (int_is i.offset 0 g.parts.form)
-      (int_is i.imm 0 g.parts.imm)) (register_line operator.ShiftLeft 0 w i.dst i.src high (operator_written operator.ShiftLeft tt) (omega arith) g.dst g.src
-      (register_means operator.ShiftLeft tt w i.dst i.src))
-  register_says operator.ShiftRight w h g = subst (λ k. Says (form.Arithmetic operator.ShiftRight w source.Register) k high)
-      (same (form.Arithmetic operator.ShiftRight w source.Register) i i.dst i.src (pos 0) (pos 0) g.op refl refl (int_is i.offset 0 g.parts.form)
-      (int_is i.imm 0 g.parts.imm)) (register_line operator.ShiftRight 0 w i.dst i.src high (operator_written operator.ShiftRight tt) (omega arith) g.dst g.src
-      (register_means operator.ShiftRight tt w i.dst i.src))
-  register_says operator.Remainder w h g = register_remainder w g (or_cases (is_int i.offset 0) (is_int i.offset 1) g.parts.form)
+  register_says operator.Lsh w h g = subst (λ k. Says (form.Arithmetic operator.Lsh w source.Register) k high)
+      (same (form.Arithmetic operator.Lsh w source.Register) i i.dst i.src (pos 0) (pos 0) g.op refl refl (int_is i.offset 0 g.parts.form)
+      (int_is i.imm 0 g.parts.imm)) (register_line operator.Lsh 0 w i.dst i.src high (operator_written operator.Lsh tt) (omega arith) g.dst g.src
+      (register_means operator.Lsh tt w i.dst i.src))
+  register_says operator.Rsh w h g = subst (λ k. Says (form.Arithmetic operator.Rsh w source.Register) k high)
+      (same (form.Arithmetic operator.Rsh w source.Register) i i.dst i.src (pos 0) (pos 0) g.op refl refl (int_is i.offset 0 g.parts.form)
+      (int_is i.imm 0 g.parts.imm)) (register_line operator.Rsh 0 w i.dst i.src high (operator_written operator.Rsh tt) (omega arith) g.dst g.src
+      (register_means operator.Rsh tt w i.dst i.src))
+  register_says operator.Mod w h g = register_remainder w g (or_cases (is_int i.offset 0) (is_int i.offset 1) g.parts.form)
   register_says operator.Xor w h g = subst
       (λ k. Says (form.Arithmetic operator.Xor w source.Register) k high) (same (form.Arithmetic operator.Xor w source.Register) i i.dst i.src (pos 0) (pos 0)
       g.op refl refl (int_is i.offset 0 g.parts.form) (int_is i.imm 0 g.parts.imm))
       (register_line operator.Xor 0 w i.dst i.src high (operator_written operator.Xor tt) (omega arith) g.dst g.src
       (register_means operator.Xor tt w i.dst i.src))
-  register_says operator.Move Narrow h g = narrow_moves g (or_cases (is_int i.offset 0) (is_int i.offset 8 || is_int i.offset 16) g.parts.form)
-  register_says operator.Move Full h g =
+  register_says operator.Mov Bits32 h g = narrow_moves g (or_cases (is_int i.offset 0) (is_int i.offset 8 || is_int i.offset 16) g.parts.form)
+  register_says operator.Mov Bits64 h g =
       full_moves g (or_cases (is_int i.offset 0) (is_int i.offset 8 || is_int i.offset 16 || is_int i.offset 32) g.parts.form)
-  register_says operator.ShiftSigned w h g = subst (λ k. Says (form.Arithmetic operator.ShiftSigned w source.Register) k high)
-      (same (form.Arithmetic operator.ShiftSigned w source.Register) i i.dst i.src (pos 0) (pos 0) g.op refl refl (int_is i.offset 0 g.parts.form)
-      (int_is i.imm 0 g.parts.imm)) (register_line operator.ShiftSigned 0 w i.dst i.src high (operator_written operator.ShiftSigned tt) (omega arith) g.dst
-      g.src (register_means operator.ShiftSigned tt w i.dst i.src))
-  register_says operator.Negate w h g = absurd h
+  register_says operator.Arsh w h g = subst (λ k. Says (form.Arithmetic operator.Arsh w source.Register) k high)
+      (same (form.Arithmetic operator.Arsh w source.Register) i i.dst i.src (pos 0) (pos 0) g.op refl refl (int_is i.offset 0 g.parts.form)
+      (int_is i.imm 0 g.parts.imm)) (register_line operator.Arsh 0 w i.dst i.src high (operator_written operator.Arsh tt) (omega arith) g.dst
+      g.src (register_means operator.Arsh tt w i.dst i.src))
+  register_says operator.Neg w h g = absurd h
   register_says operator.SwapBytes w h g = absurd h
 
   swap_bits : (w : Width) (s : Source) (bits : ℕ) → Given (form.Arithmetic operator.SwapBytes w s) → is_int i.imm bits ≡ true
@@ -328,48 +328,48 @@ module _ (i : Inst) (high : ℤ) (off : FitsSigned w16 i.offset) (imm : FitsSign
 
   swap_says : (w : Width) (s : Source) → has_form operator.SwapBytes w s ≡ true → Given (form.Arithmetic operator.SwapBytes w s)
       → Says (form.Arithmetic operator.SwapBytes w s) i high
-  swap_says Narrow source.Immediate h g =
-      swap_by Narrow source.Immediate g le16_written le32_written le64_written (or_cases (is_int i.imm 16 || is_int i.imm 32) (is_int i.imm 64) g.parts.form)
-  swap_says Narrow source.Register h g =
-      swap_by Narrow source.Register g be16_written be32_written be64_written (or_cases (is_int i.imm 16 || is_int i.imm 32) (is_int i.imm 64) g.parts.form)
-  swap_says Full source.Immediate h g = swap_by Full source.Immediate g bswap16_written bswap32_written bswap64_written
+  swap_says Bits32 source.Immediate h g =
+      swap_by Bits32 source.Immediate g le16_written le32_written le64_written (or_cases (is_int i.imm 16 || is_int i.imm 32) (is_int i.imm 64) g.parts.form)
+  swap_says Bits32 source.Register h g =
+      swap_by Bits32 source.Register g be16_written be32_written be64_written (or_cases (is_int i.imm 16 || is_int i.imm 32) (is_int i.imm 64) g.parts.form)
+  swap_says Bits64 source.Immediate h g = swap_by Bits64 source.Immediate g bswap16_written bswap32_written bswap64_written
       (or_cases (is_int i.imm 16 || is_int i.imm 32) (is_int i.imm 64) g.parts.form)
-  swap_says Full source.Register h g = absurd (cc)
+  swap_says Bits64 source.Register h g = absurd (cc)
 
   zero_dst : (i.dst == 0) ≡ true → i.dst ≡ 0
   zero_dst h = eqb-true i.dst 0 h
 
   form_says : (f : Form) → HasOpcode f → Given f → Says f i high
-  form_says (form.Arithmetic operator.Negate w source.Immediate) h g = subst
-      (λ k. Says (form.Arithmetic operator.Negate w source.Immediate) k high)
-      (same (form.Arithmetic operator.Negate w source.Immediate) i i.dst 0 (pos 0) (pos 0) g.op refl (zero_src g.parts.src) (int_is i.offset 0 g.parts.offset)
+  form_says (form.Arithmetic operator.Neg w source.Immediate) h g = subst
+      (λ k. Says (form.Arithmetic operator.Neg w source.Immediate) k high)
+      (same (form.Arithmetic operator.Neg w source.Immediate) i i.dst 0 (pos 0) (pos 0) g.op refl (zero_src g.parts.src) (int_is i.offset 0 g.parts.offset)
       (int_is i.imm 0 g.parts.imm)) (negation_line w i.dst high g.dst)
-  form_says (form.Arithmetic operator.Negate w source.Register) h g = absurd (cc)
+  form_says (form.Arithmetic operator.Neg w source.Register) h g = absurd (cc)
   form_says (form.Arithmetic operator.SwapBytes w s) h g = swap_says w s h g
-  form_says (form.Arithmetic operator.Sum w source.Immediate) h g = number_says operator.Sum w tt g
-  form_says (form.Arithmetic operator.Sum w source.Register) h g = register_says operator.Sum w tt g
-  form_says (form.Arithmetic operator.Difference w source.Immediate) h g = number_says operator.Difference w tt g
-  form_says (form.Arithmetic operator.Difference w source.Register) h g = register_says operator.Difference w tt g
-  form_says (form.Arithmetic operator.Product w source.Immediate) h g = number_says operator.Product w tt g
-  form_says (form.Arithmetic operator.Product w source.Register) h g = register_says operator.Product w tt g
-  form_says (form.Arithmetic operator.Quotient w source.Immediate) h g = number_says operator.Quotient w tt g
-  form_says (form.Arithmetic operator.Quotient w source.Register) h g = register_says operator.Quotient w tt g
+  form_says (form.Arithmetic operator.Add w source.Immediate) h g = number_says operator.Add w tt g
+  form_says (form.Arithmetic operator.Add w source.Register) h g = register_says operator.Add w tt g
+  form_says (form.Arithmetic operator.Sub w source.Immediate) h g = number_says operator.Sub w tt g
+  form_says (form.Arithmetic operator.Sub w source.Register) h g = register_says operator.Sub w tt g
+  form_says (form.Arithmetic operator.Mul w source.Immediate) h g = number_says operator.Mul w tt g
+  form_says (form.Arithmetic operator.Mul w source.Register) h g = register_says operator.Mul w tt g
+  form_says (form.Arithmetic operator.Div w source.Immediate) h g = number_says operator.Div w tt g
+  form_says (form.Arithmetic operator.Div w source.Register) h g = register_says operator.Div w tt g
   form_says (form.Arithmetic operator.Or w source.Immediate) h g = number_says operator.Or w tt g
   form_says (form.Arithmetic operator.Or w source.Register) h g = register_says operator.Or w tt g
   form_says (form.Arithmetic operator.And w source.Immediate) h g = number_says operator.And w tt g
   form_says (form.Arithmetic operator.And w source.Register) h g = register_says operator.And w tt g
-  form_says (form.Arithmetic operator.ShiftLeft w source.Immediate) h g = number_says operator.ShiftLeft w tt g
-  form_says (form.Arithmetic operator.ShiftLeft w source.Register) h g = register_says operator.ShiftLeft w tt g
-  form_says (form.Arithmetic operator.ShiftRight w source.Immediate) h g = number_says operator.ShiftRight w tt g
-  form_says (form.Arithmetic operator.ShiftRight w source.Register) h g = register_says operator.ShiftRight w tt g
-  form_says (form.Arithmetic operator.Remainder w source.Immediate) h g = number_says operator.Remainder w tt g
-  form_says (form.Arithmetic operator.Remainder w source.Register) h g = register_says operator.Remainder w tt g
+  form_says (form.Arithmetic operator.Lsh w source.Immediate) h g = number_says operator.Lsh w tt g
+  form_says (form.Arithmetic operator.Lsh w source.Register) h g = register_says operator.Lsh w tt g
+  form_says (form.Arithmetic operator.Rsh w source.Immediate) h g = number_says operator.Rsh w tt g
+  form_says (form.Arithmetic operator.Rsh w source.Register) h g = register_says operator.Rsh w tt g
+  form_says (form.Arithmetic operator.Mod w source.Immediate) h g = number_says operator.Mod w tt g
+  form_says (form.Arithmetic operator.Mod w source.Register) h g = register_says operator.Mod w tt g
   form_says (form.Arithmetic operator.Xor w source.Immediate) h g = number_says operator.Xor w tt g
   form_says (form.Arithmetic operator.Xor w source.Register) h g = register_says operator.Xor w tt g
-  form_says (form.Arithmetic operator.Move w source.Immediate) h g = number_says operator.Move w tt g
-  form_says (form.Arithmetic operator.Move w source.Register) h g = register_says operator.Move w tt g
-  form_says (form.Arithmetic operator.ShiftSigned w source.Immediate) h g = number_says operator.ShiftSigned w tt g
-  form_says (form.Arithmetic operator.ShiftSigned w source.Register) h g = register_says operator.ShiftSigned w tt g
+  form_says (form.Arithmetic operator.Mov w source.Immediate) h g = number_says operator.Mov w tt g
+  form_says (form.Arithmetic operator.Mov w source.Register) h g = register_says operator.Mov w tt g
+  form_says (form.Arithmetic operator.Arsh w source.Immediate) h g = number_says operator.Arsh w tt g
+  form_says (form.Arithmetic operator.Arsh w source.Register) h g = register_says operator.Arsh w tt g
   form_says form.Wide h g = subst
       (λ k. Says form.Wide k high) (same form.Wide i i.dst 0 (pos 0) i.imm g.op refl (zero_src g.parts.src) (int_is i.offset 0 g.parts.offset) refl)
       (wide_line i.dst i.imm high imm up g.dst)
@@ -385,11 +385,11 @@ module _ (i : Inst) (high : ℤ) (off : FitsSigned w16 i.offset) (imm : FitsSign
   form_says (form.StoreRegister n) h g = subst
       (λ k. Says (form.StoreRegister n) k high) (same (form.StoreRegister n) i i.dst i.src i.offset (pos 0) g.op refl refl refl (int_is i.imm 0 g.parts.imm))
       (register_store_line n i.dst i.src i.offset high g.dst g.src off)
-  form_says form.Goto h g = subst
-      (λ k. Says form.Goto k high) (same form.Goto i 0 0 i.offset (pos 0) g.op (zero_dst g.parts.dst) (zero_src g.parts.src) refl (int_is i.imm 0 g.parts.imm))
+  form_says form.Ja h g = subst
+      (λ k. Says form.Ja k high) (same form.Ja i 0 0 i.offset (pos 0) g.op (zero_dst g.parts.dst) (zero_src g.parts.src) refl (int_is i.imm 0 g.parts.imm))
       (goto_line i.offset high off)
-  form_says form.GotoLong h g = subst
-      (λ k. Says form.GotoLong k high) (same form.GotoLong i 0 0 (pos 0) i.imm g.op (zero_dst g.parts.dst) (zero_src g.parts.src)
+  form_says form.Ja32 h g = subst
+      (λ k. Says form.Ja32 k high) (same form.Ja32 i 0 0 (pos 0) i.imm g.op (zero_dst g.parts.dst) (zero_src g.parts.src)
       (int_is i.offset 0 g.parts.offset) refl) (gotol_line i.imm high imm)
   form_says (form.Branch c w source.Immediate) h g = subst
       (λ k. Says (form.Branch c w source.Immediate) k high) (same (form.Branch c w source.Immediate) i i.dst 0 i.offset i.imm g.op refl (zero_src g.parts.src)
@@ -496,7 +496,7 @@ memory_alone (OutOfRange n) h = absurd (cc)
 memory_alone Length h = absurd (cc)
 memory_alone OutOfMemory h = refl
 
--- a text that spells a program is refused for want of memory alone
+-- a text that spells a program is refused only where memory runs out
 pub only_memory : (text : Text) (code : List ProgramUnit) (f : AsmFault) → assembled text ≡ Ok code → IsFault (fault_of (cut text)) f → f ≡ OutOfMemory
 only_memory text code f e h = memory_alone f (subst (λ o. IsFault o f) (no_fault (cut text) (fault_of (cut text)) code e) h)
 

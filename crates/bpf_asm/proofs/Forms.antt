@@ -1,4 +1,4 @@
--- The line of each form says its instruction.
+-- The line of each form says the instruction of that form.
 use Rattle.std.proofs.Common.{◌≡◌, ◌<◌, ◌≤◌, ◌+◌, ◌^◌, ◌*◌, ◌/◌, ◌%◌, ℕ, suc, List, [], ◌∷◌, ◌++◌, length, map, Option, Some, None, Bool, true, false, refl, ap}
 use Rattle.std.proofs.Common.{sym, ◌∙◌, subst, arith, rules, w16, w32, FitsSigned, inl, inr}
 use Rattle.std.specs.Prelude.{codes, ◌&&◌, ◌==◌, ◌⊎◌, ℤ, pos, negsuc, option_map, ⊤}
@@ -12,7 +12,7 @@ use Rattle.std.specs.Int.{cast_signed, cast_unsigned}
 use Rattle.std.proofs.lemmas.Bool.Decides.{nat_tests}
 use Rattle.std.proofs.lemmas.Fmt.{decimal_nonempty, decimal_digit, decimal_step}
 use Rattle.bpf_model.specs.declared.instruction.Width.{Width}
-use Rattle.bpf_model.specs.declared.instruction.Width.TheVariants.{Narrow, Full}
+use Rattle.bpf_model.specs.declared.instruction.Width.TheVariants.{Bits32, Bits64}
 use Rattle.bpf_model.specs.declared.instruction.Source.{Source}
 use Rattle.bpf_model.specs.declared.instruction.Source.TheVariants as source
 use Rattle.bpf_model.specs.declared.instruction.Unit.TheVariants.{First, Second}
@@ -99,20 +99,20 @@ pub narrow_token : (n : ℕ) (u : Text) → n < 2 ^ 64 → stops continues_word 
 narrow_token n u small stop = rw (prefix_front continues_word (decimal n) u (digits_continue (decimal n) (decimal_digits n small)) stop) (omega arith)
 
 pub register_good : (w : Width) (n : ℕ) (u : Text) → n ≤ 10 → stops continues_word u → IsFront (register_text w n) u
-register_good Full n u l stop = register_front n u (omega arith) stop
-register_good Narrow n u l stop = record { some = omega arith; dark = refl; len = narrow_token n u (omega arith) stop }
+register_good Bits64 n u l stop = register_front n u (omega arith) stop
+register_good Bits32 n u l stop = record { some = omega arith; dark = refl; len = narrow_token n u (omega arith) stop }
 
 pub register_clean : (w : Width) (n : ℕ) → n ≤ 10 → clean (register_text w n) ≡ true
-register_clean Full n l = clean_append (114 ∷ []) (decimal n) refl (decimal_clean n (omega arith))
-register_clean Narrow n l = clean_append (119 ∷ []) (decimal n) refl (decimal_clean n (omega arith))
+register_clean Bits64 n l = clean_append (114 ∷ []) (decimal n) refl (decimal_clean n (omega arith))
+register_clean Bits32 n l = clean_append (119 ∷ []) (decimal n) refl (decimal_clean n (omega arith))
 
-pub small_narrow : (n : ℕ) → n < 10 → kind_of (register_text Narrow n) ≡ Register Narrow n
-small_narrow n small = rw (decimal_digit n small) (rw (digit_code n small) (ap (Register Narrow) (omega arith)))
+pub small_narrow : (n : ℕ) → n < 10 → kind_of (register_text Bits32 n) ≡ Register Bits32 n
+small_narrow n small = rw (decimal_digit n small) (rw (digit_code n small) (ap (Register Bits32) (omega arith)))
 
-pub ten_narrow : kind_of (register_text Narrow 10) ≡ Register Narrow 10
+pub ten_narrow : kind_of (register_text Bits32 10) ≡ Register Bits32 10
 ten_narrow = rw (decimal_step 10 (omega arith) (omega arith), decimal_digit 1 (omega arith)) refl
 
-pub narrow_by : (n : ℕ) → (n < 10) ⊎ (n ≡ 10) → kind_of (register_text Narrow n) ≡ Register Narrow n
+pub narrow_by : (n : ℕ) → (n < 10) ⊎ (n ≡ 10) → kind_of (register_text Bits32 n) ≡ Register Bits32 n
 narrow_by n (inl low) = small_narrow n low
 narrow_by n (inr e) = rw e ten_narrow
 
@@ -120,89 +120,89 @@ pub up_to_ten : (n : ℕ) → n ≤ 10 → (n < 10) ⊎ (n ≡ 10)
 up_to_ten n l = elim (cases_lt n 10) [ inl a ↦ inl a | inr b ↦ inr (omega arith) ]
 
 pub register_kind : (w : Width) (n : ℕ) → n ≤ 10 → kind_of (register_text w n) ≡ Register w n
-register_kind Full n l = register_by n l (up_to_ten n l)
-register_kind Narrow n l = narrow_by n (up_to_ten n l)
+register_kind Bits64 n l = register_by n l (up_to_ten n l)
+register_kind Bits32 n l = narrow_by n (up_to_ten n l)
 
 -- ---- operators and conditions
 
--- a token that is written out, before a blank
+-- a token that is written out, and comes before a blank
 pub record IsWritten (t : Text) (k : Token) : Type 0 where
   pub front : (u : Text) → IsFront t (32 ∷ u)
   pub plain_text : clean t ≡ true
   pub kind : kind_of t ≡ k
 
 abbrev pub IsTwo : Operator → Type 0
-IsTwo operator.Sum = ⊤
-IsTwo operator.Difference = ⊤
-IsTwo operator.Product = ⊤
-IsTwo operator.Quotient = ⊤
+IsTwo operator.Add = ⊤
+IsTwo operator.Sub = ⊤
+IsTwo operator.Mul = ⊤
+IsTwo operator.Div = ⊤
 IsTwo operator.Or = ⊤
 IsTwo operator.And = ⊤
-IsTwo operator.ShiftLeft = ⊤
-IsTwo operator.ShiftRight = ⊤
-IsTwo operator.Remainder = ⊤
+IsTwo operator.Lsh = ⊤
+IsTwo operator.Rsh = ⊤
+IsTwo operator.Mod = ⊤
 IsTwo operator.Xor = ⊤
-IsTwo operator.Move = ⊤
-IsTwo operator.ShiftSigned = ⊤
-IsTwo operator.Negate = ⊥
+IsTwo operator.Mov = ⊤
+IsTwo operator.Arsh = ⊤
+IsTwo operator.Neg = ⊥
 IsTwo operator.SwapBytes = ⊥
 
 pub operator_written : (op : Operator) → IsTwo op → IsWritten (operator_text op (pos 0)) (Assign op 0)
-operator_written operator.Sum h =
-    record { front = λ u. lit (operator_text operator.Sum (pos 0)) (32 ∷ u) (omega arith) refl refl; plain_text = refl; kind = refl }
-operator_written operator.Difference h =
-    record { front = λ u. lit (operator_text operator.Difference (pos 0)) (32 ∷ u) (omega arith) refl refl; plain_text = refl; kind = refl }
-operator_written operator.Product h =
-    record { front = λ u. lit (operator_text operator.Product (pos 0)) (32 ∷ u) (omega arith) refl refl; plain_text = refl; kind = refl }
-operator_written operator.Quotient h =
-    record { front = λ u. lit (operator_text operator.Quotient (pos 0)) (32 ∷ u) (omega arith) refl refl; plain_text = refl; kind = refl }
+operator_written operator.Add h =
+    record { front = λ u. lit (operator_text operator.Add (pos 0)) (32 ∷ u) (omega arith) refl refl; plain_text = refl; kind = refl }
+operator_written operator.Sub h =
+    record { front = λ u. lit (operator_text operator.Sub (pos 0)) (32 ∷ u) (omega arith) refl refl; plain_text = refl; kind = refl }
+operator_written operator.Mul h =
+    record { front = λ u. lit (operator_text operator.Mul (pos 0)) (32 ∷ u) (omega arith) refl refl; plain_text = refl; kind = refl }
+operator_written operator.Div h =
+    record { front = λ u. lit (operator_text operator.Div (pos 0)) (32 ∷ u) (omega arith) refl refl; plain_text = refl; kind = refl }
 operator_written operator.Or h =
     record { front = λ u. lit (operator_text operator.Or (pos 0)) (32 ∷ u) (omega arith) refl refl; plain_text = refl; kind = refl }
 operator_written operator.And h =
     record { front = λ u. lit (operator_text operator.And (pos 0)) (32 ∷ u) (omega arith) refl refl; plain_text = refl; kind = refl }
-operator_written operator.ShiftLeft h =
-    record { front = λ u. lit (operator_text operator.ShiftLeft (pos 0)) (32 ∷ u) (omega arith) refl refl; plain_text = refl; kind = refl }
-operator_written operator.ShiftRight h =
-    record { front = λ u. lit (operator_text operator.ShiftRight (pos 0)) (32 ∷ u) (omega arith) refl refl; plain_text = refl; kind = refl }
-operator_written operator.Remainder h =
-    record { front = λ u. lit (operator_text operator.Remainder (pos 0)) (32 ∷ u) (omega arith) refl refl; plain_text = refl; kind = refl }
+operator_written operator.Lsh h =
+    record { front = λ u. lit (operator_text operator.Lsh (pos 0)) (32 ∷ u) (omega arith) refl refl; plain_text = refl; kind = refl }
+operator_written operator.Rsh h =
+    record { front = λ u. lit (operator_text operator.Rsh (pos 0)) (32 ∷ u) (omega arith) refl refl; plain_text = refl; kind = refl }
+operator_written operator.Mod h =
+    record { front = λ u. lit (operator_text operator.Mod (pos 0)) (32 ∷ u) (omega arith) refl refl; plain_text = refl; kind = refl }
 operator_written operator.Xor h =
     record { front = λ u. lit (operator_text operator.Xor (pos 0)) (32 ∷ u) (omega arith) refl refl; plain_text = refl; kind = refl }
-operator_written operator.Move h =
-    record { front = λ u. lit (operator_text operator.Move (pos 0)) (32 ∷ u) (omega arith) refl refl; plain_text = refl; kind = refl }
-operator_written operator.ShiftSigned h =
-    record { front = λ u. lit (operator_text operator.ShiftSigned (pos 0)) (32 ∷ u) (omega arith) refl refl; plain_text = refl; kind = refl }
-operator_written operator.Negate h = absurd h
+operator_written operator.Mov h =
+    record { front = λ u. lit (operator_text operator.Mov (pos 0)) (32 ∷ u) (omega arith) refl refl; plain_text = refl; kind = refl }
+operator_written operator.Arsh h =
+    record { front = λ u. lit (operator_text operator.Arsh (pos 0)) (32 ∷ u) (omega arith) refl refl; plain_text = refl; kind = refl }
+operator_written operator.Neg h = absurd h
 operator_written operator.SwapBytes h = absurd h
 
-pub signed_quotient : IsWritten (operator_text operator.Quotient (pos 1)) (Assign operator.Quotient 1)
+pub signed_quotient : IsWritten (operator_text operator.Div (pos 1)) (Assign operator.Div 1)
 signed_quotient = record { front = λ u. lit (codes "s/=") (32 ∷ u) (omega arith) refl refl; plain_text = refl; kind = refl }
 
-pub signed_remainder : IsWritten (operator_text operator.Remainder (pos 1)) (Assign operator.Remainder 1)
+pub signed_remainder : IsWritten (operator_text operator.Mod (pos 1)) (Assign operator.Mod 1)
 signed_remainder = record { front = λ u. lit (codes "s%=") (32 ∷ u) (omega arith) refl refl; plain_text = refl; kind = refl }
 
 pub condition_written : (c : Condition) → IsWritten (condition_text c) (Compare c)
-condition_written condition.Equal =
-    record { front = λ u. lit (condition_text condition.Equal) (32 ∷ u) (omega arith) refl refl; plain_text = refl; kind = refl }
-condition_written condition.Over = record { front = λ u. lit (condition_text condition.Over) (32 ∷ u) (omega arith) refl refl; plain_text = refl; kind = refl }
-condition_written condition.NotBelow =
-    record { front = λ u. lit (condition_text condition.NotBelow) (32 ∷ u) (omega arith) refl refl; plain_text = refl; kind = refl }
-condition_written condition.SharesBit =
-    record { front = λ u. lit (condition_text condition.SharesBit) (32 ∷ u) (omega arith) refl refl; plain_text = refl; kind = refl }
-condition_written condition.Differs =
-    record { front = λ u. lit (condition_text condition.Differs) (32 ∷ u) (omega arith) refl refl; plain_text = refl; kind = refl }
-condition_written condition.OverSigned =
-    record { front = λ u. lit (condition_text condition.OverSigned) (32 ∷ u) (omega arith) refl refl; plain_text = refl; kind = refl }
-condition_written condition.NotBelowSigned =
-    record { front = λ u. lit (condition_text condition.NotBelowSigned) (32 ∷ u) (omega arith) refl refl; plain_text = refl; kind = refl }
-condition_written condition.Below =
-    record { front = λ u. lit (condition_text condition.Below) (32 ∷ u) (omega arith) refl refl; plain_text = refl; kind = refl }
-condition_written condition.NotOver =
-    record { front = λ u. lit (condition_text condition.NotOver) (32 ∷ u) (omega arith) refl refl; plain_text = refl; kind = refl }
-condition_written condition.BelowSigned =
-    record { front = λ u. lit (condition_text condition.BelowSigned) (32 ∷ u) (omega arith) refl refl; plain_text = refl; kind = refl }
-condition_written condition.NotOverSigned =
-    record { front = λ u. lit (condition_text condition.NotOverSigned) (32 ∷ u) (omega arith) refl refl; plain_text = refl; kind = refl }
+condition_written condition.Jeq =
+    record { front = λ u. lit (condition_text condition.Jeq) (32 ∷ u) (omega arith) refl refl; plain_text = refl; kind = refl }
+condition_written condition.Jgt = record { front = λ u. lit (condition_text condition.Jgt) (32 ∷ u) (omega arith) refl refl; plain_text = refl; kind = refl }
+condition_written condition.Jge =
+    record { front = λ u. lit (condition_text condition.Jge) (32 ∷ u) (omega arith) refl refl; plain_text = refl; kind = refl }
+condition_written condition.Jset =
+    record { front = λ u. lit (condition_text condition.Jset) (32 ∷ u) (omega arith) refl refl; plain_text = refl; kind = refl }
+condition_written condition.Jne =
+    record { front = λ u. lit (condition_text condition.Jne) (32 ∷ u) (omega arith) refl refl; plain_text = refl; kind = refl }
+condition_written condition.Jsgt =
+    record { front = λ u. lit (condition_text condition.Jsgt) (32 ∷ u) (omega arith) refl refl; plain_text = refl; kind = refl }
+condition_written condition.Jsge =
+    record { front = λ u. lit (condition_text condition.Jsge) (32 ∷ u) (omega arith) refl refl; plain_text = refl; kind = refl }
+condition_written condition.Jlt =
+    record { front = λ u. lit (condition_text condition.Jlt) (32 ∷ u) (omega arith) refl refl; plain_text = refl; kind = refl }
+condition_written condition.Jle =
+    record { front = λ u. lit (condition_text condition.Jle) (32 ∷ u) (omega arith) refl refl; plain_text = refl; kind = refl }
+condition_written condition.Jslt =
+    record { front = λ u. lit (condition_text condition.Jslt) (32 ∷ u) (omega arith) refl refl; plain_text = refl; kind = refl }
+condition_written condition.Jsle =
+    record { front = λ u. lit (condition_text condition.Jsle) (32 ∷ u) (omega arith) refl refl; plain_text = refl; kind = refl }
 
 -- ---- lines of three tokens and more
 
@@ -213,8 +213,8 @@ pub both : (a b : Bool) → a ≡ true → b ≡ true → (a && b) ≡ true
 both a b g h = ap (λ x. x && b) g ∙ h
 
 pub same_width : (w : Width) → is_same w w ≡ true
-same_width Narrow = refl
-same_width Full = refl
+same_width Bits32 = refl
+same_width Bits64 = refl
 
 pub short_number : (n : ℕ) → n ≤ 32 → fits (2 ^ 15) (exactly n) ≡ true
 short_number n l = grind (arith, nat_tests)
@@ -265,70 +265,70 @@ register_line op n w d s high o small l r m =
 
 pub number_means : (op : Operator) → IsTwo op → (w : Width) (d : ℕ) (z : ℤ) → statement (Register w d ∷ Assign op 0 ∷ number_tokens z [])
     ≡ Some (Plain (form.Arithmetic op w source.Immediate) (fields d 0 (exactly 0) (value_of z)))
-number_means operator.Sum h w d (pos k) = refl
-number_means operator.Sum h w d (negsuc k) = refl
-number_means operator.Difference h w d (pos k) = refl
-number_means operator.Difference h w d (negsuc k) = refl
-number_means operator.Product h w d (pos k) = refl
-number_means operator.Product h w d (negsuc k) = refl
-number_means operator.Quotient h w d (pos k) = refl
-number_means operator.Quotient h w d (negsuc k) = refl
+number_means operator.Add h w d (pos k) = refl
+number_means operator.Add h w d (negsuc k) = refl
+number_means operator.Sub h w d (pos k) = refl
+number_means operator.Sub h w d (negsuc k) = refl
+number_means operator.Mul h w d (pos k) = refl
+number_means operator.Mul h w d (negsuc k) = refl
+number_means operator.Div h w d (pos k) = refl
+number_means operator.Div h w d (negsuc k) = refl
 number_means operator.Or h w d (pos k) = refl
 number_means operator.Or h w d (negsuc k) = refl
 number_means operator.And h w d (pos k) = refl
 number_means operator.And h w d (negsuc k) = refl
-number_means operator.ShiftLeft h w d (pos k) = refl
-number_means operator.ShiftLeft h w d (negsuc k) = refl
-number_means operator.ShiftRight h w d (pos k) = refl
-number_means operator.ShiftRight h w d (negsuc k) = refl
-number_means operator.Remainder h w d (pos k) = refl
-number_means operator.Remainder h w d (negsuc k) = refl
+number_means operator.Lsh h w d (pos k) = refl
+number_means operator.Lsh h w d (negsuc k) = refl
+number_means operator.Rsh h w d (pos k) = refl
+number_means operator.Rsh h w d (negsuc k) = refl
+number_means operator.Mod h w d (pos k) = refl
+number_means operator.Mod h w d (negsuc k) = refl
 number_means operator.Xor h w d (pos k) = refl
 number_means operator.Xor h w d (negsuc k) = refl
-number_means operator.Move h w d (pos k) = refl
-number_means operator.Move h w d (negsuc k) = refl
-number_means operator.ShiftSigned h w d (pos k) = refl
-number_means operator.ShiftSigned h w d (negsuc k) = refl
-number_means operator.Negate h w d z = absurd h
+number_means operator.Mov h w d (pos k) = refl
+number_means operator.Mov h w d (negsuc k) = refl
+number_means operator.Arsh h w d (pos k) = refl
+number_means operator.Arsh h w d (negsuc k) = refl
+number_means operator.Neg h w d z = absurd h
 number_means operator.SwapBytes h w d z = absurd h
 
-pub signed_quotient_means : (w : Width) (d : ℕ) (z : ℤ) → statement (Register w d ∷ Assign operator.Quotient 1 ∷ number_tokens z [])
-    ≡ Some (Plain (form.Arithmetic operator.Quotient w source.Immediate) (fields d 0 (exactly 1) (value_of z)))
+pub signed_quotient_means : (w : Width) (d : ℕ) (z : ℤ) → statement (Register w d ∷ Assign operator.Div 1 ∷ number_tokens z [])
+    ≡ Some (Plain (form.Arithmetic operator.Div w source.Immediate) (fields d 0 (exactly 1) (value_of z)))
 signed_quotient_means w d (pos k) = refl
 signed_quotient_means w d (negsuc k) = refl
 
-pub signed_remainder_means : (w : Width) (d : ℕ) (z : ℤ) → statement (Register w d ∷ Assign operator.Remainder 1 ∷ number_tokens z [])
-    ≡ Some (Plain (form.Arithmetic operator.Remainder w source.Immediate) (fields d 0 (exactly 1) (value_of z)))
+pub signed_remainder_means : (w : Width) (d : ℕ) (z : ℤ) → statement (Register w d ∷ Assign operator.Mod 1 ∷ number_tokens z [])
+    ≡ Some (Plain (form.Arithmetic operator.Mod w source.Immediate) (fields d 0 (exactly 1) (value_of z)))
 signed_remainder_means w d (pos k) = refl
 signed_remainder_means w d (negsuc k) = refl
 
 pub register_means : (op : Operator) → IsTwo op → (w : Width) (d s : ℕ) → statement (Register w d ∷ Assign op 0 ∷ Register w s ∷ [])
     ≡ Some (Plain (form.Arithmetic op w source.Register) (fields d s (exactly 0) (exactly 0)))
-register_means operator.Sum h w d s =
-    ap (λ b. when b (Plain (form.Arithmetic operator.Sum w source.Register) (fields d s (exactly 0) (exactly 0)))) (same_width w)
-register_means operator.Difference h w d s =
-    ap (λ b. when b (Plain (form.Arithmetic operator.Difference w source.Register) (fields d s (exactly 0) (exactly 0)))) (same_width w)
-register_means operator.Product h w d s =
-    ap (λ b. when b (Plain (form.Arithmetic operator.Product w source.Register) (fields d s (exactly 0) (exactly 0)))) (same_width w)
-register_means operator.Quotient h w d s =
-    ap (λ b. when b (Plain (form.Arithmetic operator.Quotient w source.Register) (fields d s (exactly 0) (exactly 0)))) (same_width w)
+register_means operator.Add h w d s =
+    ap (λ b. when b (Plain (form.Arithmetic operator.Add w source.Register) (fields d s (exactly 0) (exactly 0)))) (same_width w)
+register_means operator.Sub h w d s =
+    ap (λ b. when b (Plain (form.Arithmetic operator.Sub w source.Register) (fields d s (exactly 0) (exactly 0)))) (same_width w)
+register_means operator.Mul h w d s =
+    ap (λ b. when b (Plain (form.Arithmetic operator.Mul w source.Register) (fields d s (exactly 0) (exactly 0)))) (same_width w)
+register_means operator.Div h w d s =
+    ap (λ b. when b (Plain (form.Arithmetic operator.Div w source.Register) (fields d s (exactly 0) (exactly 0)))) (same_width w)
 register_means operator.Or h w d s =
     ap (λ b. when b (Plain (form.Arithmetic operator.Or w source.Register) (fields d s (exactly 0) (exactly 0)))) (same_width w)
 register_means operator.And h w d s =
     ap (λ b. when b (Plain (form.Arithmetic operator.And w source.Register) (fields d s (exactly 0) (exactly 0)))) (same_width w)
-register_means operator.ShiftLeft h w d s =
-    ap (λ b. when b (Plain (form.Arithmetic operator.ShiftLeft w source.Register) (fields d s (exactly 0) (exactly 0)))) (same_width w)
-register_means operator.ShiftRight h w d s =
-    ap (λ b. when b (Plain (form.Arithmetic operator.ShiftRight w source.Register) (fields d s (exactly 0) (exactly 0)))) (same_width w)
-register_means operator.Remainder h w d s =
-    ap (λ b. when b (Plain (form.Arithmetic operator.Remainder w source.Register) (fields d s (exactly 0) (exactly 0)))) (same_width w)
+register_means operator.Lsh h w d s =
+    ap (λ b. when b (Plain (form.Arithmetic operator.Lsh w source.Register) (fields d s (exactly 0) (exactly 0)))) (same_width w)
+register_means operator.Rsh h w d s =
+    ap (λ b. when b (Plain (form.Arithmetic operator.Rsh w source.Register) (fields d s (exactly 0) (exactly 0)))) (same_width w)
+register_means operator.Mod h w d s =
+    ap (λ b. when b (Plain (form.Arithmetic operator.Mod w source.Register) (fields d s (exactly 0) (exactly 0)))) (same_width w)
 register_means operator.Xor h w d s =
     ap (λ b. when b (Plain (form.Arithmetic operator.Xor w source.Register) (fields d s (exactly 0) (exactly 0)))) (same_width w)
-register_means operator.Move h w d s =
-    ap (λ b. when b (Plain (form.Arithmetic operator.Move w source.Register) (fields d s (exactly 0) (exactly 0)))) (same_width w)
-register_means operator.ShiftSigned h w d s =
-    ap (λ b. when b (Plain (form.Arithmetic operator.ShiftSigned w source.Register) (fields d s (exactly 0) (exactly 0)))) (same_width w)
-register_means operator.Negate h w d s = absurd h
+register_means operator.Mov h w d s =
+    ap (λ b. when b (Plain (form.Arithmetic operator.Mov w source.Register) (fields d s (exactly 0) (exactly 0)))) (same_width w)
+register_means operator.Arsh h w d s =
+    ap (λ b. when b (Plain (form.Arithmetic operator.Arsh w source.Register) (fields d s (exactly 0) (exactly 0)))) (same_width w)
+register_means operator.Neg h w d s = absurd h
 register_means operator.SwapBytes h w d s = absurd h
 
 -- ---- one register
@@ -336,28 +336,28 @@ register_means operator.SwapBytes h w d s = absurd h
 pub same_number : (n : ℕ) → (n == n) ≡ true
 same_number n = grind (arith, nat_tests)
 
-pub move_written : IsWritten (codes "=") (Assign operator.Move 0)
-move_written = operator_written operator.Move tt
+pub move_written : IsWritten (codes "=") (Assign operator.Mov 0)
+move_written = operator_written operator.Mov tt
 
 pub minus_register : (w : Width) (n : ℕ) (u : Text) → IsFront (codes "-") (register_text w n ++ u)
-minus_register Full n u = lit (codes "-") (register_text Full n ++ u) (omega arith) refl refl
-minus_register Narrow n u = lit (codes "-") (register_text Narrow n ++ u) (omega arith) refl refl
+minus_register Bits64 n u = lit (codes "-") (register_text Bits64 n ++ u) (omega arith) refl refl
+minus_register Bits32 n u = lit (codes "-") (register_text Bits32 n ++ u) (omega arith) refl refl
 
 pub negation_line : (w : Width) (d : ℕ) (high : ℤ) → d ≤ 10
     → SaysOf (Next (register_text w d) ∷ After (codes "=") ∷ After (codes "-") ∷ Next (register_text w d) ∷ []) false
-    (inst_of (form.Arithmetic operator.Negate w source.Immediate) d 0 (pos 0) (pos 0)) high
+    (inst_of (form.Arithmetic operator.Neg w source.Immediate) d 0 (pos 0) (pos 0)) high
 negation_line w d high l =
     record {
-      says = Plain (form.Arithmetic operator.Negate w source.Immediate) (fields d 0 (exactly 0) (exactly 0));
+      says = Plain (form.Arithmetic operator.Neg w source.Immediate) (fields d 0 (exactly 0) (exactly 0));
       good = (
         register_good w d _ l refl,
         register_clean w d l,
         (move_written.front _, refl, (minus_register w d [], refl, (register_good w d [] l tt, register_clean w d l, tt))),
       );
-      means = line_by _ (Register w d ∷ Assign operator.Move 0 ∷ Minus ∷ Register w d ∷ []) _
-          (λ j. register_kind w d l j ∷ Assign operator.Move 0 ∷ Minus ∷ register_kind w d l j ∷ [])
-          (ap (λ b. option_map line.Statement (first_some (when b (plain (form.Arithmetic operator.Negate w source.Immediate) d 0 (exactly 0) (exactly 0)))
-          (operand operator.Move 0 w d (Minus ∷ Register w d ∷ [])))) (both (is_same w w) (d == d) (same_width w) (same_number d)));
+      means = line_by _ (Register w d ∷ Assign operator.Mov 0 ∷ Minus ∷ Register w d ∷ []) _
+          (λ j. register_kind w d l j ∷ Assign operator.Mov 0 ∷ Minus ∷ register_kind w d l j ∷ [])
+          (ap (λ b. option_map line.Statement (first_some (when b (plain (form.Arithmetic operator.Neg w source.Immediate) d 0 (exactly 0) (exactly 0)))
+          (operand operator.Mov 0 w d (Minus ∷ Register w d ∷ [])))) (both (is_same w w) (d == d) (same_width w) (same_number d)));
       fits = refl;
       no_label = refl;
       len = refl;
@@ -378,59 +378,59 @@ decimal64 = rw (decimal_step 64 (omega arith) (omega arith), decimal_digit 6 (om
 pub written_as : (t u : Text) (k : Token) → t ≡ u → IsWritten u k → IsWritten t k
 written_as t u k e h = subst (λ x. IsWritten x k) (sym e) h
 
-pub le16_written : IsWritten (swap_text Narrow source.Immediate (pos 16)) (Swap Narrow source.Immediate 16)
-le16_written = written_as (codes "le" ++ decimal 16) (codes "le16") (Swap Narrow source.Immediate 16) (ap (λ t. codes "le" ++ t) decimal16)
+pub le16_written : IsWritten (swap_text Bits32 source.Immediate (pos 16)) (Swap Bits32 source.Immediate 16)
+le16_written = written_as (codes "le" ++ decimal 16) (codes "le16") (Swap Bits32 source.Immediate 16) (ap (λ t. codes "le" ++ t) decimal16)
     (record { front = λ u. lit (codes "le16") (32 ∷ u) (omega arith) refl refl; plain_text = refl; kind = refl })
 
-pub le32_written : IsWritten (swap_text Narrow source.Immediate (pos 32)) (Swap Narrow source.Immediate 32)
-le32_written = written_as (codes "le" ++ decimal 32) (codes "le32") (Swap Narrow source.Immediate 32) (ap (λ t. codes "le" ++ t) decimal32)
+pub le32_written : IsWritten (swap_text Bits32 source.Immediate (pos 32)) (Swap Bits32 source.Immediate 32)
+le32_written = written_as (codes "le" ++ decimal 32) (codes "le32") (Swap Bits32 source.Immediate 32) (ap (λ t. codes "le" ++ t) decimal32)
     (record { front = λ u. lit (codes "le32") (32 ∷ u) (omega arith) refl refl; plain_text = refl; kind = refl })
 
-pub le64_written : IsWritten (swap_text Narrow source.Immediate (pos 64)) (Swap Narrow source.Immediate 64)
-le64_written = written_as (codes "le" ++ decimal 64) (codes "le64") (Swap Narrow source.Immediate 64) (ap (λ t. codes "le" ++ t) decimal64)
+pub le64_written : IsWritten (swap_text Bits32 source.Immediate (pos 64)) (Swap Bits32 source.Immediate 64)
+le64_written = written_as (codes "le" ++ decimal 64) (codes "le64") (Swap Bits32 source.Immediate 64) (ap (λ t. codes "le" ++ t) decimal64)
     (record { front = λ u. lit (codes "le64") (32 ∷ u) (omega arith) refl refl; plain_text = refl; kind = refl })
 
-pub be16_written : IsWritten (swap_text Narrow source.Register (pos 16)) (Swap Narrow source.Register 16)
-be16_written = written_as (codes "be" ++ decimal 16) (codes "be16") (Swap Narrow source.Register 16) (ap (λ t. codes "be" ++ t) decimal16)
+pub be16_written : IsWritten (swap_text Bits32 source.Register (pos 16)) (Swap Bits32 source.Register 16)
+be16_written = written_as (codes "be" ++ decimal 16) (codes "be16") (Swap Bits32 source.Register 16) (ap (λ t. codes "be" ++ t) decimal16)
     (record { front = λ u. lit (codes "be16") (32 ∷ u) (omega arith) refl refl; plain_text = refl; kind = refl })
 
-pub be32_written : IsWritten (swap_text Narrow source.Register (pos 32)) (Swap Narrow source.Register 32)
-be32_written = written_as (codes "be" ++ decimal 32) (codes "be32") (Swap Narrow source.Register 32) (ap (λ t. codes "be" ++ t) decimal32)
+pub be32_written : IsWritten (swap_text Bits32 source.Register (pos 32)) (Swap Bits32 source.Register 32)
+be32_written = written_as (codes "be" ++ decimal 32) (codes "be32") (Swap Bits32 source.Register 32) (ap (λ t. codes "be" ++ t) decimal32)
     (record { front = λ u. lit (codes "be32") (32 ∷ u) (omega arith) refl refl; plain_text = refl; kind = refl })
 
-pub be64_written : IsWritten (swap_text Narrow source.Register (pos 64)) (Swap Narrow source.Register 64)
-be64_written = written_as (codes "be" ++ decimal 64) (codes "be64") (Swap Narrow source.Register 64) (ap (λ t. codes "be" ++ t) decimal64)
+pub be64_written : IsWritten (swap_text Bits32 source.Register (pos 64)) (Swap Bits32 source.Register 64)
+be64_written = written_as (codes "be" ++ decimal 64) (codes "be64") (Swap Bits32 source.Register 64) (ap (λ t. codes "be" ++ t) decimal64)
     (record { front = λ u. lit (codes "be64") (32 ∷ u) (omega arith) refl refl; plain_text = refl; kind = refl })
 
-pub bswap16_written : IsWritten (swap_text Full source.Immediate (pos 16)) (Swap Full source.Immediate 16)
-bswap16_written = written_as (codes "bswap" ++ decimal 16) (codes "bswap16") (Swap Full source.Immediate 16) (ap (λ t. codes "bswap" ++ t) decimal16)
+pub bswap16_written : IsWritten (swap_text Bits64 source.Immediate (pos 16)) (Swap Bits64 source.Immediate 16)
+bswap16_written = written_as (codes "bswap" ++ decimal 16) (codes "bswap16") (Swap Bits64 source.Immediate 16) (ap (λ t. codes "bswap" ++ t) decimal16)
     (record { front = λ u. lit (codes "bswap16") (32 ∷ u) (omega arith) refl refl; plain_text = refl; kind = refl })
 
-pub bswap32_written : IsWritten (swap_text Full source.Immediate (pos 32)) (Swap Full source.Immediate 32)
-bswap32_written = written_as (codes "bswap" ++ decimal 32) (codes "bswap32") (Swap Full source.Immediate 32) (ap (λ t. codes "bswap" ++ t) decimal32)
+pub bswap32_written : IsWritten (swap_text Bits64 source.Immediate (pos 32)) (Swap Bits64 source.Immediate 32)
+bswap32_written = written_as (codes "bswap" ++ decimal 32) (codes "bswap32") (Swap Bits64 source.Immediate 32) (ap (λ t. codes "bswap" ++ t) decimal32)
     (record { front = λ u. lit (codes "bswap32") (32 ∷ u) (omega arith) refl refl; plain_text = refl; kind = refl })
 
-pub bswap64_written : IsWritten (swap_text Full source.Immediate (pos 64)) (Swap Full source.Immediate 64)
-bswap64_written = written_as (codes "bswap" ++ decimal 64) (codes "bswap64") (Swap Full source.Immediate 64) (ap (λ t. codes "bswap" ++ t) decimal64)
+pub bswap64_written : IsWritten (swap_text Bits64 source.Immediate (pos 64)) (Swap Bits64 source.Immediate 64)
+bswap64_written = written_as (codes "bswap" ++ decimal 64) (codes "bswap64") (Swap Bits64 source.Immediate 64) (ap (λ t. codes "bswap" ++ t) decimal64)
     (record { front = λ u. lit (codes "bswap64") (32 ∷ u) (omega arith) refl refl; plain_text = refl; kind = refl })
 
 pub low_bits : (n : ℕ) → n ≤ 64 → fits (2 ^ 31) (exactly n) ≡ true
 low_bits n l = grind (arith, nat_tests)
 
 pub swap_line : (w : Width) (s : Source) (bits d : ℕ) (high : ℤ) → IsWritten (swap_text w s (pos bits)) (Swap w s bits) → bits ≤ 64 → d ≤ 10
-    → SaysOf (Next (register_text Full d) ∷ After (codes "=") ∷ After (swap_text w s (pos bits)) ∷ After (register_text Full d) ∷ []) false
+    → SaysOf (Next (register_text Bits64 d) ∷ After (codes "=") ∷ After (swap_text w s (pos bits)) ∷ After (register_text Bits64 d) ∷ []) false
     (inst_of (form.Arithmetic operator.SwapBytes w s) d 0 (pos 0) (pos bits)) high
 swap_line w s bits d high o few l =
     record {
       says = Plain (form.Arithmetic operator.SwapBytes w s) (fields d 0 (exactly 0) (exactly bits));
       good = (
-        register_good Full d _ l refl,
-        register_clean Full d l,
-        (move_written.front _, refl, (o.front _, o.plain_text, (register_good Full d [] l tt, register_clean Full d l, tt))),
+        register_good Bits64 d _ l refl,
+        register_clean Bits64 d l,
+        (move_written.front _, refl, (o.front _, o.plain_text, (register_good Bits64 d [] l tt, register_clean Bits64 d l, tt))),
       );
-      means = line_by _ (Register Full d ∷ Assign operator.Move 0 ∷ Swap w s bits ∷ Register Full d ∷ []) _
-          (λ j. register_kind Full d l j ∷ Assign operator.Move 0 ∷ o.kind j ∷ register_kind Full d l j ∷ [])
-          (ap (λ b. option_map line.Statement (first_some (when b (swap w s bits d)) (operand operator.Move 0 Full d (Swap w s bits ∷ Register Full d ∷ []))))
+      means = line_by _ (Register Bits64 d ∷ Assign operator.Mov 0 ∷ Swap w s bits ∷ Register Bits64 d ∷ []) _
+          (λ j. register_kind Bits64 d l j ∷ Assign operator.Mov 0 ∷ o.kind j ∷ register_kind Bits64 d l j ∷ [])
+          (ap (λ b. option_map line.Statement (first_some (when b (swap w s bits d)) (operand operator.Mov 0 Bits64 d (Swap w s bits ∷ Register Bits64 d ∷ []))))
           (same_number d));
       fits = low_bits bits few;
       no_label = refl;
@@ -441,12 +441,12 @@ swap_line w s bits d high o few l =
 -- ---- sign extensions
 
 pub extension8_line : (w : Width) (d s : ℕ) (high : ℤ)
-    → extend w d s (extension w Byte) ≡ Some (plain (form.Arithmetic operator.Move w source.Register) d s (exactly 8) (exactly 0)) → d ≤ 10 → s ≤ 10
+    → extend w d s (extension w Byte) ≡ Some (plain (form.Arithmetic operator.Mov w source.Register) d s (exactly 8) (exactly 0)) → d ≤ 10 → s ≤ 10
     → SaysOf (Next (register_text w d) ∷ After (codes "=") ∷ After (codes "(") ∷ Next (codes "s8") ∷ Next (codes ")") ∷ Next (register_text w s) ∷ []) false
-    (inst_of (form.Arithmetic operator.Move w source.Register) d s (pos 8) (pos 0)) high
+    (inst_of (form.Arithmetic operator.Mov w source.Register) d s (pos 8) (pos 0)) high
 extension8_line w d s high e l r =
     record {
-      says = Plain (form.Arithmetic operator.Move w source.Register) (fields d s (exactly 8) (exactly 0));
+      says = Plain (form.Arithmetic operator.Mov w source.Register) (fields d s (exactly 8) (exactly 0));
       good = (
         register_good w d _ l refl,
         register_clean w d l,
@@ -464,11 +464,11 @@ extension8_line w d s high e l r =
           ),
         ),
       );
-      means = line_by _ (Register w d ∷ Assign operator.Move 0 ∷ Open ∷ Signed Byte ∷ Close ∷ Register w s ∷ []) _
-          (λ j. register_kind w d l j ∷ Assign operator.Move 0 ∷ Open ∷ Signed Byte ∷ Close ∷ register_kind w s r j ∷ [])
+      means = line_by _ (Register w d ∷ Assign operator.Mov 0 ∷ Open ∷ Signed Byte ∷ Close ∷ Register w s ∷ []) _
+          (λ j. register_kind w d l j ∷ Assign operator.Mov 0 ∷ Open ∷ Signed Byte ∷ Close ∷ register_kind w s r j ∷ [])
           (ap (λ b. option_map line.Statement
-          (first_some (guarded b (extend w d s (extension w Byte))) (operand operator.Move 0 w d (Open ∷ Signed Byte ∷ Close ∷ Register w s ∷ []))))
-          (same_width w) ∙ ap (λ o. option_map line.Statement (first_some o (operand operator.Move 0 w d (Open ∷ Signed Byte ∷ Close ∷ Register w s ∷ [])))) e);
+          (first_some (guarded b (extend w d s (extension w Byte))) (operand operator.Mov 0 w d (Open ∷ Signed Byte ∷ Close ∷ Register w s ∷ []))))
+          (same_width w) ∙ ap (λ o. option_map line.Statement (first_some o (operand operator.Mov 0 w d (Open ∷ Signed Byte ∷ Close ∷ Register w s ∷ [])))) e);
       fits = refl;
       no_label = refl;
       len = refl;
@@ -476,12 +476,12 @@ extension8_line w d s high e l r =
     }
 
 pub extension16_line : (w : Width) (d s : ℕ) (high : ℤ)
-    → extend w d s (extension w Half) ≡ Some (plain (form.Arithmetic operator.Move w source.Register) d s (exactly 16) (exactly 0)) → d ≤ 10 → s ≤ 10
+    → extend w d s (extension w Half) ≡ Some (plain (form.Arithmetic operator.Mov w source.Register) d s (exactly 16) (exactly 0)) → d ≤ 10 → s ≤ 10
     → SaysOf (Next (register_text w d) ∷ After (codes "=") ∷ After (codes "(") ∷ Next (codes "s16") ∷ Next (codes ")") ∷ Next (register_text w s) ∷ []) false
-    (inst_of (form.Arithmetic operator.Move w source.Register) d s (pos 16) (pos 0)) high
+    (inst_of (form.Arithmetic operator.Mov w source.Register) d s (pos 16) (pos 0)) high
 extension16_line w d s high e l r =
     record {
-      says = Plain (form.Arithmetic operator.Move w source.Register) (fields d s (exactly 16) (exactly 0));
+      says = Plain (form.Arithmetic operator.Mov w source.Register) (fields d s (exactly 16) (exactly 0));
       good = (
         register_good w d _ l refl,
         register_clean w d l,
@@ -499,11 +499,11 @@ extension16_line w d s high e l r =
           ),
         ),
       );
-      means = line_by _ (Register w d ∷ Assign operator.Move 0 ∷ Open ∷ Signed Half ∷ Close ∷ Register w s ∷ []) _
-          (λ j. register_kind w d l j ∷ Assign operator.Move 0 ∷ Open ∷ Signed Half ∷ Close ∷ register_kind w s r j ∷ [])
+      means = line_by _ (Register w d ∷ Assign operator.Mov 0 ∷ Open ∷ Signed Half ∷ Close ∷ Register w s ∷ []) _
+          (λ j. register_kind w d l j ∷ Assign operator.Mov 0 ∷ Open ∷ Signed Half ∷ Close ∷ register_kind w s r j ∷ [])
           (ap (λ b. option_map line.Statement
-          (first_some (guarded b (extend w d s (extension w Half))) (operand operator.Move 0 w d (Open ∷ Signed Half ∷ Close ∷ Register w s ∷ []))))
-          (same_width w) ∙ ap (λ o. option_map line.Statement (first_some o (operand operator.Move 0 w d (Open ∷ Signed Half ∷ Close ∷ Register w s ∷ [])))) e);
+          (first_some (guarded b (extend w d s (extension w Half))) (operand operator.Mov 0 w d (Open ∷ Signed Half ∷ Close ∷ Register w s ∷ []))))
+          (same_width w) ∙ ap (λ o. option_map line.Statement (first_some o (operand operator.Mov 0 w d (Open ∷ Signed Half ∷ Close ∷ Register w s ∷ [])))) e);
       fits = refl;
       no_label = refl;
       len = refl;
@@ -511,12 +511,12 @@ extension16_line w d s high e l r =
     }
 
 pub extension32_line : (w : Width) (d s : ℕ) (high : ℤ)
-    → extend w d s (extension w Word) ≡ Some (plain (form.Arithmetic operator.Move w source.Register) d s (exactly 32) (exactly 0)) → d ≤ 10 → s ≤ 10
+    → extend w d s (extension w Word) ≡ Some (plain (form.Arithmetic operator.Mov w source.Register) d s (exactly 32) (exactly 0)) → d ≤ 10 → s ≤ 10
     → SaysOf (Next (register_text w d) ∷ After (codes "=") ∷ After (codes "(") ∷ Next (codes "s32") ∷ Next (codes ")") ∷ Next (register_text w s) ∷ []) false
-    (inst_of (form.Arithmetic operator.Move w source.Register) d s (pos 32) (pos 0)) high
+    (inst_of (form.Arithmetic operator.Mov w source.Register) d s (pos 32) (pos 0)) high
 extension32_line w d s high e l r =
     record {
-      says = Plain (form.Arithmetic operator.Move w source.Register) (fields d s (exactly 32) (exactly 0));
+      says = Plain (form.Arithmetic operator.Mov w source.Register) (fields d s (exactly 32) (exactly 0));
       good = (
         register_good w d _ l refl,
         register_clean w d l,
@@ -534,11 +534,11 @@ extension32_line w d s high e l r =
           ),
         ),
       );
-      means = line_by _ (Register w d ∷ Assign operator.Move 0 ∷ Open ∷ Signed Word ∷ Close ∷ Register w s ∷ []) _
-          (λ j. register_kind w d l j ∷ Assign operator.Move 0 ∷ Open ∷ Signed Word ∷ Close ∷ register_kind w s r j ∷ [])
+      means = line_by _ (Register w d ∷ Assign operator.Mov 0 ∷ Open ∷ Signed Word ∷ Close ∷ Register w s ∷ []) _
+          (λ j. register_kind w d l j ∷ Assign operator.Mov 0 ∷ Open ∷ Signed Word ∷ Close ∷ register_kind w s r j ∷ [])
           (ap (λ b. option_map line.Statement
-          (first_some (guarded b (extend w d s (extension w Word))) (operand operator.Move 0 w d (Open ∷ Signed Word ∷ Close ∷ Register w s ∷ []))))
-          (same_width w) ∙ ap (λ o. option_map line.Statement (first_some o (operand operator.Move 0 w d (Open ∷ Signed Word ∷ Close ∷ Register w s ∷ [])))) e);
+          (first_some (guarded b (extend w d s (extension w Word))) (operand operator.Mov 0 w d (Open ∷ Signed Word ∷ Close ∷ Register w s ∷ []))))
+          (same_width w) ∙ ap (λ o. option_map line.Statement (first_some o (operand operator.Mov 0 w d (Open ∷ Signed Word ∷ Close ∷ Register w s ∷ [])))) e);
       fits = refl;
       no_label = refl;
       len = refl;
@@ -557,7 +557,7 @@ pub unsigned_small : (z : ℤ) → FitsSigned w32 z → cast_unsigned w32 z < 2 
 unsigned_small z h = let f = Fits-of_z {w = w32} {z = z} h in omega (arith, f)
 
 pub wide_line : (d : ℕ) (imm high : ℤ) → FitsSigned w32 imm → FitsSigned w32 high → d ≤ 10
-    → SaysOf (Next (register_text Full d) ∷ After (codes "=") ∷ After (decimal (upper imm high)) ∷ After (codes "ll") ∷ []) true
+    → SaysOf (Next (register_text Bits64 d) ∷ After (codes "=") ∷ After (decimal (upper imm high)) ∷ After (codes "ll") ∷ []) true
     (inst_of form.Wide d 0 (pos 0) imm) high
 wide_line d imm high f g l =
     let a = cast_unsigned w32 imm in
@@ -568,16 +568,16 @@ wide_line d imm high f g l =
     record {
       says = Wide d (Some (upper imm high));
       good = (
-        register_good Full d _ l refl,
-        register_clean Full d l,
+        register_good Bits64 d _ l refl,
+        register_clean Bits64 d l,
         (
           move_written.front _,
           refl,
           (number_front (upper imm high) _ small refl, decimal_clean (upper imm high) small, (lit (codes "ll") [] (omega arith) refl refl, refl, tt)),
         ),
       );
-      means = line_by _ (Register Full d ∷ Assign operator.Move 0 ∷ Number (Some (upper imm high)) ∷ Long ∷ []) _
-          (λ j. register_kind Full d l j ∷ Assign operator.Move 0 ∷ number_kind (upper imm high) small j ∷ Long ∷ []) refl;
+      means = line_by _ (Register Bits64 d ∷ Assign operator.Mov 0 ∷ Number (Some (upper imm high)) ∷ Long ∷ []) _
+          (λ j. register_kind Bits64 d l j ∷ Assign operator.Mov 0 ∷ number_kind (upper imm high) small j ∷ Long ∷ []) refl;
       fits = refl;
       no_label = refl;
       len = refl;
@@ -682,7 +682,7 @@ place_good t k base z rest o l h close g = (
         (
           lit (codes "(") _ (omega arith) refl refl,
           refl,
-          (register_good Full base _ l (shift_stops z _), register_clean Full base l, shift_good z (Next (codes ")") ∷ rest) h refl (close, refl, g)),
+          (register_good Bits64 base _ l (shift_stops z _), register_clean Bits64 base l, shift_good z (Next (codes ")") ∷ rest) h refl (close, refl, g)),
         ),
       ),
     ),
@@ -690,32 +690,32 @@ place_good t k base z rest o l h close g = (
 )
 
 pub place_kinds : (t : Text) (k : Token) (base : ℕ) (z : ℤ) (rest : List Piece) → IsSize t k → base ≤ 10 → FitsSigned w16 z
-    → map kind_of (map token_of (place t base z rest)) ≡ Open ∷ k ∷ Star ∷ Close ∷ Open ∷ Register Full base
+    → map kind_of (map token_of (place t base z rest)) ≡ Open ∷ k ∷ Star ∷ Close ∷ Open ∷ Register Bits64 base
     ∷ sign_tokens z (Close ∷ map kind_of (map token_of rest))
-place_kinds t k base z rest o l h = λ j. Open ∷ o.kind j ∷ Star ∷ Close ∷ Open ∷ register_kind Full base l j ∷ shift_kinds z (Next (codes ")") ∷ rest) h j
+place_kinds t k base z rest o l h = λ j. Open ∷ o.kind j ∷ Star ∷ Close ∷ Open ∷ register_kind Bits64 base l j ∷ shift_kinds z (Next (codes ")") ∷ rest) h j
 
 pub load_means : (f : Form) (k : Token) (d b : ℕ) (z : ℤ) → load_form k ≡ Some f
-    → line_of (Register Full d ∷ Assign operator.Move 0 ∷ Star ∷ Open ∷ k ∷ Star ∷ Close ∷ Open ∷ Register Full b ∷ sign_tokens z (Close ∷ []))
+    → line_of (Register Bits64 d ∷ Assign operator.Mov 0 ∷ Star ∷ Open ∷ k ∷ Star ∷ Close ∷ Open ∷ Register Bits64 b ∷ sign_tokens z (Close ∷ []))
     ≡ Some (line.Statement (Plain f (fields d b (value_of z) (exactly 0))))
 load_means f k d b (pos n) e = ap (λ o. option_map line.Statement (first_some (load_with d o (Some (b, plus (Some n), []))) None)) e
 load_means f k d b (negsuc n) e = ap (λ o. option_map line.Statement (first_some (load_with d o (Some (b, minus (Some (suc n)), []))) None)) e
 
 pub load_line : (f : Form) (t : Text) (k : Token) (d b : ℕ) (z high : ℤ) → IsSize t k → load_form k ≡ Some f → is_wide (Some f) ≡ false → d ≤ 10 → b ≤ 10
-    → FitsSigned w16 z → SaysOf (Next (register_text Full d) ∷ After (codes "=") ∷ After (codes "*") ∷ place t b z []) false (inst_of f d b z (pos 0)) high
+    → FitsSigned w16 z → SaysOf (Next (register_text Bits64 d) ∷ After (codes "=") ∷ After (codes "*") ∷ place t b z []) false (inst_of f d b z (pos 0)) high
 load_line f t k d b z high o e narrow l r h =
     record {
       says = Plain f (fields d b (value_of z) (exactly 0));
       good = (
-        register_good Full d _ l refl,
-        register_clean Full d l,
+        register_good Bits64 d _ l refl,
+        register_clean Bits64 d l,
         (
           move_written.front _,
           refl,
           (lit (codes "*") _ (omega arith) refl refl, refl, place_good t k b z [] o r h (lit (codes ")") [] (omega arith) refl refl) tt),
         ),
       );
-      means = line_by _ (Register Full d ∷ Assign operator.Move 0 ∷ Star ∷ Open ∷ k ∷ Star ∷ Close ∷ Open ∷ Register Full b ∷ sign_tokens z (Close ∷ [])) _
-          (λ j. register_kind Full d l j ∷ Assign operator.Move 0 ∷ Star ∷ place_kinds t k b z [] o r h j) (load_means f k d b z e);
+      means = line_by _ (Register Bits64 d ∷ Assign operator.Mov 0 ∷ Star ∷ Open ∷ k ∷ Star ∷ Close ∷ Open ∷ Register Bits64 b ∷ sign_tokens z (Close ∷ [])) _
+          (λ j. register_kind Bits64 d l j ∷ Assign operator.Mov 0 ∷ Star ∷ place_kinds t k b z [] o r h j) (load_means f k d b z e);
       fits = both (fits (2 ^ 15) (value_of z)) (fits (2 ^ 31) (exactly 0)) (in_range16 z h) refl;
       no_label = refl;
       len = refl;
@@ -725,13 +725,13 @@ load_line f t k d b z high o e narrow l r h =
 -- ---- stores
 
 pub register_store_means : (n : Size) (b s : ℕ) (z : ℤ)
-    → line_of (Star ∷ Open ∷ Unsigned n ∷ Star ∷ Close ∷ Open ∷ Register Full b ∷ sign_tokens z (Close ∷ Assign operator.Move 0 ∷ Register Full s ∷ []))
+    → line_of (Star ∷ Open ∷ Unsigned n ∷ Star ∷ Close ∷ Open ∷ Register Bits64 b ∷ sign_tokens z (Close ∷ Assign operator.Mov 0 ∷ Register Bits64 s ∷ []))
     ≡ Some (line.Statement (Plain (form.StoreRegister n) (fields b s (value_of z) (exactly 0))))
 register_store_means n b s (pos k) = refl
 register_store_means n b s (negsuc k) = refl
 
 pub number_store_means : (n : Size) (b : ℕ) (z v : ℤ)
-    → line_of (Star ∷ Open ∷ Unsigned n ∷ Star ∷ Close ∷ Open ∷ Register Full b ∷ sign_tokens z (Close ∷ Assign operator.Move 0 ∷ number_tokens v []))
+    → line_of (Star ∷ Open ∷ Unsigned n ∷ Star ∷ Close ∷ Open ∷ Register Bits64 b ∷ sign_tokens z (Close ∷ Assign operator.Mov 0 ∷ number_tokens v []))
     ≡ Some (line.Statement (Plain (form.StoreImmediate n) (fields b 0 (value_of z) (value_of v))))
 number_store_means n b (pos k) (pos m) = refl
 number_store_means n b (pos k) (negsuc m) = refl
@@ -743,7 +743,7 @@ equals_number (pos n) = move_written.front _
 equals_number (negsuc n) = move_written.front _
 
 pub register_store_line : (n : Size) (b s : ℕ) (z high : ℤ) → b ≤ 10 → s ≤ 10 → FitsSigned w16 z
-    → SaysOf (Next (codes "*") ∷ place (size_text n) b z (After (codes "=") ∷ After (register_text Full s) ∷ [])) false
+    → SaysOf (Next (codes "*") ∷ place (size_text n) b z (After (codes "=") ∷ After (register_text Bits64 s) ∷ [])) false
     (inst_of (form.StoreRegister n) b s z (pos 0)) high
 register_store_line n b s z high l r h =
     record {
@@ -751,15 +751,15 @@ register_store_line n b s z high l r h =
       good = (
         lit (codes "*") _ (omega arith) refl refl,
         refl,
-        place_good (size_text n) (Unsigned n) b z (After (codes "=") ∷ After (register_text Full s) ∷ [])
+        place_good (size_text n) (Unsigned n) b z (After (codes "=") ∷ After (register_text Bits64 s) ∷ [])
             (unsigned_size n) l h (lit (codes ")") _ (omega arith) refl refl)
-            (move_written.front _, refl, (register_good Full s [] r tt, register_clean Full s r, tt)),
+            (move_written.front _, refl, (register_good Bits64 s [] r tt, register_clean Bits64 s r, tt)),
       );
-      means = line_by _ (Star ∷ Open ∷ Unsigned n ∷ Star ∷ Close ∷ Open ∷ Register Full b
-          ∷ sign_tokens z (Close ∷ Assign operator.Move 0 ∷ Register Full s ∷ [])) _
-          ((λ j. Star ∷ place_kinds (size_text n) (Unsigned n) b z (After (codes "=") ∷ After (register_text Full s) ∷ []) (unsigned_size n) l h j) ∙ ap
-          (λ k. Star ∷ Open ∷ Unsigned n ∷ Star ∷ Close ∷ Open ∷ Register Full b ∷ sign_tokens z (Close ∷ Assign operator.Move 0 ∷ k ∷ []))
-          (register_kind Full s r)) (register_store_means n b s z);
+      means = line_by _ (Star ∷ Open ∷ Unsigned n ∷ Star ∷ Close ∷ Open ∷ Register Bits64 b
+          ∷ sign_tokens z (Close ∷ Assign operator.Mov 0 ∷ Register Bits64 s ∷ [])) _
+          ((λ j. Star ∷ place_kinds (size_text n) (Unsigned n) b z (After (codes "=") ∷ After (register_text Bits64 s) ∷ []) (unsigned_size n) l h j) ∙ ap
+          (λ k. Star ∷ Open ∷ Unsigned n ∷ Star ∷ Close ∷ Open ∷ Register Bits64 b ∷ sign_tokens z (Close ∷ Assign operator.Mov 0 ∷ k ∷ []))
+          (register_kind Bits64 s r)) (register_store_means n b s z);
       fits = both (fits (2 ^ 15) (value_of z)) (fits (2 ^ 31) (exactly 0)) (in_range16 z h) refl;
       no_label = refl;
       len = refl;
@@ -777,9 +777,9 @@ number_store_line n b z v high l h g =
         place_good (size_text n) (Unsigned n) b z (After (codes "=") ∷ number v []) (unsigned_size n) l h
             (lit (codes ")") _ (omega arith) refl refl) (equals_number v, refl, number_good v [] g tt tt),
       );
-      means = line_by _ (Star ∷ Open ∷ Unsigned n ∷ Star ∷ Close ∷ Open ∷ Register Full b ∷ sign_tokens z (Close ∷ Assign operator.Move 0 ∷ number_tokens v []))
+      means = line_by _ (Star ∷ Open ∷ Unsigned n ∷ Star ∷ Close ∷ Open ∷ Register Bits64 b ∷ sign_tokens z (Close ∷ Assign operator.Mov 0 ∷ number_tokens v []))
           _ ((λ j. Star ∷ place_kinds (size_text n) (Unsigned n) b z (After (codes "=") ∷ number v []) (unsigned_size n) l h j) ∙ ap
-          (λ k. Star ∷ Open ∷ Unsigned n ∷ Star ∷ Close ∷ Open ∷ Register Full b ∷ sign_tokens z (Close ∷ Assign operator.Move 0 ∷ k)) (number_kinds v [] g))
+          (λ k. Star ∷ Open ∷ Unsigned n ∷ Star ∷ Close ∷ Open ∷ Register Bits64 b ∷ sign_tokens z (Close ∷ Assign operator.Mov 0 ∷ k)) (number_kinds v [] g))
           (number_store_means n b z v);
       fits = both (fits (2 ^ 15) (value_of z)) (fits (2 ^ 31) (value_of v)) (in_range16 z h) (in_range32 v g);
       no_label = refl;
@@ -833,36 +833,36 @@ call_written = record { front = λ u. lit (codes "call") (32 ∷ u) (omega arith
 pub wider : (z : ℤ) → FitsSigned w16 z → FitsSigned w32 z
 wider z h = search rules
 
-pub goto_means : (z : ℤ) → line_of (Goto ∷ sign_tokens z []) ≡ Some (line.Statement (Jump form.Goto no_fields (Distance (value_of z))))
+pub goto_means : (z : ℤ) → line_of (Goto ∷ sign_tokens z []) ≡ Some (line.Statement (Jump form.Ja no_fields (Distance (value_of z))))
 goto_means (pos n) = refl
 goto_means (negsuc n) = refl
 
-pub gotol_means : (z : ℤ) → line_of (GotoLong ∷ sign_tokens z []) ≡ Some (line.Statement (Jump form.GotoLong no_fields (Distance (value_of z))))
+pub gotol_means : (z : ℤ) → line_of (GotoLong ∷ sign_tokens z []) ≡ Some (line.Statement (Jump form.Ja32 no_fields (Distance (value_of z))))
 gotol_means (pos n) = refl
 gotol_means (negsuc n) = refl
 
-pub goto_line : (z high : ℤ) → FitsSigned w16 z → SaysOf (Next (codes "goto") ∷ distance z []) false (inst_of form.Goto 0 0 z (pos 0)) high
+pub goto_line : (z high : ℤ) → FitsSigned w16 z → SaysOf (Next (codes "goto") ∷ distance z []) false (inst_of form.Ja 0 0 z (pos 0)) high
 goto_line z high h =
     record {
-      says = Jump form.Goto no_fields (Distance (value_of z));
+      says = Jump form.Ja no_fields (Distance (value_of z));
       good = (before_distance (codes "goto") Goto z goto_written, refl, distance_good z (wider z h));
       means = line_by _ (Goto ∷ sign_tokens z []) _ (ap (λ l. Goto ∷ l) (distance_kinds z (wider z h))) (goto_means z);
       fits = in_range16 z h;
       no_label = refl;
       len = refl;
-      units = λ ls at name. ap (λ x. First (inst_of form.Goto 0 0 x (pos 0)) ∷ []) (int_back z);
+      units = λ ls at name. ap (λ x. First (inst_of form.Ja 0 0 x (pos 0)) ∷ []) (int_back z);
     }
 
-pub gotol_line : (z high : ℤ) → FitsSigned w32 z → SaysOf (Next (codes "gotol") ∷ distance z []) false (inst_of form.GotoLong 0 0 (pos 0) z) high
+pub gotol_line : (z high : ℤ) → FitsSigned w32 z → SaysOf (Next (codes "gotol") ∷ distance z []) false (inst_of form.Ja32 0 0 (pos 0) z) high
 gotol_line z high h =
     record {
-      says = Jump form.GotoLong no_fields (Distance (value_of z));
+      says = Jump form.Ja32 no_fields (Distance (value_of z));
       good = (before_distance (codes "gotol") GotoLong z gotol_written, refl, distance_good z h);
       means = line_by _ (GotoLong ∷ sign_tokens z []) _ (ap (λ l. GotoLong ∷ l) (distance_kinds z h)) (gotol_means z);
       fits = in_range32 z h;
       no_label = refl;
       len = refl;
-      units = λ ls at name. ap (λ x. First (inst_of form.GotoLong 0 0 (pos 0) x) ∷ []) (int_back z);
+      units = λ ls at name. ap (λ x. First (inst_of form.Ja32 0 0 (pos 0) x) ∷ []) (int_back z);
     }
 
 pub branch_register_means : (c : Condition) (w : Width) (d s : ℕ) (z : ℤ) → line_of (If ∷ Register w d ∷ Compare c ∷ Register w s ∷ Goto ∷ sign_tokens z [])

@@ -15,9 +15,9 @@ use Rattle.bpf_asm.specs.Program.{row, row_of, row_by, row_with, words_of, label
 use Rattle.bpf_asm.specs.Text.{Piece, Next, After, token_of, line_text}
 use Rattle.bpf_asm.proofs.Again.{body, IsFront, AreCut, cut_again, decimal_digits}
 
--- ---- texts without a line's end and without a comment
+-- ---- texts without an end of line and without a comment
 
--- no control byte, all ASCII, and a slash only before `=`
+-- each byte is ASCII and above LF (10), and a slash comes only before `=`
 abbrev pub clean : Text → Bool
 clean [] = true
 clean (b ∷ t) = (nat_lt 10 b && nat_lt b 128) && (not (b == 47) || (slice_index t 0 == 61)) && clean t
@@ -103,7 +103,7 @@ decimal_clean n small = digits_clean (decimal n) (decimal_digits n small)
 
 -- ---- lines of pieces
 
--- each token is cut off before what follows it, and is clean
+-- each token is taken off the front of what follows it, and is clean
 abbrev pub AreGood : List Piece → Type 0
 AreGood [] = ⊤
 AreGood (Next t ∷ ps) = IsFront t (body ps) × (clean t ≡ true) × AreGood ps

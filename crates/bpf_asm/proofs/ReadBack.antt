@@ -1,4 +1,4 @@
--- The canonical text of a program spells the program, where each of its instructions' lines says the instruction.
+-- The canonical text of a program spells the program, if the line of each of its instructions says the instruction.
 use Rattle.std.proofs.Common.{◌≡◌, ◌<◌, ◌≤◌, ◌+◌, ℕ, List, [], ◌∷◌, ◌++◌, length, map, Some, None, Bool, true, false, refl, ap, sym, ◌∙◌, subst, append_assoc}
 use Rattle.std.proofs.Common.{arith, length-append}
 use Rattle.std.specs.Prelude.{◌&&◌, not, Ok, cond, ℤ, is_some, ⊤}
@@ -25,7 +25,7 @@ abbrev pub units_by : Bool → Inst → ℤ → List ProgramUnit
 units_by true i high = First i ∷ Second high ∷ []
 units_by false i high = First i ∷ []
 
--- a line of these pieces says the instruction, which takes one unit or two
+-- the line of these pieces says the instruction, which takes one unit or two
 pub record SaysOf (ps : List Piece) (wide : Bool) (i : Inst) (high : ℤ) : Type 0 where
   pub says : Statement
   pub good : AreGood ps
@@ -47,7 +47,7 @@ AllSay false [] = ⊥
 AllSay false (First i ∷ us) = ⊥
 AllSay false (Second v ∷ us) = AllSay true us
 
--- a text whose lines have no fault and spell these units
+-- the lines of the text have no fault and no label, and spell these units
 record Back (text : Text) (us : List ProgramUnit) : Type 0 where
   none : (n : ℕ) → first_line_fault n (cut text) ≡ None
   labels : (at : ℕ) → labels_from at (rows_of (cut text)) ≡ []
@@ -124,7 +124,7 @@ all_back false (Second v ∷ us) h = all_back true us h
 good_length : (n : ℕ) → 0 < n → n ≤ 512 → length_fault n ≡ None
 good_length n low high = grind (arith, nat_tests)
 
--- the canonical text spells the program
+-- the canonical text of these units spells them
 pub spells_again : (us : List ProgramUnit) → 0 < length us → length us ≤ 512 → AllSay true us → assembled (canon us) ≡ Ok us
 spells_again us some few h =
     let b = all_back true us h in

@@ -1,4 +1,4 @@
--- What the grammar gives is an instruction of the profile: its opcode is its form's, its fields are those that the form takes.
+-- The grammar gives only instructions of this profile: each has its form's opcode, and the fields that the form takes.
 use Rattle.std.proofs.Common.{◌≡◌, ℕ, ◌-◌, List, [], ◌∷◌, map, Option, Some, None, Bool, true, false, refl, ap, ◌∙◌, arith}
 use Rattle.std.specs.Prelude.{◌&&◌, ◌||◌, ◌==◌, nat_le, cond, pos, option_map, slice_index, ⊤}
 use Rattle.std.specs.List.{list_all}
@@ -6,7 +6,7 @@ use Rattle.std.specs.Str.{bytes_eq}
 use Rattle.std.specs.Char.{is_ascii_digit}
 use Rattle.std.proofs.lemmas.Bool.Decides.{nat_tests}
 use Rattle.bpf_model.specs.declared.instruction.Width.{Width}
-use Rattle.bpf_model.specs.declared.instruction.Width.TheVariants.{Narrow, Full}
+use Rattle.bpf_model.specs.declared.instruction.Width.TheVariants.{Bits32, Bits64}
 use Rattle.bpf_model.specs.declared.instruction.Source.{Source}
 use Rattle.bpf_model.specs.declared.instruction.Source.TheVariants as source
 use Rattle.bpf_model.specs.declared.instruction.Operator.{Operator}
@@ -39,108 +39,108 @@ use Rattle.bpf_asm.specs.Sound.{IsSoundForm, IsJump, IsSound, AreSound}
 
 arithmetic_opcode : (op : Operator) (w : Width) (s : Source) → has_form op w s ≡ true
     → form_of (opcode_of (form.Arithmetic op w s)) ≡ Some (form.Arithmetic op w s)
-arithmetic_opcode operator.Sum Narrow source.Immediate h = refl
-arithmetic_opcode operator.Sum Narrow source.Register h = refl
-arithmetic_opcode operator.Sum Full source.Immediate h = refl
-arithmetic_opcode operator.Sum Full source.Register h = refl
-arithmetic_opcode operator.Difference Narrow source.Immediate h = refl
-arithmetic_opcode operator.Difference Narrow source.Register h = refl
-arithmetic_opcode operator.Difference Full source.Immediate h = refl
-arithmetic_opcode operator.Difference Full source.Register h = refl
-arithmetic_opcode operator.Product Narrow source.Immediate h = refl
-arithmetic_opcode operator.Product Narrow source.Register h = refl
-arithmetic_opcode operator.Product Full source.Immediate h = refl
-arithmetic_opcode operator.Product Full source.Register h = refl
-arithmetic_opcode operator.Quotient Narrow source.Immediate h = refl
-arithmetic_opcode operator.Quotient Narrow source.Register h = refl
-arithmetic_opcode operator.Quotient Full source.Immediate h = refl
-arithmetic_opcode operator.Quotient Full source.Register h = refl
-arithmetic_opcode operator.Or Narrow source.Immediate h = refl
-arithmetic_opcode operator.Or Narrow source.Register h = refl
-arithmetic_opcode operator.Or Full source.Immediate h = refl
-arithmetic_opcode operator.Or Full source.Register h = refl
-arithmetic_opcode operator.And Narrow source.Immediate h = refl
-arithmetic_opcode operator.And Narrow source.Register h = refl
-arithmetic_opcode operator.And Full source.Immediate h = refl
-arithmetic_opcode operator.And Full source.Register h = refl
-arithmetic_opcode operator.ShiftLeft Narrow source.Immediate h = refl
-arithmetic_opcode operator.ShiftLeft Narrow source.Register h = refl
-arithmetic_opcode operator.ShiftLeft Full source.Immediate h = refl
-arithmetic_opcode operator.ShiftLeft Full source.Register h = refl
-arithmetic_opcode operator.ShiftRight Narrow source.Immediate h = refl
-arithmetic_opcode operator.ShiftRight Narrow source.Register h = refl
-arithmetic_opcode operator.ShiftRight Full source.Immediate h = refl
-arithmetic_opcode operator.ShiftRight Full source.Register h = refl
-arithmetic_opcode operator.Negate Narrow source.Immediate h = refl
-arithmetic_opcode operator.Negate Narrow source.Register h = absurd (cc)
-arithmetic_opcode operator.Negate Full source.Immediate h = refl
-arithmetic_opcode operator.Negate Full source.Register h = absurd (cc)
-arithmetic_opcode operator.Remainder Narrow source.Immediate h = refl
-arithmetic_opcode operator.Remainder Narrow source.Register h = refl
-arithmetic_opcode operator.Remainder Full source.Immediate h = refl
-arithmetic_opcode operator.Remainder Full source.Register h = refl
-arithmetic_opcode operator.Xor Narrow source.Immediate h = refl
-arithmetic_opcode operator.Xor Narrow source.Register h = refl
-arithmetic_opcode operator.Xor Full source.Immediate h = refl
-arithmetic_opcode operator.Xor Full source.Register h = refl
-arithmetic_opcode operator.Move Narrow source.Immediate h = refl
-arithmetic_opcode operator.Move Narrow source.Register h = refl
-arithmetic_opcode operator.Move Full source.Immediate h = refl
-arithmetic_opcode operator.Move Full source.Register h = refl
-arithmetic_opcode operator.ShiftSigned Narrow source.Immediate h = refl
-arithmetic_opcode operator.ShiftSigned Narrow source.Register h = refl
-arithmetic_opcode operator.ShiftSigned Full source.Immediate h = refl
-arithmetic_opcode operator.ShiftSigned Full source.Register h = refl
-arithmetic_opcode operator.SwapBytes Narrow source.Immediate h = refl
-arithmetic_opcode operator.SwapBytes Narrow source.Register h = refl
-arithmetic_opcode operator.SwapBytes Full source.Immediate h = refl
-arithmetic_opcode operator.SwapBytes Full source.Register h = absurd (cc)
+arithmetic_opcode operator.Add Bits32 source.Immediate h = refl
+arithmetic_opcode operator.Add Bits32 source.Register h = refl
+arithmetic_opcode operator.Add Bits64 source.Immediate h = refl
+arithmetic_opcode operator.Add Bits64 source.Register h = refl
+arithmetic_opcode operator.Sub Bits32 source.Immediate h = refl
+arithmetic_opcode operator.Sub Bits32 source.Register h = refl
+arithmetic_opcode operator.Sub Bits64 source.Immediate h = refl
+arithmetic_opcode operator.Sub Bits64 source.Register h = refl
+arithmetic_opcode operator.Mul Bits32 source.Immediate h = refl
+arithmetic_opcode operator.Mul Bits32 source.Register h = refl
+arithmetic_opcode operator.Mul Bits64 source.Immediate h = refl
+arithmetic_opcode operator.Mul Bits64 source.Register h = refl
+arithmetic_opcode operator.Div Bits32 source.Immediate h = refl
+arithmetic_opcode operator.Div Bits32 source.Register h = refl
+arithmetic_opcode operator.Div Bits64 source.Immediate h = refl
+arithmetic_opcode operator.Div Bits64 source.Register h = refl
+arithmetic_opcode operator.Or Bits32 source.Immediate h = refl
+arithmetic_opcode operator.Or Bits32 source.Register h = refl
+arithmetic_opcode operator.Or Bits64 source.Immediate h = refl
+arithmetic_opcode operator.Or Bits64 source.Register h = refl
+arithmetic_opcode operator.And Bits32 source.Immediate h = refl
+arithmetic_opcode operator.And Bits32 source.Register h = refl
+arithmetic_opcode operator.And Bits64 source.Immediate h = refl
+arithmetic_opcode operator.And Bits64 source.Register h = refl
+arithmetic_opcode operator.Lsh Bits32 source.Immediate h = refl
+arithmetic_opcode operator.Lsh Bits32 source.Register h = refl
+arithmetic_opcode operator.Lsh Bits64 source.Immediate h = refl
+arithmetic_opcode operator.Lsh Bits64 source.Register h = refl
+arithmetic_opcode operator.Rsh Bits32 source.Immediate h = refl
+arithmetic_opcode operator.Rsh Bits32 source.Register h = refl
+arithmetic_opcode operator.Rsh Bits64 source.Immediate h = refl
+arithmetic_opcode operator.Rsh Bits64 source.Register h = refl
+arithmetic_opcode operator.Neg Bits32 source.Immediate h = refl
+arithmetic_opcode operator.Neg Bits32 source.Register h = absurd (cc)
+arithmetic_opcode operator.Neg Bits64 source.Immediate h = refl
+arithmetic_opcode operator.Neg Bits64 source.Register h = absurd (cc)
+arithmetic_opcode operator.Mod Bits32 source.Immediate h = refl
+arithmetic_opcode operator.Mod Bits32 source.Register h = refl
+arithmetic_opcode operator.Mod Bits64 source.Immediate h = refl
+arithmetic_opcode operator.Mod Bits64 source.Register h = refl
+arithmetic_opcode operator.Xor Bits32 source.Immediate h = refl
+arithmetic_opcode operator.Xor Bits32 source.Register h = refl
+arithmetic_opcode operator.Xor Bits64 source.Immediate h = refl
+arithmetic_opcode operator.Xor Bits64 source.Register h = refl
+arithmetic_opcode operator.Mov Bits32 source.Immediate h = refl
+arithmetic_opcode operator.Mov Bits32 source.Register h = refl
+arithmetic_opcode operator.Mov Bits64 source.Immediate h = refl
+arithmetic_opcode operator.Mov Bits64 source.Register h = refl
+arithmetic_opcode operator.Arsh Bits32 source.Immediate h = refl
+arithmetic_opcode operator.Arsh Bits32 source.Register h = refl
+arithmetic_opcode operator.Arsh Bits64 source.Immediate h = refl
+arithmetic_opcode operator.Arsh Bits64 source.Register h = refl
+arithmetic_opcode operator.SwapBytes Bits32 source.Immediate h = refl
+arithmetic_opcode operator.SwapBytes Bits32 source.Register h = refl
+arithmetic_opcode operator.SwapBytes Bits64 source.Immediate h = refl
+arithmetic_opcode operator.SwapBytes Bits64 source.Register h = absurd (cc)
 
 branch_opcode : (c : Condition) (w : Width) (s : Source) → form_of (opcode_of (form.Branch c w s)) ≡ Some (form.Branch c w s)
-branch_opcode condition.Equal Narrow source.Immediate = refl
-branch_opcode condition.Equal Narrow source.Register = refl
-branch_opcode condition.Equal Full source.Immediate = refl
-branch_opcode condition.Equal Full source.Register = refl
-branch_opcode condition.Over Narrow source.Immediate = refl
-branch_opcode condition.Over Narrow source.Register = refl
-branch_opcode condition.Over Full source.Immediate = refl
-branch_opcode condition.Over Full source.Register = refl
-branch_opcode condition.NotBelow Narrow source.Immediate = refl
-branch_opcode condition.NotBelow Narrow source.Register = refl
-branch_opcode condition.NotBelow Full source.Immediate = refl
-branch_opcode condition.NotBelow Full source.Register = refl
-branch_opcode condition.SharesBit Narrow source.Immediate = refl
-branch_opcode condition.SharesBit Narrow source.Register = refl
-branch_opcode condition.SharesBit Full source.Immediate = refl
-branch_opcode condition.SharesBit Full source.Register = refl
-branch_opcode condition.Differs Narrow source.Immediate = refl
-branch_opcode condition.Differs Narrow source.Register = refl
-branch_opcode condition.Differs Full source.Immediate = refl
-branch_opcode condition.Differs Full source.Register = refl
-branch_opcode condition.OverSigned Narrow source.Immediate = refl
-branch_opcode condition.OverSigned Narrow source.Register = refl
-branch_opcode condition.OverSigned Full source.Immediate = refl
-branch_opcode condition.OverSigned Full source.Register = refl
-branch_opcode condition.NotBelowSigned Narrow source.Immediate = refl
-branch_opcode condition.NotBelowSigned Narrow source.Register = refl
-branch_opcode condition.NotBelowSigned Full source.Immediate = refl
-branch_opcode condition.NotBelowSigned Full source.Register = refl
-branch_opcode condition.Below Narrow source.Immediate = refl
-branch_opcode condition.Below Narrow source.Register = refl
-branch_opcode condition.Below Full source.Immediate = refl
-branch_opcode condition.Below Full source.Register = refl
-branch_opcode condition.NotOver Narrow source.Immediate = refl
-branch_opcode condition.NotOver Narrow source.Register = refl
-branch_opcode condition.NotOver Full source.Immediate = refl
-branch_opcode condition.NotOver Full source.Register = refl
-branch_opcode condition.BelowSigned Narrow source.Immediate = refl
-branch_opcode condition.BelowSigned Narrow source.Register = refl
-branch_opcode condition.BelowSigned Full source.Immediate = refl
-branch_opcode condition.BelowSigned Full source.Register = refl
-branch_opcode condition.NotOverSigned Narrow source.Immediate = refl
-branch_opcode condition.NotOverSigned Narrow source.Register = refl
-branch_opcode condition.NotOverSigned Full source.Immediate = refl
-branch_opcode condition.NotOverSigned Full source.Register = refl
+branch_opcode condition.Jeq Bits32 source.Immediate = refl
+branch_opcode condition.Jeq Bits32 source.Register = refl
+branch_opcode condition.Jeq Bits64 source.Immediate = refl
+branch_opcode condition.Jeq Bits64 source.Register = refl
+branch_opcode condition.Jgt Bits32 source.Immediate = refl
+branch_opcode condition.Jgt Bits32 source.Register = refl
+branch_opcode condition.Jgt Bits64 source.Immediate = refl
+branch_opcode condition.Jgt Bits64 source.Register = refl
+branch_opcode condition.Jge Bits32 source.Immediate = refl
+branch_opcode condition.Jge Bits32 source.Register = refl
+branch_opcode condition.Jge Bits64 source.Immediate = refl
+branch_opcode condition.Jge Bits64 source.Register = refl
+branch_opcode condition.Jset Bits32 source.Immediate = refl
+branch_opcode condition.Jset Bits32 source.Register = refl
+branch_opcode condition.Jset Bits64 source.Immediate = refl
+branch_opcode condition.Jset Bits64 source.Register = refl
+branch_opcode condition.Jne Bits32 source.Immediate = refl
+branch_opcode condition.Jne Bits32 source.Register = refl
+branch_opcode condition.Jne Bits64 source.Immediate = refl
+branch_opcode condition.Jne Bits64 source.Register = refl
+branch_opcode condition.Jsgt Bits32 source.Immediate = refl
+branch_opcode condition.Jsgt Bits32 source.Register = refl
+branch_opcode condition.Jsgt Bits64 source.Immediate = refl
+branch_opcode condition.Jsgt Bits64 source.Register = refl
+branch_opcode condition.Jsge Bits32 source.Immediate = refl
+branch_opcode condition.Jsge Bits32 source.Register = refl
+branch_opcode condition.Jsge Bits64 source.Immediate = refl
+branch_opcode condition.Jsge Bits64 source.Register = refl
+branch_opcode condition.Jlt Bits32 source.Immediate = refl
+branch_opcode condition.Jlt Bits32 source.Register = refl
+branch_opcode condition.Jlt Bits64 source.Immediate = refl
+branch_opcode condition.Jlt Bits64 source.Register = refl
+branch_opcode condition.Jle Bits32 source.Immediate = refl
+branch_opcode condition.Jle Bits32 source.Register = refl
+branch_opcode condition.Jle Bits64 source.Immediate = refl
+branch_opcode condition.Jle Bits64 source.Register = refl
+branch_opcode condition.Jslt Bits32 source.Immediate = refl
+branch_opcode condition.Jslt Bits32 source.Register = refl
+branch_opcode condition.Jslt Bits64 source.Immediate = refl
+branch_opcode condition.Jslt Bits64 source.Register = refl
+branch_opcode condition.Jsle Bits32 source.Immediate = refl
+branch_opcode condition.Jsle Bits32 source.Register = refl
+branch_opcode condition.Jsle Bits64 source.Immediate = refl
+branch_opcode condition.Jsle Bits64 source.Register = refl
 
 load_opcode : (size : Size) → form_of (opcode_of (form.Load size)) ≡ Some (form.Load size)
 load_opcode Byte = refl
@@ -164,19 +164,19 @@ register_store_opcode Double = refl
 
 -- the offsets that an operator takes
 abbrev takes : Operator → ℕ → Bool
-takes operator.Sum n = n == 0
-takes operator.Difference n = n == 0
-takes operator.Product n = n == 0
-takes operator.Quotient n = (n == 0) || (n == 1)
+takes operator.Add n = n == 0
+takes operator.Sub n = n == 0
+takes operator.Mul n = n == 0
+takes operator.Div n = (n == 0) || (n == 1)
 takes operator.Or n = n == 0
 takes operator.And n = n == 0
-takes operator.ShiftLeft n = n == 0
-takes operator.ShiftRight n = n == 0
-takes operator.Negate n = false
-takes operator.Remainder n = (n == 0) || (n == 1)
+takes operator.Lsh n = n == 0
+takes operator.Rsh n = n == 0
+takes operator.Neg n = false
+takes operator.Mod n = (n == 0) || (n == 1)
 takes operator.Xor n = n == 0
-takes operator.Move n = n == 0
-takes operator.ShiftSigned n = n == 0
+takes operator.Mov n = n == 0
+takes operator.Arsh n = n == 0
 takes operator.SwapBytes n = false
 
 abbrev not_double : Size → Bool
@@ -210,79 +210,79 @@ alone a g = ap (λ x. x && true) g
 
 immediate_fields : (op : Operator) (n : ℕ) (w : Width) (dst : ℕ) (v : Value) → takes op n ≡ true
     → has_right_fields (form.Arithmetic op w source.Immediate) (inst_of (form.Arithmetic op w source.Immediate) dst 0 (int_of (exactly n)) (int_of v)) ≡ true
-immediate_fields operator.Sum n w dst v h = h
-immediate_fields operator.Difference n w dst v h = h
-immediate_fields operator.Product n w dst v h = h
-immediate_fields operator.Quotient n w dst v h = h
+immediate_fields operator.Add n w dst v h = h
+immediate_fields operator.Sub n w dst v h = h
+immediate_fields operator.Mul n w dst v h = h
+immediate_fields operator.Div n w dst v h = h
 immediate_fields operator.Or n w dst v h = h
 immediate_fields operator.And n w dst v h = h
-immediate_fields operator.ShiftLeft n w dst v h = h
-immediate_fields operator.ShiftRight n w dst v h = h
-immediate_fields operator.Negate n w dst v h = absurd (cc)
-immediate_fields operator.Remainder n w dst v h = h
+immediate_fields operator.Lsh n w dst v h = h
+immediate_fields operator.Rsh n w dst v h = h
+immediate_fields operator.Neg n w dst v h = absurd (cc)
+immediate_fields operator.Mod n w dst v h = h
 immediate_fields operator.Xor n w dst v h = h
-immediate_fields operator.Move n w dst v h = ap (λ b. b || extends_from w source.Immediate (pos n)) h
-immediate_fields operator.ShiftSigned n w dst v h = h
+immediate_fields operator.Mov n w dst v h = ap (λ b. b || extends_from w source.Immediate (pos n)) h
+immediate_fields operator.Arsh n w dst v h = h
 immediate_fields operator.SwapBytes n w dst v h = absurd (cc)
 
 register_fields : (op : Operator) (n : ℕ) (w : Width) (dst src : ℕ) → takes op n ≡ true
     → has_right_fields (form.Arithmetic op w source.Register) (inst_of (form.Arithmetic op w source.Register) dst src (int_of (exactly n)) (int_of (exactly 0)))
     ≡ true
-register_fields operator.Sum n w dst src h = h
-register_fields operator.Difference n w dst src h = h
-register_fields operator.Product n w dst src h = h
-register_fields operator.Quotient n w dst src h = h
+register_fields operator.Add n w dst src h = h
+register_fields operator.Sub n w dst src h = h
+register_fields operator.Mul n w dst src h = h
+register_fields operator.Div n w dst src h = h
 register_fields operator.Or n w dst src h = h
 register_fields operator.And n w dst src h = h
-register_fields operator.ShiftLeft n w dst src h = h
-register_fields operator.ShiftRight n w dst src h = h
-register_fields operator.Negate n w dst src h = absurd (cc)
-register_fields operator.Remainder n w dst src h = h
+register_fields operator.Lsh n w dst src h = h
+register_fields operator.Rsh n w dst src h = h
+register_fields operator.Neg n w dst src h = absurd (cc)
+register_fields operator.Mod n w dst src h = h
 register_fields operator.Xor n w dst src h = h
-register_fields operator.Move n w dst src h = ap (λ b. b || extends_from w source.Register (pos n)) h
-register_fields operator.ShiftSigned n w dst src h = h
+register_fields operator.Mov n w dst src h = ap (λ b. b || extends_from w source.Register (pos n)) h
+register_fields operator.Arsh n w dst src h = h
 register_fields operator.SwapBytes n w dst src h = absurd (cc)
 
 immediate_plain : (op : Operator) (n : ℕ) (w : Width) (dst : ℕ) (v : Value) → takes op n ≡ true → nat_le dst 10 ≡ true
     → IsSoundForm (form.Arithmetic op w source.Immediate) (fields dst 0 (exactly n) v)
-immediate_plain operator.Sum n w dst v h d = record {
+immediate_plain operator.Add n w dst v h d = record {
   is_of = record {
-    form_is = arithmetic_opcode operator.Sum w source.Immediate refl;
+    form_is = arithmetic_opcode operator.Add w source.Immediate refl;
     narrow = refl;
     dst = d;
     src = refl;
   };
-  fields = immediate_fields operator.Sum n w dst v h;
+  fields = immediate_fields operator.Add n w dst v h;
   registers = alone (nat_le dst 10) d;
 }
-immediate_plain operator.Difference n w dst v h d = record {
+immediate_plain operator.Sub n w dst v h d = record {
   is_of = record {
-    form_is = arithmetic_opcode operator.Difference w source.Immediate refl;
+    form_is = arithmetic_opcode operator.Sub w source.Immediate refl;
     narrow = refl;
     dst = d;
     src = refl;
   };
-  fields = immediate_fields operator.Difference n w dst v h;
+  fields = immediate_fields operator.Sub n w dst v h;
   registers = alone (nat_le dst 10) d;
 }
-immediate_plain operator.Product n w dst v h d = record {
+immediate_plain operator.Mul n w dst v h d = record {
   is_of = record {
-    form_is = arithmetic_opcode operator.Product w source.Immediate refl;
+    form_is = arithmetic_opcode operator.Mul w source.Immediate refl;
     narrow = refl;
     dst = d;
     src = refl;
   };
-  fields = immediate_fields operator.Product n w dst v h;
+  fields = immediate_fields operator.Mul n w dst v h;
   registers = alone (nat_le dst 10) d;
 }
-immediate_plain operator.Quotient n w dst v h d = record {
+immediate_plain operator.Div n w dst v h d = record {
   is_of = record {
-    form_is = arithmetic_opcode operator.Quotient w source.Immediate refl;
+    form_is = arithmetic_opcode operator.Div w source.Immediate refl;
     narrow = refl;
     dst = d;
     src = refl;
   };
-  fields = immediate_fields operator.Quotient n w dst v h;
+  fields = immediate_fields operator.Div n w dst v h;
   registers = alone (nat_le dst 10) d;
 }
 immediate_plain operator.Or n w dst v h d = record {
@@ -305,35 +305,35 @@ immediate_plain operator.And n w dst v h d = record {
   fields = immediate_fields operator.And n w dst v h;
   registers = alone (nat_le dst 10) d;
 }
-immediate_plain operator.ShiftLeft n w dst v h d = record {
+immediate_plain operator.Lsh n w dst v h d = record {
   is_of = record {
-    form_is = arithmetic_opcode operator.ShiftLeft w source.Immediate refl;
+    form_is = arithmetic_opcode operator.Lsh w source.Immediate refl;
     narrow = refl;
     dst = d;
     src = refl;
   };
-  fields = immediate_fields operator.ShiftLeft n w dst v h;
+  fields = immediate_fields operator.Lsh n w dst v h;
   registers = alone (nat_le dst 10) d;
 }
-immediate_plain operator.ShiftRight n w dst v h d = record {
+immediate_plain operator.Rsh n w dst v h d = record {
   is_of = record {
-    form_is = arithmetic_opcode operator.ShiftRight w source.Immediate refl;
+    form_is = arithmetic_opcode operator.Rsh w source.Immediate refl;
     narrow = refl;
     dst = d;
     src = refl;
   };
-  fields = immediate_fields operator.ShiftRight n w dst v h;
+  fields = immediate_fields operator.Rsh n w dst v h;
   registers = alone (nat_le dst 10) d;
 }
-immediate_plain operator.Negate n w dst v h d = absurd (cc)
-immediate_plain operator.Remainder n w dst v h d = record {
+immediate_plain operator.Neg n w dst v h d = absurd (cc)
+immediate_plain operator.Mod n w dst v h d = record {
   is_of = record {
-    form_is = arithmetic_opcode operator.Remainder w source.Immediate refl;
+    form_is = arithmetic_opcode operator.Mod w source.Immediate refl;
     narrow = refl;
     dst = d;
     src = refl;
   };
-  fields = immediate_fields operator.Remainder n w dst v h;
+  fields = immediate_fields operator.Mod n w dst v h;
   registers = alone (nat_le dst 10) d;
 }
 immediate_plain operator.Xor n w dst v h d = record {
@@ -346,68 +346,68 @@ immediate_plain operator.Xor n w dst v h d = record {
   fields = immediate_fields operator.Xor n w dst v h;
   registers = alone (nat_le dst 10) d;
 }
-immediate_plain operator.Move n w dst v h d = record {
+immediate_plain operator.Mov n w dst v h d = record {
   is_of = record {
-    form_is = arithmetic_opcode operator.Move w source.Immediate refl;
+    form_is = arithmetic_opcode operator.Mov w source.Immediate refl;
     narrow = refl;
     dst = d;
     src = refl;
   };
-  fields = immediate_fields operator.Move n w dst v h;
+  fields = immediate_fields operator.Mov n w dst v h;
   registers = alone (nat_le dst 10) d;
 }
-immediate_plain operator.ShiftSigned n w dst v h d = record {
+immediate_plain operator.Arsh n w dst v h d = record {
   is_of = record {
-    form_is = arithmetic_opcode operator.ShiftSigned w source.Immediate refl;
+    form_is = arithmetic_opcode operator.Arsh w source.Immediate refl;
     narrow = refl;
     dst = d;
     src = refl;
   };
-  fields = immediate_fields operator.ShiftSigned n w dst v h;
+  fields = immediate_fields operator.Arsh n w dst v h;
   registers = alone (nat_le dst 10) d;
 }
 immediate_plain operator.SwapBytes n w dst v h d = absurd (cc)
 
 register_plain : (op : Operator) (n : ℕ) (w : Width) (dst src : ℕ) → takes op n ≡ true → nat_le dst 10 ≡ true → nat_le src 10 ≡ true
     → IsSoundForm (form.Arithmetic op w source.Register) (fields dst src (exactly n) (exactly 0))
-register_plain operator.Sum n w dst src h d e = record {
+register_plain operator.Add n w dst src h d e = record {
   is_of = record {
-    form_is = arithmetic_opcode operator.Sum w source.Register refl;
+    form_is = arithmetic_opcode operator.Add w source.Register refl;
     narrow = refl;
     dst = d;
     src = e;
   };
-  fields = register_fields operator.Sum n w dst src h;
+  fields = register_fields operator.Add n w dst src h;
   registers = both (nat_le dst 10) (nat_le src 10) d e;
 }
-register_plain operator.Difference n w dst src h d e = record {
+register_plain operator.Sub n w dst src h d e = record {
   is_of = record {
-    form_is = arithmetic_opcode operator.Difference w source.Register refl;
+    form_is = arithmetic_opcode operator.Sub w source.Register refl;
     narrow = refl;
     dst = d;
     src = e;
   };
-  fields = register_fields operator.Difference n w dst src h;
+  fields = register_fields operator.Sub n w dst src h;
   registers = both (nat_le dst 10) (nat_le src 10) d e;
 }
-register_plain operator.Product n w dst src h d e = record {
+register_plain operator.Mul n w dst src h d e = record {
   is_of = record {
-    form_is = arithmetic_opcode operator.Product w source.Register refl;
+    form_is = arithmetic_opcode operator.Mul w source.Register refl;
     narrow = refl;
     dst = d;
     src = e;
   };
-  fields = register_fields operator.Product n w dst src h;
+  fields = register_fields operator.Mul n w dst src h;
   registers = both (nat_le dst 10) (nat_le src 10) d e;
 }
-register_plain operator.Quotient n w dst src h d e = record {
+register_plain operator.Div n w dst src h d e = record {
   is_of = record {
-    form_is = arithmetic_opcode operator.Quotient w source.Register refl;
+    form_is = arithmetic_opcode operator.Div w source.Register refl;
     narrow = refl;
     dst = d;
     src = e;
   };
-  fields = register_fields operator.Quotient n w dst src h;
+  fields = register_fields operator.Div n w dst src h;
   registers = both (nat_le dst 10) (nat_le src 10) d e;
 }
 register_plain operator.Or n w dst src h d e = record {
@@ -430,35 +430,35 @@ register_plain operator.And n w dst src h d e = record {
   fields = register_fields operator.And n w dst src h;
   registers = both (nat_le dst 10) (nat_le src 10) d e;
 }
-register_plain operator.ShiftLeft n w dst src h d e = record {
+register_plain operator.Lsh n w dst src h d e = record {
   is_of = record {
-    form_is = arithmetic_opcode operator.ShiftLeft w source.Register refl;
+    form_is = arithmetic_opcode operator.Lsh w source.Register refl;
     narrow = refl;
     dst = d;
     src = e;
   };
-  fields = register_fields operator.ShiftLeft n w dst src h;
+  fields = register_fields operator.Lsh n w dst src h;
   registers = both (nat_le dst 10) (nat_le src 10) d e;
 }
-register_plain operator.ShiftRight n w dst src h d e = record {
+register_plain operator.Rsh n w dst src h d e = record {
   is_of = record {
-    form_is = arithmetic_opcode operator.ShiftRight w source.Register refl;
+    form_is = arithmetic_opcode operator.Rsh w source.Register refl;
     narrow = refl;
     dst = d;
     src = e;
   };
-  fields = register_fields operator.ShiftRight n w dst src h;
+  fields = register_fields operator.Rsh n w dst src h;
   registers = both (nat_le dst 10) (nat_le src 10) d e;
 }
-register_plain operator.Negate n w dst src h d e = absurd (cc)
-register_plain operator.Remainder n w dst src h d e = record {
+register_plain operator.Neg n w dst src h d e = absurd (cc)
+register_plain operator.Mod n w dst src h d e = record {
   is_of = record {
-    form_is = arithmetic_opcode operator.Remainder w source.Register refl;
+    form_is = arithmetic_opcode operator.Mod w source.Register refl;
     narrow = refl;
     dst = d;
     src = e;
   };
-  fields = register_fields operator.Remainder n w dst src h;
+  fields = register_fields operator.Mod n w dst src h;
   registers = both (nat_le dst 10) (nat_le src 10) d e;
 }
 register_plain operator.Xor n w dst src h d e = record {
@@ -471,32 +471,32 @@ register_plain operator.Xor n w dst src h d e = record {
   fields = register_fields operator.Xor n w dst src h;
   registers = both (nat_le dst 10) (nat_le src 10) d e;
 }
-register_plain operator.Move n w dst src h d e = record {
+register_plain operator.Mov n w dst src h d e = record {
   is_of = record {
-    form_is = arithmetic_opcode operator.Move w source.Register refl;
+    form_is = arithmetic_opcode operator.Mov w source.Register refl;
     narrow = refl;
     dst = d;
     src = e;
   };
-  fields = register_fields operator.Move n w dst src h;
+  fields = register_fields operator.Mov n w dst src h;
   registers = both (nat_le dst 10) (nat_le src 10) d e;
 }
-register_plain operator.ShiftSigned n w dst src h d e = record {
+register_plain operator.Arsh n w dst src h d e = record {
   is_of = record {
-    form_is = arithmetic_opcode operator.ShiftSigned w source.Register refl;
+    form_is = arithmetic_opcode operator.Arsh w source.Register refl;
     narrow = refl;
     dst = d;
     src = e;
   };
-  fields = register_fields operator.ShiftSigned n w dst src h;
+  fields = register_fields operator.Arsh n w dst src h;
   registers = both (nat_le dst 10) (nat_le src 10) d e;
 }
 register_plain operator.SwapBytes n w dst src h d e = absurd (cc)
 
 negate_plain : (w : Width) (dst : ℕ) → nat_le dst 10 ≡ true
-    → IsSoundForm (form.Arithmetic operator.Negate w source.Immediate) (fields dst 0 (exactly 0) (exactly 0))
+    → IsSoundForm (form.Arithmetic operator.Neg w source.Immediate) (fields dst 0 (exactly 0) (exactly 0))
 negate_plain w dst d = record {
-  is_of = record { form_is = arithmetic_opcode operator.Negate w source.Immediate refl; narrow = refl; dst = d; src = refl };
+  is_of = record { form_is = arithmetic_opcode operator.Neg w source.Immediate refl; narrow = refl; dst = d; src = refl };
   fields = refl;
   registers = alone (nat_le dst 10) d;
 }
@@ -510,11 +510,11 @@ swap_plain w s bits dst f b d = record {
 }
 
 move_plain : (w : Width) (bits dst src : ℕ) → extends_from w source.Register (pos bits) ≡ true → nat_le dst 10 ≡ true → nat_le src 10 ≡ true
-    → has_right_fields (form.Arithmetic operator.Move w source.Register) (inst_of (form.Arithmetic operator.Move w source.Register) dst src (pos bits) (pos 0))
-    ≡ true → IsSoundForm (form.Arithmetic operator.Move w source.Register) (fields dst src (exactly bits) (exactly 0))
+    → has_right_fields (form.Arithmetic operator.Mov w source.Register) (inst_of (form.Arithmetic operator.Mov w source.Register) dst src (pos bits) (pos 0))
+    ≡ true → IsSoundForm (form.Arithmetic operator.Mov w source.Register) (fields dst src (exactly bits) (exactly 0))
 move_plain w bits dst src h d e f = record {
   is_of = record {
-    form_is = arithmetic_opcode operator.Move w source.Register refl;
+    form_is = arithmetic_opcode operator.Mov w source.Register refl;
     narrow = refl;
     dst = d;
     src = e;
@@ -555,9 +555,9 @@ SoundPlace None = ⊤
 SoundPlace (Some (base, offset, rest)) = (nat_le base 10 ≡ true) × (list_all is_sound rest ≡ true)
 
 based_sound : (tokens : Tokens) → list_all is_sound tokens ≡ true → SoundPlace (based tokens)
-based_sound (Open ∷ Register Full base ∷ Plus ∷ Number n ∷ Close ∷ rest) t =
+based_sound (Open ∷ Register Bits64 base ∷ Plus ∷ Number n ∷ Close ∷ rest) t =
     (and_left (nat_le base 10) (list_all is_sound rest) t, and_right (nat_le base 10) (list_all is_sound rest) t)
-based_sound (Open ∷ Register Full base ∷ Minus ∷ Number n ∷ Close ∷ rest) t =
+based_sound (Open ∷ Register Bits64 base ∷ Minus ∷ Number n ∷ Close ∷ rest) t =
     (and_left (nat_le base 10) (list_all is_sound rest) t, and_right (nat_le base 10) (list_all is_sound rest) t)
 based_sound tokens t = tt
 
@@ -599,22 +599,22 @@ load_sound dst (Open ∷ size ∷ Star ∷ Close ∷ rest) d t = load_by dst siz
 load_sound dst tokens d t = tt
 
 extend_sound : (w : Width) (dst src : ℕ) (size : Size) → nat_le dst 10 ≡ true → nat_le src 10 ≡ true → SoundOption (extend w dst src (extension w size))
-extend_sound Narrow dst src Byte d e = move_plain Narrow 8 dst src refl d e refl
-extend_sound Full dst src Byte d e = move_plain Full 8 dst src refl d e refl
-extend_sound Narrow dst src Half d e = move_plain Narrow 16 dst src refl d e refl
-extend_sound Full dst src Half d e = move_plain Full 16 dst src refl d e refl
-extend_sound Full dst src Word d e = move_plain Full 32 dst src refl d e refl
-extend_sound Narrow dst src Word d e = tt
-extend_sound Narrow dst src Double d e = tt
-extend_sound Full dst src Double d e = tt
+extend_sound Bits32 dst src Byte d e = move_plain Bits32 8 dst src refl d e refl
+extend_sound Bits64 dst src Byte d e = move_plain Bits64 8 dst src refl d e refl
+extend_sound Bits32 dst src Half d e = move_plain Bits32 16 dst src refl d e refl
+extend_sound Bits64 dst src Half d e = move_plain Bits64 16 dst src refl d e refl
+extend_sound Bits64 dst src Word d e = move_plain Bits64 32 dst src refl d e refl
+extend_sound Bits32 dst src Word d e = tt
+extend_sound Bits32 dst src Double d e = tt
+extend_sound Bits64 dst src Double d e = tt
 
 only_assigned_sound : (w : Width) (dst : ℕ) (tokens : Tokens) → nat_le dst 10 ≡ true → list_all is_sound tokens ≡ true
     → SoundOption (only_assigned w dst tokens)
 only_assigned_sound w dst (Minus ∷ Register v src ∷ []) d t =
-    when_sound (is_same w v && (dst == src)) (plain (form.Arithmetic operator.Negate w source.Immediate) dst 0 (exactly 0) (exactly 0)) (negate_plain w dst d)
+    when_sound (is_same w v && (dst == src)) (plain (form.Arithmetic operator.Neg w source.Immediate) dst 0 (exactly 0) (exactly 0)) (negate_plain w dst d)
 only_assigned_sound w dst (Open ∷ Signed size ∷ Close ∷ Register v src ∷ []) d t = guarded_sound (is_same w v) (extend w dst src (extension w size))
     (extend_sound w dst src size d (and_left (nat_le src 10) true (and_right (not_double size) (nat_le src 10 && true) t)))
-only_assigned_sound w dst (Swap v s bits ∷ Register Full src ∷ []) d t =
+only_assigned_sound w dst (Swap v s bits ∷ Register Bits64 src ∷ []) d t =
     let h = and_left (has_form operator.SwapBytes v s && ((bits == 16) || (bits == 32) || (bits == 64))) (nat_le src 10 && true) t in
     when_sound (is_full w && (dst == src)) (swap v s bits dst)
     (swap_plain v s bits dst (and_left (has_form operator.SwapBytes v s) ((bits == 16) || (bits == 32) || (bits == 64)) h)
@@ -624,8 +624,8 @@ only_assigned_sound w dst (Star ∷ rest) d t = guarded_sound (is_full w) (load_
 only_assigned_sound w dst tokens d t = tt
 
 assigned_sound : (w : Width) (dst : ℕ) (tokens : Tokens) → nat_le dst 10 ≡ true → list_all is_sound tokens ≡ true → SoundOption (assigned w dst tokens)
-assigned_sound w dst tokens d t = first_sound (only_assigned w dst tokens) (operand operator.Move 0 w dst tokens) (only_assigned_sound w dst tokens d t)
-    (operand_sound operator.Move 0 w dst tokens refl d t)
+assigned_sound w dst tokens d t = first_sound (only_assigned w dst tokens) (operand operator.Mov 0 w dst tokens) (only_assigned_sound w dst tokens d t)
+    (operand_sound operator.Mov 0 w dst tokens refl d t)
 
 number_store_plain : (size : Size) (base : ℕ) (offset v : Value) → nat_le base 10 ≡ true → IsSoundForm (form.StoreImmediate size) (fields base 0 offset v)
 number_store_plain size base offset v b =
@@ -641,10 +641,10 @@ register_store_plain size base src offset b e = record {
 
 stored_sound : (size : Size) (base : ℕ) (offset : Value) (tokens : Tokens) → nat_le base 10 ≡ true → list_all is_sound tokens ≡ true
     → SoundOption (stored size base offset tokens)
-stored_sound size base offset (Assign operator.Move o ∷ Register Full src ∷ []) b t =
+stored_sound size base offset (Assign operator.Mov o ∷ Register Bits64 src ∷ []) b t =
     register_store_plain size base src offset b (and_left (nat_le src 10) true (and_right (o == 0) (nat_le src 10 && true) t))
-stored_sound size base offset (Assign operator.Move o ∷ Number n ∷ []) b t = number_store_plain size base offset (plus n) b
-stored_sound size base offset (Assign operator.Move o ∷ Minus ∷ Number n ∷ []) b t = number_store_plain size base offset (minus n) b
+stored_sound size base offset (Assign operator.Mov o ∷ Number n ∷ []) b t = number_store_plain size base offset (plus n) b
+stored_sound size base offset (Assign operator.Mov o ∷ Minus ∷ Number n ∷ []) b t = number_store_plain size base offset (minus n) b
 stored_sound size base offset tokens b t = tt
 
 store_by : (size : Token) (place : Option (ℕ × Value × Tokens)) → SoundPlace place → SoundOption (store_with size place)
@@ -660,10 +660,10 @@ jump_sound : (f : Form) (p : Fields) (o : Option Target) → IsJump f p → Soun
 jump_sound f p None h = tt
 jump_sound f p (Some t) h = h
 
-goto_jump : IsJump form.Goto no_fields
+goto_jump : IsJump form.Ja no_fields
 goto_jump = record { is_of = record { form_is = refl; narrow = refl; dst = refl; src = refl }; fields = λ z. refl; registers = λ z. refl; opcode = λ z. refl }
 
-long_jump : IsJump form.GotoLong no_fields
+long_jump : IsJump form.Ja32 no_fields
 long_jump = record { is_of = record { form_is = refl; narrow = refl; dst = refl; src = refl }; fields = λ z. refl; registers = λ z. refl; opcode = λ z. refl }
 
 register_jump : (c : Condition) (w : Width) (dst src : ℕ) → nat_le dst 10 ≡ true → nat_le src 10 ≡ true
@@ -702,7 +702,7 @@ exit_plain : IsSoundForm form.Exit (fields 0 0 (exactly 0) (exactly 0))
 exit_plain = record { is_of = record { form_is = refl; narrow = refl; dst = refl; src = refl }; fields = refl; registers = refl }
 
 statement_sound : (tokens : Tokens) → list_all is_sound tokens ≡ true → SoundOption (statement tokens)
-statement_sound (Register w dst ∷ Assign operator.Move offset ∷ rest) t =
+statement_sound (Register w dst ∷ Assign operator.Mov offset ∷ rest) t =
     assigned_sound w dst rest (and_left (nat_le dst 10) ((offset == 0) && list_all is_sound rest) t)
     (and_right (offset == 0) (list_all is_sound rest) (and_right (nat_le dst 10) ((offset == 0) && list_all is_sound rest) t))
 statement_sound (Register w dst ∷ Assign op offset ∷ rest) t =
@@ -710,8 +710,8 @@ statement_sound (Register w dst ∷ Assign op offset ∷ rest) t =
     operand_sound op offset w dst rest (and_left (takes op offset) (list_all is_sound rest) more)
     (and_left (nat_le dst 10) (takes op offset && list_all is_sound rest) t) (and_right (takes op offset) (list_all is_sound rest) more)
 statement_sound (Star ∷ rest) t = store_sound rest t
-statement_sound (Goto ∷ rest) t = jump_sound form.Goto no_fields (target rest) goto_jump
-statement_sound (GotoLong ∷ rest) t = jump_sound form.GotoLong no_fields (target rest) long_jump
+statement_sound (Goto ∷ rest) t = jump_sound form.Ja no_fields (target rest) goto_jump
+statement_sound (GotoLong ∷ rest) t = jump_sound form.Ja32 no_fields (target rest) long_jump
 statement_sound (If ∷ Register w dst ∷ Compare c ∷ rest) t =
     branch_sound c w dst rest (and_left (nat_le dst 10) (list_all is_sound rest) t) (and_right (nat_le dst 10) (list_all is_sound rest) t)
 statement_sound (Call ∷ Number n ∷ []) t = call_plain (plus n)
@@ -771,8 +771,8 @@ numbered_sound w (c ∷ d ∷ e ∷ f ∷ text) = refl
 
 register_sound : (text : Text) → is_sound (register_or_name text) ≡ true
 register_sound text =
-    cond_sound (slice_index text 0 == 114) (numbered Full text) (cond (slice_index text 0 == 119) (numbered Narrow text) Name) (numbered_sound Full text)
-    (cond_sound (slice_index text 0 == 119) (numbered Narrow text) Name (numbered_sound Narrow text) refl)
+    cond_sound (slice_index text 0 == 114) (numbered Bits64 text) (cond (slice_index text 0 == 119) (numbered Bits32 text) Name) (numbered_sound Bits64 text)
+    (cond_sound (slice_index text 0 == 119) (numbered Bits32 text) Name (numbered_sound Bits32 text) refl)
 
 kind_sound : (text : Text) → is_sound (kind_of text) ≡ true
 kind_sound text = cond_sound (is_ascii_digit (slice_index text 0)) (Number (small (number_value text)))
@@ -799,7 +799,7 @@ with_row_sound : (o : Option Row) (rows : List Row) → SoundRow o → AreSound 
 with_row_sound None rows g h = h
 with_row_sound (Some r) rows g h = (g, h)
 
--- each row of a text is an instruction of the profile
+-- each row of a text is an instruction of this profile, or takes no unit
 pub rows_sound : (lines : List Text) → AreSound (rows_of lines)
 rows_sound [] = tt
 rows_sound (text ∷ lines) = with_row_sound (row_of text) (rows_of lines) (row_by_sound (words_of text)) (rows_sound lines)

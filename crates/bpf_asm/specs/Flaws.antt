@@ -10,7 +10,7 @@ use Rattle.bpf_asm.specs.declared.grammar.Line.TheVariants as line
 use Rattle.bpf_asm.specs.Lex.{Text}
 use Rattle.bpf_asm.specs.Program.{cut, row, row_of}
 
--- a line by its number, from 1
+-- a line by its number, which counts from 1
 abbrev pub line_at : Text → ℕ → Text
 line_at text number = unwrap_or (slice_get (cut text) (number - 1)) []
 
@@ -22,7 +22,8 @@ begins_with_mark text = starts_with nat_eq text (239 ∷ 187 ∷ 191 ∷ [])
 abbrev pub ends_with_return : Text → Bool
 ends_with_return text = ends_with nat_eq text (13 ∷ [])
 
--- The flaw is told of that fault: of the line that the fault names, its text or its label, which the line defines, or names in a jump.
+-- The flaw explains the fault: it has the text of the line that the fault names, or the label that this line defines, or names in
+-- a jump.
 abbrev pub Explains : Text → AsmFault → AsmFlaw → Type 0
 Explains text (fault.BadLine number) ByteOrderMark = (number ≡ 1) × (begins_with_mark text ≡ true)
 Explains text (fault.BadLine number) CarriageReturn = ends_with_return (line_at text number) ≡ true

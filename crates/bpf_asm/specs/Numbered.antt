@@ -1,4 +1,4 @@
--- Definitions: the text of an instruction by its unit, and a program's text with its units (this profile).
+-- Definitions: the text of the instruction at a unit, and a program's text with the numbers of its units (this profile).
 use Rattle.std.specs.Prelude.{ℕ, ◌+◌, List, [], ◌∷◌, ◌++◌, Option, Some, None, codes, drop}
 use Rattle.std.specs.Fmt.{decimal}
 use Rattle.bpf_model.specs.declared.instruction.Unit.{Unit as ProgramUnit}
@@ -6,7 +6,7 @@ use Rattle.bpf_model.specs.declared.instruction.Unit.TheVariants.{First, Second}
 use Rattle.bpf_model.specs.Reading.{form_of}
 use Rattle.bpf_asm.specs.Text.{instruction_text, high_of}
 
--- the line of the instruction that begins in front
+-- the line of the instruction that begins at the first of the units
 abbrev pub front_line : List ProgramUnit → Option (List ℕ)
 front_line [] = None
 front_line (First i ∷ units) = Some (instruction_text (form_of i.opcode) i (high_of units))
@@ -16,7 +16,7 @@ front_line (Second v ∷ units) = None
 abbrev pub line_of_unit : List ProgramUnit → ℕ → Option (List ℕ)
 line_of_unit units number = front_line (drop number units)
 
--- the lines of a program, the first unit of each with this number or those that follow before it
+-- the lines of a program, each with the number of its first unit before it; the units count from `number`
 abbrev pub numbered_from : ℕ → List ProgramUnit → List ℕ
 numbered_from number [] = []
 numbered_from number (First i ∷ units) =

@@ -1,5 +1,5 @@
--- Definitions: the program that a text spells, or the fault of the text.
--- The assembler format is this profile; its opcodes are those of RFC 9669 sections 4 and 5.
+-- Definitions: the program that a text spells, or the fault of the text. The assembler format is this profile's; its opcodes are
+-- those of RFC 9669 sections 4 and 5.
 use Rattle.std.specs.Prelude.{◌≡◌, ℕ, suc, ◌+◌, ◌*◌, ◌/◌, ◌%◌, ◌^◌, ◌==◌, ◌≤◌, nat_lt, nat_le, Bool, true, false, not, ◌&&◌, ◌||◌, if◌then◌else◌, ℤ, pos, neg_ℤ}
 use Rattle.std.specs.Prelude.{List, [], ◌∷◌, ◌++◌, map, take, Option, Some, None, is_some, Result, Ok, Err, ⊤}
 use lib.IntN.{◌-ℤ◌}
@@ -10,7 +10,7 @@ use Rattle.bpf_model.specs.declared.instruction.Inst.{Inst}
 use Rattle.bpf_model.specs.declared.instruction.Unit.{Unit as ProgramUnit}
 use Rattle.bpf_model.specs.declared.instruction.Unit.TheVariants.{First, Second}
 use Rattle.bpf_model.specs.declared.instruction.Width.{Width}
-use Rattle.bpf_model.specs.declared.instruction.Width.TheVariants.{Narrow, Full}
+use Rattle.bpf_model.specs.declared.instruction.Width.TheVariants.{Bits32, Bits64}
 use Rattle.bpf_model.specs.declared.instruction.Source.{Source}
 use Rattle.bpf_model.specs.declared.instruction.Source.TheVariants as source
 use Rattle.bpf_model.specs.declared.instruction.Operator.{Operator}
@@ -40,21 +40,21 @@ abbrev pub with_byte : ℕ → List Text → List Text
 with_byte b [] = (b ∷ []) ∷ []
 with_byte b (line ∷ lines) = (b ∷ line) ∷ lines
 
--- the lines of a text; the last LF may be wanting
+-- the lines of a text, without their LF; the last line can end without one
 abbrev pub cut : Text → List Text
 cut [] = []
 cut (b ∷ text) = if b == 10 then [] ∷ cut text else with_byte b (cut text)
 
--- how many bytes stand before the LF or the end
+-- how many bytes come before the LF or the end
 abbrev pub line_len : Text → ℕ
 line_len [] = 0
 line_len (b ∷ text) = if b == 10 then 0 else suc (line_len text)
 
--- the texts of a line's tokens, or none
+-- the texts of a line's tokens; None where a byte isn't ASCII or begins no token
 abbrev pub words_of : Text → Option (List Text)
 words_of text = if list_all (λ b. nat_lt b 128) text then split (take (code_len text) text) else None
 
--- a line's first token and its last
+-- the first token of a line, and the last one
 abbrev pub first_word : List Text → Text
 first_word [] = []
 first_word (word ∷ words) = word
@@ -92,14 +92,14 @@ abbrev pub with_row : Option Row → List Row → List Row
 with_row None rows = rows
 with_row (Some r) rows = r ∷ rows
 
--- what the lines say, where each says something
+-- what the lines say; a line without a form has no row
 abbrev pub rows_of : List Text → List Row
 rows_of [] = []
 rows_of (text ∷ lines) = with_row (row_of text) (rows_of lines)
 
 -- ---- ranges
 
--- below `half`, or not under minus `half`
+-- the number is from minus `half` to `half` - 1
 abbrev pub fits_size : ℕ → Bool → Option ℕ → Bool
 fits_size half negative None = false
 fits_size half true (Some n) = nat_le n half
@@ -110,7 +110,7 @@ fits half v = fits_size half v.negative v.size
 
 abbrev pub target_fits : Form → Target → Bool
 target_fits f Label = true
-target_fits form.GotoLong (Distance v) = fits (2 ^ 31) v
+target_fits form.Ja32 (Distance v) = fits (2 ^ 31) v
 target_fits f (Distance v) = fits (2 ^ 15) v
 
 abbrev pub statement_fits : Statement → Bool
@@ -123,7 +123,7 @@ line_fits line.Empty = true
 line_fits line.Label = true
 line_fits (line.Statement s) = statement_fits s
 
--- what is wrong with a line of its own
+-- the fault that a line has of its own
 abbrev pub row_fault : ℕ → Option Row → Option AsmFault
 row_fault number None = Some (BadLine number)
 row_fault number (Some r) = if line_fits r.says then None else Some (OutOfRange number)
@@ -132,7 +132,7 @@ abbrev pub or_fault : Option AsmFault → Option AsmFault → Option AsmFault
 or_fault (Some f) other = Some f
 or_fault None other = other
 
--- the first line at fault, for lines from this number on
+-- the first fault that a line has of its own; the lines count from `number`
 abbrev pub first_line_fault : ℕ → List Text → Option AsmFault
 first_line_fault number [] = None
 first_line_fault number (text ∷ lines) = or_fault (row_fault number (row_of text)) (first_line_fault (number + 1) lines)
@@ -144,33 +144,33 @@ source_bit source.Immediate = 0
 source_bit source.Register = 8
 
 abbrev pub operator_code : Operator → ℕ
-operator_code operator.Sum = 0
-operator_code operator.Difference = 1
-operator_code operator.Product = 2
-operator_code operator.Quotient = 3
+operator_code operator.Add = 0
+operator_code operator.Sub = 1
+operator_code operator.Mul = 2
+operator_code operator.Div = 3
 operator_code operator.Or = 4
 operator_code operator.And = 5
-operator_code operator.ShiftLeft = 6
-operator_code operator.ShiftRight = 7
-operator_code operator.Negate = 8
-operator_code operator.Remainder = 9
+operator_code operator.Lsh = 6
+operator_code operator.Rsh = 7
+operator_code operator.Neg = 8
+operator_code operator.Mod = 9
 operator_code operator.Xor = 10
-operator_code operator.Move = 11
-operator_code operator.ShiftSigned = 12
+operator_code operator.Mov = 11
+operator_code operator.Arsh = 12
 operator_code operator.SwapBytes = 13
 
 abbrev pub condition_code : Condition → ℕ
-condition_code condition.Equal = 1
-condition_code condition.Over = 2
-condition_code condition.NotBelow = 3
-condition_code condition.SharesBit = 4
-condition_code condition.Differs = 5
-condition_code condition.OverSigned = 6
-condition_code condition.NotBelowSigned = 7
-condition_code condition.Below = 10
-condition_code condition.NotOver = 11
-condition_code condition.BelowSigned = 12
-condition_code condition.NotOverSigned = 13
+condition_code condition.Jeq = 1
+condition_code condition.Jgt = 2
+condition_code condition.Jge = 3
+condition_code condition.Jset = 4
+condition_code condition.Jne = 5
+condition_code condition.Jsgt = 6
+condition_code condition.Jsge = 7
+condition_code condition.Jlt = 10
+condition_code condition.Jle = 11
+condition_code condition.Jslt = 12
+condition_code condition.Jsle = 13
 
 abbrev pub size_code : Size → ℕ
 size_code Word = 0
@@ -179,12 +179,12 @@ size_code Byte = 2
 size_code Double = 3
 
 abbrev pub arithmetic_class : Width → ℕ
-arithmetic_class Narrow = 4
-arithmetic_class Full = 7
+arithmetic_class Bits32 = 4
+arithmetic_class Bits64 = 7
 
 abbrev pub jump_class : Width → ℕ
-jump_class Narrow = 6
-jump_class Full = 5
+jump_class Bits32 = 6
+jump_class Bits64 = 5
 
 abbrev pub opcode_of : Form → ℕ
 opcode_of (form.Arithmetic op w s) = 16 * operator_code op + source_bit s + arithmetic_class w
@@ -193,8 +193,8 @@ opcode_of (form.Load size) = 0x61 + 8 * size_code size
 opcode_of (form.LoadSigned size) = 0x81 + 8 * size_code size
 opcode_of (form.StoreImmediate size) = 0x62 + 8 * size_code size
 opcode_of (form.StoreRegister size) = 0x63 + 8 * size_code size
-opcode_of form.Goto = 0x05
-opcode_of form.GotoLong = 0x06
+opcode_of form.Ja = 0x05
+opcode_of form.Ja32 = 0x06
 opcode_of (form.Branch c w s) = 16 * condition_code c + source_bit s + jump_class w
 opcode_of form.Call = 0x85
 opcode_of form.Exit = 0x95
@@ -215,14 +215,14 @@ int_of v = signed v.negative (size_or_zero v.size)
 abbrev pub inst_of : Form → ℕ → ℕ → ℤ → ℤ → Inst
 inst_of f dst src offset imm = record { opcode = opcode_of f; dst = dst; src = src; offset = offset; imm = imm }
 
--- the halves of a wide load's number
+-- the low and the high half of a wide load's number
 abbrev pub low_half : ℕ → ℤ
 low_half n = cast_signed w32 (n % 2 ^ 32)
 
 abbrev pub high_half : ℕ → ℤ
 high_half n = cast_signed w32 (n / 2 ^ 32 % 2 ^ 32)
 
--- how many units a line takes
+-- how many units an instruction takes
 abbrev pub statement_len : Statement → ℕ
 statement_len (Plain f p) = 1
 statement_len (Wide dst n) = 2
@@ -251,12 +251,12 @@ defining line.Label name at more = definition name at ∷ more
 defining line.Empty name at more = more
 defining (line.Statement s) name at more = more
 
--- the labels of the rows, in order, each with the unit that it names
+-- the labels of the rows, in their order, each with the unit that it names
 abbrev pub labels_from : ℕ → List Row → List Definition
 labels_from at [] = []
 labels_from at (r ∷ rows) = defining r.says r.label at (labels_from (at + line_len_of r.says) rows)
 
--- the place of a label, if it is defined
+-- the unit that a label names, if the label is defined
 abbrev pub place_found : List Definition → Text → Option ℕ
 place_found [] name = None
 place_found (d ∷ definitions) name = if bytes_eq d.name name then Some d.place else place_found definitions name
@@ -274,7 +274,7 @@ goes_to_label (Jump f p (Distance v)) = false
 goes_to_label (Plain f p) = false
 goes_to_label (Wide dst n) = false
 
--- a row defines a label again, or names one that no row defines
+-- a row defines a label that is among `before`, or goes to one that no row defines
 abbrev pub is_wrong : List Definition → List Text → Line → Text → Bool
 is_wrong all before line.Empty name = false
 is_wrong all before line.Label name = is_among before name
@@ -285,7 +285,7 @@ with_name line.Label name names = names ++ name ∷ []
 with_name line.Empty name names = names
 with_name (line.Statement s) name names = names
 
--- the first line that defines a label again, or names one that no line defines
+-- the fault of the first line that defines a label again, or goes to one that no line defines
 abbrev pub label_fault : List Definition → ℕ → List Text → List Row → Option AsmFault
 label_fault all number before [] = None
 label_fault all number before (r ∷ rows) =
@@ -294,16 +294,16 @@ label_fault all number before (r ∷ rows) =
 
 -- ---- programs
 
--- a jump's distance counts units from the one after it
+-- the distance of a jump at unit `at`; it counts units from the one after the jump
 abbrev pub distance_of : List Definition → ℕ → Text → Target → ℤ
 distance_of labels at name Label = pos (place_of labels name) -ℤ pos (at + 1)
 distance_of labels at name (Distance v) = int_of v
 
 abbrev pub jump_inst : Form → Fields → ℤ → Inst
-jump_inst form.GotoLong p by = inst_of form.GotoLong p.dst p.src (pos 0) by
+jump_inst form.Ja32 p by = inst_of form.Ja32 p.dst p.src (pos 0) by
 jump_inst f p by = inst_of f p.dst p.src by (int_of p.imm)
 
--- the units of a line that begins at the unit `at`
+-- the units of an instruction whose first unit is `at`
 abbrev pub statement_units : List Definition → ℕ → Text → Statement → List ProgramUnit
 statement_units labels at name (Plain f p) = First (inst_of f p.dst p.src (int_of p.offset) (int_of p.imm)) ∷ []
 statement_units labels at name (Wide dst n) =
@@ -322,7 +322,7 @@ units_from labels at (r ∷ rows) = line_units labels at r.label r.says ++ units
 abbrev pub length_fault : ℕ → Option AsmFault
 length_fault n = if nat_le 1 n && nat_le n 512 then None else Some Length
 
--- the fault of a text: a line's own, then the length, then a label's
+-- the fault of rows without a fault of their own: the length's, else a label's
 abbrev pub rows_fault : List Row → Option AsmFault
 rows_fault rows = or_fault (length_fault (units_in rows)) (label_fault (labels_from 0 rows) 1 [] rows)
 
@@ -343,7 +343,7 @@ assembled text = assembled_with (cut text) (fault_of (cut text))
 abbrev pub Spells : Text → List ProgramUnit → Type 0
 Spells text units = assembled text ≡ Ok units
 
--- the fault that was found is this one; nothing is said where memory was refused
+-- the fault that was found is this one; out of memory can come whatever was found
 abbrev pub IsFault : Option AsmFault → AsmFault → Type 0
 IsFault found OutOfMemory = ⊤
 IsFault found (BadLine n) = found ≡ Some (BadLine n)
@@ -355,11 +355,11 @@ IsFault found Length = found ≡ Some Length
 abbrev pub IsRefused : Text → AsmFault → Type 0
 IsRefused text fault = IsFault (fault_of (cut text)) fault
 
--- each row's numbers are in range
+-- the numbers of each row are in range
 abbrev pub AreRight : List Row → Type 0
 AreRight [] = ⊤
 AreRight (r ∷ rows) = (line_fits r.says ≡ true) × AreRight rows
 
--- no label stands further on than this
+-- no label names a unit above this one
 abbrev pub AreWithin : ℕ → List Definition → Type 0
 AreWithin n labels = (name : Text) → place_of labels name ≤ n

@@ -1,4 +1,4 @@
--- Promises: what the grammar gives is an instruction of the profile.
+-- Promises: the grammar gives only instructions of this profile.
 use Rattle.std.specs.Prelude.{◌≡◌, ℕ, true, false, nat_le, ℤ, List, [], ◌∷◌, Some, ⊤}
 use Rattle.bpf_model.specs.declared.instruction.Form.{Form}
 use Rattle.bpf_model.specs.Reading.{form_of, has_right_fields, has_right_registers, is_wide}
@@ -8,7 +8,7 @@ use Rattle.bpf_asm.specs.declared.grammar.Line.{Line}
 use Rattle.bpf_asm.specs.declared.grammar.Line.TheVariants as line
 use Rattle.bpf_asm.specs.Program.{Row, opcode_of, inst_of, int_of, jump_inst}
 
--- an instruction of this form with these registers
+-- the form has an opcode and isn't a wide load, and these are registers
 pub record IsOf (f : Form) (d s : ℕ) : Type 0 where
   pub form_is : form_of (opcode_of f) ≡ Some f
   pub narrow : is_wide (Some f) ≡ false
@@ -20,7 +20,7 @@ pub record IsSoundForm (f : Form) (p : Fields) : Type 0 where
   pub fields : has_right_fields f (inst_of f p.dst p.src (int_of p.offset) (int_of p.imm)) ≡ true
   pub registers : has_right_registers f (inst_of f p.dst p.src (int_of p.offset) (int_of p.imm)) ≡ true
 
--- a jump is one whatever its distance
+-- whatever its distance, a jump is an instruction of this profile
 pub record IsJump (f : Form) (p : Fields) : Type 0 where
   pub is_of : IsOf f p.dst p.src
   pub fields : (z : ℤ) → has_right_fields f (jump_inst f p z) ≡ true

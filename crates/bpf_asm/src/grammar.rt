@@ -1,4 +1,4 @@
-// What the tokens of a line say.
+// The grammar: what the tokens of a line say.
 
 ghost use Rattle.std.specs.Prelude.{◌≡◌, option_map};
 ghost use Rattle.bpf_asm.specs.Grammar as spec;
@@ -6,13 +6,14 @@ ghost use Rattle.bpf_asm.specs.Grammar as spec;
 use crate::token::Token;
 use bpf_model::instruction::{Condition, Form, Operator, Size, Source, Width};
 
-/// A number with its sign, none over 2^64 - 1.
+/// A number with its sign. `size` is `None` for a number above 2^64 - 1.
 #[derive(Clone, Copy)]
 pub struct Value {
     pub negative: bool,
     pub size: Option<u64>,
 }
 
+/// The fields of an instruction, as numbers that may be out of range.
 #[derive(Clone, Copy)]
 pub struct Fields {
     pub dst: u8,
@@ -21,13 +22,14 @@ pub struct Fields {
     pub imm: Value,
 }
 
-/// Where a jump goes: a distance, or the label that the line's last token names.
+/// Where a jump goes: to a label, which is the line's last token, or by a distance in units.
 #[derive(Clone, Copy)]
 pub enum Target {
     Label,
     Distance(Value),
 }
 
+/// An instruction: a wide load with its register and number, a jump with its target, or one of the others.
 #[derive(Clone, Copy)]
 pub enum Statement {
     Plain(Form, Fields),
@@ -35,7 +37,7 @@ pub enum Statement {
     Jump(Form, Fields, Target),
 }
 
-/// A line without a comment: a label is the first token's text.
+/// What a line says without its comment. A label is the text of the first token.
 #[derive(Clone, Copy)]
 pub enum Line {
     Empty,
@@ -83,7 +85,7 @@ fn is_same(a: Width, b: Width) -> bool
 {
     matches!(
         (a, b),
-        (Width::Narrow, Width::Narrow) | (Width::Full, Width::Full)
+        (Width::Bits32, Width::Bits32) | (Width::Bits64, Width::Bits64)
     )
 }
 
@@ -110,7 +112,8 @@ fn is_word(token: Token) -> bool
     )
 }
 
-// The second operand of an operator.
+// Returns the instruction of an operator whose second operand are these tokens: a register or a number, and nothing
+// after it.
 fn operand(
     operator: Operator,
     offset: u64,
@@ -157,7 +160,7 @@ fn target_of(tokens: &[Token]) -> Option<Target>
     }
 }
 
-// `(SIZE *)`
+// Reads `(SIZE *)`, and returns SIZE and the tokens after it.
 fn sized(tokens: &[Token]) -> Option<(Token, &[Token])>
     ensures { option_map (λ p. (p.0, p.1.now)) result ≡ spec.sized tokens.now }
 {
@@ -167,14 +170,14 @@ fn sized(tokens: &[Token]) -> Option<(Token, &[Token])>
     }
 }
 
-// `(r2 + N)`
+// Reads `(r2 + N)` or `(r2 - N)`, and returns the register's number, N with its sign, and the tokens after it.
 fn based(tokens: &[Token]) -> Option<(u8, Value, &[Token])>
     ensures { option_map (λ p. (p.0, p.1, p.2.now)) result ≡ spec.based tokens.now }
 {
     match tokens {
         [
             Token::Open,
-            Token::Register(Width::Full, base),
+            Token::Register(Width::Bits64, base),
             Token::Plus,
             Token::Number(n),
             Token::Close,
@@ -182,7 +185,7 @@ fn based(tokens: &[Token]) -> Option<(u8, Value, &[Token])>
         ] => Some((*base, plus(*n), rest)),
         [
             Token::Open,
-            Token::Register(Width::Full, base),
+            Token::Register(Width::Bits64, base),
             Token::Minus,
             Token::Number(n),
             Token::Close,
@@ -226,7 +229,7 @@ fn extension(width: Width, size: Size) -> Option<u64>
     match (width, size) {
         (_, Size::Byte) => Some(8),
         (_, Size::Half) => Some(16),
-        (Width::Full, Size::Word) => Some(32),
+        (Width::Bits64, Size::Word) => Some(32),
         _ => None,
     }
 }
@@ -236,7 +239,7 @@ fn extend(width: Width, dst: u8, src: u8, size: Size) -> Option<Statement>
 {
     let bits = extension(width, size)?;
     Some(plain(
-        Form::Arithmetic(Operator::Move, width, Source::Register),
+        Form::Arithmetic(Operator::Mov, width, Source::Register),
         dst,
         src,
         exactly(bits),
@@ -257,11 +260,11 @@ fn swap(width: Width, source: Source, bits: u64, dst: u8) -> Statement
 }
 
 fn negation(width: Width, dst: u8) -> Statement
-    ensures { result ≡ spec.plain (Form.Arithmetic Operator.Negate width Source.Immediate) dst 0
+    ensures { result ≡ spec.plain (Form.Arithmetic Operator.Neg width Source.Immediate) dst 0
         (spec.exactly 0) (spec.exactly 0) }
 {
     plain(
-        Form::Arithmetic(Operator::Negate, width, Source::Immediate),
+        Form::Arithmetic(Operator::Neg, width, Source::Immediate),
         dst,
         0,
         exactly(0),
@@ -272,10 +275,11 @@ fn negation(width: Width, dst: u8) -> Statement
 fn is_full(width: Width) -> bool
     ensures { result ≡ spec.is_full width }
 {
-    matches!(width, Width::Full)
+    matches!(width, Width::Bits64)
 }
 
-// The forms that only `=` has.
+// Returns the instruction for the right side of `=` that no other operator can have: a negation, a sign extension, END,
+// a wide load or a load.
 fn only_assigned(width: Width, dst: u8, tokens: &[Token]) -> Option<Statement>
     ensures { result ≡ spec.only_assigned width dst tokens.now }
 {
@@ -298,7 +302,7 @@ fn only_assigned(width: Width, dst: u8, tokens: &[Token]) -> Option<Statement>
         }
         [
             Token::Swap(order, source, bits),
-            Token::Register(Width::Full, src),
+            Token::Register(Width::Bits64, src),
         ] => when(
             is_full(width) && dst == *src,
             swap(*order, *source, *bits, dst),
@@ -315,26 +319,26 @@ fn only_assigned(width: Width, dst: u8, tokens: &[Token]) -> Option<Statement>
     }
 }
 
-// What stands behind `r1 =`.
+// Returns the instruction for the tokens after `r1 =`.
 fn assigned(width: Width, dst: u8, tokens: &[Token]) -> Option<Statement>
     ensures { result ≡ spec.assigned width dst tokens.now }
 {
     match only_assigned(width, dst, tokens) {
         Some(statement) => Some(statement),
-        None => operand(Operator::Move, 0, width, dst, tokens),
+        None => operand(Operator::Mov, 0, width, dst, tokens),
     }
 }
 
-// What stands behind the place of a store.
+// Returns the instruction of a store for the tokens after its place.
 fn stored(size: Size, base: u8, offset: Value, tokens: &[Token]) -> Option<Statement>
     ensures { result ≡ spec.stored size base offset tokens.now }
 {
     match tokens {
         [
-            Token::Assign(Operator::Move, _),
-            Token::Register(Width::Full, src),
+            Token::Assign(Operator::Mov, _),
+            Token::Register(Width::Bits64, src),
         ] => Some(plain(Form::StoreRegister(size), base, *src, offset, exactly(0))),
-        [Token::Assign(Operator::Move, _), Token::Number(n)] => Some(plain(
+        [Token::Assign(Operator::Mov, _), Token::Number(n)] => Some(plain(
             Form::StoreImmediate(size),
             base,
             0,
@@ -342,7 +346,7 @@ fn stored(size: Size, base: u8, offset: Value, tokens: &[Token]) -> Option<State
             plus(*n),
         )),
         [
-            Token::Assign(Operator::Move, _),
+            Token::Assign(Operator::Mov, _),
             Token::Minus,
             Token::Number(n),
         ] => Some(plain(Form::StoreImmediate(size), base, 0, offset, minus(*n))),
@@ -370,7 +374,7 @@ fn jump_to(form: Form, fields: Fields, tokens: &[Token]) -> Option<Statement>
     Some(Statement::Jump(form, fields, target))
 }
 
-// What stands behind `if r1 CMP`.
+// Returns the instruction for the tokens after `if r1 CMP`.
 fn branch(condition: Condition, width: Width, dst: u8, tokens: &[Token]) -> Option<Statement>
     ensures { result ≡ spec.branch condition width dst tokens.now }
 {
@@ -406,14 +410,14 @@ fn no_fields() -> Fields
     fields_of(0, 0, exactly(0), exactly(0))
 }
 
-/// One instruction.
+/// Returns the instruction that the tokens say, if they have the form of one.
 pub fn statement_of(tokens: &[Token]) -> Option<Statement>
     ensures { result ≡ spec.statement tokens.now }
 {
     match tokens {
         [
             Token::Register(width, dst),
-            Token::Assign(Operator::Move, _),
+            Token::Assign(Operator::Mov, _),
             rest @ ..,
         ] => assigned(*width, *dst, rest),
         [
@@ -422,8 +426,8 @@ pub fn statement_of(tokens: &[Token]) -> Option<Statement>
             rest @ ..,
         ] => operand(*operator, *offset, *width, *dst, rest),
         [Token::Star, rest @ ..] => store(rest),
-        [Token::Goto, rest @ ..] => jump_to(Form::Goto, no_fields(), rest),
-        [Token::GotoLong, rest @ ..] => jump_to(Form::GotoLong, no_fields(), rest),
+        [Token::Goto, rest @ ..] => jump_to(Form::Ja, no_fields(), rest),
+        [Token::GotoLong, rest @ ..] => jump_to(Form::Ja32, no_fields(), rest),
         [
             Token::If,
             Token::Register(width, dst),
@@ -443,7 +447,7 @@ pub fn statement_of(tokens: &[Token]) -> Option<Statement>
     }
 }
 
-/// What a line says.
+/// Returns what a line says; `None` where its tokens have no form.
 pub fn line_of(tokens: &[Token]) -> Option<Line>
     ensures { result ≡ spec.line_of tokens.now }
 {

@@ -7,7 +7,7 @@ use crate::AsmFault;
 use crate::grammar::{Line, Statement, Target};
 use std::alloc::{AllocError, Global};
 
-// How many units a line takes.
+// Returns how many units a line takes.
 pub fn len_of(line: Line) -> u64
     ensures value { result ≡ spec.line_len_of line }
     ensures small { result ≤ 2 }
@@ -21,7 +21,7 @@ pub fn len_of(line: Line) -> u64
     }
 }
 
-/// How many units the rows take.
+/// Returns how many units the rows take.
 pub fn units_in(rows: &[(Line, &[u8])]) -> u64
     ensures { result ≡ spec.units_in (map (λ p. spec.row p.0 p.1.now) rows.now) }
 {
@@ -34,7 +34,7 @@ pub fn units_in(rows: &[(Line, &[u8])]) -> u64
     units
 }
 
-// A label's line defines it.
+// Adds the label that the line defines, if it defines one, with the unit that it names.
 fn define<'a>(
     labels: &mut Vec<(&'a [u8], u64)>,
     says: Line,
@@ -51,7 +51,7 @@ fn define<'a>(
     }
 }
 
-/// The labels of the rows, each with the unit that it names.
+/// Returns the labels of the rows, in their order, each with the unit that it names.
 pub fn labels_of<'a>(
     alloc: Global,
     rows: &[(Line, &'a [u8])],
@@ -71,7 +71,7 @@ pub fn labels_of<'a>(
     Ok(labels)
 }
 
-/// The unit that a label names.
+/// Returns the unit that a label names; `None` where no line defines the label.
 pub fn place_of(mut labels: &[(&[u8], u64)], name: &[u8]) -> Option<u64>
     ensures { result ≡ spec.place_found (map (λ d. spec.definition d.0.now d.1) labels.entry.now) name.now }
 {
@@ -102,7 +102,7 @@ fn goes_to_label(statement: Statement) -> bool
     matches!(statement, Statement::Jump(_, _, Target::Label))
 }
 
-// The row defines a label again, or names one that no row defines.
+// Returns whether the row defines a label that was seen before, or goes to one that no row defines.
 fn is_wrong(labels: &[(&[u8], u64)], seen: &[&[u8]], says: Line, name: &[u8]) -> bool
     ensures { result ≡ spec.is_wrong (map (λ d. spec.definition d.0.now d.1) labels.now)
         (map (λ t. t.now) seen.now) says name.now }
@@ -125,7 +125,8 @@ fn note<'a>(seen: &mut Vec<&'a [u8]>, says: Line, name: &'a [u8]) -> Result<(), 
     }
 }
 
-/// The first line that defines a label again, or names one that no line defines.
+/// Returns the fault of the first line that defines a label again, or goes to one that no line defines; `None` where no
+/// line does.
 pub fn label_fault(
     alloc: Global,
     labels: &[(&[u8], u64)],

@@ -1,4 +1,4 @@
-// A line cut into tokens.
+// The lexer: cuts a line into tokens.
 
 ghost use Rattle.std.specs.Prelude.{◌≡◌, ◌≤◌, ◌<◌, ◌+◌, ◌-◌, ◌*◌, map, length, take, drop, slice_index, nat_eq, true};
 ghost use Rattle.std.specs.Prelude.{IsTrue, IfOk, OnOk, option_map};
@@ -90,7 +90,7 @@ fn symbol_len(mut table: &[(&[u8], Token)], text: &[u8]) -> usize
     longest
 }
 
-/// The length of the longest token at the front, 0 where none stands there.
+/// Returns the length of the longest token at the front; 0 where no token begins there.
 pub fn token_len(text: &[u8]) -> usize
     ensures value { result ≡ spec.token_len text.now }
     ensures within { result ≤ length text.now }
@@ -140,13 +140,13 @@ fn register_or_name(text: &[u8]) -> Token
     ensures { result ≡ spec.register_or_name text.now }
 {
     match byte(text, 0) {
-        b'r' => numbered(Width::Full, text),
-        b'w' => numbered(Width::Narrow, text),
+        b'r' => numbered(Width::Bits64, text),
+        b'w' => numbered(Width::Bits32, text),
         _ => Token::Name,
     }
 }
 
-/// The part of a line before its comment.
+/// Returns how many bytes of a line come before its comment.
 pub fn code_len(line: &[u8]) -> usize
     ensures value { result ≡ spec.code_len line.now }
     ensures within { result ≤ length line.now }
@@ -158,7 +158,7 @@ pub fn code_len(line: &[u8]) -> usize
     at
 }
 
-/// The texts of the tokens, or none where a byte begins no token.
+/// Returns the texts of the tokens; `None` where something that isn't blank begins no token.
 pub fn split<'a>(alloc: Global, text: &'a [u8]) -> Result<Option<Vec<&'a [u8]>>, AllocError>
     ensures { IfOk result (λ found. option_map (λ v. map (λ t. t.now) v.items) found ≡ spec.split text.now) }
 {
@@ -222,7 +222,7 @@ fn lookup_symbol(text: &[u8], other: Token) -> Token
     lookup(&SYMBOLS, text, other)
 }
 
-// The value of a number, if it is below 2^64.
+// Returns the value of a number, if it is below 2^64.
 fn number(text: &[u8]) -> Option<u64>
     ensures { result ≡ spec.small (spec.number_value text.now) }
 {
@@ -233,7 +233,7 @@ fn number(text: &[u8]) -> Option<u64>
     }
 }
 
-/// What a token stands for.
+/// Returns what a token means.
 pub fn kind_of(text: &[u8]) -> Token
     ensures { result ≡ spec.kind_of text.now }
 {
@@ -244,7 +244,7 @@ pub fn kind_of(text: &[u8]) -> Token
     }
 }
 
-/// What each of the tokens stands for.
+/// Returns what each of the tokens means.
 pub fn kinds(alloc: Global, words: &[&[u8]]) -> Result<Vec<Token>, AllocError>
     ensures { IfOk result (λ v. v.items ≡ map spec.kind_of (map (λ t. t.now) words.now)) }
 {

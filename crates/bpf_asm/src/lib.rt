@@ -1,4 +1,4 @@
-// Programs as assembler text, and back.
+// The assembler: programs from text, and text of programs.
 #![tactic(auto)]
 
 ghost use Rattle.std.specs.Prelude.{◌≡◌, ◌++◌, IfOk, IfErr, OnOk, map, None, ◌&&◌, nat_le, string_bytes, option_map};
@@ -18,19 +18,19 @@ use std::alloc::{AllocError, Global};
 use std::fmt::Write;
 use thiserror::Error;
 
-/// Why a text is no program, with the number of the line, from 1.
+/// Why a text is no program. The number is that of a line, from 1.
 #[derive(Clone, Copy, Debug, PartialEq, Eq, Error)]
 pub enum AsmFault {
-    /// A1.
+    /// A1: the line has none of the assembler's forms.
     #[error("no such form")]
     BadLine(u64),
-    /// A2.
+    /// A2: the line defines a label again, or goes to one that no line defines.
     #[error("a label that stands on two lines, or on none")]
     BadLabel(u64),
-    /// A3.
+    /// A3: a number of the line is out of range.
     #[error("a number out of range")]
     OutOfRange(u64),
-    /// A4.
+    /// A4: the program doesn't have 1 to 512 units.
     #[error("a program has 1 to 512 units")]
     Length,
     #[error("out of memory")]
@@ -58,7 +58,7 @@ fn high(units: &[Unit]) -> i32
     }
 }
 
-/// The text of a program, one instruction a line.
+/// Returns the text of a program, with a line for each instruction.
 pub fn disassemble(alloc: Global, code: &Code) -> Result<String, AllocError>
     ensures { IfOk result (λ text. string_bytes text ≡ canon code.now) }
 {
@@ -73,7 +73,8 @@ pub fn disassemble(alloc: Global, code: &Code) -> Result<String, AllocError>
     Ok(out)
 }
 
-/// The line of the instruction that begins at a unit, as `disassemble` has it, with its LF; none where none begins.
+/// Returns the line of the instruction that begins at a unit, as in `disassemble`, with its LF; `None` where none
+/// begins.
 pub fn instruction_line(alloc: Global, code: &Code, unit: u32) -> Result<Option<String>, AllocError>
     ensures { IfOk result (λ found. option_map string_bytes found ≡ line_of_unit code.now unit) }
 {
@@ -87,7 +88,7 @@ pub fn instruction_line(alloc: Global, code: &Code, unit: u32) -> Result<Option<
     }
 }
 
-/// The text of a program, with the number of its first unit and `: ` before each instruction.
+/// Returns the text of a program, with the number of its first unit and `: ` before each instruction.
 pub fn disassemble_numbered(alloc: Global, code: &Code) -> Result<String, AllocError>
     ensures { IfOk result (λ text. string_bytes text ≡ numbered_from 0 code.now) }
 {
@@ -104,7 +105,7 @@ pub fn disassemble_numbered(alloc: Global, code: &Code) -> Result<String, AllocE
     Ok(out)
 }
 
-/// Adds the line of an instruction, with the number of its unit.
+/// Adds the line of an instruction, with the number of its unit before it.
 fn write_numbered(out: &mut String, number: u64, inst: Inst, high: i32) -> Result<(), AllocError>
     ensures { OnOk result (string_bytes out.new ≡ string_bytes out.old ++ decimal number ++ codes ": "
         ++ instruction_text (form_of inst.opcode) inst high) }
@@ -119,7 +120,7 @@ fn is_length(count: u64) -> bool
     1 <= count && count <= 512
 }
 
-// The program of rows without a fault of their own.
+// Returns the program of rows that have no fault of their own, or their fault: of the length, else of a label.
 fn assemble_rows(alloc: Global, rows: &[(Line, &[u8])]) -> Result<Code, AsmFault>
     requires fits { spec.AreRight (map (λ p. spec.row p.0 p.1.now) rows.now) }
     requires sound { AreSound (map (λ p. spec.row p.0 p.1.now) rows.now) }
@@ -147,7 +148,8 @@ fn assemble_rows(alloc: Global, rows: &[(Line, &[u8])]) -> Result<Code, AsmFault
     Ok(Code::from_units(units))
 }
 
-/// The program that a text spells, or the first fault of the text.
+/// Returns the program that a text spells, or the first fault of the text: that of a line, else of the length, else of
+/// a label. `OutOfMemory` comes where memory runs out.
 pub fn assemble(alloc: Global, text: &[u8]) -> Result<Code, AsmFault>
     ensures ok { IfOk result (λ code. spec.Spells text.now code) }
     ensures refused { IfErr result (λ fault. spec.IsRefused text.now fault) }
@@ -165,13 +167,14 @@ pub fn assemble(alloc: Global, text: &[u8]) -> Result<Code, AsmFault>
     }
 }
 
-/// The canonical text of a program spells the program, and nothing else. The function does nothing: its contract is
-/// the law.
+/// States that the canonical text of a program spells the program, and no other. It does nothing: its contract is the
+/// law.
 pub fn law_of_canonical_text()
     ensures { RoundTrip }
 {}
 
-/// A program shown as text and assembled again: the same program, unless memory is refused.
+/// Writes a program as text, assembles the text, and returns the program that it spells: the same one, unless memory
+/// runs out.
 pub fn reassemble(alloc: Global, code: &Code) -> Result<Code, AsmFault>
     ensures same { IfOk result (λ again. again ≡ code.now) }
     ensures refused { IfErr result (λ fault. fault ≡ AsmFault.OutOfMemory) }

@@ -1,4 +1,4 @@
-// What a line of text says.
+// What a line of text says, and the lines of a text.
 
 ghost use Rattle.std.specs.Prelude.{◌≡◌, ◌^◌, ◌≤◌, ◌<◌, ◌+◌, length, drop, map, take, option_map, IfOk, IfErr, Some};
 ghost use Rattle.std.specs.Prelude.{None, nat_lt};
@@ -56,7 +56,7 @@ fn label_of<'a>(line: Line, words: &[&'a [u8]]) -> &'a [u8]
     }
 }
 
-/// What a line says, with the label that it defines or names.
+/// Returns what a line says, with the label that it defines or names; `None` where it has no form.
 pub fn row_of<'a>(alloc: Global, line: &'a [u8]) -> Result<Option<(Line, &'a [u8])>, AllocError>
     ensures { IfOk result (λ found. option_map (λ p. spec.row p.0 p.1.now) found ≡ spec.row_of line.now) }
 {
@@ -70,7 +70,7 @@ pub fn row_of<'a>(alloc: Global, line: &'a [u8]) -> Result<Option<(Line, &'a [u8
     }
 }
 
-// Below `half`, or not under minus `half`.
+// Returns whether the number is from minus `half` to `half` - 1.
 fn fits(half: u64, value: Value) -> bool
     ensures { result ≡ spec.fits half value }
 {
@@ -85,7 +85,7 @@ fn target_fits(form: Form, target: Target) -> bool
 {
     match (form, target) {
         (_, Target::Label) => true,
-        (Form::GotoLong, Target::Distance(value)) => fits(0x8000_0000, value),
+        (Form::Ja32, Target::Distance(value)) => fits(0x8000_0000, value),
         (_, Target::Distance(value)) => fits(0x8000, value),
     }
 }
@@ -101,7 +101,7 @@ fn statement_fits(statement: Statement) -> bool
     }
 }
 
-/// Whether the numbers of a line are in range.
+/// Returns whether the numbers of a line are in range.
 pub fn line_fits(line: Line) -> bool
     ensures { result ≡ spec.line_fits line }
 {
@@ -123,7 +123,7 @@ fn line_len(text: &[u8]) -> usize
     at
 }
 
-// What stands behind the first n bytes and one more.
+// Returns the text after its first n bytes and one more.
 fn past(text: &[u8], n: usize) -> &[u8]
     requires { n ≤ length text.now }
     ensures value { result.now ≡ drop (n + 1) text.now }
@@ -134,7 +134,7 @@ fn past(text: &[u8], n: usize) -> &[u8]
     }
 }
 
-/// The lines of a text.
+/// Returns the lines of a text, without their LF.
 pub fn cut<'a>(alloc: Global, text: &'a [u8]) -> Result<Vec<&'a [u8]>, AllocError>
     ensures { IfOk result (λ v. map (λ t. t.now) v.items ≡ spec.cut text.now) }
 {
@@ -149,7 +149,7 @@ pub fn cut<'a>(alloc: Global, text: &'a [u8]) -> Result<Vec<&'a [u8]>, AllocErro
     Ok(lines)
 }
 
-/// What a line says, with its label, or what is wrong with it of its own.
+/// Returns what a line says, with its label, or the line's own fault.
 fn row_at<'a>(alloc: Global, number: u64, line: &'a [u8]) -> Result<(Line, &'a [u8]), AsmFault>
     ensures ok { IfOk result (λ p. spec.row_of line.now ≡ Some (spec.row p.0 p.1.now)) }
     ensures none { IfOk result (λ p. spec.row_fault number (spec.row_of line.now) ≡ None) }
@@ -168,7 +168,7 @@ fn row_at<'a>(alloc: Global, number: u64, line: &'a [u8]) -> Result<(Line, &'a [
     }
 }
 
-/// What each line says, or the first line at fault.
+/// Returns what each line says, or the fault of the first line that has one of its own.
 pub fn rows_of<'a>(alloc: Global, lines: &[&'a [u8]]) -> Result<Vec<(Line, &'a [u8])>, AsmFault>
     ensures ok { IfOk result
         (λ v. map (λ p. spec.row p.0 p.1.now) v.items ≡ spec.rows_of (map (λ t. t.now) lines.now)) }

@@ -13,7 +13,7 @@ use bpf_model::instruction::{Condition, Form, Inst, Operator, Size, Source, Widt
 use std::alloc::AllocError;
 use std::fmt;
 
-// A register by its width and number.
+// A register's name, by its width and number.
 #[derive(Clone, Copy, Drop)]
 struct Name(Width, u8);
 
@@ -23,8 +23,8 @@ impl fmt::Display for Name {
     fn fmt<W: fmt::Write>(&self, f: &mut fmt::Formatter<W>) -> fmt::Result {
         let number = self.1;
         match self.0 {
-            Width::Full => write!(f, "r{number}"),
-            Width::Narrow => write!(f, "w{number}"),
+            Width::Bits64 => write!(f, "r{number}"),
+            Width::Bits32 => write!(f, "w{number}"),
         }
     }
 }
@@ -33,19 +33,19 @@ fn symbol_of_operator(operator: Operator, offset: i16) -> &'static str
     ensures { result.now ≡ operator_text operator offset }
 {
     match operator {
-        Operator::Sum => "+=",
-        Operator::Difference => "-=",
-        Operator::Product => "*=",
-        Operator::Quotient => { if offset == 0 { "/=" } else { "s/=" } }
+        Operator::Add => "+=",
+        Operator::Sub => "-=",
+        Operator::Mul => "*=",
+        Operator::Div => { if offset == 0 { "/=" } else { "s/=" } }
         Operator::Or => "|=",
         Operator::And => "&=",
-        Operator::ShiftLeft => "<<=",
-        Operator::ShiftRight => ">>=",
-        Operator::Negate => "=",
-        Operator::Remainder => { if offset == 0 { "%=" } else { "s%=" } }
+        Operator::Lsh => "<<=",
+        Operator::Rsh => ">>=",
+        Operator::Neg => "=",
+        Operator::Mod => { if offset == 0 { "%=" } else { "s%=" } }
         Operator::Xor => "^=",
-        Operator::Move => "=",
-        Operator::ShiftSigned => "s>>=",
+        Operator::Mov => "=",
+        Operator::Arsh => "s>>=",
         Operator::SwapBytes => "=",
     }
 }
@@ -54,17 +54,17 @@ fn symbol_of_condition(condition: Condition) -> &'static str
     ensures { result.now ≡ condition_text condition }
 {
     match condition {
-        Condition::Equal => "==",
-        Condition::Over => ">",
-        Condition::NotBelow => ">=",
-        Condition::SharesBit => "&",
-        Condition::Differs => "!=",
-        Condition::OverSigned => "s>",
-        Condition::NotBelowSigned => "s>=",
-        Condition::Below => "<",
-        Condition::NotOver => "<=",
-        Condition::BelowSigned => "s<",
-        Condition::NotOverSigned => "s<=",
+        Condition::Jeq => "==",
+        Condition::Jgt => ">",
+        Condition::Jge => ">=",
+        Condition::Jset => "&",
+        Condition::Jne => "!=",
+        Condition::Jsgt => "s>",
+        Condition::Jsge => "s>=",
+        Condition::Jlt => "<",
+        Condition::Jle => "<=",
+        Condition::Jslt => "s<",
+        Condition::Jsle => "s<=",
     }
 }
 
@@ -90,7 +90,7 @@ fn name_of_signed(size: Size) -> &'static str
     }
 }
 
-// An offset from a register: its sign between blanks.
+// An offset from a register, written with its sign between blanks.
 #[derive(Clone, Copy, Drop)]
 struct Shift(i16);
 
@@ -111,7 +111,7 @@ impl fmt::Display for Shift {
     }
 }
 
-// A distance with its sign.
+// A distance, written with its sign.
 #[derive(Clone, Copy, Drop)]
 struct Distance(i32);
 
@@ -131,17 +131,18 @@ impl fmt::Display for Distance {
     }
 }
 
-// The operators that have a form of their own: one register's, and the sign extension.
+// The next functions write the operators that have a text of their own: END and NEG, which take one register, and MOV
+// with its sign extension.
 fn write_swap(out: &mut String, width: Width, source: Source, inst: Inst) -> Result<(), AllocError>
     ensures { OnOk result (string_bytes out.new ≡ string_bytes out.old
         ++ line_text (pieces (Form.Arithmetic Operator.SwapBytes width source) inst (pos 0))) }
 {
     let order = match (width, source) {
-        (Width::Narrow, Source::Immediate) => "le",
-        (Width::Narrow, Source::Register) => "be",
-        (Width::Full, _) => "bswap",
+        (Width::Bits32, Source::Immediate) => "le",
+        (Width::Bits32, Source::Register) => "be",
+        (Width::Bits64, _) => "bswap",
     };
-    let dst = Name(Width::Full, inst.dst);
+    let dst = Name(Width::Bits64, inst.dst);
     let bits = inst.imm.cast_unsigned();
     write!(out, "{dst} = {order}{bits} {dst}\n")
 }
@@ -153,7 +154,7 @@ fn write_negation(
     inst: Inst,
 ) -> Result<(), AllocError>
     ensures { OnOk result (string_bytes out.new ≡ string_bytes out.old
-        ++ line_text (pieces (Form.Arithmetic Operator.Negate width source) inst (pos 0))) }
+        ++ line_text (pieces (Form.Arithmetic Operator.Neg width source) inst (pos 0))) }
 {
     let dst = Name(width, inst.dst);
     write!(out, "{dst} = -{dst}\n")
@@ -171,7 +172,7 @@ fn name_of_extension(offset: i16) -> &'static str
 
 fn write_move(out: &mut String, width: Width, source: Source, inst: Inst) -> Result<(), AllocError>
     ensures { OnOk result (string_bytes out.new ≡ string_bytes out.old
-        ++ line_text (pieces (Form.Arithmetic Operator.Move width source) inst (pos 0))) }
+        ++ line_text (pieces (Form.Arithmetic Operator.Mov width source) inst (pos 0))) }
 {
     let dst = Name(width, inst.dst);
     let src = Name(width, inst.src);
@@ -196,11 +197,11 @@ fn is_plain(operator: Operator) -> bool
 {
     !matches!(
         operator,
-        Operator::Negate | Operator::SwapBytes | Operator::Move
+        Operator::Neg | Operator::SwapBytes | Operator::Mov
     )
 }
 
-// The operators with a second operand.
+// Adds the line of any operator but NEG, END and MOV.
 fn write_plain(
     out: &mut String,
     operator: Operator,
@@ -237,9 +238,9 @@ fn write_arithmetic(
         ++ line_text (pieces (Form.Arithmetic operator width source) inst (pos 0))) }
 {
     match operator {
-        Operator::Negate => write_negation(out, width, source, inst),
+        Operator::Neg => write_negation(out, width, source, inst),
         Operator::SwapBytes => write_swap(out, width, source, inst),
-        Operator::Move => write_move(out, width, source, inst),
+        Operator::Mov => write_move(out, width, source, inst),
         _ => write_plain(out, operator, width, source, inst),
     }
 }
@@ -247,7 +248,7 @@ fn write_arithmetic(
 fn write_wide(out: &mut String, inst: Inst, high: i32) -> Result<(), AllocError>
     ensures { OnOk result (string_bytes out.new ≡ string_bytes out.old ++ line_text (pieces Form.Wide inst high)) }
 {
-    let dst = Name(Width::Full, inst.dst);
+    let dst = Name(Width::Bits64, inst.dst);
     let low = u64::from(inst.imm.cast_unsigned());
     let value = low + u64::from(high.cast_unsigned()) * 4_294_967_296;
     write!(out, "{dst} = {value} ll\n")
@@ -257,8 +258,8 @@ fn write_load(out: &mut String, size: Size, inst: Inst) -> Result<(), AllocError
     ensures { OnOk result (string_bytes out.new ≡ string_bytes out.old
         ++ line_text (pieces (Form.Load size) inst (pos 0))) }
 {
-    let dst = Name(Width::Full, inst.dst);
-    let src = Name(Width::Full, inst.src);
+    let dst = Name(Width::Bits64, inst.dst);
+    let src = Name(Width::Bits64, inst.src);
     let name = name_of_size(size);
     let shift = Shift(inst.offset);
     write!(out, "{dst} = *({name} *)({src}{shift})\n")
@@ -268,8 +269,8 @@ fn write_signed_load(out: &mut String, size: Size, inst: Inst) -> Result<(), All
     ensures { OnOk result (string_bytes out.new ≡ string_bytes out.old
         ++ line_text (pieces (Form.LoadSigned size) inst (pos 0))) }
 {
-    let dst = Name(Width::Full, inst.dst);
-    let src = Name(Width::Full, inst.src);
+    let dst = Name(Width::Bits64, inst.dst);
+    let src = Name(Width::Bits64, inst.src);
     let name = name_of_signed(size);
     let shift = Shift(inst.offset);
     write!(out, "{dst} = *({name} *)({src}{shift})\n")
@@ -279,7 +280,7 @@ fn write_number_store(out: &mut String, size: Size, inst: Inst) -> Result<(), Al
     ensures { OnOk result (string_bytes out.new ≡ string_bytes out.old
         ++ line_text (pieces (Form.StoreImmediate size) inst (pos 0))) }
 {
-    let dst = Name(Width::Full, inst.dst);
+    let dst = Name(Width::Bits64, inst.dst);
     let name = name_of_size(size);
     let shift = Shift(inst.offset);
     let imm = inst.imm;
@@ -290,8 +291,8 @@ fn write_register_store(out: &mut String, size: Size, inst: Inst) -> Result<(), 
     ensures { OnOk result (string_bytes out.new ≡ string_bytes out.old
         ++ line_text (pieces (Form.StoreRegister size) inst (pos 0))) }
 {
-    let dst = Name(Width::Full, inst.dst);
-    let src = Name(Width::Full, inst.src);
+    let dst = Name(Width::Bits64, inst.dst);
+    let src = Name(Width::Bits64, inst.src);
     let name = name_of_size(size);
     let shift = Shift(inst.offset);
     write!(out, "*({name} *)({dst}{shift}) = {src}\n")
@@ -323,7 +324,7 @@ fn write_branch(
 }
 
 fn write_goto(out: &mut String, inst: Inst) -> Result<(), AllocError>
-    ensures { OnOk result (string_bytes out.new ≡ string_bytes out.old ++ line_text (pieces Form.Goto inst (pos 0))) }
+    ensures { OnOk result (string_bytes out.new ≡ string_bytes out.old ++ line_text (pieces Form.Ja inst (pos 0))) }
 {
     let distance = Distance(i32::from(inst.offset));
     write!(out, "goto {distance}\n")
@@ -331,7 +332,7 @@ fn write_goto(out: &mut String, inst: Inst) -> Result<(), AllocError>
 
 fn write_long_goto(out: &mut String, inst: Inst) -> Result<(), AllocError>
     ensures { OnOk result (string_bytes out.new ≡ string_bytes out.old
-        ++ line_text (pieces Form.GotoLong inst (pos 0))) }
+        ++ line_text (pieces Form.Ja32 inst (pos 0))) }
 {
     let distance = Distance(inst.imm);
     write!(out, "gotol {distance}\n")
@@ -344,7 +345,7 @@ fn write_call(out: &mut String, inst: Inst) -> Result<(), AllocError>
     write!(out, "call {imm}\n")
 }
 
-/// Adds the line of an instruction.
+/// Adds the line of an instruction. `high` is the second unit's number of a wide load.
 pub fn write_instruction(out: &mut String, inst: Inst, high: i32) -> Result<(), AllocError>
     ensures { OnOk result (string_bytes out.new ≡ string_bytes out.old
         ++ instruction_text (form_of inst.opcode) inst high) }
@@ -359,8 +360,8 @@ pub fn write_instruction(out: &mut String, inst: Inst, high: i32) -> Result<(), 
         Some(Form::LoadSigned(size)) => write_signed_load(out, size, inst),
         Some(Form::StoreImmediate(size)) => write_number_store(out, size, inst),
         Some(Form::StoreRegister(size)) => write_register_store(out, size, inst),
-        Some(Form::Goto) => write_goto(out, inst),
-        Some(Form::GotoLong) => write_long_goto(out, inst),
+        Some(Form::Ja) => write_goto(out, inst),
+        Some(Form::Ja32) => write_long_goto(out, inst),
         Some(Form::Branch(condition, width, source)) => write_branch(
             out, condition, width, source, inst,
         ),

@@ -2,18 +2,18 @@
 
 use bpf_model::instruction::{Condition, Operator, Size, Source, Width};
 
-/// What a token stands for.
+/// What a token means.
 #[derive(Clone, Copy)]
 pub enum Token {
     Register(Width, u8),
-    /// A number, or none over 2^64 - 1.
+    /// A number; `None` for one above 2^64 - 1.
     Number(Option<u64>),
-    /// An operator with its `=`, and the offset that makes it signed.
+    /// An operator with its `=`, and its offset: 1 makes a division signed.
     Assign(Operator, u64),
     Compare(Condition),
     Unsigned(Size),
     Signed(Size),
-    /// The byte orders, with their bits.
+    /// The byte orders `le`, `be` and `bswap`, with their number of bits.
     Swap(Width, Source, u64),
     If,
     Goto,
@@ -27,36 +27,37 @@ pub enum Token {
     Plus,
     Minus,
     Colon,
-    /// Any other word.
+    /// Any other word, such as a label.
     Name,
 }
 
+/// The symbols, each with the token that it means.
 pub const SYMBOLS: [(&[u8], Token); 31] = [
-    (b"+=", Token::Assign(Operator::Sum, 0)),
-    (b"-=", Token::Assign(Operator::Difference, 0)),
-    (b"*=", Token::Assign(Operator::Product, 0)),
-    (b"/=", Token::Assign(Operator::Quotient, 0)),
-    (b"s/=", Token::Assign(Operator::Quotient, 1)),
-    (b"%=", Token::Assign(Operator::Remainder, 0)),
-    (b"s%=", Token::Assign(Operator::Remainder, 1)),
+    (b"+=", Token::Assign(Operator::Add, 0)),
+    (b"-=", Token::Assign(Operator::Sub, 0)),
+    (b"*=", Token::Assign(Operator::Mul, 0)),
+    (b"/=", Token::Assign(Operator::Div, 0)),
+    (b"s/=", Token::Assign(Operator::Div, 1)),
+    (b"%=", Token::Assign(Operator::Mod, 0)),
+    (b"s%=", Token::Assign(Operator::Mod, 1)),
     (b"|=", Token::Assign(Operator::Or, 0)),
     (b"&=", Token::Assign(Operator::And, 0)),
     (b"^=", Token::Assign(Operator::Xor, 0)),
-    (b"<<=", Token::Assign(Operator::ShiftLeft, 0)),
-    (b">>=", Token::Assign(Operator::ShiftRight, 0)),
-    (b"s>>=", Token::Assign(Operator::ShiftSigned, 0)),
-    (b"=", Token::Assign(Operator::Move, 0)),
-    (b"==", Token::Compare(Condition::Equal)),
-    (b"!=", Token::Compare(Condition::Differs)),
-    (b">", Token::Compare(Condition::Over)),
-    (b">=", Token::Compare(Condition::NotBelow)),
-    (b"<", Token::Compare(Condition::Below)),
-    (b"<=", Token::Compare(Condition::NotOver)),
-    (b"s>", Token::Compare(Condition::OverSigned)),
-    (b"s>=", Token::Compare(Condition::NotBelowSigned)),
-    (b"s<", Token::Compare(Condition::BelowSigned)),
-    (b"s<=", Token::Compare(Condition::NotOverSigned)),
-    (b"&", Token::Compare(Condition::SharesBit)),
+    (b"<<=", Token::Assign(Operator::Lsh, 0)),
+    (b">>=", Token::Assign(Operator::Rsh, 0)),
+    (b"s>>=", Token::Assign(Operator::Arsh, 0)),
+    (b"=", Token::Assign(Operator::Mov, 0)),
+    (b"==", Token::Compare(Condition::Jeq)),
+    (b"!=", Token::Compare(Condition::Jne)),
+    (b">", Token::Compare(Condition::Jgt)),
+    (b">=", Token::Compare(Condition::Jge)),
+    (b"<", Token::Compare(Condition::Jlt)),
+    (b"<=", Token::Compare(Condition::Jle)),
+    (b"s>", Token::Compare(Condition::Jsgt)),
+    (b"s>=", Token::Compare(Condition::Jsge)),
+    (b"s<", Token::Compare(Condition::Jslt)),
+    (b"s<=", Token::Compare(Condition::Jsle)),
+    (b"&", Token::Compare(Condition::Jset)),
     (b"(", Token::Open),
     (b")", Token::Close),
     (b"*", Token::Star),
@@ -65,6 +66,7 @@ pub const SYMBOLS: [(&[u8], Token); 31] = [
     (b":", Token::Colon),
 ];
 
+/// The words that mean something of their own, each with its token.
 pub const WORDS: [(&[u8], Token); 22] = [
     (b"if", Token::If),
     (b"goto", Token::Goto),
@@ -79,20 +81,29 @@ pub const WORDS: [(&[u8], Token); 22] = [
     (b"s8", Token::Signed(Size::Byte)),
     (b"s16", Token::Signed(Size::Half)),
     (b"s32", Token::Signed(Size::Word)),
-    (b"le16", Token::Swap(Width::Narrow, Source::Immediate, 16)),
-    (b"le32", Token::Swap(Width::Narrow, Source::Immediate, 32)),
-    (b"le64", Token::Swap(Width::Narrow, Source::Immediate, 64)),
-    (b"be16", Token::Swap(Width::Narrow, Source::Register, 16)),
-    (b"be32", Token::Swap(Width::Narrow, Source::Register, 32)),
-    (b"be64", Token::Swap(Width::Narrow, Source::Register, 64)),
-    (b"bswap16", Token::Swap(Width::Full, Source::Immediate, 16)),
-    (b"bswap32", Token::Swap(Width::Full, Source::Immediate, 32)),
-    (b"bswap64", Token::Swap(Width::Full, Source::Immediate, 64)),
+    (b"le16", Token::Swap(Width::Bits32, Source::Immediate, 16)),
+    (b"le32", Token::Swap(Width::Bits32, Source::Immediate, 32)),
+    (b"le64", Token::Swap(Width::Bits32, Source::Immediate, 64)),
+    (b"be16", Token::Swap(Width::Bits32, Source::Register, 16)),
+    (b"be32", Token::Swap(Width::Bits32, Source::Register, 32)),
+    (b"be64", Token::Swap(Width::Bits32, Source::Register, 64)),
+    (
+        b"bswap16",
+        Token::Swap(Width::Bits64, Source::Immediate, 16),
+    ),
+    (
+        b"bswap32",
+        Token::Swap(Width::Bits64, Source::Immediate, 32),
+    ),
+    (
+        b"bswap64",
+        Token::Swap(Width::Bits64, Source::Immediate, 64),
+    ),
 ];
 
 ghost use Rattle.bpf_asm.specs.Tables.{TablesAreRight};
 
-/// The tables are those of the format.
+/// States that the tables of symbols and words are those of the format. It does nothing: its contract is the law.
 pub fn tables()
     ensures { TablesAreRight }
 {}

@@ -1,4 +1,4 @@
-// The units of an instruction.
+// The units of instructions, and the opcodes of forms.
 
 ghost use Rattle.std.specs.Prelude.{◌≡◌, ◌^◌, ◌≤◌, ◌+◌, ◌-ℤ◌, ◌++◌, true, pos, map, IfOk, OnOk, Some, []};
 ghost use Rattle.bpf_asm.specs.Program as spec;
@@ -25,19 +25,19 @@ fn operator_code(operator: Operator) -> u8
     ensures small { result ≤ 13 }
 {
     match operator {
-        Operator::Sum => 0,
-        Operator::Difference => 1,
-        Operator::Product => 2,
-        Operator::Quotient => 3,
+        Operator::Add => 0,
+        Operator::Sub => 1,
+        Operator::Mul => 2,
+        Operator::Div => 3,
         Operator::Or => 4,
         Operator::And => 5,
-        Operator::ShiftLeft => 6,
-        Operator::ShiftRight => 7,
-        Operator::Negate => 8,
-        Operator::Remainder => 9,
+        Operator::Lsh => 6,
+        Operator::Rsh => 7,
+        Operator::Neg => 8,
+        Operator::Mod => 9,
         Operator::Xor => 10,
-        Operator::Move => 11,
-        Operator::ShiftSigned => 12,
+        Operator::Mov => 11,
+        Operator::Arsh => 12,
         Operator::SwapBytes => 13,
     }
 }
@@ -47,17 +47,17 @@ fn condition_code(condition: Condition) -> u8
     ensures small { result ≤ 13 }
 {
     match condition {
-        Condition::Equal => 1,
-        Condition::Over => 2,
-        Condition::NotBelow => 3,
-        Condition::SharesBit => 4,
-        Condition::Differs => 5,
-        Condition::OverSigned => 6,
-        Condition::NotBelowSigned => 7,
-        Condition::Below => 10,
-        Condition::NotOver => 11,
-        Condition::BelowSigned => 12,
-        Condition::NotOverSigned => 13,
+        Condition::Jeq => 1,
+        Condition::Jgt => 2,
+        Condition::Jge => 3,
+        Condition::Jset => 4,
+        Condition::Jne => 5,
+        Condition::Jsgt => 6,
+        Condition::Jsge => 7,
+        Condition::Jlt => 10,
+        Condition::Jle => 11,
+        Condition::Jslt => 12,
+        Condition::Jsle => 13,
     }
 }
 
@@ -78,8 +78,8 @@ fn arithmetic_class(width: Width) -> u8
     ensures small { result ≤ 7 }
 {
     match width {
-        Width::Narrow => 4,
-        Width::Full => 7,
+        Width::Bits32 => 4,
+        Width::Bits64 => 7,
     }
 }
 
@@ -88,12 +88,12 @@ fn jump_class(width: Width) -> u8
     ensures small { result ≤ 7 }
 {
     match width {
-        Width::Narrow => 6,
-        Width::Full => 5,
+        Width::Bits32 => 6,
+        Width::Bits64 => 5,
     }
 }
 
-/// The opcode of a form.
+/// Returns the opcode of a form.
 pub fn opcode_of(form: Form) -> u8
     ensures { result ≡ spec.opcode_of form }
 {
@@ -106,8 +106,8 @@ pub fn opcode_of(form: Form) -> u8
         Form::LoadSigned(size) => 0x81 + 8 * size_code(size),
         Form::StoreImmediate(size) => 0x62 + 8 * size_code(size),
         Form::StoreRegister(size) => 0x63 + 8 * size_code(size),
-        Form::Goto => 0x05,
-        Form::GotoLong => 0x06,
+        Form::Ja => 0x05,
+        Form::Ja32 => 0x06,
         Form::Branch(condition, width, source) => 16 * condition_code(condition)
             + source_bit(source)
             + jump_class(width),
@@ -116,7 +116,7 @@ pub fn opcode_of(form: Form) -> u8
     }
 }
 
-/// A number of 32 bits.
+/// Returns the value as a number of 32 bits, which it must fit.
 pub fn int_of(value: Value) -> i32
     requires { spec.fits (2 ^ 31) value ≡ true }
     ensures { result ≡ spec.int_of value }
@@ -133,7 +133,7 @@ pub fn int_of(value: Value) -> i32
     }
 }
 
-/// A number of 16 bits.
+/// Returns the value as a number of 16 bits, which it must fit.
 fn short_of(value: Value) -> i16
     requires { spec.fits (2 ^ 15) value ≡ true }
     ensures { result ≡ spec.int_of value }
@@ -171,7 +171,7 @@ fn place_or_zero(labels: &[(&[u8], u64)], name: &[u8]) -> u64
     }
 }
 
-// The distance from the unit after the one at `at` to a place.
+// Returns the distance of a jump at unit `at` to a unit: it counts from the unit after the jump.
 fn apart(place: u64, at: u64) -> i16
     requires place { place ≤ UNITS }
     requires at { at ≤ UNITS }
@@ -182,7 +182,7 @@ fn apart(place: u64, at: u64) -> i16
     to - from
 }
 
-// The distance from the unit after the one at `at` to a label.
+// Returns the distance of a jump at unit `at` to a label.
 fn distance_to(labels: &[(&[u8], u64)], at: u64, name: &[u8]) -> i16
     requires at { at ≤ UNITS }
     requires places { spec.AreWithin UNITS (map (λ d. spec.definition d.0.now d.1) labels.now) }
@@ -207,14 +207,14 @@ fn jump_inst(
         (spec.distance_of (map (λ d. spec.definition d.0.now d.1) labels.now) at name.now target) }
 {
     match (form, target) {
-        (Form::GotoLong, Target::Label) => inst_of(
+        (Form::Ja32, Target::Label) => inst_of(
             form,
             fields.dst,
             fields.src,
             0,
             i32::from(distance_to(labels, at, name)),
         ),
-        (Form::GotoLong, Target::Distance(value)) => inst_of(
+        (Form::Ja32, Target::Distance(value)) => inst_of(
             form,
             fields.dst,
             fields.src,
@@ -258,7 +258,7 @@ fn push_wide(units: &mut Vec<Unit>, dst: u8, n: u64) -> Result<(), AllocError>
     Ok(units.push(Unit::Second(high_half(n)))?)
 }
 
-// Adds the units of a line that begins at the unit `at`.
+// Adds the units of a line. The first of them is unit `at` of the program.
 fn push_units(
     units: &mut Vec<Unit>,
     labels: &[(&[u8], u64)],
@@ -293,7 +293,7 @@ fn push_units(
     }
 }
 
-/// The units of the rows.
+/// Returns the units of the rows.
 pub fn units_of(
     alloc: Global,
     labels: &[(&[u8], u64)],

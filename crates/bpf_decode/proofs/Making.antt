@@ -1,4 +1,4 @@
--- Units that are sound one by one are a program: their bytes are read as the same units.
+-- Units that are sound one by one are a program: their bytes are read as these units.
 use Rattle.std.proofs.Common.{◌≡◌, ℕ, zero, suc, ◌+◌, ◌*◌, ◌<◌, ◌≤◌, List, [], ◌∷◌, ◌++◌, Option, Some, None, Bool, true, false, refl, sym, ap, ◌∙◌, subst}
 use Rattle.std.proofs.Common.{arith, length, drop, append_assoc, w16, w32, FitsSigned}
 use Rattle.std.specs.Prelude.{◌/◌, ◌%◌, ◌==◌, ◌&&◌, not, cond, slice_index, ℤ}
@@ -13,7 +13,7 @@ use Rattle.std.proofs.lemmas.Bool.Decides.{nat_tests}
 use Rattle.byteorder.specs.Endian.{little_bytes, little_number}
 use Rattle.bpf_model.specs.declared.instruction.Inst.{Inst}
 use Rattle.bpf_model.specs.declared.instruction.Form.{Form}
-use Rattle.bpf_model.specs.declared.instruction.Form.TheVariants.{Arithmetic, Wide, Load, LoadSigned, StoreImmediate, StoreRegister, Goto, GotoLong, Branch}
+use Rattle.bpf_model.specs.declared.instruction.Form.TheVariants.{Arithmetic, Wide, Load, LoadSigned, StoreImmediate, StoreRegister, Ja, Ja32, Branch}
 use Rattle.bpf_model.specs.declared.instruction.Form.TheVariants.{Call, Exit}
 use Rattle.bpf_model.specs.declared.instruction.Unit.{Unit as ProgramUnit}
 use Rattle.bpf_model.specs.declared.instruction.Unit.TheVariants.{First, Second}
@@ -95,8 +95,8 @@ not_half (Load n) e = refl
 not_half (LoadSigned n) e = refl
 not_half (StoreImmediate n) e = refl
 not_half (StoreRegister n) e = refl
-not_half Goto e = refl
-not_half GotoLong e = refl
+not_half Ja e = refl
+not_half Ja32 e = refl
 not_half (Branch c w s) e = refl
 not_half Call e = refl
 not_half Exit e = refl
@@ -106,7 +106,7 @@ passes true true o e f g = g
 passes true false o e f g = absurd (cc)
 passes false b o e f g = absurd (cc)
 
--- what is sound before other units is sound as the last one too, unless it is half of a wide load
+-- a first unit that is sound before other units is also sound as the last one, unless it begins a wide load
 sound_at : (o : Option Form) (i : Inst) (last : Bool) → first_fault o i false ≡ None → (is_wide o ≡ true → last ≡ false) → first_fault o i last ≡ None
 sound_at o i false e w = e
 sound_at None i true e w = absurd (cc)
@@ -125,7 +125,7 @@ more_units true us e h = absurd (cc)
 more_units false us e h = some_next us h
 
 module _ (bytes : List ℕ) (n : ℕ) (whole : length bytes ≡ 8 * n) where
-  -- what one more unit keeps
+  -- what stays true with one more unit
   record Kept (pc : ℕ) (first : Bool) (front back : List ProgramUnit) : Type 0 where
     rest : drop (8 * pc) bytes ≡ encoded back
     place : begins bytes pc ≡ first
@@ -260,7 +260,7 @@ program_of_units us h some few =
       are_bytes true us h,
     )
 
--- ---- the other way: a program's units are sound one by one
+-- ---- the converse: a program's units are sound one by one
 
 half_false : (f : Form) → half_wide f false ≡ None
 half_false Wide = refl
@@ -269,8 +269,8 @@ half_false (Load n) = refl
 half_false (LoadSigned n) = refl
 half_false (StoreImmediate n) = refl
 half_false (StoreRegister n) = refl
-half_false Goto = refl
-half_false GotoLong = refl
+half_false Ja = refl
+half_false Ja32 = refl
 half_false (Branch c w s) = refl
 half_false Call = refl
 half_false Exit = refl

@@ -1,4 +1,4 @@
--- Promises: lists of units that are a program, told unit by unit.
+-- Promises: which lists of units are a program, unit by unit.
 use Rattle.std.specs.Prelude.{◌≡◌, ◌<◌, Bool, true, false, not, List, [], ◌∷◌, None, FitsSigned, ⊤}
 use Rattle.std.specs.Int.{w16, w32}
 use Rattle.bpf_model.specs.declared.instruction.Inst.{Inst}
@@ -15,7 +15,8 @@ pub record IsInstruction (i : Inst) : Type 0 where
   pub imm : FitsSigned w32 i.imm
   pub sound : first_fault (form_of i.opcode) i false ≡ None
 
--- instructions one after the other, each wide load with its second unit; `first` says that an instruction begins here
+-- the list is instructions one after the other, each wide load with its second unit; `first` says that an instruction begins
+-- here, true, or that a wide load's second unit comes, false
 abbrev pub AreUnits : Bool → List ProgramUnit → Type 0
 AreUnits true [] = ⊤
 AreUnits true (First i ∷ us) = IsInstruction i × AreUnits (not (is_wide (form_of i.opcode))) us

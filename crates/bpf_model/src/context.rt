@@ -1,9 +1,9 @@
-// What a program is given.
+// The context that a program is given, and its layouts.
 
 ghost use Rattle.std.specs.Prelude.{◌≡◌, ◌≤◌, length};
 ghost use Rattle.bpf_model.specs.Layouts.{context_len, layout_of, bytes_of};
 
-/// Which fields a program's context has, and so how many bytes (this profile).
+/// The layout of a program's context: which fields it has, and so how many bytes (this profile).
 #[derive(Clone, Copy, PartialEq, Eq)]
 pub enum Layout {
     One,
@@ -11,7 +11,7 @@ pub enum Layout {
 }
 
 impl Layout {
-    /// The bytes of a context of this layout: 64 or 80.
+    /// Returns how many bytes a context of this layout has: 64 or 80.
     pub fn len(self) -> u32
         ensures same { result ≡ context_len self }
         ensures least { 64 ≤ result }
@@ -24,7 +24,7 @@ impl Layout {
     }
 }
 
-/// The bytes that a program is given, by the layout that it was loaded for.
+/// The context that a program is given, in the layout that the program was loaded for.
 #[derive(Clone, Copy, PartialEq, Eq)]
 pub enum Context {
     One([u8; 64]),
@@ -32,7 +32,7 @@ pub enum Context {
 }
 
 impl Context {
-    /// The layout that the bytes have.
+    /// Returns the layout of these bytes.
     pub fn layout(&self) -> Layout
         ensures { result ≡ layout_of self.now }
     {
@@ -42,7 +42,7 @@ impl Context {
         }
     }
 
-    /// The bytes, from place 0 on.
+    /// Returns the context's bytes, from its first on.
     pub fn bytes(&self) -> &[u8]
         ensures bytes { result.now ≡ bytes_of self.now }
         ensures many { length result.now ≡ context_len (layout_of self.now) }
@@ -54,7 +54,7 @@ impl Context {
     }
 }
 
-// The bytes as a slice, of which it is known how many there are.
+// Returns the bytes as a slice; the contract says how many they are.
 fn all_of<const N: usize>(bytes: &[u8; N]) -> &[u8]
     ensures bytes { result.now ≡ bytes.now }
     ensures many { length result.now ≡ N }

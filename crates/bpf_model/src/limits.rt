@@ -1,16 +1,16 @@
 // Sizes of this profile.
 
-/// The most units of a program.
+/// The most units that a program may have.
 pub const UNITS: usize = 512;
 
-/// The most bytes of a program, of 8 a unit.
+/// The most bytes that a program may have: 8 for each unit.
 pub const PROGRAM_BYTES: usize = 4096;
 
-/// The bytes of a run's stack.
+/// The number of bytes of a run's stack.
 pub const STACK_BYTES: usize = 512;
 
-/// The counters that there may be, and so the bits of a program's mask.
+/// The number of counters, and so of the bits of a program's mask.
 pub const COUNTERS: usize = 32;
 
-/// The most points of a site.
+/// The most points that a site may have.
 pub const POINTS: usize = 32;

@@ -30,7 +30,7 @@ impl Model for Counters {
 }
 
 impl Counters {
-    /// Counters of these values and bounds, counter 0 first.
+    /// Makes counters of these values and bounds, counter 0 first.
     pub fn new(cells: [(u64, u64); 32]) -> Counters
         requires { All (λ c. c.0 ≤ c.1) cells }
         ensures { result ≡ cells }
@@ -39,7 +39,7 @@ impl Counters {
         Counters { cells }
     }
 
-    /// The value of a counter from 0 to 31.
+    /// Returns the value of a counter, 0 to 31.
     pub fn get(&self, c: u32) -> u64
         requires { c < COUNTERS }
         ensures value { result ≡ (counter self.now c).0 }
@@ -48,7 +48,7 @@ impl Counters {
         self.cells[c as usize].0
     }
 
-    /// The bound of a counter from 0 to 31.
+    /// Returns the bound of a counter, 0 to 31.
     pub fn bound(&self, c: u32) -> u64
         requires { c < COUNTERS }
         ensures { result ≡ (counter self.now c).1 }
@@ -56,7 +56,7 @@ impl Counters {
         self.cells[c as usize].1
     }
 
-    /// Adds to a counter from 0 to 31. Where the sum is over the bound the answer is false, and nothing changes.
+    /// Adds `n` to a counter, 0 to 31. Returns false, and changes nothing, where the sum would be above the bound.
     pub fn add(&mut self, c: u32, n: u64) -> bool
         requires { c < COUNTERS }
         ensures answer { result ≡ can_add self.old c n }
@@ -70,7 +70,7 @@ impl Counters {
         true
     }
 
-    /// The declared counters become those of another value; the rest stay.
+    /// Takes over the declared counters of another list, with their values and bounds. The other counters stay.
     pub fn adopt(&mut self, declared: u32, other: &Counters)
         ensures { (c : ℕ) → counter self.new c ≡ adopted declared other.now self.old c }
     {
@@ -81,7 +81,7 @@ impl Counters {
         }
     }
 
-    /// Takes from a counter from 0 to 31. Where `n` is over the value the answer is false, and nothing changes.
+    /// Takes `n` from a counter, 0 to 31. Returns false, and changes nothing, where `n` is above the value.
     pub fn take(&mut self, c: u32, n: u64) -> bool
         requires { c < COUNTERS }
         ensures answer { result ≡ can_take self.old c n }
@@ -96,7 +96,7 @@ impl Counters {
     }
 }
 
-// A bound is below 2^64, as its type says.
+// Gives the prover that each bound is below 2^64, as its type says.
 fn prove_small(cells: &[(u64, u64); 32])
     ensures { All (λ c. c.1 < 2 ^ 64) cells.now }
 {

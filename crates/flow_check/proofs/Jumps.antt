@@ -15,7 +15,7 @@ use Rattle.flow_check.specs.Faults.{IsShown, numbered}
 below_suc : (p m : ℕ) → p < suc m → (p ≡ m) ⊎ (p < m)
 below_suc p m h = elim (cases_lt p m) [ inl l ↦ inr l | inr g ↦ inl (omega arith) ]
 
--- the first fault stays the first
+-- a fault that comes first stays the first, however many more units are looked at
 pub fault_stays : (us : List ProgramUnit) (pc n : ℕ) (f : JumpFault) → pc < n → flow_fault_below us pc ≡ None → jump_fault us pc ≡ Some f
     → flow_fault_below us n ≡ Some (pc, f)
 fault_stays us pc zero f lt a b = absurd (omega arith)
@@ -54,7 +54,7 @@ distance_inside : (us : List ProgramUnit) (pc : ℕ) (o : Option ProgramUnit) (z
 distance_inside us pc None z e d = absurd (cc)
 distance_inside us pc (Some u) z e d = get_inside us pc u e
 
--- a landing without fault is the first unit of an instruction
+-- where landing there is no fault, the target is the first unit of an instruction
 lands : (us : List ProgramUnit) (to : ℕ) (o : Option ProgramUnit) → slice_get us to ≡ o → landing_fault o ≡ None → (i : _) × (slice_get us to ≡ Some (First i))
 lands us to None e h = absurd (cc)
 lands us to (Some (First i)) e h = (i, e)
@@ -90,7 +90,7 @@ target_by us pc to (Some z) h e t =
     let j = h.jumps pc z e in
     subst (IsAhead us pc) (some_same j.0 to (sym j.1 ∙ t)) j.2
 
--- the target of a jump is an instruction further on
+-- the target of a jump is a later unit at which an instruction begins
 pub target_ahead : (us : List ProgramUnit) (pc : ℕ) (o : Option ℕ) → GoesForward us → o ≡ target us pc → IfSome o (λ to. IsAhead us pc to)
 target_ahead us pc None h e = tt
 target_ahead us pc (Some to) h e = target_by us pc to (distance_at us pc) h refl (sym e)

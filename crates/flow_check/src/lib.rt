@@ -1,4 +1,4 @@
-// Where the jumps of a program go.
+// The check that each jump of a program goes forward to an instruction, and where jumps go.
 #![tactic(auto)]
 
 ghost use Rattle.std.specs.Prelude.{◌≡◌, ℕ, ◌+◌, ◌≤◌, ◌<◌, length, slice_get, IfOk, IfErr, IfSome, Some, None};
@@ -15,7 +15,8 @@ use std::alloc::Global;
 use std::marker::Model;
 use thiserror::Error;
 
-/// Why a program's jumps are refused: the first unit whose jump is at fault, which the words leave to be told.
+/// Why a program's jumps are refused: what is wrong with the first jump at fault, and the unit where it begins. The
+/// messages leave out the unit.
 #[derive(Clone, Copy, Debug, PartialEq, Eq, Error)]
 pub enum FlowFault {
     #[error("a jump backwards")]
@@ -28,7 +29,7 @@ pub enum FlowFault {
     OutOfMemory,
 }
 
-/// A program each jump of which goes forward to an instruction.
+/// A program whose jumps all go forward to instructions.
 #[derive(Drop)]
 pub struct Flow {
     code: Code,
@@ -46,13 +47,13 @@ impl Model for Flow {
     ghost invariant = { λ f. GoesForward f.code };
 }
 
-// The distance of a jump, in units from the one after it.
+// Returns the distance of a jump, in units from the one after it; `None` for other instructions.
 fn distance_in(inst: Inst) -> Option<i64>
     ensures { result ≡ distance_by (form_of inst.opcode) inst }
 {
     match Form::from_opcode(inst.opcode) {
-        Some(Form::Goto | Form::Branch(_, _, _)) => Some(i64::from(inst.offset)),
-        Some(Form::GotoLong) => Some(i64::from(inst.imm)),
+        Some(Form::Ja | Form::Branch(_, _, _)) => Some(i64::from(inst.offset)),
+        Some(Form::Ja32) => Some(i64::from(inst.imm)),
         _ => None,
     }
 }
@@ -76,7 +77,7 @@ fn fault_of_landing(landing: Option<Unit>) -> Option<JumpFault>
     }
 }
 
-// What is wrong with a jump of some distance.
+// Returns what is wrong with the jump at unit `pc`, if it has a distance and is at fault.
 fn fault_of_distance(units: &[Unit], pc: usize, distance: Option<i64>) -> Option<JumpFault>
     requires { pc < UNITS }
     ensures { result ≡ distance_fault units.now pc distance }
@@ -96,7 +97,7 @@ fn fault_of_jump(units: &[Unit], pc: usize) -> Option<JumpFault>
     fault_of_distance(units, pc, distance(units[pc]))
 }
 
-// The first unit whose jump is at fault.
+// Returns the first unit whose jump is at fault, and the fault; `None` where no jump is.
 fn first_jump_fault(units: &[Unit]) -> Option<(u32, JumpFault)>
     requires { length units.now ≤ UNITS }
     ensures { result ≡ flow_fault units.now }
@@ -109,7 +110,7 @@ fn first_jump_fault(units: &[Unit]) -> Option<(u32, JumpFault)>
     None
 }
 
-// The unit that the jump at a unit goes to.
+// Returns the unit that the jump at unit `pc` goes to, if there is a jump.
 fn target_in(units: &[Unit], pc: u32) -> Option<u32>
     requires { length units.now ≤ UNITS }
     ensures { result ≡ target units.now pc }
@@ -128,8 +129,8 @@ fn fault_at(fault: JumpFault, pc: u32) -> FlowFault
     }
 }
 
-/// The program, if each of its jumps, reached or not, goes forward to the first unit of an instruction; else the first
-/// unit whose jump doesn't, and why. It takes no memory, so `OutOfMemory` never comes.
+/// Returns the program, if each of its jumps, reached or not, goes forward to the first unit of an instruction. Else
+/// returns the first fault. It allocates nothing, so `OutOfMemory` never comes.
 pub fn check_flow(_alloc: Global, code: Code) -> Result<Flow, FlowFault>
     ensures ok { IfOk result (λ flow. (flow ≡ code) × (flow_fault code ≡ None)) }
     ensures refused { IfErr result (λ fault. IsShown code fault) }
@@ -141,7 +142,7 @@ pub fn check_flow(_alloc: Global, code: Code) -> Result<Flow, FlowFault>
 }
 
 impl Flow {
-    /// The program's units, whose jumps all go forward to instructions.
+    /// Returns the program's units, whose jumps all go forward to instructions.
     pub fn code(&self) -> &Code
         ensures same { result.now ≡ self.now }
         ensures forward { GoesForward self.now }
@@ -149,7 +150,7 @@ impl Flow {
         &self.code
     }
 
-    /// The unit that the jump at a unit goes to; none where no jump begins there.
+    /// Returns the unit that the jump at unit `pc` goes to; `None` where no jump begins there.
     pub fn target(&self, pc: u32) -> Option<u32>
         ensures same { result ≡ target self.now pc }
         ensures ahead { IfSome result (λ to. IsAhead self.now pc to) }

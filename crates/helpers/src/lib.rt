@@ -15,7 +15,7 @@ pub use bpf_model::machine::{PointView, View};
 use counters::Counters;
 pub use memory::put;
 
-/// What an argument of a helper is: nothing, a number, the number of a declared counter, or a place of the stack.
+/// What a helper takes as an argument: nothing, a number, the number of a declared counter, or a place in the stack.
 #[derive(Clone, Copy, Debug, PartialEq, Eq)]
 pub enum Kind {
     Nothing,
@@ -49,7 +49,7 @@ fn kinds_of(helper: Helper) -> [Kind; 2]
     }
 }
 
-/// The kinds of the arguments in R1 and R2, for helpers 1 to 6.
+/// Returns the kinds of the arguments in R1 and R2, for the helpers 1 to 6; `None` for any other number.
 pub fn arguments(id: i32) -> Option<[Kind; 2]>
     ensures { result ≡ signature id }
 {
@@ -57,7 +57,7 @@ pub fn arguments(id: i32) -> Option<[Kind; 2]>
     Some(kinds_of(helper))
 }
 
-// The point of this number, of those that are there.
+// Returns the point with this number, counted from 1, if it is there.
 fn point_of(view: &View, number: u64) -> Option<PointView>
     ensures { result ≡ point view.now number }
 {
@@ -94,7 +94,8 @@ fn price_of(view: &View, number: u64) -> u64
     u64::from(view.prices[(number - 1) as usize])
 }
 
-// The record of a point, or of no point, is put at a place of the stack.
+// Writes the record of a point, all zeros where there is no point, to a place in the stack. Returns 1 if there is one,
+// else 0.
 fn put_point(point: Option<PointView>, at: u64, stack: &mut [u8; 512]) -> u64
     requires { at + 16 ≤ STACK_BYTES }
     ensures answer { result ≡ is_there point }
@@ -107,7 +108,7 @@ fn put_point(point: Option<PointView>, at: u64, stack: &mut [u8; 512]) -> u64
     u64::from(point.is_some())
 }
 
-// What a helper answers, and what it does to the counters and the stack.
+// Makes a helper's changes to the counters and the stack, and returns its answer.
 fn answer(
     helper: Helper,
     a: u64,
@@ -132,8 +133,9 @@ fn answer(
     }
 }
 
-/// The answer of helper `id`, 1 to 6, on the numbers in R1 and R2, where a place is counted from the stack's lowest
-/// byte: what the machine's definition gives on these numbers, in the answer, the counters and the stack's bytes.
+/// Calls helper `id`, 1 to 6, on the numbers in R1 and R2, and returns its answer. A place is counted from the stack's
+/// lowest byte. The answer, the counters and the stack's bytes become what the machine's definition gives for these
+/// numbers.
 pub fn call(
     id: i32,
     a: u64,

@@ -33,7 +33,7 @@ fn put_double(memory: &mut [u8; 512], at: usize, n: u64)
     LittleEndian::write_u64(&mut memory[at..], n);
 }
 
-/// Puts the low bytes of a number, the lowest first, from a place on.
+/// Writes the low bytes of a number from `at` on, the lowest first.
 #[inline(always)]
 pub fn put(memory: &mut [u8; 512], at: usize, size: Size, n: u64)
     requires { at + bytes_in size ≤ STACK_BYTES }

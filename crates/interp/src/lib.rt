@@ -1,4 +1,4 @@
-// Runs verified programs on plain words.
+// Runs verified programs on plain words of 64 bits.
 #![tactic(auto)]
 
 mod arithmetic;

@@ -1,4 +1,4 @@
-// A run's outcome on other counters.
+// The outcome of a run, carried over to other counters.
 
 ghost use Rattle.std.specs.Prelude.{◌≡◌, ℕ};
 ghost use Rattle.bpf_model.specs.Machine.{counter};
@@ -13,9 +13,10 @@ use counters::Counters;
 use helpers::View;
 use reg_types::Program;
 
-/// A run and its answer depend on the declared counters alone: where the program answered on the counters `before` and
-/// left those of `after`, it gives the same answer on `now`, whose declared counters are those of `before`. The
-/// declared counters of `now` become those of `after`, and the others stay, as that run would leave them.
+/// Carries the outcome of a run on the counters `before` over to the counters `now`, without a new run. A run and its
+/// answer depend only on the declared counters, which must be the same in `before` and `now`. The program answered
+/// `answer` and left `after`, so on `now` it gives the same answer. The declared counters of `now` become those of
+/// `after`, and the others stay, as that run would leave them.
 pub fn rebase(
     program: &Program,
     context: &Context,

@@ -10,8 +10,8 @@ use Rattle.bpf_model.specs.declared.instruction.Unit.TheVariants.{First, Second}
 use Rattle.bpf_model.specs.Reading.{form_of, units}
 use Rattle.bpf_model.specs.Flow.{IsAhead, GoesForward}
 use Rattle.bpf_model.specs.Program.{IsGood}
-use Rattle.reg_types.specs.declared.types.Terms.{Terms}
-use Rattle.reg_types.specs.Terms.{loaded_on}
+use Rattle.reg_types.specs.declared.types.LoadOptions.{LoadOptions}
+use Rattle.reg_types.specs.LoadOptions.{loaded_on}
 use Rattle.reg_types.specs.declared.types.Fact.{Fact}
 use Rattle.reg_types.specs.Effects.{Effect}
 use Rattle.reg_types.specs.declared.types.Flaw.{Flaw}
@@ -50,7 +50,7 @@ some_is (Some form) h = (form, refl)
 
 -- ---- facts only come to say less
 
--- the second says less than the first, if that is there
+-- if the first fact is there, so is the second, and it says no more
 abbrev pub IsWider : Option Fact → Option Fact → Type 0
 IsWider None o = ⊤
 IsWider (Some fact) o = (wider : Fact) × (o ≡ Some wider) × IsBelow fact wider
@@ -95,7 +95,7 @@ by_wider q fact (Err flaw) tos o = IsWider-refl o
 by_wider q fact (Ok e) None o = IsWider-refl o
 by_wider q fact (Ok e) (Some tos) o = all_wider q (fact_after fact e) tos o
 
--- the fact comes to each of the units
+-- each unit that a fact comes to takes it in
 arrived_here : (to : ℕ) (fact : Fact) (o : Option Fact) → IsWider (Some fact) (arrived to fact to o)
 arrived_here to fact o = (taken_in o fact, cond-true (to == to) (Some (taken_in o fact)) o (eq-eqb to to refl), taken_right o fact)
 
@@ -107,7 +107,7 @@ all_come fact (to ∷ tos) old = (
   all_come fact tos (λ q. arrived q fact to (old q)),
 )
 
--- ---- units behind stay as they are
+-- ---- earlier units stay as they are
 
 pub behind : (us : List ProgramUnit) (pc q : ℕ) (fact : Fact) → q ≤ pc → (tos : List ℕ) → AllByRecursion (IsAhead us pc) tos → (o : Option Fact)
     → arrived_all q fact tos o ≡ o
@@ -127,7 +127,7 @@ none_left : (a b : Option TypeFault) → or_else a b ≡ None → (a ≡ None) �
 none_left None b e = (refl, e)
 none_left (Some f) b e = absurd (cc)
 
-module _ (us : List ProgramUnit) (terms : Terms) where
+module _ (us : List ProgramUnit) (terms : LoadOptions) where
   pub no_flaw_below : (n k : ℕ) → first_flaw_below us terms n ≡ None → k < n → flaw_under us terms k (inferred us terms k) ≡ None
   unfolding first_flaw_below
   no_flaw_below zero k e l = absurd (omega arith)
@@ -194,7 +194,7 @@ module _ (us : List ProgramUnit) (terms : Terms) where
 
     -- ---- each reached unit is well typed
 
-    -- what is known of unit q past a unit whose instruction is accepted
+    -- what is known of unit q after a unit whose instruction is accepted
     past_is : (pc q : ℕ) (fact : Fact) (x : Inst × Form) (e : Effect) (tos : List ℕ) → inferred us terms pc ≡ Some fact → instruction_at us pc ≡ Some x
         → ruled us terms pc fact x ≡ Ok e → leads pc x.0 x.1 ≡ Some tos
         → known us terms (suc pc) q ≡ arrived_all q (fact_after fact e) tos (known us terms pc q)
@@ -268,11 +268,11 @@ module _ (us : List ProgramUnit) (terms : Terms) where
               (no_flaw_below (length us) pc none (there sound.bytes us pc i sound.reads at).inside);
         }
 
-pub covered_by : (bytes : List ℕ) (terms : Terms) (us : List ProgramUnit) → units bytes ≡ Some us → GoesForward us → first_flaw us terms ≡ None
+pub covered_by : (bytes : List ℕ) (terms : LoadOptions) (us : List ProgramUnit) → units bytes ≡ Some us → GoesForward us → first_flaw us terms ≡ None
     → IsCovered bytes terms us
 covered_by bytes terms us reads forward none =
     record { reads = reads; facts = inferred us terms; covers = accepted_covers us terms (record { bytes = bytes; reads = reads; forward = forward }) none }
 
-pub good_by : (bytes : List ℕ) (terms : Terms) (us : List ProgramUnit) → units bytes ≡ Some us → GoesForward us → first_flaw us terms ≡ None
+pub good_by : (bytes : List ℕ) (terms : LoadOptions) (us : List ProgramUnit) → units bytes ≡ Some us → GoesForward us → first_flaw us terms ≡ None
     → IsGood (loaded_on bytes terms)
 good_by bytes terms us reads forward none = good bytes us terms (covered_by bytes terms us reads forward none)

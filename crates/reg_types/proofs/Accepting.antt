@@ -11,19 +11,19 @@ use Rattle.bpf_model.specs.declared.instruction.Inst.{Inst}
 use Rattle.bpf_model.specs.declared.instruction.Unit.{Unit as ProgramUnit}
 use Rattle.bpf_model.specs.declared.instruction.Unit.TheVariants.{First, Second}
 use Rattle.bpf_model.specs.declared.instruction.Width.{Width}
-use Rattle.bpf_model.specs.declared.instruction.Width.TheVariants.{Narrow, Full}
+use Rattle.bpf_model.specs.declared.instruction.Width.TheVariants.{Bits32, Bits64}
 use Rattle.bpf_model.specs.declared.instruction.Source.TheVariants.{Immediate, Register}
 use Rattle.bpf_model.specs.declared.instruction.Operator.{Operator}
-use Rattle.bpf_model.specs.declared.instruction.Operator.TheVariants.{Sum, Difference, Negate, Move, SwapBytes}
+use Rattle.bpf_model.specs.declared.instruction.Operator.TheVariants.{Add, Sub, Neg, Mov, SwapBytes}
 use Rattle.bpf_model.specs.declared.instruction.Size.{Size}
 use Rattle.bpf_model.specs.declared.instruction.Form.{Form}
-use Rattle.bpf_model.specs.declared.instruction.Form.TheVariants.{Arithmetic, Wide, Load, LoadSigned, StoreImmediate, StoreRegister, Goto, GotoLong, Branch}
+use Rattle.bpf_model.specs.declared.instruction.Form.TheVariants.{Arithmetic, Wide, Load, LoadSigned, StoreImmediate, StoreRegister, Ja, Ja32, Branch}
 use Rattle.bpf_model.specs.declared.instruction.Form.TheVariants.{Call, Exit}
 use Rattle.bpf_model.specs.Reading.{bytes_in, form_of, units}
 use Rattle.bpf_model.specs.Arithmetic.{low}
 use Rattle.bpf_model.specs.Machine.{shifted, immediate}
 use Rattle.bpf_model.proofs.Reading.{wide_at}
-use Rattle.reg_types.specs.declared.types.Terms.{Terms}
+use Rattle.reg_types.specs.declared.types.LoadOptions.{LoadOptions}
 use Rattle.bpf_model.specs.declared.context.Layout.{Layout}
 use Rattle.bpf_model.specs.Layouts.{context_len}
 use Rattle.reg_types.specs.declared.types.RegType.{RegType}
@@ -76,30 +76,30 @@ gives o e = subst GivesNumber (sym e) refl
 
 numbers_ok : (layout : Layout) (op : Operator) (w : Width) (i : Inst) (a : RegType) (n : ℕ) → is_numeric a ≡ true
     → GivesNumber (alu_type layout op w Immediate i a (Const n))
-numbers_ok layout Sum Full i Num n h = refl
-numbers_ok layout Sum Narrow i Num n h = refl
-numbers_ok layout Sum Full i (Const c) n h = refl
-numbers_ok layout Sum Narrow i (Const c) n h = refl
-numbers_ok layout Difference Full i Num n h = refl
-numbers_ok layout Difference Narrow i Num n h = refl
-numbers_ok layout Difference Full i (Const c) n h = refl
-numbers_ok layout Difference Narrow i (Const c) n h = refl
-numbers_ok layout Sum w i Unset n h = absurd (cc)
-numbers_ok layout Sum w i (Ctx k) n h = absurd (cc)
-numbers_ok layout Sum w i (Stk k) n h = absurd (cc)
-numbers_ok layout Difference w i Unset n h = absurd (cc)
-numbers_ok layout Difference w i (Ctx k) n h = absurd (cc)
-numbers_ok layout Difference w i (Stk k) n h = absurd (cc)
-numbers_ok layout Move w i a n h = plain_move (is_plain i.offset) (low w (immediate w i.imm))
-numbers_ok layout Negate w i a n h = gives (one_number i.dst a) (one_ok i.dst a h)
+numbers_ok layout Add Bits64 i Num n h = refl
+numbers_ok layout Add Bits32 i Num n h = refl
+numbers_ok layout Add Bits64 i (Const c) n h = refl
+numbers_ok layout Add Bits32 i (Const c) n h = refl
+numbers_ok layout Sub Bits64 i Num n h = refl
+numbers_ok layout Sub Bits32 i Num n h = refl
+numbers_ok layout Sub Bits64 i (Const c) n h = refl
+numbers_ok layout Sub Bits32 i (Const c) n h = refl
+numbers_ok layout Add w i Unset n h = absurd (cc)
+numbers_ok layout Add w i (Ctx k) n h = absurd (cc)
+numbers_ok layout Add w i (Stk k) n h = absurd (cc)
+numbers_ok layout Sub w i Unset n h = absurd (cc)
+numbers_ok layout Sub w i (Ctx k) n h = absurd (cc)
+numbers_ok layout Sub w i (Stk k) n h = absurd (cc)
+numbers_ok layout Mov w i a n h = plain_move (is_plain i.offset) (low w (immediate w i.imm))
+numbers_ok layout Neg w i a n h = gives (one_number i.dst a) (one_ok i.dst a h)
 numbers_ok layout SwapBytes w i a n h = gives (one_number i.dst a) (one_ok i.dst a h)
 numbers_ok layout op w i a n h = gives (two_numbers i.dst i.src a (Const n)) (two_ok i.dst i.src n a h)
 
--- what is left has plain types
+-- the instruction is accepted, and its effect has plain types
 abbrev Accepted : Result Effect Flaw → Type 0
 Accepted r = (e : Effect) × (r ≡ ok_of e) × ArePlain e.types
 
--- a number is put into R0
+-- an instruction that writes a number to R0 is accepted, and leaves plain types
 set_first : (types : List RegType) (o : Typed) → 2 ≤ length types → type_at types 1 ≡ Ctx 0 → GivesNumber o → Accepted (set_type types 0 o)
 set_first types (Err e) l b g = absurd g
 set_first types (Ok t) l b g = (
@@ -119,13 +119,13 @@ load_ok : (o : Option ℕ) → IsSome o → GivesNumber (number_at o)
 load_ok None h = absurd (cc)
 load_ok (Some at) h = refl
 
--- a load from the context through R1, at which no pointer is noted
+-- a load into R0 from the context, through R1, is accepted, and leaves plain types: no pointer is spilled there
 loaded_first : (layout : Layout) (fact : Fact) (i : Inst) (size : Size) → LoadsArgument layout i size → 2 ≤ length fact.types → type_at fact.types 1 ≡ Ctx 0
-    → Accepted (set_type fact.types i.dst (loaded_type layout fact.stack fact.notes (type_at fact.types i.src) i (bytes_in size)))
+    → Accepted (set_type fact.types i.dst (loaded_type layout fact.stack fact.spills (type_at fact.types i.src) i (bytes_in size)))
 loaded_first layout fact i size f l b =
-    let o = loaded_type layout fact.stack fact.notes (type_at fact.types i.src) i (bytes_in size) in
-    let same : loaded_type layout fact.stack fact.notes (Ctx 0) i (bytes_in size) ≡ o =
-    ap (λ t. loaded_type layout fact.stack fact.notes t i (bytes_in size)) (sym (ap (type_at fact.types) f.1 ∙ b)) in
+    let o = loaded_type layout fact.stack fact.spills (type_at fact.types i.src) i (bytes_in size) in
+    let same : loaded_type layout fact.stack fact.spills (Ctx 0) i (bytes_in size) ≡ o =
+    ap (λ t. loaded_type layout fact.stack fact.spills t i (bytes_in size)) (sym (ap (type_at fact.types) f.1 ∙ b)) in
     set_dst fact.types i.dst o f.0 l b (subst GivesNumber same (load_ok (shifted 0 i.offset (context_len layout - bytes_in size)) f.2))
 
 load_first : (layout : Layout) (fact : Fact) (i : Inst) (size : Size) → LoadsArgument layout i size → 2 ≤ length fact.types → type_at fact.types 1 ≡ Ctx 0
@@ -143,11 +143,11 @@ compare_ok types dst src n a h p =
 exit_ok : (types : List RegType) → ArePlain types → Accepted (exited types (type_at types 0))
 exit_ok types p = (unmarked types, ap (λ b. cond b (ok_of (unmarked types)) (Err (NotANumber 0))) p.number, p)
 
--- a plain instruction is accepted where R0 has a number
-plain_effect : (terms : Terms) (fact : Fact) (i : Inst) (upper : ℤ) (form : Form) → ArePlain fact.types → IsPlainForm terms.layout i form
+-- a plain instruction is accepted where R0 holds a number
+plain_effect : (terms : LoadOptions) (fact : Fact) (i : Inst) (upper : ℤ) (form : Form) → ArePlain fact.types → IsPlainForm terms.layout i form
     → Accepted (effect terms fact i upper form)
-plain_effect terms fact i upper Goto p f = (unmarked fact.types, refl, p)
-plain_effect terms fact i upper GotoLong p f = (unmarked fact.types, refl, p)
+plain_effect terms fact i upper Ja p f = (unmarked fact.types, refl, p)
+plain_effect terms fact i upper Ja32 p f = (unmarked fact.types, refl, p)
 plain_effect terms fact i upper Exit p f = exit_ok fact.types p
 plain_effect terms fact i upper Wide p f =
     let o : Typed = Ok (Const (cast_unsigned w32 upper * 2 ^ 32 + cast_unsigned w32 i.imm)) in
@@ -171,19 +171,19 @@ plain_effect terms fact i upper (StoreRegister size) p f = absurd f
 plain_effect terms fact i upper Call p f = absurd f
 
 -- the first instruction sets R0, and R1 points to the context there
-first_effect : (terms : Terms) (fact : Fact) (i : Inst) (upper : ℤ) (form : Form) → 2 ≤ length fact.types → type_at fact.types 1 ≡ Ctx 0
+first_effect : (terms : LoadOptions) (fact : Fact) (i : Inst) (upper : ℤ) (form : Form) → 2 ≤ length fact.types → type_at fact.types 1 ≡ Ctx 0
     → IsPlainForm terms.layout i form → SetsFirst form → Accepted (effect terms fact i upper form)
 first_effect terms fact i upper Wide l b f s =
     let o : Typed = Ok (Const (cast_unsigned w32 upper * 2 ^ 32 + cast_unsigned w32 i.imm)) in set_dst fact.types i.dst o f l b refl
 first_effect terms fact i upper (Load size) l b f s = loaded_first terms.layout fact i size f l b
 first_effect terms fact i upper (LoadSigned size) l b f s = load_first terms.layout fact i size f l b
-first_effect terms fact i upper (Arithmetic Move w Immediate) l b f s =
-    set_dst fact.types i.dst (alu_type terms.layout Move w Immediate i (type_at fact.types i.dst) (Const (immediate w i.imm))) f l b
+first_effect terms fact i upper (Arithmetic Mov w Immediate) l b f s =
+    set_dst fact.types i.dst (alu_type terms.layout Mov w Immediate i (type_at fact.types i.dst) (Const (immediate w i.imm))) f l b
     (plain_move (is_plain i.offset) (low w (immediate w i.imm)))
-first_effect terms fact i upper (Arithmetic Move w Register) l b f s = absurd s
+first_effect terms fact i upper (Arithmetic Mov w Register) l b f s = absurd s
 first_effect terms fact i upper (Arithmetic op w source) l b f s = absurd s
-first_effect terms fact i upper Goto l b f s = absurd s
-first_effect terms fact i upper GotoLong l b f s = absurd s
+first_effect terms fact i upper Ja l b f s = absurd s
+first_effect terms fact i upper Ja32 l b f s = absurd s
 first_effect terms fact i upper Exit l b f s = absurd s
 first_effect terms fact i upper (Branch c w source) l b f s = absurd s
 first_effect terms fact i upper (StoreImmediate size) l b f s = absurd s
@@ -214,7 +214,7 @@ plain_join a b j l e p q =
       number = ap is_numeric (e 0) ∙ join_numeric (type_at a 0) (type_at b 0) p.number q.number;
     }
 
--- ---- no plain instruction falls off
+-- ---- no plain instruction runs past the last unit
 
 forms_same : (f g : Form) (o : Option Form) → o ≡ Some f → o ≡ Some g → f ≡ g
 forms_same f g o a b = cc
@@ -223,7 +223,7 @@ is_exit : Form → Bool
 is_exit Exit = true
 is_exit form = false
 
-module _ (bytes : List ℕ) (us : List ProgramUnit) (terms : Terms) (reads : units bytes ≡ Some us) (plain : ArePlainUnits terms.layout us) (pc : ℕ) (i : Inst)
+module _ (bytes : List ℕ) (us : List ProgramUnit) (terms : LoadOptions) (reads : units bytes ≡ Some us) (plain : ArePlainUnits terms.layout us) (pc : ℕ) (i : Inst)
     (at : slice_get us pc ≡ Some (First i)) where
   -- the last unit is an exit
   exits_last : (form : Form) → form_of i.opcode ≡ Some form → length us ≤ pc + 1 → Exit ≡ form
@@ -256,8 +256,8 @@ module _ (bytes : List ℕ) (us : List ProgramUnit) (terms : Terms) (reads : uni
 
   stays_on : (form : Form) → form_of i.opcode ≡ Some form → falls_off (length us) pc form ≡ false
   stays_on Exit is = refl
-  stays_on Goto is = refl
-  stays_on GotoLong is = refl
+  stays_on Ja is = refl
+  stays_on Ja32 is = refl
   stays_on Wide is = stays_by (nat_le (length us) (pc + 2)) (pc + 2) refl (no_last_wide is)
   stays_on (Arithmetic op w s) is = no_exit (Arithmetic op w s) is (λ e. cc)
   stays_on (Load size) is = no_exit (Load size) is (λ e. cc)
@@ -282,7 +282,7 @@ module _ (bytes : List ℕ) (us : List ProgramUnit) (terms : Terms) (reads : uni
       let sets = plain.sets i form (subst (λ k. slice_get us k ≡ Some (First i)) z.0 at) is in
       accepted fact upper form is (first_effect terms fact i upper form two base (plain.each pc i form at is) sets)
 
-pub plain_accepts : (bytes : List ℕ) (us : List ProgramUnit) (terms : Terms) → units bytes ≡ Some us → ArePlainUnits terms.layout us → AcceptsAll us terms
+pub plain_accepts : (bytes : List ℕ) (us : List ProgramUnit) (terms : LoadOptions) → units bytes ≡ Some us → ArePlainUnits terms.layout us → AcceptsAll us terms
 plain_accepts bytes us terms reads plain =
     record { each = λ pc i fact at types upper form is. plain_here bytes us terms reads plain pc i at fact upper form is types }
 
@@ -316,7 +316,7 @@ above_of : (pc q : ℕ) (types : List RegType) → pc < q → PlainTypesAt q typ
 above_of pc q types l (inl z) = absurd (omega (arith, z.0))
 above_of pc q types l (inr p) = p
 
--- what may be known of a unit
+-- what can be known of a unit of a plain program
 abbrev PlainKnown : ℕ → Option Fact → Type 0
 PlainKnown q None = ⊤
 PlainKnown q (Some fact) = PlainTypesAt q fact.types
@@ -329,7 +329,7 @@ known_option : (q : ℕ) (o : Option Fact) → PlainOption o → PlainKnown q o
 known_option q None p = tt
 known_option q (Some fact) p = inr p
 
-module _ (us : List ProgramUnit) (terms : Terms) (all : AcceptsAll us terms) where
+module _ (us : List ProgramUnit) (terms : LoadOptions) (all : AcceptsAll us terms) where
   ruled_plain : (pc : ℕ) (fact : Fact) (x : Inst × Form) → PlainTypesAt pc fact.types → instruction_at us pc ≡ Some x → Accepted (ruled us terms pc fact x)
   ruled_plain pc fact x p at =
       let is = instruction_is (slice_get us pc) x at in

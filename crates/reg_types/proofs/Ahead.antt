@@ -8,7 +8,7 @@ use Rattle.bpf_model.specs.declared.instruction.Inst.{Inst}
 use Rattle.bpf_model.specs.declared.instruction.Unit.{Unit as ProgramUnit}
 use Rattle.bpf_model.specs.declared.instruction.Unit.TheVariants.{First, Second}
 use Rattle.bpf_model.specs.declared.instruction.Form.{Form}
-use Rattle.bpf_model.specs.declared.instruction.Form.TheVariants.{Arithmetic, Wide, Load, LoadSigned, StoreImmediate, StoreRegister, Goto, GotoLong, Branch}
+use Rattle.bpf_model.specs.declared.instruction.Form.TheVariants.{Arithmetic, Wide, Load, LoadSigned, StoreImmediate, StoreRegister, Ja, Ja32, Branch}
 use Rattle.bpf_model.specs.declared.instruction.Form.TheVariants.{Call, Exit}
 use Rattle.bpf_model.specs.Reading.{form_of, units, begins, fields_at, imm_at, opcode_at, is_wide}
 use Rattle.bpf_model.specs.Machine.{and_then}
@@ -69,11 +69,11 @@ module _ (bytes : List ℕ) (us : List ProgramUnit) (reads : units bytes ≡ Som
   pub leads_ahead : GoesForward us → (form : Form) → form_of i.opcode ≡ Some form → falls_off (length us) pc form ≡ false
       → (tos : List ℕ) × (leads pc i form ≡ Some tos) × AllByRecursion (IsAhead us pc) tos
   leads_ahead f Exit is more = ([], refl, tt)
-  leads_ahead f Goto is more =
-      let j = f.jumps pc i.offset (distance_is Goto i.offset is refl) in
+  leads_ahead f Ja is more =
+      let j = f.jumps pc i.offset (distance_is Ja i.offset is refl) in
       (j.0 ∷ [], ap (λ o. option_cons o []) j.1, (j.2, tt))
-  leads_ahead f GotoLong is more =
-      let j = f.jumps pc i.imm (distance_is GotoLong i.imm is refl) in
+  leads_ahead f Ja32 is more =
+      let j = f.jumps pc i.imm (distance_is Ja32 i.imm is refl) in
       (j.0 ∷ [], ap (λ o. option_cons o []) j.1, (j.2, tt))
   leads_ahead f (Branch c w s) is more =
       let j = f.jumps pc i.offset (distance_is (Branch c w s) i.offset is refl) in
@@ -86,7 +86,7 @@ module _ (bytes : List ℕ) (us : List ProgramUnit) (reads : units bytes ≡ Som
   leads_ahead f (StoreRegister size) is more = ((pc + 1) ∷ [], refl, (goes_next (StoreRegister size) is refl more, tt))
   leads_ahead f Call is more = ((pc + 1) ∷ [], refl, (goes_next Call is refl more, tt))
 
--- what stands at a unit of a program
+-- what holds of an instruction of a program
 pub record IsThere (us : List ProgramUnit) (pc : ℕ) (i : Inst) : Type 0 where
   pub small : pc < 512
   pub inside : pc < length us

@@ -14,8 +14,8 @@ use Rattle.bpf_decode.specs.Faults.{IsRefusedFor}
 use Rattle.flow_check.specs.declared.FlowFault.{FlowFault}
 use Rattle.flow_check.specs.declared.FlowFault.TheVariants.{BackwardJump, JumpOut, JumpIntoWide, OutOfMemory as NoMemoryForFlow}
 use Rattle.flow_check.specs.Faults.{IsShown as IsFlowShown}
-use Rattle.reg_types.specs.declared.types.Terms.{Terms}
-use Rattle.reg_types.specs.Terms.{loaded_on}
+use Rattle.reg_types.specs.declared.types.LoadOptions.{LoadOptions}
+use Rattle.reg_types.specs.LoadOptions.{loaded_on}
 use Rattle.reg_types.specs.declared.types.Fact.{Fact}
 use Rattle.reg_types.specs.Effects.{Effect}
 use Rattle.reg_types.specs.declared.types.Flaw.{Flaw}
@@ -39,7 +39,7 @@ one_of_two : (a b : Option TypeFault) (fault : TypeFault) → or_else a b ≡ So
 one_of_two None b fault e = inr e
 one_of_two (Some f) b fault e = inl e
 
-flaw_at : (us : List ProgramUnit) (terms : Terms) (n : ℕ) (fault : TypeFault) → first_flaw_below us terms n ≡ Some fault
+flaw_at : (us : List ProgramUnit) (terms : LoadOptions) (n : ℕ) (fault : TypeFault) → first_flaw_below us terms n ≡ Some fault
     → (k : ℕ) × (flaw_under us terms k (inferred us terms k) ≡ Some fault)
 unfolding first_flaw_below
 flaw_at us terms zero fault e = absurd (cc)
@@ -59,7 +59,7 @@ decoded_by us true None below e = refl
 decoded_by us true (Some x) below e = absurd (cc)
 decoded_by us false o below e = absurd (cc)
 
-module _ (bytes : List ℕ) (us : List ProgramUnit) (terms : Terms) (reads : units bytes ≡ Some us) (flows : flow_fault us ≡ None) where
+module _ (bytes : List ℕ) (us : List ProgramUnit) (terms : LoadOptions) (reads : units bytes ≡ Some us) (flows : flow_fault us ≡ None) where
   shown_of : (pc : ℕ) (fact : Fact) (o : Option (Inst × Form)) (fault : TypeFault) → instruction_at us pc ≡ o → flaw_of us terms pc fact o ≡ Some fault
       → IsTypeShown bytes fault
   shown_of pc fact None fault at e = absurd (cc)
@@ -115,13 +115,13 @@ module _ (bytes : List ℕ) (us : List ProgramUnit) (terms : Terms) (reads : uni
   pass_exact (TypeRefusal fault) h = flawed_is (Some fault) h
   pass_exact OutOfMemory h = tt
 
-pub pass_alone : (us : List ProgramUnit) (terms : Terms) (refusal : Refusal) → IsPassRefused us terms refusal → IsToldAlone refusal
+pub pass_alone : (us : List ProgramUnit) (terms : LoadOptions) (refusal : Refusal) → IsPassRefused us terms refusal → IsToldAlone refusal
 pass_alone us terms (Decode fault) h = absurd h
 pass_alone us terms (Flow fault) h = absurd h
 pass_alone us terms (TypeRefusal fault) h = (λ e. absurd (cc), λ e. absurd (cc))
 pass_alone us terms OutOfMemory h = (λ e. absurd (cc), λ e. absurd (cc))
 
-module _ (bytes : List ℕ) (terms : Terms) where
+module _ (bytes : List ℕ) (terms : LoadOptions) where
   first_refused : (refusal : Refusal) → decode_refusal bytes ≡ Some refusal → refusal_of (loaded_on bytes terms) ≡ Some refusal
   unfolding refusal_of
   first_refused refusal e = ap (λ o. or_refused o (code_refusal terms (units bytes))) e
@@ -162,7 +162,7 @@ module _ (bytes : List ℕ) (terms : Terms) where
   flow_exact us (JumpIntoWide pc) reads h = flow_is us _ reads h
   flow_exact us NoMemoryForFlow reads h = absurd h
 
-  -- ---- plain programs are refused for want of memory alone
+  -- ---- plain programs are refused only where memory runs out
 
   plain_accepted : IsPlain (loaded_on bytes terms) → refusal_of (loaded_on bytes terms) ≡ None
   plain_accepted p =

@@ -1,4 +1,4 @@
--- A well typed call is answered, and changes declared counters alone.
+-- A well typed call is answered, and changes only declared counters.
 use Rattle.std.proofs.Common.{◌≡◌, ℕ, ◌+◌, ◌-◌, ◌<◌, ◌≤◌, List, [], ◌++◌, Option, Some, None, Bool, true, false, refl, sym, ap, ◌∙◌, subst, inl, inr, arith}
 use Rattle.std.proofs.Common.{length, length-append}
 use Rattle.std.specs.Prelude.{Result, Ok, Err, pos, ◌^◌, ◌/◌, ◌%◌, ◌==◌, ◌&&◌, cond, nat_le, is_some, slice_set, slice_index_or}
@@ -81,7 +81,7 @@ changes_set declared counters c v bit l =
 le_from : (m n : ℕ) → nat_le m n ≡ true → m ≤ n
 le_from m n e = grind (arith, nat_tests)
 
--- what a well typed call is answered
+-- the answer of a well typed call, and its effect
 pub record Answered (declared : ℕ) (types : List RegType) (view : View) (counters : Counters) (stack : List Cell) (given : Option Answer)
     (e : Effect) : Type 0 where
   pub reply : Answer
@@ -100,7 +100,7 @@ call_test true true false x e h = absurd (cc)
 call_test true false d x e h = absurd (cc)
 call_test false q d x e h = absurd (cc)
 
--- a typed counter argument is the counter
+-- a well typed counter argument is the number of a declared counter
 counter_is : (declared : ℕ) (t : RegType) (v : Value) → FitsType t v → fits_counter t ≡ true → declares declared t ≡ true
     → (c : ℕ) × (counter_argument declared v ≡ Some c) × (declared / 2 ^ c % 2 ≡ 1) × (c ≤ 31)
 counter_is declared (Const c) (Number n) h f d = (
@@ -134,7 +134,7 @@ some_of : (o : Option ℕ) → is_some o ≡ true → (n : ℕ) × (o ≡ Some n
 some_of None e = absurd (cc)
 some_of (Some n) e = (n, refl)
 
--- a typed place argument is the place
+-- a well typed place argument is the place that its type says
 place_of : (t : RegType) (v : Value) → FitsType t v → is_some (place_by t) ≡ true → (at : ℕ) × (place_by t ≡ Some at) × (record_place v ≡ Some at) × (at ≤ 496)
 place_of (Stk k) (Stack n) h e =
     let x = some_of (shifted (lowest k) (pos 0) 496) e in

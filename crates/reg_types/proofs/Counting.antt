@@ -8,10 +8,10 @@ use Rattle.bpf_model.specs.Reading.{units}
 use Rattle.bpf_model.specs.Machine.{and_then, shifted}
 use Rattle.bpf_model.specs.Flow.{target, distance_at, GoesForward}
 use Rattle.bpf_model.proofs.Reading.{count_of_units}
-use Rattle.reg_types.specs.declared.types.Terms.{Terms}
-use Rattle.reg_types.specs.Terms.{loaded_on}
+use Rattle.reg_types.specs.declared.types.LoadOptions.{LoadOptions}
+use Rattle.reg_types.specs.LoadOptions.{loaded_on}
 use Rattle.reg_types.specs.declared.types.Fact.{Fact}
-use Rattle.reg_types.specs.declared.types.Stored.{Stored}
+use Rattle.reg_types.specs.declared.types.StoredFact.{StoredFact}
 use Rattle.reg_types.specs.Facts.{stored, AreDistinct}
 use Rattle.reg_types.specs.Inference.{inferred, goes, is_entered, is_target, count_below, facts_in, targets_in}
 use Rattle.reg_types.specs.Passing.{IsAccepted, IsFactCount, IsFew}
@@ -54,7 +54,7 @@ nothing_counted : (n : ℕ) → count_below n (λ q. false) ≡ 0
 nothing_counted zero = none_counted (λ q. false)
 nothing_counted (suc n) = passed_by n (λ q. false) refl ∙ nothing_counted n
 
--- one number more is so
+-- where one number more passes the test, the count is one more
 one_more : (n a : ℕ) (p r : ℕ → Bool) → a < n → p a ≡ false → r a ≡ true → ((q : ℕ) → q ≢ a → r q ≡ p q) → count_below n r ≡ suc (count_below n p)
 one_more zero a p r l not now others = absurd (omega (arith, l))
 one_more (suc n) a p r l not now others =
@@ -72,7 +72,7 @@ one_more (suc n) a p r l not now others =
           ]
     ]
 
--- but for the number 0 all that are so are so by the other test
+-- where each number that passes p is 0 or passes r, the count of p is at most one more than that of r
 one_less : (n : ℕ) (p r : ℕ → Bool) → ((q : ℕ) → p q ≡ true → (q ≡ 0) ⊎ (r q ≡ true)) → count_below n p ≤ 1 + count_below n r
 one_less zero p r h = let e = none_counted p in omega (arith, e)
 one_less (suc n) p r h =
@@ -95,8 +95,8 @@ one_less (suc n) p r h =
 stored_if : (t : Bool) (f : Fact) (o : Option Fact) → t ≡ false → is_some (cond t (Some f) o) ≡ is_some o
 stored_if t f o e = ap is_some (cond-false t (Some f) o e)
 
--- each stored fact is of a unit of its own
-pub count_of_stored : (n : ℕ) (facts : List Stored) → AreDistinct facts → ((q : ℕ) → is_some (stored facts q) ≡ true → q < n)
+-- there are as many stored facts as units that have one
+pub count_of_stored : (n : ℕ) (facts : List StoredFact) → AreDistinct facts → ((q : ℕ) → is_some (stored facts q) ≡ true → q < n)
     → length facts ≡ count_below n (λ q. is_some (stored facts q))
 unfolding AreDistinct
 count_of_stored n [] d inside = sym (nothing_counted n)
@@ -132,7 +132,7 @@ goes_is : (o : Option ℕ) (q : ℕ) → goes o q ≡ true → o ≡ Some q
 goes_is None q e = absurd (cc)
 goes_is (Some to) q e = ap Some (sym (eqb-true q to e))
 
-module _ (us : List ProgramUnit) (terms : Terms) where
+module _ (us : List ProgramUnit) (terms : LoadOptions) where
   target_more : (n q : ℕ) → is_target us n q ≡ true → is_target us (suc n) q ≡ true
   unfolding is_target
   target_more n q e = or_left (is_target us n q) (goes (target us n) q) e
@@ -170,7 +170,7 @@ module _ (us : List ProgramUnit) (terms : Terms) where
             omega (arith, l, is)
       ]
 
-module _ (bytes : List ℕ) (us : List ProgramUnit) (terms : Terms) (facts : List Stored) (is : IsAccepted bytes terms us facts) where
+module _ (bytes : List ℕ) (us : List ProgramUnit) (terms : LoadOptions) (facts : List StoredFact) (is : IsAccepted bytes terms us facts) where
   inside : (q : ℕ) → is_some (stored facts q) ≡ true → q < length us
   inside q e =
       elim (entered_target us terms (length us) q (sym (is.inferred_are.kept q) ∙ e)) [

@@ -11,7 +11,7 @@ use Rattle.bpf_model.specs.declared.instruction.Form.TheVariants.{Load, LoadSign
 use Rattle.bpf_model.specs.Reading.{bytes_in}
 use Rattle.bpf_model.specs.Machine.{shifted}
 use Rattle.stack_map.specs.Places.{Has, Within}
-use Rattle.reg_types.specs.declared.types.Terms.{Terms}
+use Rattle.reg_types.specs.declared.types.LoadOptions.{LoadOptions}
 use Rattle.bpf_model.specs.declared.context.Layout.{Layout}
 use Rattle.reg_types.specs.declared.types.RegType.{RegType}
 use Rattle.reg_types.specs.declared.types.RegType.TheVariants.{Unset, Num, Const, Ctx, Stk}
@@ -19,10 +19,10 @@ use Rattle.reg_types.specs.declared.types.Fact.{Fact}
 use Rattle.reg_types.specs.Effects.{Effect}
 use Rattle.reg_types.specs.declared.types.Flaw.{Flaw}
 use Rattle.reg_types.specs.declared.types.Flaw.TheVariants.{FallsOff, UnsetBytes}
-use Rattle.reg_types.specs.Rules.{type_at, join_type, all_in, load_type, number_set, lowest, set_type, kept_type, kept_or, note_of, is_unset, effect, falls_off}
+use Rattle.reg_types.specs.Rules.{type_at, join_type, all_in, load_type, number_set, lowest, set_type, kept_type, kept_or, spill_of, is_unset, effect, falls_off}
 use Rattle.reg_types.specs.Rules.{judged}
 use Rattle.reg_types.specs.Facts.{HasAfter, IsAfter, IsEntry}
-use Rattle.reg_types.specs.Inference.{leads, common, marked, cleared, join_types, join_notes, renoted, set_after, join_fact, entry_fact, fact_after}
+use Rattle.reg_types.specs.Inference.{leads, common, marked, cleared, join_types, join_spills, respilled, set_after, join_fact, entry_fact, fact_after}
 use Rattle.reg_types.specs.Inference.{instruction_at, ruled, flaw_in, flaw_of, flaw_under, taken_in, arrived, arrived_all, passed_by, passed_from, passed}
 use Rattle.operations.specs.Operations.{upper_of}
 use Rattle.reg_types.specs.Passing.{IsSame, AreSame}
@@ -127,14 +127,14 @@ joined_types a b j la lj e =
 -- ---- the relation
 
 pub IsSame-refl : (a : Fact) → IsSame a a
-IsSame-refl a = record { types = refl; places = λ p. (λ h. h, λ h. h); notes = refl }
+IsSame-refl a = record { types = refl; places = λ p. (λ h. h, λ h. h); spills = refl }
 
 pub IsSame-trans : (a b c : Fact) → IsSame a b → IsSame b c → IsSame a c
 IsSame-trans a b c f g =
     record {
       types = f.types ∙ g.types;
       places = λ p. (λ h. (g.places p).0 ((f.places p).0 h), λ h. (f.places p).1 ((g.places p).1 h));
-      notes = f.notes ∙ g.notes;
+      spills = f.spills ∙ g.spills;
     }
 
 pub AreSame-refl : (a : Option Fact) → AreSame a a
@@ -158,7 +158,7 @@ join_same a b c d f g =
             λ h. let both = (common_has a.stack c.stack p).0 h in (common_has b.stack d.stack p).1 ((f.places p).0 both.0, (g.places p).0 both.1),
             λ h. let both = (common_has b.stack d.stack p).0 h in (common_has a.stack c.stack p).1 ((f.places p).1 both.0, (g.places p).1 both.1),
           );
-      notes = ap (λ n. join_notes n c.notes) f.notes ∙ ap (join_notes b.notes) g.notes;
+      spills = ap (λ n. join_spills n c.spills) f.spills ∙ ap (join_spills b.spills) g.spills;
     }
 
 taken_same : (a b : Option Fact) (c d : Fact) → AreSame a b → IsSame c d → IsSame (taken_in a c) (taken_in b d)
@@ -189,35 +189,35 @@ after_same a b e f =
             λ h. (after_has e a.stack p).1 (has_after_same (is_unset e.kept) e.at e.len p b.stack a.stack ((f.places p).1, (f.places p).0)
                 ((after_has e b.stack p).0 h)),
           );
-      notes = ap (renoted (note_of e.kept) e.at e.len 0) f.notes;
+      spills = ap (respilled (spill_of e.kept) e.at e.len 0) f.spills;
     }
 
--- what the code's own functions leave
+-- a fact that the code's own functions leave says the same as fact_after
 pub same_after : (fact : Fact) (e : Effect) (after : Fact) → IsAfter fact e after → IsSame after (fact_after fact e)
 same_after fact e after is =
     record {
       types = is.types;
       places = λ p. (λ h. (after_has e fact.stack p).1 ((is.places p).0 h), λ h. (is.places p).1 ((after_has e fact.stack p).0 h));
-      notes = is.notes;
+      spills = is.spills;
     }
 
 pub after_is : (fact : Fact) (e : Effect) → IsAfter fact e (fact_after fact e)
-after_is fact e = record { types = refl; places = λ p. after_has e fact.stack p; notes = refl }
+after_is fact e = record { types = refl; places = λ p. after_has e fact.stack p; spills = refl }
 
 pub same_entry : (fact : Fact) → IsEntry fact → IsSame fact entry_fact
-same_entry fact is = record { types = is.types; places = λ p. (λ h. absurd (is.places p h), λ h. absurd (cc)); notes = is.notes }
+same_entry fact is = record { types = is.types; places = λ p. (λ h. absurd (is.places p h), λ h. absurd (cc)); spills = is.spills }
 
 pub entry_is : IsEntry entry_fact
-entry_is = record { types = refl; places = λ p h. absurd (cc); notes = refl }
+entry_is = record { types = refl; places = λ p h. absurd (cc); spills = refl }
 
 pub same_join : (a b j : Fact) → length a.types ≡ length b.types → length j.types ≡ length b.types
     → ((r : ℕ) → type_at j.types r ≡ join_type (type_at a.types r) (type_at b.types r)) → ((p : ℕ) → Has j.stack p ↔ (Has a.stack p × Has b.stack p))
-    → j.notes ≡ join_notes a.notes b.notes → IsSame j (join_fact a b)
+    → j.spills ≡ join_spills a.spills b.spills → IsSame j (join_fact a b)
 same_join a b j la lj e h n =
     record {
       types = joined_types a.types b.types j.types la lj e;
       places = λ p. (λ has. (common_has a.stack b.stack p).1 ((h p).0 has), λ has. (h p).1 ((common_has a.stack b.stack p).0 has));
-      notes = n;
+      spills = n;
     }
 
 -- ---- one instruction
@@ -246,24 +246,24 @@ load_same layout a b h (Const c) i size = refl
 load_same layout a b h (Ctx k) i size = refl
 load_same layout a b h (Stk k) i size = number_same a b h size (shifted (lowest k) i.offset (512 - size))
 
-set_same : (terms : Terms) (types : List RegType) (a b : List Bool) (notes : List ℕ) → ((p : ℕ) → Has a p ↔ Has b p) → (i : Inst) (upper : ℤ) (form : Form)
-    → effect terms (record { types = types; stack = a; notes = notes }) i upper form ≡ effect terms (record {
+set_same : (terms : LoadOptions) (types : List RegType) (a b : List Bool) (spills : List ℕ) → ((p : ℕ) → Has a p ↔ Has b p) → (i : Inst) (upper : ℤ) (form : Form)
+    → effect terms (record { types = types; stack = a; spills = spills }) i upper form ≡ effect terms (record {
       types = types;
       stack = b;
-      notes = notes;
+      spills = spills;
     }) i upper form
-set_same terms types a b notes h i upper (Load size) = ap (λ r. set_type types i.dst (kept_or (kept_type notes (type_at types i.src) i (bytes_in size)) r))
+set_same terms types a b spills h i upper (Load size) = ap (λ r. set_type types i.dst (kept_or (kept_type spills (type_at types i.src) i (bytes_in size)) r))
     (load_same terms.layout a b h (type_at types i.src) i (bytes_in size))
-set_same terms types a b notes h i upper (LoadSigned size) = ap (set_type types i.dst) (load_same terms.layout a b h (type_at types i.src) i (bytes_in size))
-set_same terms types a b notes h i upper form = refl
+set_same terms types a b spills h i upper (LoadSigned size) = ap (set_type types i.dst) (load_same terms.layout a b h (type_at types i.src) i (bytes_in size))
+set_same terms types a b spills h i upper form = refl
 
-effect_same : (terms : Terms) (a b : Fact) → IsSame a b → (i : Inst) (upper : ℤ) (form : Form) → effect terms a i upper form ≡ effect terms b i upper form
+effect_same : (terms : LoadOptions) (a b : Fact) → IsSame a b → (i : Inst) (upper : ℤ) (form : Form) → effect terms a i upper form ≡ effect terms b i upper form
 effect_same terms a b f i upper form =
-    set_same terms a.types a.stack b.stack a.notes f.places i upper form
-    ∙ ap (λ types. effect terms (record { types = types; stack = b.stack; notes = a.notes }) i upper form) f.types
-    ∙ ap (λ notes. effect terms (record { types = b.types; stack = b.stack; notes = notes }) i upper form) f.notes
+    set_same terms a.types a.stack b.stack a.spills f.places i upper form
+    ∙ ap (λ types. effect terms (record { types = types; stack = b.stack; spills = a.spills }) i upper form) f.types
+    ∙ ap (λ spills. effect terms (record { types = b.types; stack = b.stack; spills = spills }) i upper form) f.spills
 
-pub judged_same : (count pc : ℕ) (terms : Terms) (a b : Fact) → IsSame a b → (i : Inst) (upper : ℤ) (form : Form)
+pub judged_same : (count pc : ℕ) (terms : LoadOptions) (a b : Fact) → IsSame a b → (i : Inst) (upper : ℤ) (form : Form)
     → judged count pc terms a i upper form ≡ judged count pc terms b i upper form
 judged_same count pc terms a b f i upper form = ap (λ r. cond (falls_off count pc form) (Err FallsOff) r) (effect_same terms a b f i upper form)
 
@@ -275,7 +275,7 @@ passed_by_same q a b (Err flaw) tos x y f g = g
 passed_by_same q a b (Ok e) None x y f g = g
 passed_by_same q a b (Ok e) (Some tos) x y f g = arrived_all_same q tos x y (fact_after a e) (fact_after b e) g (after_same a b e f)
 
-module _ (us : List ProgramUnit) (terms : Terms) (pc : ℕ) where
+module _ (us : List ProgramUnit) (terms : LoadOptions) (pc : ℕ) where
   ruled_same : (a b : Fact) → IsSame a b → (x : Inst × Form) → ruled us terms pc a x ≡ ruled us terms pc b x
   ruled_same a b f x = judged_same (length us) pc terms a b f x.0 (upper_of us pc) x.1
 

@@ -1,4 +1,4 @@
--- Pointers kept on the stack: what stores do to them, and what notes say of them.
+-- Pointers kept on the stack: what stores do to them, and what spills say of them.
 use Rattle.std.proofs.Common.{◌≡◌, ◌≢◌, ℕ, zero, suc, ◌+◌, ◌-◌, ◌*◌, ◌<◌, ◌≤◌, ◌⊎◌, ◌↔◌, List, [], ◌∷◌, Option, Some, None, Bool, true, false, refl, sym, ap}
 use Rattle.std.proofs.Common.{◌∙◌, subst, inl, inr, arith, length}
 use Rattle.std.specs.Prelude.{pos, negsuc, ◌+ℤ◌, ◌/◌, ◌%◌, ◌==◌, ◌&&◌, cond, nat_le, nat_lt, slice_set, slice_index, ⊤}
@@ -14,11 +14,11 @@ use Rattle.bpf_model.specs.Machine.{cell_at, low_byte, written, pieces_written, 
 use Rattle.stack_map.specs.Places.{Has, Within}
 use Rattle.reg_types.specs.declared.types.RegType.{RegType}
 use Rattle.reg_types.specs.declared.types.RegType.TheVariants.{Unset as Anything, Num, Const, Ctx, Stk}
-use Rattle.reg_types.specs.Rules.{is_unset, is_pointer, natural, lowest, note_of, noted_type}
+use Rattle.reg_types.specs.Rules.{is_unset, is_pointer, natural, lowest, spill_of, spilled_type}
 use Rattle.reg_types.specs.declared.types.Fact.{Fact}
 use Rattle.reg_types.specs.Effects.{Effect}
 use Rattle.reg_types.specs.Facts.{FitsType, IsKept, HasAfter, IsAfter}
-use Rattle.reg_types.specs.Inference.{no_notes, touches, renoted, join_notes}
+use Rattle.reg_types.specs.Inference.{no_spills, touches, respilled, join_spills}
 
 -- ---- cells that a store leaves alone
 
@@ -123,7 +123,7 @@ pointer_set (Const c) e = absurd (cc)
 pub aligned : (size at : ℕ) → is_aligned size at ≡ true → (size ≡ 8) × (at % 8 ≡ 0)
 aligned size at e = let h = and_parts (size == 8) (at % 8 == 0) e in (eqb-true size 8 h.0, eqb-true (at % 8) 0 h.1)
 
--- ---- notes
+-- ---- spills
 
 le_from : (m n : ℕ) → nat_le m n ≡ true → m ≤ n
 le_from m n e = grind (arith, nat_tests)
@@ -134,8 +134,8 @@ lt_from m n e = grind (arith, nat_tests)
 not_below : (m n : ℕ) → nat_lt m n ≡ false → n ≤ m
 not_below m n e = grind (arith, nat_tests)
 
-pub noted_context : (k : ℕ) → k ≤ 80 → noted_type (k + 1) ≡ Ctx k
-noted_context k l =
+pub spilled_context : (k : ℕ) → k ≤ 80 → spilled_type (k + 1) ≡ Ctx k
+spilled_context k l =
     let some : (k + 1 == 0) ≡ false = grind (arith, nat_tests) in
     let small : nat_le (k + 1) 81 ≡ true = grind (arith, nat_tests) in
     let back : k + 1 - 1 ≡ k = omega arith in
@@ -143,8 +143,8 @@ noted_context k l =
     ∙ ap (λ b. cond b (Ctx (k + 1 - 1)) (Stk (pos (k + 1 - 82) +ℤ negsuc 511))) small
     ∙ ap Ctx back
 
-pub noted_stack : (m : ℕ) → noted_type (82 + m) ≡ Stk (pos m +ℤ negsuc 511)
-noted_stack m =
+pub spilled_stack : (m : ℕ) → spilled_type (82 + m) ≡ Stk (pos m +ℤ negsuc 511)
+spilled_stack m =
     let some : (82 + m == 0) ≡ false = grind (arith, nat_tests) in
     let large : nat_le (82 + m) 81 ≡ false = grind (arith, nat_tests) in
     let back : 82 + m - 82 ≡ m = omega arith in
@@ -155,76 +155,76 @@ noted_stack m =
 pub back_again : (m : ℕ) → pos m ≡ ((pos m +ℤ negsuc 511) +ℤ pos 512)
 back_again m = omega (arith, ints)
 
-context_note : (b : Bool) (k n : ℕ) → (b ≡ true → k ≤ 80) → n ≡ k → is_unset (noted_type (cond b (k + 1) 0)) ≡ false
-    → FitsType (noted_type (cond b (k + 1) 0)) (Context n)
-context_note true k n l e u = subst (λ t. FitsType t (Context n)) (sym (noted_context k (l refl))) e
-context_note false k n l e u = absurd (cc)
+context_spill : (b : Bool) (k n : ℕ) → (b ≡ true → k ≤ 80) → n ≡ k → is_unset (spilled_type (cond b (k + 1) 0)) ≡ false
+    → FitsType (spilled_type (cond b (k + 1) 0)) (Context n)
+context_spill true k n l e u = subst (λ t. FitsType t (Context n)) (sym (spilled_context k (l refl))) e
+context_spill false k n l e u = absurd (cc)
 
-stack_note : (b : Bool) (m n : ℕ) → n ≡ m → is_unset (noted_type (cond b (82 + m) 0)) ≡ false → FitsType (noted_type (cond b (82 + m) 0)) (Stack n)
-stack_note true m n e u = subst (λ t. FitsType t (Stack n)) (sym (noted_stack m)) (ap pos e ∙ back_again m)
-stack_note false m n e u = absurd (cc)
+stack_spill : (b : Bool) (m n : ℕ) → n ≡ m → is_unset (spilled_type (cond b (82 + m) 0)) ≡ false → FitsType (spilled_type (cond b (82 + m) 0)) (Stack n)
+stack_spill true m n e u = subst (λ t. FitsType t (Stack n)) (sym (spilled_stack m)) (ap pos e ∙ back_again m)
+stack_spill false m n e u = absurd (cc)
 
--- what fits a type fits its note's
-pub note_fits : (t : RegType) (v : Value) → FitsType t v → is_unset (noted_type (note_of t)) ≡ false → FitsType (noted_type (note_of t)) v
-note_fits (Ctx k) (Context n) h u = context_note (nat_le k 80) k n (λ e. le_from k 80 e) h u
-note_fits (Stk k) (Stack n) h u = stack_note (nat_le (lowest k) 512) (lowest k) n (sym (ap natural (sym h))) u
-note_fits Anything v h u = absurd (cc)
-note_fits Num v h u = absurd (cc)
-note_fits (Const c) v h u = absurd (cc)
-note_fits (Ctx k) Unset h u = absurd h
-note_fits (Ctx k) (Number n) h u = absurd h
-note_fits (Ctx k) (Stack n) h u = absurd h
-note_fits (Stk k) Unset h u = absurd h
-note_fits (Stk k) (Number n) h u = absurd h
-note_fits (Stk k) (Context n) h u = absurd h
+-- a value that fits a pointer's type fits the type that is read back from its spill
+pub spill_fits : (t : RegType) (v : Value) → FitsType t v → is_unset (spilled_type (spill_of t)) ≡ false → FitsType (spilled_type (spill_of t)) v
+spill_fits (Ctx k) (Context n) h u = context_spill (nat_le k 80) k n (λ e. le_from k 80 e) h u
+spill_fits (Stk k) (Stack n) h u = stack_spill (nat_le (lowest k) 512) (lowest k) n (sym (ap natural (sym h))) u
+spill_fits Anything v h u = absurd (cc)
+spill_fits Num v h u = absurd (cc)
+spill_fits (Const c) v h u = absurd (cc)
+spill_fits (Ctx k) Unset h u = absurd h
+spill_fits (Ctx k) (Number n) h u = absurd h
+spill_fits (Ctx k) (Stack n) h u = absurd h
+spill_fits (Stk k) Unset h u = absurd h
+spill_fits (Stk k) (Number n) h u = absurd h
+spill_fits (Stk k) (Context n) h u = absurd h
 
--- no note says nothing
-pub nothing_kept : (note : ℕ) (stack : List Cell) (at : ℕ) → note ≡ 0 → IsKept (noted_type note) stack at
-nothing_kept note stack at z = subst (λ n. IsKept (noted_type n) stack at) (sym z) (λ u. absurd (cc))
+-- a spill of 0 says nothing
+pub nothing_kept : (spill : ℕ) (stack : List Cell) (at : ℕ) → spill ≡ 0 → IsKept (spilled_type spill) stack at
+nothing_kept spill stack at z = subst (λ n. IsKept (spilled_type n) stack at) (sym z) (λ u. absurd (cc))
 
 kept_on : (t : RegType) (a b : List Cell) (at : ℕ) → kept_at b at ≡ kept_at a at → IsKept t a at → IsKept t b at
 kept_on t a b at e h = λ u. let x = h u in (x.0, x.1, e ∙ x.2)
 
-pub none_noted : (k : ℕ) → slice_index no_notes k ≡ 0
-none_noted k =
+pub none_spilled : (k : ℕ) → slice_index no_spills k ≡ 0
+none_spilled k =
     elim (cases_lt k 64) [
       | inl l ↦ get_or-replicate {A = ℕ} 64 k 0 0 l
-      | inr l ↦ get_or_past no_notes k 0 (let n = length-replicate {A = ℕ} 64 0 in omega (arith, n, l))
+      | inr l ↦ get_or_past no_spills k 0 (let n = length-replicate {A = ℕ} 64 0 in omega (arith, n, l))
     ]
 
--- a note of the join is both facts', or none
+-- a spill of the join is that of both facts, or none
 join_if : (a b : ℕ) (t : Bool) → (t ≡ true → a ≡ b) → ((cond t a 0 ≡ a) × (cond t a 0 ≡ b)) ⊎ (cond t a 0 ≡ 0)
 join_if a b true e = inl (refl, e refl)
 join_if a b false e = inr refl
 
-pub joined_note : (a b : List ℕ) (k : ℕ) → ((slice_index (join_notes a b) k ≡ slice_index a k) × (slice_index (join_notes a b) k ≡ slice_index b k))
-    ⊎ (slice_index (join_notes a b) k ≡ 0)
-joined_note [] b k = inr refl
-joined_note (x ∷ a) [] k = inr refl
-joined_note (x ∷ a) (y ∷ b) zero = join_if x y (x == y) (eqb-true x y)
-joined_note (x ∷ a) (y ∷ b) (suc k) = joined_note a b k
+pub joined_spill : (a b : List ℕ) (k : ℕ) → ((slice_index (join_spills a b) k ≡ slice_index a k) × (slice_index (join_spills a b) k ≡ slice_index b k))
+    ⊎ (slice_index (join_spills a b) k ≡ 0)
+joined_spill [] b k = inr refl
+joined_spill (x ∷ a) [] k = inr refl
+joined_spill (x ∷ a) (y ∷ b) zero = join_if x y (x == y) (eqb-true x y)
+joined_spill (x ∷ a) (y ∷ b) (suc k) = joined_spill a b k
 
--- a note after a store: none, the old one of a place that isn't touched, or the new one
-abbrev IsRenoted : Bool → ℕ → ℕ → ℕ → Type 0
-IsRenoted touched n old new = (new ≡ 0) ⊎ (((touched ≡ false) × (new ≡ old)) ⊎ ((touched ≡ true) × (new ≡ n)))
+-- a spill after a store: none, the old one of a place that isn't touched, or the new one
+abbrev IsRespilled : Bool → ℕ → ℕ → ℕ → Type 0
+IsRespilled touched n old new = (new ≡ 0) ⊎ (((touched ≡ false) × (new ≡ old)) ⊎ ((touched ≡ true) × (new ≡ n)))
 
-renoted_if : (b : Bool) (n m : ℕ) → IsRenoted b n m (cond b n m)
-renoted_if true n m = inr (inr (refl, refl))
-renoted_if false n m = inr (inl (refl, refl))
+respilled_if : (b : Bool) (n m : ℕ) → IsRespilled b n m (cond b n m)
+respilled_if true n m = inr (inr (refl, refl))
+respilled_if false n m = inr (inl (refl, refl))
 
-renoted_is : (n at len j : ℕ) (notes : List ℕ) (k q : ℕ) → q ≡ j + k
-    → IsRenoted (touches at len q) n (slice_index notes k) (slice_index (renoted n at len j notes) k)
-renoted_is n at len j [] k q e = inl refl
-renoted_is n at len j (m ∷ rest) zero q e =
+respilled_is : (n at len j : ℕ) (spills : List ℕ) (k q : ℕ) → q ≡ j + k
+    → IsRespilled (touches at len q) n (slice_index spills k) (slice_index (respilled n at len j spills) k)
+respilled_is n at len j [] k q e = inl refl
+respilled_is n at len j (m ∷ rest) zero q e =
     let same : j ≡ q = omega (arith, e) in
-    subst (λ x. IsRenoted (touches at len x) n m (cond (touches at len j) n m)) same (renoted_if (touches at len j) n m)
-renoted_is n at len j (m ∷ rest) (suc k) q e = renoted_is n at len (suc j) rest k q (omega (arith, e))
+    subst (λ x. IsRespilled (touches at len x) n m (cond (touches at len j) n m)) same (respilled_if (touches at len j) n m)
+respilled_is n at len j (m ∷ rest) (suc k) q e = respilled_is n at len (suc j) rest k q (omega (arith, e))
 
 untouched_by : (a b : Bool) → (a && b) ≡ false → (a ≡ false) ⊎ (b ≡ false)
 untouched_by true b e = inr e
 untouched_by false b e = inl refl
 
--- the cells of a place that isn't touched lie outside
+-- the bytes of a place that isn't touched lie outside the written ones
 untouched : (at len k p : ℕ) → touches at len k ≡ false → 8 * k ≤ p → p < 8 * k + 8 → (p < at) ⊎ (at + len ≤ p)
 untouched at len k p e l m = elim (untouched_by (nat_lt at (8 * k + 8)) (nat_lt (8 * k) (at + len)) e) [
   | inl a ↦ inl (let b = not_below at (8 * k + 8) a in omega (arith, b, m))
@@ -239,109 +239,109 @@ touched at k z e =
     omega (arith, z, a, b)
 
 abbrev AllKept : List ℕ → List Cell → Type 0
-AllKept notes stack = (k : ℕ) → IsKept (noted_type (slice_index notes k)) stack (8 * k)
+AllKept spills stack = (k : ℕ) → IsKept (spilled_type (slice_index spills k)) stack (8 * k)
 
--- after a store of bytes
-pub kept_after_bytes : (notes after : List ℕ) (stack : List Cell) (at : ℕ) (bytes : List ℕ) → after ≡ renoted 0 at (length bytes) 0 notes → AllKept notes stack
+-- the spills hold after a store of bytes
+pub kept_after_bytes : (spills after : List ℕ) (stack : List Cell) (at : ℕ) (bytes : List ℕ) → after ≡ respilled 0 at (length bytes) 0 spills → AllKept spills stack
     → AllKept after (written stack at bytes)
-kept_after_bytes notes after stack at bytes e all k =
-    let new = slice_index (renoted 0 at (length bytes) 0 notes) k in
-    subst (λ ns. IsKept (noted_type (slice_index ns k)) (written stack at bytes) (8 * k)) (sym e)
-    (elim (renoted_is 0 at (length bytes) 0 notes k k (omega arith)) [
+kept_after_bytes spills after stack at bytes e all k =
+    let new = slice_index (respilled 0 at (length bytes) 0 spills) k in
+    subst (λ ns. IsKept (spilled_type (slice_index ns k)) (written stack at bytes) (8 * k)) (sym e)
+    (elim (respilled_is 0 at (length bytes) 0 spills k k (omega arith)) [
       | inl none ↦ nothing_kept new (written stack at bytes) (8 * k) none
       | inr some ↦ elim some [
-        | inl old ↦ subst (λ m. IsKept (noted_type m) (written stack at bytes) (8 * k)) (sym old.1)
-            (kept_on (noted_type (slice_index notes k)) stack (written stack at bytes) (8 * k)
+        | inl old ↦ subst (λ m. IsKept (spilled_type m) (written stack at bytes) (8 * k)) (sym old.1)
+            (kept_on (spilled_type (slice_index spills k)) stack (written stack at bytes) (8 * k)
             (kept_same (written stack at bytes) stack (8 * k) (λ p l m. written_other stack at bytes p (untouched at (length bytes) k p old.0 l m)))
             (all k))
         | inr none ↦ nothing_kept new (written stack at bytes) (8 * k) none.1
       ]
     ])
 
--- after a store of a pointer
-pub kept_after_pointer : (notes after : List ℕ) (stack : List Cell) (at : ℕ) (t : RegType) (v : Value) → after ≡ renoted (note_of t) at 8 0 notes → at % 8 ≡ 0
-    → at + 8 ≤ length stack → IsPointer v → FitsType t v → AllKept notes stack → AllKept after (pieces_written stack at v 0 8)
-kept_after_pointer notes after stack at t v e z inside p f all k =
-    let new = slice_index (renoted (note_of t) at 8 0 notes) k in
+-- the spills hold after a store of a pointer
+pub kept_after_pointer : (spills after : List ℕ) (stack : List Cell) (at : ℕ) (t : RegType) (v : Value) → after ≡ respilled (spill_of t) at 8 0 spills → at % 8 ≡ 0
+    → at + 8 ≤ length stack → IsPointer v → FitsType t v → AllKept spills stack → AllKept after (pieces_written stack at v 0 8)
+kept_after_pointer spills after stack at t v e z inside p f all k =
+    let new = slice_index (respilled (spill_of t) at 8 0 spills) k in
     let cells = pieces_written stack at v 0 8 in
-    subst (λ ns. IsKept (noted_type (slice_index ns k)) (pieces_written stack at v 0 8) (8 * k)) (sym e)
-    (elim (renoted_is (note_of t) at 8 0 notes k k (omega arith)) [
+    subst (λ ns. IsKept (spilled_type (slice_index ns k)) (pieces_written stack at v 0 8) (8 * k)) (sym e)
+    (elim (respilled_is (spill_of t) at 8 0 spills k k (omega arith)) [
       | inl none ↦ nothing_kept new (pieces_written stack at v 0 8) (8 * k) none
       | inr some ↦ elim some [
-        | inl old ↦ subst (λ m. IsKept (noted_type m) (pieces_written stack at v 0 8) (8 * k)) (sym old.1)
-            (kept_on (noted_type (slice_index notes k)) stack (pieces_written stack at v 0 8) (8 * k)
+        | inl old ↦ subst (λ m. IsKept (spilled_type m) (pieces_written stack at v 0 8) (8 * k)) (sym old.1)
+            (kept_on (spilled_type (slice_index spills k)) stack (pieces_written stack at v 0 8) (8 * k)
             (kept_same (pieces_written stack at v 0 8) stack (8 * k) (λ q l m. pieces_other stack at v 0 8 q (untouched at 8 k q old.0 l m)))
             (all k))
-        | inr here ↦ subst (λ m. IsKept (noted_type m) (pieces_written stack at v 0 8) (8 * k)) (sym here.1)
-            (λ u. (v, note_fits t v f u, ap (kept_at (pieces_written stack at v 0 8)) (touched at k z here.0) ∙ kept_there stack at v p inside))
+        | inr here ↦ subst (λ m. IsKept (spilled_type m) (pieces_written stack at v 0 8) (8 * k)) (sym here.1)
+            (λ u. (v, spill_fits t v f u, ap (kept_at (pieces_written stack at v 0 8)) (touched at k z here.0) ∙ kept_there stack at v p inside))
       ]
     ])
 
--- a place outside the run
+-- a place that isn't within the bytes lies before or after them
 pub outside : (at len p : ℕ) → ¬ (Within at len p) → (p < at) ⊎ (at + len ≤ p)
 outside at len p out = elim (cases_lt p at) [
   | inl l ↦ inl l
   | inr l ↦ elim (cases_lt p (at + len)) [ inl m ↦ absurd (out (l, m)) | inr m ↦ inr m ]
 ]
 
--- ---- what the code leaves of notes
+-- ---- the spills that the code's own functions leave
 
-abbrev pub both_note : ℕ → ℕ → ℕ
-both_note a b = cond (a == b) a 0
+abbrev pub both_spill : ℕ → ℕ → ℕ
+both_spill a b = cond (a == b) a 0
 
-note_at-joined : (a b : List ℕ) (k : ℕ) → length a ≡ length b → slice_index (join_notes a b) k ≡ both_note (slice_index a k) (slice_index b k)
-note_at-joined [] [] k e = refl
-note_at-joined [] (y ∷ b) k e = absurd (omega (arith, e))
-note_at-joined (x ∷ a) [] k e = absurd (omega (arith, e))
-note_at-joined (x ∷ a) (y ∷ b) zero e = refl
-note_at-joined (x ∷ a) (y ∷ b) (suc k) e = note_at-joined a b k (omega (arith, e))
+spill_at-joined : (a b : List ℕ) (k : ℕ) → length a ≡ length b → slice_index (join_spills a b) k ≡ both_spill (slice_index a k) (slice_index b k)
+spill_at-joined [] [] k e = refl
+spill_at-joined [] (y ∷ b) k e = absurd (omega (arith, e))
+spill_at-joined (x ∷ a) [] k e = absurd (omega (arith, e))
+spill_at-joined (x ∷ a) (y ∷ b) zero e = refl
+spill_at-joined (x ∷ a) (y ∷ b) (suc k) e = spill_at-joined a b k (omega (arith, e))
 
-length-joined_notes : (a b : List ℕ) → length a ≡ length b → length (join_notes a b) ≡ length b
-length-joined_notes [] [] e = refl
-length-joined_notes [] (y ∷ b) e = absurd (omega (arith, e))
-length-joined_notes (x ∷ a) [] e = absurd (omega (arith, e))
-length-joined_notes (x ∷ a) (y ∷ b) e = ap suc (length-joined_notes a b (omega (arith, e)))
+length-joined_spills : (a b : List ℕ) → length a ≡ length b → length (join_spills a b) ≡ length b
+length-joined_spills [] [] e = refl
+length-joined_spills [] (y ∷ b) e = absurd (omega (arith, e))
+length-joined_spills (x ∷ a) [] e = absurd (omega (arith, e))
+length-joined_spills (x ∷ a) (y ∷ b) e = ap suc (length-joined_spills a b (omega (arith, e)))
 
--- one note more is joined
-pub note_step : (ts a b : List ℕ) (r v : ℕ) → r < length ts → v ≡ both_note (slice_index ts r) (slice_index b r) → slice_index ts r ≡ slice_index a r
-    → ((k : ℕ) → k < r → slice_index ts k ≡ both_note (slice_index a k) (slice_index b k)) → (k : ℕ) → k < r + 1
-    → slice_index (slice_set ts r v) k ≡ both_note (slice_index a k) (slice_index b k)
-note_step ts a b r v l e same below k h =
+-- one more spill is joined
+pub spill_step : (ts a b : List ℕ) (r v : ℕ) → r < length ts → v ≡ both_spill (slice_index ts r) (slice_index b r) → slice_index ts r ≡ slice_index a r
+    → ((k : ℕ) → k < r → slice_index ts k ≡ both_spill (slice_index a k) (slice_index b k)) → (k : ℕ) → k < r + 1
+    → slice_index (slice_set ts r v) k ≡ both_spill (slice_index a k) (slice_index b k)
+spill_step ts a b r v l e same below k h =
     elim (cases_eq k r) [
-      | inl at ↦ subst (λ q. slice_index (slice_set ts r v) q ≡ both_note (slice_index a q) (slice_index b q)) (sym at) (get_or-set_same ts r v 0 l ∙ e ∙ ap
-          (λ t. both_note t (slice_index b r)) same)
+      | inl at ↦ subst (λ q. slice_index (slice_set ts r v) q ≡ both_spill (slice_index a q) (slice_index b q)) (sym at) (get_or-set_same ts r v 0 l ∙ e ∙ ap
+          (λ t. both_spill t (slice_index b r)) same)
       | inr other ↦ get_or-set_other ts r k v 0 other ∙ below k (omega (arith, h, other))
     ]
 
-pub note_rest : (ts a : List ℕ) (r v : ℕ) → ((k : ℕ) → r ≤ k → slice_index ts k ≡ slice_index a k) → (k : ℕ) → r + 1 ≤ k
+pub spill_rest : (ts a : List ℕ) (r v : ℕ) → ((k : ℕ) → r ≤ k → slice_index ts k ≡ slice_index a k) → (k : ℕ) → r + 1 ≤ k
     → slice_index (slice_set ts r v) k ≡ slice_index a k
-note_rest ts a r v above k h = let other : k ≢ r = omega arith in get_or-set_other ts r k v 0 other ∙ above k (omega arith)
+spill_rest ts a r v above k h = let other : k ≢ r = omega arith in get_or-set_other ts r k v 0 other ∙ above k (omega arith)
 
-pub notes_joined : (a b j : List ℕ) (n : ℕ) → length a ≡ 64 → length b ≡ 64 → length j ≡ 64 → 64 ≤ n
-    → ((k : ℕ) → k < n → slice_index j k ≡ both_note (slice_index a k) (slice_index b k)) → j ≡ join_notes a b
-notes_joined a b j n la lb lj le h =
-    let long = length-joined_notes a b (la ∙ sym lb) in
-    ext_get_or 0 j (join_notes a b) (omega (arith, long, lb, lj)) (λ k l. h k (omega (arith, l, lj, le)) ∙ sym (note_at-joined a b k (la ∙ sym lb)))
+pub spills_joined : (a b j : List ℕ) (n : ℕ) → length a ≡ 64 → length b ≡ 64 → length j ≡ 64 → 64 ≤ n
+    → ((k : ℕ) → k < n → slice_index j k ≡ both_spill (slice_index a k) (slice_index b k)) → j ≡ join_spills a b
+spills_joined a b j n la lb lj le h =
+    let long = length-joined_spills a b (la ∙ sym lb) in
+    ext_get_or 0 j (join_spills a b) (omega (arith, long, lb, lj)) (λ k l. h k (omega (arith, l, lj, le)) ∙ sym (spill_at-joined a b k (la ∙ sym lb)))
 
-note_at-renoted : (n at len j : ℕ) (notes : List ℕ) (k q : ℕ) → q ≡ j + k → k < length notes
-    → slice_index (renoted n at len j notes) k ≡ cond (touches at len q) n (slice_index notes k)
-note_at-renoted n at len j [] k q e l = absurd (omega (arith, l))
-note_at-renoted n at len j (m ∷ rest) zero q e l = let same : j ≡ q = omega (arith, e) in ap (λ x. cond (touches at len x) n m) same
-note_at-renoted n at len j (m ∷ rest) (suc k) q e l = note_at-renoted n at len (suc j) rest k q (omega (arith, e)) (omega (arith, l))
+spill_at-respilled : (n at len j : ℕ) (spills : List ℕ) (k q : ℕ) → q ≡ j + k → k < length spills
+    → slice_index (respilled n at len j spills) k ≡ cond (touches at len q) n (slice_index spills k)
+spill_at-respilled n at len j [] k q e l = absurd (omega (arith, l))
+spill_at-respilled n at len j (m ∷ rest) zero q e l = let same : j ≡ q = omega (arith, e) in ap (λ x. cond (touches at len x) n m) same
+spill_at-respilled n at len j (m ∷ rest) (suc k) q e l = spill_at-respilled n at len (suc j) rest k q (omega (arith, e)) (omega (arith, l))
 
-length-renoted : (n at len j : ℕ) (notes : List ℕ) → length (renoted n at len j notes) ≡ length notes
-length-renoted n at len j [] = refl
-length-renoted n at len j (m ∷ rest) = ap suc (length-renoted n at len (suc j) rest)
+length-respilled : (n at len j : ℕ) (spills : List ℕ) → length (respilled n at len j spills) ≡ length spills
+length-respilled n at len j [] = refl
+length-respilled n at len j (m ∷ rest) = ap suc (length-respilled n at len (suc j) rest)
 
--- the notes of the places from the first touched one up to k have been put
+-- the spills of the places from the first touched one up to k have been written
 pub record ArePut (n at k : ℕ) (old new : List ℕ) : Type 0 where
   pub long : length new ≡ 64
   pub inside : (j : ℕ) → at / 8 ≤ j → j < k → slice_index new j ≡ n
   pub before : (j : ℕ) → j < at / 8 → slice_index new j ≡ slice_index old j
   pub behind : (j : ℕ) → k ≤ j → slice_index new j ≡ slice_index old j
 
-pub none_put : (n at : ℕ) (notes : List ℕ) → length notes ≡ 64 → ArePut n at (at / 8) notes notes
-none_put n at notes l = record { long = l; inside = λ j a b. absurd (omega (arith, a, b)); before = λ j a. refl; behind = λ j a. refl }
+pub none_put : (n at : ℕ) (spills : List ℕ) → length spills ≡ 64 → ArePut n at (at / 8) spills spills
+none_put n at spills l = record { long = l; inside = λ j a b. absurd (omega (arith, a, b)); before = λ j a. refl; behind = λ j a. refl }
 
 pub more_put : (n at k : ℕ) (old new : List ℕ) → at / 8 ≤ k → k < 64 → ArePut n at k old new → ArePut n at (k + 1) old (slice_set new k n)
 more_put n at k old new first small h =
@@ -361,11 +361,11 @@ put_if true n m new f g = f refl
 put_if false n m new f g = g refl
 
 pub all_put : (n at len k : ℕ) (old new : List ℕ) → length old ≡ 64 → at + len ≤ 8 * k → 8 * k < at + len + 8 → ArePut n at k old new
-    → new ≡ renoted n at len 0 old
+    → new ≡ respilled n at len 0 old
 all_put n at len k old new lo enough least h =
-    let long = length-renoted n at len 0 old in
+    let long = length-respilled n at len 0 old in
     let room = h.long in
-    ext_get_or 0 new (renoted n at len 0 old) (omega (arith, long, lo, room))
+    ext_get_or 0 new (respilled n at len 0 old) (omega (arith, long, lo, room))
     (λ j l. put_if (touches at len j) n (slice_index old j) (slice_index new j)
     (λ t. let x = and_parts (nat_lt at (8 * j + 8)) (nat_lt (8 * j) (at + len)) t in
     let a = lt_from at (8 * j + 8) x.0 in
@@ -375,7 +375,7 @@ all_put n at len k old new lo enough least h =
       | inl a ↦ h.before j (let b = not_below at (8 * j + 8) a in omega (arith, b))
       | inr a ↦ h.behind j (let b = not_below (8 * j) (at + len) a in omega (arith, b, least))
     ])
-    ∙ sym (note_at-renoted n at len 0 old j j (omega arith) (omega (arith, l, lo, room))))
+    ∙ sym (spill_at-respilled n at len 0 old j j (omega arith) (omega (arith, l, lo, room))))
 
 -- ---- an instruction that writes nothing
 
@@ -383,37 +383,37 @@ second_false : (a b : Bool) → b ≡ false → (a && b) ≡ false
 second_false true b e = e
 second_false false b e = refl
 
-pub renoted_none : (n j : ℕ) (notes : List ℕ) → notes ≡ renoted n 0 0 j notes
-renoted_none n j [] = refl
-renoted_none n j (m ∷ rest) =
+pub respilled_none : (n j : ℕ) (spills : List ℕ) → spills ≡ respilled n 0 0 j spills
+respilled_none n j [] = refl
+respilled_none n j (m ∷ rest) =
     let never : nat_lt (8 * j) 0 ≡ false = grind (arith, nat_tests) in
     let none : touches 0 0 j ≡ false = second_false (nat_lt 0 (8 * j + 8)) (nat_lt (8 * j) 0) never in
-    ap (λ b. cond b n m ∷ rest) (sym none) ∙ ap (λ ms. cond (touches 0 0 j) n m ∷ ms) (renoted_none n (suc j) rest)
+    ap (λ b. cond b n m ∷ rest) (sym none) ∙ ap (λ ms. cond (touches 0 0 j) n m ∷ ms) (respilled_none n (suc j) rest)
 
 pub after_none : (b : Bool) (set : List Bool) (p : ℕ) → Has set p ↔ HasAfter b set 0 0 p
 after_none true set p = (λ h. inl h, λ h. elim h [ inl old ↦ old | inr w ↦ absurd (omega (arith, w.1)) ])
 after_none false set p = (λ h. (h, λ w. omega (arith, w.1)), λ h. h.0)
 
 pub unwritten : (fact after : Fact) (e : Effect) → e.at ≡ 0 → e.len ≡ 0 → after.types ≡ e.types → after.stack ≡ fact.stack
-    → after.notes ≡ fact.notes → IsAfter fact e after
-unwritten fact after e at len types stack notes =
+    → after.spills ≡ fact.spills → IsAfter fact e after
+unwritten fact after e at len types stack spills =
     record {
       types = types;
       places =
           λ p. subst (λ set. Has set p ↔ HasAfter (is_unset e.kept) fact.stack e.at e.len p) (sym stack)
           (subst (λ a. Has fact.stack p ↔ HasAfter (is_unset e.kept) fact.stack a e.len p) (sym at)
           (subst (λ l. Has fact.stack p ↔ HasAfter (is_unset e.kept) fact.stack 0 l p) (sym len) (after_none (is_unset e.kept) fact.stack p)));
-      notes =
-          notes ∙ renoted_none (note_of e.kept) 0 fact.notes
-          ∙ ap (λ a. renoted (note_of e.kept) a 0 0 fact.notes) (sym at)
-          ∙ ap (λ l. renoted (note_of e.kept) e.at l 0 fact.notes) (sym len);
+      spills =
+          spills ∙ respilled_none (spill_of e.kept) 0 fact.spills
+          ∙ ap (λ a. respilled (spill_of e.kept) a 0 0 fact.spills) (sym at)
+          ∙ ap (λ l. respilled (spill_of e.kept) e.at l 0 fact.spills) (sym len);
     }
 
--- what follows from a fact with other types follows from this one
-pub after_of : (fact typed after : Fact) (e : Effect) → typed.stack ≡ fact.stack → typed.notes ≡ fact.notes → IsAfter typed e after → IsAfter fact e after
-after_of fact typed after e stack notes h =
+-- the fact after an instruction doesn't depend on the types before it
+pub after_of : (fact typed after : Fact) (e : Effect) → typed.stack ≡ fact.stack → typed.spills ≡ fact.spills → IsAfter typed e after → IsAfter fact e after
+after_of fact typed after e stack spills h =
     record {
       types = h.types;
       places = subst (λ set. (p : ℕ) → Has after.stack p ↔ HasAfter (is_unset e.kept) set e.at e.len p) stack h.places;
-      notes = subst (λ ns. after.notes ≡ renoted (note_of e.kept) e.at e.len 0 ns) notes h.notes;
+      spills = subst (λ ns. after.spills ≡ respilled (spill_of e.kept) e.at e.len 0 ns) spills h.spills;
     }

@@ -1,4 +1,4 @@
--- Closed examples: what `verify` answers to whole programs, each unit written as its sixteen digits.
+-- Closed examples: the answers of `verify` for whole programs, each unit written as its sixteen digits.
 use Rattle.std.proofs.Common.{◌≡◌, ℕ, ◌+◌, ◌≤◌, List, [], ◌∷◌, ◌++◌, Some, None, true, refl, sym, ap, ◌∙◌, arith}
 use Rattle.std.specs.Prelude.{pos, negsuc, ◌+ℤ◌, cond, nat_le}
 use Rattle.std.proofs.lemmas.Bool.Decides.{nat_tests}
@@ -8,8 +8,8 @@ use Rattle.bpf_model.specs.Program.{ProgramText, as_loaded}
 use Rattle.reg_types.specs.declared.refusal.TypeFault.TheVariants.{FallsOff, NotANumber, OutOfRange, UnsetBytes, StorePointer}
 use Rattle.reg_types.specs.declared.refusal.Refusal.TheVariants.{«Type» as TypeRefusal}
 use Rattle.reg_types.specs.declared.types.RegType.TheVariants.{Ctx, Stk}
-use Rattle.reg_types.specs.Rules.{natural, lowest, note_of, noted_type}
-use Rattle.reg_types.proofs.Keeping.{noted_context, noted_stack, back_again}
+use Rattle.reg_types.specs.Rules.{natural, lowest, spill_of, spilled_type}
+use Rattle.reg_types.proofs.Keeping.{spilled_context, spilled_stack, back_again}
 use Rattle.reg_types.specs.Inference.{known, first_flaw_below}
 use Rattle.reg_types.specs.Shown.{refusal_of}
 
@@ -18,7 +18,7 @@ abbrev bytes : List ℕ → List ℕ
 bytes [] = []
 bytes (u ∷ us) = big_bytes 8 u ++ bytes us
 
--- units loaded for no counters
+-- a program of these units that declares no counters, for the first layout
 abbrev on_one : List ℕ → ProgramText
 on_one us = as_loaded (bytes us) 0 layout.One
 
@@ -37,7 +37,7 @@ constant : refusal_of (on_one (0xb700000001000000 ∷ 0x9500000000000000 ∷ [])
 unfolding refusal_of known first_flaw_below
 constant = refl
 
--- an answer on one edge alone
+-- R0 is set on one edge only
 half_an_answer : refusal_of (on_one (0x61120c0000000000 ∷ 0x1502010004000000 ∷ 0xb700000001000000 ∷ 0x9500000000000000 ∷ []))
     ≡ Some (TypeRefusal (NotANumber 3 0))
 unfolding refusal_of known first_flaw_below
@@ -104,7 +104,7 @@ pointer_stored_and_no_answer : refusal_of (on_one (0x7b1af8ff00000000 ∷ 0x9500
 unfolding refusal_of known first_flaw_below
 pointer_stored_and_no_answer = refl
 
--- the bytes behind a context of the first layout
+-- loads up to the end of a context of the first layout, and beyond it
 context_end : refusal_of (on_one (0x7910380000000000 ∷ 0x9500000000000000 ∷ [])) ≡ None
 unfolding refusal_of known first_flaw_below
 context_end = refl
@@ -121,14 +121,14 @@ past_layout_two : refusal_of (on_two (0x7910490000000000 ∷ 0x9500000000000000 
 unfolding refusal_of known first_flaw_below
 past_layout_two = refl
 
--- the note of a pointer's type is of this type
-context_noted : (k : ℕ) → k ≤ 80 → noted_type (note_of (Ctx k)) ≡ Ctx k
-context_noted k l =
+-- the type that is read back from a pointer's spill is its type
+context_spilled : (k : ℕ) → k ≤ 80 → spilled_type (spill_of (Ctx k)) ≡ Ctx k
+context_spilled k l =
     let small : nat_le k 80 ≡ true = grind (arith, nat_tests) in
-    ap (λ b. noted_type (cond b (k + 1) 0)) small ∙ noted_context k l
+    ap (λ b. spilled_type (cond b (k + 1) 0)) small ∙ spilled_context k l
 
-stack_noted : (m : ℕ) → m ≤ 512 → noted_type (note_of (Stk (pos m +ℤ negsuc 511))) ≡ Stk (pos m +ℤ negsuc 511)
-stack_noted m l =
+stack_spilled : (m : ℕ) → m ≤ 512 → spilled_type (spill_of (Stk (pos m +ℤ negsuc 511))) ≡ Stk (pos m +ℤ negsuc 511)
+stack_spilled m l =
     let small : nat_le m 512 ≡ true = grind (arith, nat_tests) in
     let up : lowest (pos m +ℤ negsuc 511) ≡ m = sym (ap natural (back_again m)) in
-    ap (λ n. noted_type (cond (nat_le n 512) (82 + n) 0)) up ∙ ap (λ b. noted_type (cond b (82 + m) 0)) small ∙ noted_stack m
+    ap (λ n. spilled_type (cond (nat_le n 512) (82 + n) 0)) up ∙ ap (λ b. spilled_type (cond b (82 + m) 0)) small ∙ spilled_stack m

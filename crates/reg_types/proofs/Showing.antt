@@ -1,17 +1,17 @@
--- What stands where the rules find a flaw.
+-- What holds of an instruction in which the rules find a flaw.
 use Rattle.std.proofs.Common.{◌≡◌, ℕ, ◌+◌, ◌-◌, ◌≤◌, List, Option, Some, None, Bool, true, false, refl, ap, subst, inl, inr, arith}
 use Rattle.std.specs.Prelude.{Result, Ok, Err, ℤ, pos, negsuc, neg_ℤ, ◌+ℤ◌, int_le, nat_le, ◌==◌, ◌&&◌, ◌||◌, cond}
 use Rattle.std.proofs.lemmas.Bool.{eqb-true}
 use Rattle.std.proofs.lemmas.Bool.Decides.{nat_tests}
 use Rattle.bpf_model.specs.declared.instruction.Inst.{Inst}
 use Rattle.bpf_model.specs.declared.instruction.Width.{Width}
-use Rattle.bpf_model.specs.declared.instruction.Width.TheVariants.{Narrow, Full}
+use Rattle.bpf_model.specs.declared.instruction.Width.TheVariants.{Bits32, Bits64}
 use Rattle.bpf_model.specs.declared.instruction.Source.{Source}
 use Rattle.bpf_model.specs.declared.instruction.Source.TheVariants.{Immediate, Register}
 use Rattle.bpf_model.specs.declared.instruction.Operator.{Operator}
-use Rattle.bpf_model.specs.declared.instruction.Operator.TheVariants.{Sum, Difference, Negate, Move, SwapBytes}
+use Rattle.bpf_model.specs.declared.instruction.Operator.TheVariants.{Add, Sub, Neg, Mov, SwapBytes}
 use Rattle.bpf_model.specs.declared.instruction.Form.{Form}
-use Rattle.bpf_model.specs.declared.instruction.Form.TheVariants.{Arithmetic, Wide, Load, LoadSigned, StoreImmediate, StoreRegister, Goto, GotoLong, Branch}
+use Rattle.bpf_model.specs.declared.instruction.Form.TheVariants.{Arithmetic, Wide, Load, LoadSigned, StoreImmediate, StoreRegister, Ja, Ja32, Branch}
 use Rattle.bpf_model.specs.declared.instruction.Form.TheVariants.{Call, Exit}
 use Rattle.bpf_model.specs.declared.machine.Helper.{Helper}
 use Rattle.bpf_model.specs.declared.machine.Helper.TheVariants.{CounterGet, CounterAdd, CounterTake, PointState, PointRecord, PriceOf}
@@ -19,7 +19,7 @@ use Rattle.bpf_model.specs.Reading.{bytes_in}
 use Rattle.bpf_model.specs.Machine.{map_option, helper_of, shifted, is_aligned}
 use Rattle.helpers.specs.declared.Kind.TheVariants.{Nothing, Number, Counter, Place}
 use Rattle.helpers.specs.Calls.{kinds}
-use Rattle.reg_types.specs.declared.types.Terms.{Terms}
+use Rattle.reg_types.specs.declared.types.LoadOptions.{LoadOptions}
 use Rattle.bpf_model.specs.declared.context.Layout.{Layout}
 use Rattle.bpf_model.specs.Layouts.{context_len}
 use Rattle.reg_types.specs.declared.types.RegType.{RegType}
@@ -121,10 +121,10 @@ module _ (P : Flaw → Type 0) (flaw : Flaw) where
   kept_shown true t r all e = all e
   kept_shown false t r all e = no_flaw t e
 
-  loaded_shown : (layout : Layout) (set : List Bool) (notes : List ℕ) (base : RegType) (i : Inst) (size : ℕ) → P NotAPointer → P OutOfRange → P UnsetBytes
-      → loaded_type layout set notes base i size ≡ bad flaw → P flaw
-  loaded_shown layout set notes base i size p q r e =
-      kept_shown (is_unset (kept_type notes base i size)) (kept_type notes base i size) (load_type layout set base i size)
+  loaded_shown : (layout : Layout) (set : List Bool) (spills : List ℕ) (base : RegType) (i : Inst) (size : ℕ) → P NotAPointer → P OutOfRange → P UnsetBytes
+      → loaded_type layout set spills base i size ≡ bad flaw → P flaw
+  loaded_shown layout set spills base i size p q r e =
+      kept_shown (is_unset (kept_type spills base i size)) (kept_type spills base i size) (load_type layout set base i size)
       (λ h. load_shown layout set base i size p q r h) e
 
   marks_shown : (types : List RegType) (size : ℕ) (o : Option ℕ) → P OutOfRange → marks types size o ≡ wrong flaw → P flaw
@@ -187,7 +187,7 @@ ten dst e = eqb-true dst 10 e
 le_from : (m n : ℕ) → nat_le m n ≡ true → m ≤ n
 le_from m n e = grind (arith, nat_tests)
 
--- the second operand that is no number is a register
+-- a second operand of which nothing is known is a register
 second_by : (s : Source) (w : Width) (i : Inst) (types : List RegType) → is_unset (operand_type s w i types) ≡ true → IsOperand i s i.src
 second_by Register w i types e = inr refl
 second_by Immediate w i types e = absurd (cc)
@@ -209,34 +209,34 @@ module _ (count pc : ℕ) (i : Inst) (types : List RegType) (flaw : Flaw) where
       (is_pointer a || is_pointer (operand_type s w i types)) p (λ u. q (second_by s w i types u)) r e
 
   -- ADD and SUB
-  moved_shows : (layout : Layout) (op : Operator) → MayHave count pc i (Arithmetic op Full Immediate) OutOfRange
-      → MayHave count pc i (Arithmetic op Full Immediate) (NotANumber i.dst) → (z : ℤ) (a : RegType)
-      → sum_type layout Full Immediate i z a (operand_type Immediate Full i types) ≡ bad flaw → MayHave count pc i (Arithmetic op Full Immediate) flaw
-  moved_shows layout op p q z (Ctx k) e = ctx_shown (MayHave count pc i (Arithmetic op Full Immediate)) flaw (shifted k z (context_len layout)) p e
+  moved_shows : (layout : Layout) (op : Operator) → MayHave count pc i (Arithmetic op Bits64 Immediate) OutOfRange
+      → MayHave count pc i (Arithmetic op Bits64 Immediate) (NotANumber i.dst) → (z : ℤ) (a : RegType)
+      → sum_type layout Bits64 Immediate i z a (operand_type Immediate Bits64 i types) ≡ bad flaw → MayHave count pc i (Arithmetic op Bits64 Immediate) flaw
+  moved_shows layout op p q z (Ctx k) e = ctx_shown (MayHave count pc i (Arithmetic op Bits64 Immediate)) flaw (shifted k z (context_len layout)) p e
   moved_shows layout op p q z (Stk k) e =
-      stk_shown (MayHave count pc i (Arithmetic op Full Immediate)) flaw (int_le (negsuc 511) (k +ℤ z) && int_le (k +ℤ z) (pos 0)) (k +ℤ z) p e
-  moved_shows layout op p q z Unset e = this (MayHave count pc i (Arithmetic op Full Immediate)) flaw (NotANumber i.dst) e q
-  moved_shows layout op p q z Num e = no_flaw (MayHave count pc i (Arithmetic op Full Immediate)) flaw Num e
-  moved_shows layout op p q z (Const c) e = no_flaw (MayHave count pc i (Arithmetic op Full Immediate)) flaw Num e
+      stk_shown (MayHave count pc i (Arithmetic op Bits64 Immediate)) flaw (int_le (negsuc 511) (k +ℤ z) && int_le (k +ℤ z) (pos 0)) (k +ℤ z) p e
+  moved_shows layout op p q z Unset e = this (MayHave count pc i (Arithmetic op Bits64 Immediate)) flaw (NotANumber i.dst) e q
+  moved_shows layout op p q z Num e = no_flaw (MayHave count pc i (Arithmetic op Bits64 Immediate)) flaw Num e
+  moved_shows layout op p q z (Const c) e = no_flaw (MayHave count pc i (Arithmetic op Bits64 Immediate)) flaw Num e
 
   alu_shows : (layout : Layout) (op : Operator) (w : Width) (s : Source) (a : RegType) → alu_type layout op w s i a (operand_type s w i types) ≡ bad flaw
       → MayHave count pc i (Arithmetic op w s) flaw
-  alu_shows layout Sum Full Immediate a e = moved_shows layout Sum (inr tt) refl i.imm a e
-  alu_shows layout Sum Full Register a e = numbers_shows (Arithmetic Sum Full Register) Register Full a (inl refl) (λ h. h) tt e
-  alu_shows layout Sum Narrow s a e = numbers_shows (Arithmetic Sum Narrow s) s Narrow a (first_by s i) (λ h. h) tt e
-  alu_shows layout Difference Full Immediate a e = moved_shows layout Difference (inr tt) refl (neg_ℤ i.imm) a e
-  alu_shows layout Difference Full Register a e = numbers_shows (Arithmetic Difference Full Register) Register Full a (inl refl) (λ h. h) tt e
-  alu_shows layout Difference Narrow s a e = numbers_shows (Arithmetic Difference Narrow s) s Narrow a (first_by s i) (λ h. h) tt e
-  alu_shows layout Move w Immediate a e = no_flaw (MayHave count pc i (Arithmetic Move w Immediate)) flaw _ e
-  alu_shows layout Move Narrow Register a e =
-      one_shown (MayHave count pc i (Arithmetic Move Narrow Register)) flaw i.src (is_unset (type_at types i.src)) (is_pointer (type_at types i.src)) refl tt e
-  alu_shows layout Move Full Register a e =
+  alu_shows layout Add Bits64 Immediate a e = moved_shows layout Add (inr tt) refl i.imm a e
+  alu_shows layout Add Bits64 Register a e = numbers_shows (Arithmetic Add Bits64 Register) Register Bits64 a (inl refl) (λ h. h) tt e
+  alu_shows layout Add Bits32 s a e = numbers_shows (Arithmetic Add Bits32 s) s Bits32 a (first_by s i) (λ h. h) tt e
+  alu_shows layout Sub Bits64 Immediate a e = moved_shows layout Sub (inr tt) refl (neg_ℤ i.imm) a e
+  alu_shows layout Sub Bits64 Register a e = numbers_shows (Arithmetic Sub Bits64 Register) Register Bits64 a (inl refl) (λ h. h) tt e
+  alu_shows layout Sub Bits32 s a e = numbers_shows (Arithmetic Sub Bits32 s) s Bits32 a (first_by s i) (λ h. h) tt e
+  alu_shows layout Mov w Immediate a e = no_flaw (MayHave count pc i (Arithmetic Mov w Immediate)) flaw _ e
+  alu_shows layout Mov Bits32 Register a e =
+      one_shown (MayHave count pc i (Arithmetic Mov Bits32 Register)) flaw i.src (is_unset (type_at types i.src)) (is_pointer (type_at types i.src)) refl tt e
+  alu_shows layout Mov Bits64 Register a e =
       plain_or (is_plain i.offset) (copied_type i.src (type_at types i.src)) (one_number i.src (type_at types i.src)) flaw
-      (MayHave count pc i (Arithmetic Move Full Register)) e
-      (λ g. copied_shown (MayHave count pc i (Arithmetic Move Full Register)) flaw i.src (is_unset (type_at types i.src)) (type_at types i.src) refl g)
-      (λ no g. one_shown (MayHave count pc i (Arithmetic Move Full Register)) flaw i.src (is_unset (type_at types i.src)) (is_pointer (type_at types i.src))
+      (MayHave count pc i (Arithmetic Mov Bits64 Register)) e
+      (λ g. copied_shown (MayHave count pc i (Arithmetic Mov Bits64 Register)) flaw i.src (is_unset (type_at types i.src)) (type_at types i.src) refl g)
+      (λ no g. one_shown (MayHave count pc i (Arithmetic Mov Bits64 Register)) flaw i.src (is_unset (type_at types i.src)) (is_pointer (type_at types i.src))
       refl (not_plain i.offset no) g)
-  alu_shows layout Negate w s a e = one_shown (MayHave count pc i (Arithmetic Negate w s)) flaw i.dst (is_unset a) (is_pointer a) refl tt e
+  alu_shows layout Neg w s a e = one_shown (MayHave count pc i (Arithmetic Neg w s)) flaw i.dst (is_unset a) (is_pointer a) refl tt e
   alu_shows layout SwapBytes w s a e = one_shown (MayHave count pc i (Arithmetic SwapBytes w s)) flaw i.dst (is_unset a) (is_pointer a) refl tt e
   alu_shows layout op w s a e = numbers_shows (Arithmetic op w s) s w a (first_by s i) (λ h. h) tt e
 
@@ -284,7 +284,7 @@ call_shows count pc i types PointerArithmetic h = absurd h
 
 -- ---- one instruction
 
-effect_shows : (count pc : ℕ) (terms : Terms) (fact : Fact) (i : Inst) (upper : ℤ) (form : Form) (flaw : Flaw) → effect terms fact i upper form ≡ wrong flaw
+effect_shows : (count pc : ℕ) (terms : LoadOptions) (fact : Fact) (i : Inst) (upper : ℤ) (form : Form) (flaw : Flaw) → effect terms fact i upper form ≡ wrong flaw
     → MayHave count pc i form flaw
 effect_shows count pc terms fact i upper (Arithmetic op w s) flaw e =
     set_shown (MayHave count pc i (Arithmetic op w s)) flaw (i.dst == 10) fact.types i.dst
@@ -294,8 +294,8 @@ effect_shows count pc terms fact i upper Wide flaw e =
     set_shown (MayHave count pc i Wide) flaw (i.dst == 10) fact.types i.dst (Ok (Const _)) (ten i.dst) (λ f h. no_flaw (MayHave count pc i Wide) f _ h) e
 effect_shows count pc terms fact i upper (Load size) flaw e =
     set_shown (MayHave count pc i (Load size)) flaw (i.dst == 10) fact.types i.dst
-    (loaded_type terms.layout fact.stack fact.notes (type_at fact.types i.src) i (bytes_in size)) (ten i.dst)
-    (λ f h. loaded_shown (MayHave count pc i (Load size)) f terms.layout fact.stack fact.notes (type_at fact.types i.src) i (bytes_in size)
+    (loaded_type terms.layout fact.stack fact.spills (type_at fact.types i.src) i (bytes_in size)) (ten i.dst)
+    (λ f h. loaded_shown (MayHave count pc i (Load size)) f terms.layout fact.stack fact.spills (type_at fact.types i.src) i (bytes_in size)
     (inl tt) (inl (inl tt)) tt h) e
 effect_shows count pc terms fact i upper (LoadSigned size) flaw e =
     set_shown (MayHave count pc i (LoadSigned size)) flaw (i.dst == 10) fact.types i.dst
@@ -310,8 +310,8 @@ effect_shows count pc terms fact i upper (StoreRegister size) flaw e =
     refl
     (λ g. pointer_shown (MayHave count pc i (StoreRegister size)) flaw (type_at fact.types i.src) stored tt
     (λ h. store_shown (MayHave count pc i (StoreRegister size)) flaw fact.types (type_at fact.types i.dst) i (bytes_in size) (inr tt) (inl (inr tt)) tt h) g) e
-effect_shows count pc terms fact i upper Goto flaw e = no_effect (MayHave count pc i Goto) flaw _ e
-effect_shows count pc terms fact i upper GotoLong flaw e = no_effect (MayHave count pc i GotoLong) flaw _ e
+effect_shows count pc terms fact i upper Ja flaw e = no_effect (MayHave count pc i Ja) flaw _ e
+effect_shows count pc terms fact i upper Ja32 flaw e = no_effect (MayHave count pc i Ja32) flaw _ e
 effect_shows count pc terms fact i upper (Branch c w s) flaw e =
     compared_shown (MayHave count pc i (Branch c w s)) flaw i.dst i.src (is_numeric (type_at fact.types i.dst)) (is_numeric (operand_type s w i fact.types))
     (unmarked fact.types) (first_by s i) (second_counted s w i fact.types) e
@@ -321,8 +321,8 @@ effect_shows count pc terms fact i upper Call flaw e = call_shows count pc i fac
 
 falls_shows : (count pc : ℕ) (form : Form) → falls_off count pc form ≡ true → FallsOffEnd count pc form
 falls_shows count pc Exit e = absurd (cc)
-falls_shows count pc Goto e = absurd (cc)
-falls_shows count pc GotoLong e = absurd (cc)
+falls_shows count pc Ja e = absurd (cc)
+falls_shows count pc Ja32 e = absurd (cc)
 falls_shows count pc Wide e = le_from count (pc + 2) e
 falls_shows count pc form e = le_from count (pc + 1) e
 
@@ -332,7 +332,7 @@ judged_shown P true r flaw p q e = is_wrong P FallsOff flaw e (p refl)
 judged_shown P false r flaw p q e = q e
 
 -- where the rules find a flaw, the form can have it
-pub judged_shows : (count pc : ℕ) (terms : Terms) (fact : Fact) (i : Inst) (upper : ℤ) (form : Form) (flaw : Flaw)
+pub judged_shows : (count pc : ℕ) (terms : LoadOptions) (fact : Fact) (i : Inst) (upper : ℤ) (form : Form) (flaw : Flaw)
     → judged count pc terms fact i upper form ≡ wrong flaw → MayHave count pc i form flaw
 judged_shows count pc terms fact i upper form flaw e =
     judged_shown (MayHave count pc i form) (falls_off count pc form) (effect terms fact i upper form) flaw (falls_shows count pc form)

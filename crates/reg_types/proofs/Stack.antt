@@ -83,7 +83,7 @@ at_most k (negsuc n) at limit e =
     let l : k - suc n ≤ limit = le_from _ _ t.1 in
     omega (arith, h.1)
 
--- the bytes of a store lie inside
+-- the bytes of a store are inside the stack
 pub store_inside : (v : Value) (i : Inst) (size at : ℕ) → size ≤ 8 → stack_at v i.offset size ≡ Some at → at + size ≤ 512
 store_inside (Stack n) i size at small e =
     let l = at_most n i.offset at (512 - size) e in omega (arith, l)
@@ -97,7 +97,7 @@ size_small Half = omega arith
 size_small Word = omega arith
 size_small Double = omega arith
 
--- ---- sets, as a list of truth values tells them
+-- ---- sets as lists of truth values
 
 pub same_bool : (a b : Bool) → (a ≡ true → b ≡ true) → (b ≡ true → a ≡ true) → a ≡ b
 same_bool true b f g = sym (f refl)

@@ -11,7 +11,7 @@ use Rattle.bpf_model.specs.declared.instruction.Width.{Width}
 use Rattle.bpf_model.specs.declared.instruction.Source.{Source}
 use Rattle.bpf_model.specs.declared.instruction.Source.TheVariants.{Immediate, Register}
 use Rattle.bpf_model.specs.declared.instruction.Form.{Form}
-use Rattle.bpf_model.specs.declared.instruction.Form.TheVariants.{Arithmetic, Wide, Load, LoadSigned, StoreImmediate, StoreRegister, Goto, GotoLong, Branch}
+use Rattle.bpf_model.specs.declared.instruction.Form.TheVariants.{Arithmetic, Wide, Load, LoadSigned, StoreImmediate, StoreRegister, Ja, Ja32, Branch}
 use Rattle.bpf_model.specs.declared.instruction.Form.TheVariants.{Call, Exit}
 use Rattle.bpf_model.specs.declared.machine.Value.{Value}
 use Rattle.bpf_model.specs.declared.machine.Value.TheVariants.{Unset, Number, Context, Stack}
@@ -23,7 +23,7 @@ use Rattle.bpf_model.specs.Arithmetic.{holds, extended}
 use Rattle.bpf_model.specs.Machine.{Next, Goes, Exits, Stuck, Place, InContext, InStack, where_some, shifted, number, map_option, mem, read, register, operand}
 use Rattle.bpf_model.specs.Machine.{alu_value, sets, jumps, branches, stores, stores_value, keeps as keeps_value, stack_at, aligned_place, is_aligned, cell_at}
 use Rattle.bpf_model.specs.Machine.{kept_at, kept_in, number_in, loaded, number_or, written, pieces_written, after_call as call_state, Answer, helper_of, act}
-use Rattle.reg_types.specs.declared.types.Terms.{Terms}
+use Rattle.reg_types.specs.declared.types.LoadOptions.{LoadOptions}
 use Rattle.reg_types.specs.declared.types.RegType.{RegType}
 use Rattle.reg_types.specs.declared.types.RegType.TheVariants.{Unset as Anything, Num, Const, Ctx, Stk}
 use Rattle.reg_types.specs.declared.types.Fact.{Fact}
@@ -31,7 +31,7 @@ use Rattle.reg_types.specs.Effects.{Effect}
 use Rattle.reg_types.specs.declared.types.Flaw.{Flaw}
 use Rattle.reg_types.specs.declared.types.Flaw.TheVariants.{WriteR10, NotANumber, UnsetBytes, StorePointer}
 use Rattle.reg_types.specs.Rules.{type_at, is_numeric, is_unset, is_pointer, operand_type, alu_type, unmarked, put_type, set_type, natural, lowest, number_at}
-use Rattle.reg_types.specs.Rules.{number_set, all_in, load_type, noted_type, note_in, kept_type, loaded_type, marks, store_type, keeps, keeps_pointer}
+use Rattle.reg_types.specs.Rules.{number_set, all_in, load_type, spilled_type, spill_in, kept_type, loaded_type, marks, store_type, keeps, keeps_pointer}
 use Rattle.reg_types.specs.Rules.{after_call, effect}
 use Rattle.reg_types.specs.Facts.{FitsType, HasByte, Covered, IsKept, Fits, Changes, HasAfter, IsAfter}
 use Rattle.reg_types.specs.Inference.{option_cons, leads}
@@ -45,7 +45,7 @@ abbrev pub IsIn : ℕ → List ℕ → Type 0
 IsIn x [] = ⊥
 IsIn x (y ∷ ys) = (x ≡ y) ⊎ IsIn x ys
 
--- it goes on at one of these units, in a state that fits, or ends
+-- the step goes on at one of these units, in a state that fits, or it ends
 abbrev pub Follows : ℕ → Fact → List ℕ → State → Next → Type 0
 Follows declared after tos s (Goes t) = IsIn t.pc tos × Fits after t × Changes declared s.counters t.counters
 Follows declared after tos s (Exits r counters) = counters ≡ s.counters
@@ -153,7 +153,7 @@ pointer_is : (value : RegType) (r : Effects) (e : Effect) → keeps_pointer valu
 pointer_is value (Err f) e h = absurd (cc)
 pointer_is value (Ok x) e h = (x, refl, by_pointer (is_pointer value) value x e h)
 
--- a load finds a number, or the pointer that is noted
+-- a load gives a number, or the pointer that is spilled
 kept_cases : (k : RegType) (b : Bool) (r : Result RegType Flaw) (t : RegType) → is_unset k ≡ b → cond b r (typed_as k) ≡ typed_as t
     → ((b ≡ true) × (r ≡ typed_as t)) ⊎ ((is_unset k ≡ false) × (typed_as k ≡ typed_as t))
 kept_cases k true r t u h = inl (refl, h)
@@ -170,7 +170,7 @@ neither Anything a b = absurd (cc)
 neither (Ctx k) a b = absurd (cc)
 neither (Stk k) a b = absurd (cc)
 
--- a store's pointer is into the stack, and its bytes lie inside
+-- a well typed store goes through a pointer into the stack, and its bytes are inside
 pub store_is : (types : List RegType) (base : RegType) (v : Value) (i : Inst) (size : ℕ) (e : Effect) → FitsType base v → store_type types base i size ≡ ok_of e
     → (at : ℕ) × (stack_at v i.offset size ≡ Some at) × (record { types = types; at = at; len = size; kept = Anything } ≡ e)
 store_is types (Stk k) (Stack n) i size e h g =
@@ -188,7 +188,7 @@ store_is types (Stk k) (Context n) i size e h g = absurd h
 abbrev marked_by : List RegType → ℕ → ℕ → Effect
 marked_by types at len = record { types = types; at = at; len = len; kept = Anything }
 
--- the types and values of R6 to R10 stay over a call
+-- R6 to R10 keep their types and values over a call
 called_fits : (types : List RegType) (values : List Value) (n r : ℕ) → ((q : ℕ) → FitsType (type_at types q) (register values q))
     → FitsType (type_at (after_call types) r) (register (Number n ∷ Unset ∷ Unset ∷ Unset ∷ Unset ∷ Unset ∷ drop 6 values) r)
 called_fits types values n zero h = tt
@@ -201,8 +201,8 @@ called_fits types values n (suc (suc (suc (suc (suc (suc r)))))) h =
     subst (λ t. FitsType t (register (drop 6 values) r)) (sym (get_or-drop 6 types r Anything))
     (subst (FitsType (type_at types (6 + r))) (sym (get_or-drop 6 values r Unset)) (h (6 + r)))
 
-module _ (terms : Terms) (fact after : Fact) (s : State) (fits : Fits fact s) where
-  -- the types and places are those of the effect
+module _ (terms : LoadOptions) (fact after : Fact) (s : State) (fits : Fits fact s) where
+  -- the types after an instruction are those of its effect
   after_types : (e x : Effect) → IsAfter fact e after → x ≡ e → after.types ≡ x.types
   after_types e x h same = h.types ∙ ap (λ y. y.types) (sym same)
 
@@ -214,10 +214,10 @@ module _ (terms : Terms) (fact after : Fact) (s : State) (fits : Fits fact s) wh
       let is = as_effect e (unmarked types) h same in
       record { bytes = λ p has. elim ((is.places p).0 has) [ inl old ↦ fits.stack.bytes p old | inr w ↦ absurd (omega (arith, w.0, w.1)) ] }
 
-  notes_stay : (e : Effect) (types : List RegType) → IsAfter fact e after → unmarked types ≡ e → (k : ℕ)
-      → IsKept (noted_type (slice_index after.notes k)) s.stack (8 * k)
-  notes_stay e types h same =
-      let is = as_effect e (unmarked types) h same in kept_after_bytes fact.notes after.notes s.stack 0 [] is.notes fits.notes
+  spills_stay : (e : Effect) (types : List RegType) → IsAfter fact e after → unmarked types ≡ e → (k : ℕ)
+      → IsKept (spilled_type (slice_index after.spills k)) s.stack (8 * k)
+  spills_stay e types h same =
+      let is = as_effect e (unmarked types) h same in kept_after_bytes fact.spills after.spills s.stack 0 [] is.spills fits.spills
 
   fits_written : (e : Effect) (dst : ℕ) (t : RegType) (v : Value) (pc : ℕ) → IsAfter fact e after → unmarked (slice_set fact.types dst t) ≡ e → dst ≤ 10
       → FitsType t v → Fits after (record s { pc = pc; registers = slice_set s.registers dst v })
@@ -237,7 +237,7 @@ module _ (terms : Terms) (fact after : Fact) (s : State) (fits : Fits fact s) wh
         many = length-set s.registers dst v ∙ fits.many;
         stack = stays e (slice_set types dst t) is same;
         long = fits.long;
-        notes = notes_stay e (slice_set types dst t) is same;
+        spills = spills_stay e (slice_set types dst t) is same;
       }
 
   fits_moved : (e : Effect) (pc : ℕ) → IsAfter fact e after → unmarked fact.types ≡ e → Fits after (record s { pc = pc })
@@ -247,7 +247,7 @@ module _ (terms : Terms) (fact after : Fact) (s : State) (fits : Fits fact s) wh
         many = fits.many;
         stack = stays e fact.types is same;
         long = fits.long;
-        notes = notes_stay e fact.types is same;
+        spills = spills_stay e fact.types is same;
       }
 
   sets_follow : (e : Effect) (dst : ℕ) (r : Result RegType Flaw) (o : Option Value) → IsAfter fact e after → dst ≤ 10 → set_type fact.types dst r ≡ ok_of e
@@ -324,32 +324,32 @@ module _ (terms : Terms) (fact after : Fact) (s : State) (fits : Fits fact s) wh
       (subst (λ o. Follows terms.mask after ((s.pc + 1) ∷ []) s (where_some o (λ n. sets s i.dst (Number (f n))))) (sym g.3)
       (sets_follow e i.dst r (Some (Number (f g.0))) is small h (λ t k. subst (λ u. FitsType u (Number (f g.0))) (g.4 ∙ same_type x.0 t (sym x.1 ∙ k)) tt)))
 
-  -- the pointer that is noted at a place
-  note_test : (size at : ℕ) (b : Bool) → is_aligned size at ≡ b → is_unset (cond b (noted_type (slice_index fact.notes (at / 8))) Anything) ≡ false
-      → (w : Value) × (is_aligned size at ≡ true) × (kept_at s.stack at ≡ Some w) × FitsType (cond b (noted_type (slice_index fact.notes (at / 8))) Anything) w
-  note_test size at true a u =
+  -- a pointer that is spilled at a place is kept there
+  spill_test : (size at : ℕ) (b : Bool) → is_aligned size at ≡ b → is_unset (cond b (spilled_type (slice_index fact.spills (at / 8))) Anything) ≡ false
+      → (w : Value) × (is_aligned size at ≡ true) × (kept_at s.stack at ≡ Some w) × FitsType (cond b (spilled_type (slice_index fact.spills (at / 8))) Anything) w
+  spill_test size at true a u =
       let h = aligned size at a in
       let place : 8 * (at / 8) ≡ at = omega (arith, h.1) in
-      let x = fits.notes (at / 8) u in
+      let x = fits.spills (at / 8) u in
       (x.0, a, ap (kept_at s.stack) (sym place) ∙ x.2, x.1)
-  note_test size at false a u = absurd (cc)
+  spill_test size at false a u = absurd (cc)
 
-  note_gives : (size : ℕ) (o : Option ℕ) → is_unset (note_in fact.notes size o) ≡ false → (at : ℕ) × (w : Value) × (o ≡ Some at) × (is_aligned size at ≡ true)
-      × (kept_at s.stack at ≡ Some w) × FitsType (note_in fact.notes size o) w
-  note_gives size None u = absurd (cc)
-  note_gives size (Some at) u = let x = note_test size at (is_aligned size at) refl u in (at, x.0, refl, x.1, x.2, x.3)
+  spill_gives : (size : ℕ) (o : Option ℕ) → is_unset (spill_in fact.spills size o) ≡ false → (at : ℕ) × (w : Value) × (o ≡ Some at) × (is_aligned size at ≡ true)
+      × (kept_at s.stack at ≡ Some w) × FitsType (spill_in fact.spills size o) w
+  spill_gives size None u = absurd (cc)
+  spill_gives size (Some at) u = let x = spill_test size at (is_aligned size at) refl u in (at, x.0, refl, x.1, x.2, x.3)
 
   number_none : (size at : ℕ) (w : Value) → is_aligned size at ≡ true → kept_at s.stack at ≡ Some w → number_in s.stack at size ≡ None
   number_none size at w a e =
       let h = aligned size at a in
       ap (number_in s.stack at) h.0 ∙ no_number (cell_at s.stack at) s.stack at w (number_in s.stack (suc at) 7) e
 
-  -- what a load through a pointer with a note reads
-  kept_gives : (context : List ℕ) (a : RegType) (v : Value) (i : Inst) (size : ℕ) → FitsType a v → is_unset (kept_type fact.notes a i size) ≡ false
+  -- a load through a pointer to a spill reads the spilled pointer
+  kept_gives : (context : List ℕ) (a : RegType) (v : Value) (i : Inst) (size : ℕ) → FitsType a v → is_unset (kept_type fact.spills a i size) ≡ false
       → (at : Place) × (w : Value) × (mem (length context) v i.offset size ≡ Some at) × (loaded at size context s.stack ≡ Some w)
-      × FitsType (kept_type fact.notes a i size) w
+      × FitsType (kept_type fact.spills a i size) w
   kept_gives context (Stk k) (Stack n) i size h u =
-      let x = note_gives size (shifted (lowest k) i.offset (512 - size)) u in
+      let x = spill_gives size (shifted (lowest k) i.offset (512 - size)) u in
       let there : lowest k ≡ n = ap natural (sym h) in
       let kept : kept_in (InStack x.0) size s.stack ≡ Some x.1 = ap (λ b. cond b (kept_at s.stack x.0) None) x.3 ∙ x.4 in (
         InStack x.0,
@@ -367,14 +367,14 @@ module _ (terms : Terms) (fact after : Fact) (s : State) (fits : Fits fact s) wh
   kept_gives context (Stk k) (Context n) i size h u = absurd h
 
   loaded_follow : (context : List ℕ) → length context ≡ context_len terms.layout → (i : Inst) (size : ℕ) (e : Effect) → IsAfter fact e after → i.dst ≤ 10
-      → set_type fact.types i.dst (loaded_type terms.layout fact.stack fact.notes (type_at fact.types i.src) i size) ≡ ok_of e
+      → set_type fact.types i.dst (loaded_type terms.layout fact.stack fact.spills (type_at fact.types i.src) i size) ≡ ok_of e
       → Follows terms.mask after ((s.pc + 1) ∷ []) s (where_some (mem (length context) (register s.registers i.src) i.offset size)
       (λ at. where_some (loaded at size context s.stack) (λ v. sets s i.dst v)))
   loaded_follow context long i size e is small h =
       let base = type_at fact.types i.src in
       let value = register s.registers i.src in
-      let kept = kept_type fact.notes base i size in
-      let r = loaded_type terms.layout fact.stack fact.notes base i size in
+      let kept = kept_type fact.spills base i size in
+      let r = loaded_type terms.layout fact.stack fact.spills base i size in
       let x = set_is fact.types i.dst r e h in
       elim (kept_cases kept (is_unset kept) (load_type terms.layout fact.stack base i size) x.0 refl x.1) [
         | inl number ↦
@@ -410,7 +410,7 @@ module _ (terms : Terms) (fact after : Fact) (s : State) (fits : Fits fact s) wh
                   ];
             };
         long = length-written s.stack at bytes ∙ fits.long;
-        notes = kept_after_bytes fact.notes after.notes s.stack at bytes now.notes fits.notes;
+        spills = kept_after_bytes fact.spills after.spills s.stack at bytes now.spills fits.spills;
       }
 
   abbrev keeping : RegType → Effect → Effect
@@ -433,8 +433,8 @@ module _ (terms : Terms) (fact after : Fact) (s : State) (fits : Fits fact s) wh
                   subst HasByte (sym (pieces_other s.stack at v 0 8 p (outside at 8 p old.1))) (fits.stack.bytes p old.0);
             };
         long = length-pieces s.stack at v 0 8 ∙ fits.long;
-        notes = kept_after_pointer fact.notes after.notes s.stack at t v now.notes multiple (omega (arith, inside, fits.long))
-            (pointer_of t v f pointer) f fits.notes;
+        spills = kept_after_pointer fact.spills after.spills s.stack at t v now.spills multiple (omega (arith, inside, fits.long))
+            (pointer_of t v f pointer) f fits.spills;
       }
 
   stored_pointer : (i : Inst) (size : ℕ) (v : Value) → IsPointer v → stores_value s i size v ≡ keeps_value s i size v
@@ -443,7 +443,7 @@ module _ (terms : Terms) (fact after : Fact) (s : State) (fits : Fits fact s) wh
   stored_pointer i size Unset p = absurd p
   stored_pointer i size (Number n) p = absurd p
 
-  -- a pointer that can be kept is kept
+  -- a stored pointer that can be kept is kept
   keeps_follow : (i : Inst) (size : ℕ) (x e : Effect) (t : RegType) (v : Value) → IsAfter fact e after → size ≤ 8
       → store_type fact.types (type_at fact.types i.dst) i size ≡ ok_of x → is_aligned x.len x.at ≡ true → record x { kept = t } ≡ e → is_pointer t ≡ true
       → FitsType t v → Follows terms.mask after ((s.pc + 1) ∷ []) s (stores_value s i size v)
@@ -524,8 +524,8 @@ module _ (terms : Terms) (fact after : Fact) (s : State) (fits : Fits fact s) wh
                   ]);
             };
         long = ap length stack ∙ length-written s.stack at bytes ∙ fits.long;
-        notes = λ k. subst (λ st. IsKept (noted_type (slice_index after.notes k)) st (8 * k)) (sym stack)
-            (kept_after_bytes fact.notes after.notes s.stack at bytes now.notes fits.notes k);
+        spills = λ k. subst (λ st. IsKept (spilled_type (slice_index after.spills k)) st (8 * k)) (sym stack)
+            (kept_after_bytes fact.spills after.spills s.stack at bytes now.spills fits.spills k);
       }
 
   -- one instruction
@@ -564,8 +564,8 @@ module _ (terms : Terms) (fact after : Fact) (s : State) (fits : Fits fact s) wh
         | inr pointer ↦ keeps_follow i (bytes_in size) p.0 e value (register s.registers i.src) is (size_small size) p.1 pointer.1 pointer.2
             pointer.0 (fits.registers i.src)
       ])
-  step_follows context long view i upper Goto e tos small is h l = jumps_follow e i.offset [] tos is (same_effect h) l
-  step_follows context long view i upper GotoLong e tos small is h l = jumps_follow e i.imm [] tos is (same_effect h) l
+  step_follows context long view i upper Ja e tos small is h l = jumps_follow e i.offset [] tos is (same_effect h) l
+  step_follows context long view i upper Ja32 e tos small is h l = jumps_follow e i.imm [] tos is (same_effect h) l
   step_follows context long view i upper (Branch c w source) e tos small is h l =
       let a = type_at fact.types i.dst in
       let b = operand_type source w i fact.types in

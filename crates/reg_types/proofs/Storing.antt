@@ -7,7 +7,7 @@ use Rattle.std.proofs.lemmas.List.{length-replicate}
 use Rattle.std.proofs.Math.Seq.{get_or-append_seam}
 use Rattle.std.proofs.lemmas.Bool.{cases_eq, cases_lt, eq-eqb, ne_eqb, cond-true, cond-false}
 use Rattle.reg_types.specs.declared.types.Fact.{Fact}
-use Rattle.reg_types.specs.declared.types.Stored.{Stored}
+use Rattle.reg_types.specs.declared.types.StoredFact.{StoredFact}
 use Rattle.reg_types.specs.Facts.{stored, IsPlace, IsIndexed, AreDistinct}
 use Rattle.reg_types.specs.Inference.{join_fact, taken_in, arrived}
 use Rattle.reg_types.specs.Passing.{IsSame, AreSame, IsJoined}
@@ -26,16 +26,16 @@ nothing_twice : AreDistinct []
 unfolding AreDistinct
 nothing_twice = tt
 
-abbrev pub stored_fact : ℕ → Fact → Stored
+abbrev pub stored_fact : ℕ → Fact → StoredFact
 stored_fact at fact = record { at = at; fact = fact }
 
-pub stored_none : (facts : List Stored) (at : ℕ) → ((j : ℕ) (d : Stored) → j < length facts → (slice_index_or facts j d).at ≢ at) → stored facts at ≡ None
+pub stored_none : (facts : List StoredFact) (at : ℕ) → ((j : ℕ) (d : StoredFact) → j < length facts → (slice_index_or facts j d).at ≢ at) → stored facts at ≡ None
 stored_none [] at h = refl
 stored_none (s ∷ rest) at h =
     cond-false (at == s.at) (Some s.fact) (stored rest at) (ne_eqb at s.at (λ e. h 0 s (omega arith) (sym e)))
     ∙ stored_none rest at (λ j d l. h (suc j) d (omega (arith, l)))
 
-later : (s : Stored) (rest : List Stored) (at k : ℕ) → IsPlace (s ∷ rest) at (suc k) → IsPlace rest at k
+later : (s : StoredFact) (rest : List StoredFact) (at k : ℕ) → IsPlace (s ∷ rest) at (suc k) → IsPlace rest at k
 later s rest at k p =
     record {
       inside = let l = p.inside in omega (arith, l);
@@ -43,10 +43,10 @@ later s rest at k p =
       here = λ d. p.here d;
     }
 
-not_first : (s : Stored) (rest : List Stored) (at k : ℕ) → IsPlace (s ∷ rest) at (suc k) → at ≢ s.at
+not_first : (s : StoredFact) (rest : List StoredFact) (at k : ℕ) → IsPlace (s ∷ rest) at (suc k) → at ≢ s.at
 not_first s rest at k p e = p.earlier 0 s (omega arith) (sym e)
 
-pub stored_at : (facts : List Stored) (at k : ℕ) (d : Stored) → IsPlace facts at k → stored facts at ≡ Some (slice_index_or facts k d).fact
+pub stored_at : (facts : List StoredFact) (at k : ℕ) (d : StoredFact) → IsPlace facts at k → stored facts at ≡ Some (slice_index_or facts k d).fact
 stored_at [] at k d p = absurd (let l = p.inside in omega (arith, l))
 stored_at (s ∷ rest) at zero d p = cond-true (at == s.at) (Some s.fact) (stored rest at) (eq-eqb at s.at (sym (p.here d)))
 stored_at (s ∷ rest) at (suc k) d p =
@@ -56,7 +56,7 @@ twice : (t : Bool) (a b c : Option Fact) → cond t a b ≡ cond t a (cond t c b
 twice true a b c = refl
 twice false a b c = refl
 
-pub stored_set : (facts : List Stored) (at k : ℕ) (f : Fact) → IsPlace facts at k → (q : ℕ) → stored (slice_set facts k (stored_fact at f)) q
+pub stored_set : (facts : List StoredFact) (at k : ℕ) (f : Fact) → IsPlace facts at k → (q : ℕ) → stored (slice_set facts k (stored_fact at f)) q
     ≡ cond (q == at) (Some f) (stored facts q)
 stored_set [] at k f p q = absurd (let l = p.inside in omega (arith, l))
 stored_set (s ∷ rest) at zero f p q =
@@ -80,7 +80,7 @@ none_of : (t : Bool) (a : Fact) (b : Option Fact) → cond t (Some a) b ≡ None
 none_of true a b e = absurd (cc)
 none_of false a b e = (refl, e)
 
-pub stored_pushed : (facts : List Stored) (at : ℕ) (f : Fact) → stored facts at ≡ None → (q : ℕ)
+pub stored_pushed : (facts : List StoredFact) (at : ℕ) (f : Fact) → stored facts at ≡ None → (q : ℕ)
     → stored (facts ++ stored_fact at f ∷ []) q ≡ arrived q f at (stored facts q)
 stored_pushed [] at f none q = refl
 stored_pushed (s ∷ rest) at f none q =
@@ -98,11 +98,11 @@ stored_pushed (s ∷ rest) at f none q =
           ∙ sym (not_arrived q at f (stored (s ∷ rest) q) n)
     ]
 
-pub stored_here : (facts : List Stored) (at k : ℕ) (f : Fact) → IsPlace facts at k → stored (slice_set facts k (stored_fact at f)) at ≡ Some f
+pub stored_here : (facts : List StoredFact) (at k : ℕ) (f : Fact) → IsPlace facts at k → stored (slice_set facts k (stored_fact at f)) at ≡ Some f
 stored_here facts at k f p = stored_set facts at k f p at ∙ cond-true (at == at) (Some f) (stored facts at) (eq-eqb at at refl)
 
--- the first stored fact of the unit takes one in
-module _ (facts : List Stored) (at k : ℕ) (d : Stored) (f fact : Fact) (p : IsPlace facts at k)
+-- the first stored fact of a unit is joined with another one
+module _ (facts : List StoredFact) (at k : ℕ) (d : StoredFact) (f fact : Fact) (p : IsPlace facts at k)
     (same : IsSame f (join_fact (slice_index_or facts k d).fact fact)) where
   set_here : (q : ℕ) → q ≡ at → stored (slice_set facts k (stored_fact at f)) q ≡ Some f
   set_here q e = stored_set facts at k f p q ∙ cond-true (q == at) (Some f) (stored facts q) (eq-eqb q at e)
@@ -132,8 +132,8 @@ module _ (facts : List Stored) (at k : ℕ) (d : Stored) (f fact : Fact) (p : Is
         kept = λ q. elim (cases_eq q at) [ inl e ↦ ap is_some (set_here q e) ∙ sym (ap is_some (held_here q e)) | inr n ↦ ap is_some (set_elsewhere q n) ];
       }
 
--- where a unit's fact is stored, what enters there is taken in
-pub entered_at : (facts new : List Stored) (at : ℕ) (fact : Fact) (o : Option ℕ) (b : Bool) → is_some o ≡ true → IfSome o (λ k. IsPlace facts at k)
+-- where a unit has a stored fact, a fact that enters there is taken in
+pub entered_at : (facts new : List StoredFact) (at : ℕ) (fact : Fact) (o : Option ℕ) (b : Bool) → is_some o ≡ true → IfSome o (λ k. IsPlace facts at k)
     → (IsTrue b → IsJoined at fact (stored facts) (stored new)) → (b ≡ false → stored facts at ≡ None) → (q : ℕ)
     → AreSame (stored new q) (arrived q fact at (stored facts q))
 entered_at facts new at fact None b some place joined none q = absurd (no_some (sym some))
@@ -143,14 +143,14 @@ entered_at facts new at fact (Some k) false some place joined none q =
 
 -- ---- where each is found
 
-none_stored : (facts : List Stored) (at : ℕ) → stored facts at ≡ None → (j : ℕ) (d : Stored) → j < length facts → (slice_index_or facts j d).at ≢ at
+none_stored : (facts : List StoredFact) (at : ℕ) → stored facts at ≡ None → (j : ℕ) (d : StoredFact) → j < length facts → (slice_index_or facts j d).at ≢ at
 none_stored [] at none j d l = absurd (omega (arith, l))
 none_stored (s ∷ rest) at none zero d l =
     λ e. no_some (ap is_some (sym (cond-true (at == s.at) (Some s.fact) (stored rest at) (eq-eqb at s.at (sym e))) ∙ none))
 none_stored (s ∷ rest) at none (suc j) d l = none_stored rest at (none_of (at == s.at) s.fact (stored rest at) none).1 j d (omega (arith, l))
 
--- a changed fact stands at the place of the old one
-at_kept : (facts : List Stored) (at k : ℕ) (f : Fact) → IsPlace facts at k → (j : ℕ) (d : Stored)
+-- a changed fact is at the place of the old one
+at_kept : (facts : List StoredFact) (at k : ℕ) (f : Fact) → IsPlace facts at k → (j : ℕ) (d : StoredFact)
     → (slice_index_or (slice_set facts k (stored_fact at f)) j d).at ≡ (slice_index_or facts j d).at
 at_kept facts at k f p j d =
     elim (cases_eq j k) [
@@ -161,7 +161,7 @@ at_kept facts at k f p j d =
       | inr n ↦ ap (λ s. s.at) (get_or-set_other facts k j (stored_fact at f) d n)
     ]
 
-place_kept : (facts : List Stored) (at k : ℕ) (f : Fact) → IsPlace facts at k → (q j : ℕ) → IsPlace facts q j
+place_kept : (facts : List StoredFact) (at k : ℕ) (f : Fact) → IsPlace facts at k → (q j : ℕ) → IsPlace facts q j
     → IsPlace (slice_set facts k (stored_fact at f)) q j
 place_kept facts at k f p q j is =
     record {
@@ -170,7 +170,7 @@ place_kept facts at k f p q j is =
       here = λ d. at_kept facts at k f p j d ∙ is.here d;
     }
 
-distinct_kept : (facts : List Stored) (at k : ℕ) (f : Fact) → IsPlace facts at k → AreDistinct facts → AreDistinct (slice_set facts k (stored_fact at f))
+distinct_kept : (facts : List StoredFact) (at k : ℕ) (f : Fact) → IsPlace facts at k → AreDistinct facts → AreDistinct (slice_set facts k (stored_fact at f))
 unfolding AreDistinct
 distinct_kept [] at k f p h = absurd (let l = p.inside in omega (arith, l))
 distinct_kept (s ∷ rest) at zero f p h = (ap (stored rest) (sym (p.here s)) ∙ h.0, h.1)
@@ -180,7 +180,7 @@ distinct_kept (s ∷ rest) at (suc k) f p h = (
   distinct_kept rest at k f (later s rest at k p) h.1,
 )
 
-pub indexed_joined : (facts : List Stored) (places : List ℕ) (at k : ℕ) (f : Fact) → IsPlace facts at k → IsIndexed facts places
+pub indexed_joined : (facts : List StoredFact) (places : List ℕ) (at k : ℕ) (f : Fact) → IsPlace facts at k → IsIndexed facts places
     → IsIndexed (slice_set facts k (stored_fact at f)) places
 indexed_joined facts places at k f p is =
     record {
@@ -193,7 +193,7 @@ indexed_joined facts places at k f p is =
       distinct = distinct_kept facts at k f p is.distinct;
     }
 
-distinct_pushed : (facts : List Stored) (at : ℕ) (f : Fact) → stored facts at ≡ None → AreDistinct facts → AreDistinct (facts ++ stored_fact at f ∷ [])
+distinct_pushed : (facts : List StoredFact) (at : ℕ) (f : Fact) → stored facts at ≡ None → AreDistinct facts → AreDistinct (facts ++ stored_fact at f ∷ [])
 unfolding AreDistinct
 distinct_pushed [] at f none h = (refl, tt)
 distinct_pushed (s ∷ rest) at f none h =
@@ -201,7 +201,7 @@ distinct_pushed (s ∷ rest) at f none h =
     let without = (none_of (at == s.at) s.fact (stored rest at) none).1 in
     (stored_pushed rest at f without s.at ∙ not_arrived s.at at f (stored rest s.at) other ∙ h.0, distinct_pushed rest at f without h.1)
 
-place_pushed : (facts : List Stored) (e : Stored) (q j : ℕ) → IsPlace facts q j → IsPlace (facts ++ e ∷ []) q j
+place_pushed : (facts : List StoredFact) (e : StoredFact) (q j : ℕ) → IsPlace facts q j → IsPlace (facts ++ e ∷ []) q j
 place_pushed facts e q j is =
     let inside = is.inside in
     record {
@@ -210,7 +210,7 @@ place_pushed facts e q j is =
       here = λ d. ap (λ s. s.at) (get_or_append_left facts (e ∷ []) d j inside) ∙ is.here d;
     }
 
-place_new : (facts : List Stored) (at : ℕ) (f : Fact) → stored facts at ≡ None → IsPlace (facts ++ stored_fact at f ∷ []) at (length facts)
+place_new : (facts : List StoredFact) (at : ℕ) (f : Fact) → stored facts at ≡ None → IsPlace (facts ++ stored_fact at f ∷ []) at (length facts)
 place_new facts at f none =
     record {
       inside = let n = length-append facts (stored_fact at f ∷ []) in omega (arith, n);
@@ -218,7 +218,7 @@ place_new facts at f none =
       here = λ d. ap (λ s. s.at) (get_or-append_seam facts (stored_fact at f) [] d);
     }
 
-pub indexed_pushed : (facts : List Stored) (places : List ℕ) (at : ℕ) (f : Fact) → at ≤ 512 → stored facts at ≡ None → IsIndexed facts places
+pub indexed_pushed : (facts : List StoredFact) (places : List ℕ) (at : ℕ) (f : Fact) → at ≤ 512 → stored facts at ≡ None → IsIndexed facts places
     → IsIndexed (facts ++ stored_fact at f ∷ []) (slice_set places at (length facts + 1))
 indexed_pushed facts places at f l none is =
     let long = is.many in

@@ -13,10 +13,10 @@ use Rattle.stack_map.specs.Places.{Has}
 use Rattle.reg_types.specs.declared.types.RegType.{RegType}
 use Rattle.reg_types.specs.declared.types.RegType.TheVariants.{Unset as Anything, Num, Const, Ctx, Stk}
 use Rattle.reg_types.specs.declared.types.Fact.{Fact}
-use Rattle.reg_types.specs.Rules.{type_at, join_type, noted_type}
+use Rattle.reg_types.specs.Rules.{type_at, join_type, spilled_type}
 use Rattle.reg_types.specs.Facts.{FitsType, IsKept, IsBelow}
-use Rattle.reg_types.specs.Inference.{join_notes}
-use Rattle.reg_types.proofs.Keeping.{joined_note, nothing_kept}
+use Rattle.reg_types.specs.Inference.{join_spills}
+use Rattle.reg_types.proofs.Keeping.{joined_spill, nothing_kept}
 
 -- ---- the order
 
@@ -69,26 +69,26 @@ join_right (Ctx k) (Ctx m) v h = kept_right (k == m) (Ctx k) (Ctx m) v (λ e. ap
 join_right (Stk k) (Stk m) v h = kept_right (int_eq k m) (Stk k) (Stk m) v (λ e. ap Stk ((Decides-int_eq k m).0 e)) h
 join_right a b v h = tt
 
--- what notes say, the join's say
-notes_left : (a b j : List ℕ) (stack : List Cell) (k : ℕ) → j ≡ join_notes a b → IsKept (noted_type (slice_index a k)) stack (8 * k)
-    → IsKept (noted_type (slice_index j k)) stack (8 * k)
-notes_left a b j stack k e h =
-    subst (λ ns. IsKept (noted_type (slice_index ns k)) stack (8 * k)) (sym e) (elim (joined_note a b k) [
-      | inl same ↦ subst (λ m. IsKept (noted_type m) stack (8 * k)) (sym same.0) h
-      | inr none ↦ nothing_kept (slice_index (join_notes a b) k) stack (8 * k) none
+-- where the stack keeps what a fact's spills say, it keeps what the join's spills say
+spills_left : (a b j : List ℕ) (stack : List Cell) (k : ℕ) → j ≡ join_spills a b → IsKept (spilled_type (slice_index a k)) stack (8 * k)
+    → IsKept (spilled_type (slice_index j k)) stack (8 * k)
+spills_left a b j stack k e h =
+    subst (λ ns. IsKept (spilled_type (slice_index ns k)) stack (8 * k)) (sym e) (elim (joined_spill a b k) [
+      | inl same ↦ subst (λ m. IsKept (spilled_type m) stack (8 * k)) (sym same.0) h
+      | inr none ↦ nothing_kept (slice_index (join_spills a b) k) stack (8 * k) none
     ])
 
-notes_right : (a b j : List ℕ) (stack : List Cell) (k : ℕ) → j ≡ join_notes a b → IsKept (noted_type (slice_index b k)) stack (8 * k)
-    → IsKept (noted_type (slice_index j k)) stack (8 * k)
-notes_right a b j stack k e h =
-    subst (λ ns. IsKept (noted_type (slice_index ns k)) stack (8 * k)) (sym e) (elim (joined_note a b k) [
-      | inl same ↦ subst (λ m. IsKept (noted_type m) stack (8 * k)) (sym same.1) h
-      | inr none ↦ nothing_kept (slice_index (join_notes a b) k) stack (8 * k) none
+spills_right : (a b j : List ℕ) (stack : List Cell) (k : ℕ) → j ≡ join_spills a b → IsKept (spilled_type (slice_index b k)) stack (8 * k)
+    → IsKept (spilled_type (slice_index j k)) stack (8 * k)
+spills_right a b j stack k e h =
+    subst (λ ns. IsKept (spilled_type (slice_index ns k)) stack (8 * k)) (sym e) (elim (joined_spill a b k) [
+      | inl same ↦ subst (λ m. IsKept (spilled_type m) stack (8 * k)) (sym same.1) h
+      | inr none ↦ nothing_kept (slice_index (join_spills a b) k) stack (8 * k) none
     ])
 
--- the join, register by register, and place by place
+-- a join, register by register and place by place, is above both facts
 pub below_left : (a b j : Fact) → ((r : ℕ) → type_at j.types r ≡ join_type (type_at a.types r) (type_at b.types r)) → ((p : ℕ) → Has j.stack p → Has a.stack p)
-    → j.notes ≡ join_notes a.notes b.notes → IsBelow a j
+    → j.spills ≡ join_spills a.spills b.spills → IsBelow a j
 below_left a b j e h n =
     record {
       weakens =
@@ -99,12 +99,12 @@ below_left a b j e h n =
             many = f.many;
             stack = record { bytes = λ p has. f.stack.bytes p (h p has) };
             long = f.long;
-            notes = λ k. notes_left a.notes b.notes j.notes s.stack k n (f.notes k);
+            spills = λ k. spills_left a.spills b.spills j.spills s.stack k n (f.spills k);
           };
     }
 
 pub below_right : (a b j : Fact) → ((r : ℕ) → type_at j.types r ≡ join_type (type_at a.types r) (type_at b.types r)) → ((p : ℕ) → Has j.stack p → Has b.stack p)
-    → j.notes ≡ join_notes a.notes b.notes → IsBelow b j
+    → j.spills ≡ join_spills a.spills b.spills → IsBelow b j
 below_right a b j e h n =
     record {
       weakens =
@@ -115,11 +115,11 @@ below_right a b j e h n =
             many = f.many;
             stack = record { bytes = λ p has. f.stack.bytes p (h p has) };
             long = f.long;
-            notes = λ k. notes_right a.notes b.notes j.notes s.stack k n (f.notes k);
+            spills = λ k. spills_right a.spills b.spills j.spills s.stack k n (f.spills k);
           };
     }
 
--- one register more is joined
+-- one more register is joined
 pub join_step : (ts a b : List RegType) (r : ℕ) (v : RegType) → r < length ts → v ≡ join_type (type_at a r) (type_at b r)
     → ((k : ℕ) → k < r → type_at ts k ≡ join_type (type_at a k) (type_at b k)) → (k : ℕ) → k < r + 1
     → type_at (slice_set ts r v) k ≡ join_type (type_at a k) (type_at b k)

@@ -5,11 +5,11 @@ use Rattle.std.proofs.lemmas.Bool.Decides.{nat_tests}
 use Rattle.std.proofs.lemmas.Int.{ints}
 use Rattle.bpf_model.specs.declared.instruction.Inst.{Inst}
 use Rattle.bpf_model.specs.declared.instruction.Width.{Width}
-use Rattle.bpf_model.specs.declared.instruction.Width.TheVariants.{Narrow, Full}
+use Rattle.bpf_model.specs.declared.instruction.Width.TheVariants.{Bits32, Bits64}
 use Rattle.bpf_model.specs.declared.instruction.Source.{Source}
 use Rattle.bpf_model.specs.declared.instruction.Source.TheVariants.{Immediate, Register}
 use Rattle.bpf_model.specs.declared.instruction.Operator.{Operator}
-use Rattle.bpf_model.specs.declared.instruction.Operator.TheVariants.{Sum, Difference, Negate, Move, SwapBytes}
+use Rattle.bpf_model.specs.declared.instruction.Operator.TheVariants.{Add, Sub, Neg, Mov, SwapBytes}
 use Rattle.bpf_model.specs.declared.machine.Value.{Value}
 use Rattle.bpf_model.specs.declared.machine.Value.TheVariants.{Unset, Number, Context, Stack}
 use Rattle.bpf_model.specs.declared.context.Layout.{Layout}
@@ -82,7 +82,7 @@ two r q a b va vb t h k e =
     let p = either_false (is_pointer a) (is_pointer b) x.2 in
     (is_number a va h x.0 p.0, is_number b vb k x.1 p.1, x.3)
 
--- an operator on two numbers
+-- an operator on two numbers gives a number
 on_two : (f : ℕ → ℕ → ℕ) (r q : ℕ) (a b : RegType) (va vb : Value) (t : RegType) → FitsType a va → FitsType b vb → two_numbers r q a b ≡ Ok t
     → Gives (on_numbers f va vb) t
 on_two f r q a b va vb t h k e =
@@ -125,7 +125,7 @@ down_fits n m k h a b = (grind (arith, ints, nat_tests), grind (arith, ints, nat
 down_is : (n m : ℕ) (k : ℤ) → m < n → pos n ≡ (k +ℤ pos 512) → pos (n - suc m) ≡ ((k +ℤ negsuc m) +ℤ pos 512)
 down_is n m k l h = omega (arith, ints)
 
--- a stack pointer n bytes above the lowest, moved as its type is
+-- a stack pointer n bytes above the lowest byte fits the moved type once it has moved
 stk_moved : (n : ℕ) (k z : ℤ) (t : RegType) → pos n ≡ (k +ℤ pos 512) → stk_at (k +ℤ z) ≡ ok_of t → Gives (map_option Stack (shifted n z 512)) t
 stk_moved n k (pos m) t h e =
     let x = stk_test (int_le (negsuc 511) (k +ℤ pos m) && int_le (k +ℤ pos m) (pos 0)) (k +ℤ pos m) t e in
@@ -142,27 +142,27 @@ stk_moved n k (negsuc m) t h e =
 sum : (layout : Layout) (room : ℕ) → room ≡ context_len layout
     → (op : Operator) (w : Width) (s : Source) (i : Inst) (z : ℤ) (a b : RegType) (va vb : Value) (t : RegType) → FitsType a va → FitsType b vb
     → sum_type layout w s i z a b ≡ Ok t → Gives (sum_value room op w s z i.offset va vb) t
-sum layout room long op Narrow s i z a b va vb t h g e = on_two (alu op Narrow i.offset) i.dst i.src a b va vb t h g e
-sum layout room long op Full Register i z a b va vb t h g e = on_two (alu op Full i.offset) i.dst i.src a b va vb t h g e
-sum layout room long op Full Immediate i z (Ctx k) b (Context n) vb t h g e =
+sum layout room long op Bits32 s i z a b va vb t h g e = on_two (alu op Bits32 i.offset) i.dst i.src a b va vb t h g e
+sum layout room long op Bits64 Register i z a b va vb t h g e = on_two (alu op Bits64 i.offset) i.dst i.src a b va vb t h g e
+sum layout room long op Bits64 Immediate i z (Ctx k) b (Context n) vb t h g e =
     subst (λ m. Gives (map_option Context (shifted m z room)) t) (sym h)
     (ctx_moved k room z t (shifted k z room) refl (ap (λ l. ctx_at (shifted k z l)) long ∙ e))
-sum layout room long op Full Immediate i z (Stk k) b (Stack n) vb t h g e = stk_moved n k z t h e
-sum layout room long op Full Immediate i z Num b (Number n) vb t h g e = on_two (alu op Full i.offset) i.dst i.src Num b (Number n) vb t h g e
-sum layout room long op Full Immediate i z (Const c) b (Number n) vb t h g e = on_two (alu op Full i.offset) i.dst i.src (Const c) b (Number n) vb t h g e
-sum layout room long op Full Immediate i z Anything b va vb t h g e = absurd (cc)
-sum layout room long op Full Immediate i z (Ctx k) b Unset vb t h g e = absurd h
-sum layout room long op Full Immediate i z (Ctx k) b (Number n) vb t h g e = absurd h
-sum layout room long op Full Immediate i z (Ctx k) b (Stack n) vb t h g e = absurd h
-sum layout room long op Full Immediate i z (Stk k) b Unset vb t h g e = absurd h
-sum layout room long op Full Immediate i z (Stk k) b (Number n) vb t h g e = absurd h
-sum layout room long op Full Immediate i z (Stk k) b (Context n) vb t h g e = absurd h
-sum layout room long op Full Immediate i z Num b Unset vb t h g e = absurd h
-sum layout room long op Full Immediate i z Num b (Context n) vb t h g e = absurd h
-sum layout room long op Full Immediate i z Num b (Stack n) vb t h g e = absurd h
-sum layout room long op Full Immediate i z (Const c) b Unset vb t h g e = absurd h
-sum layout room long op Full Immediate i z (Const c) b (Context n) vb t h g e = absurd h
-sum layout room long op Full Immediate i z (Const c) b (Stack n) vb t h g e = absurd h
+sum layout room long op Bits64 Immediate i z (Stk k) b (Stack n) vb t h g e = stk_moved n k z t h e
+sum layout room long op Bits64 Immediate i z Num b (Number n) vb t h g e = on_two (alu op Bits64 i.offset) i.dst i.src Num b (Number n) vb t h g e
+sum layout room long op Bits64 Immediate i z (Const c) b (Number n) vb t h g e = on_two (alu op Bits64 i.offset) i.dst i.src (Const c) b (Number n) vb t h g e
+sum layout room long op Bits64 Immediate i z Anything b va vb t h g e = absurd (cc)
+sum layout room long op Bits64 Immediate i z (Ctx k) b Unset vb t h g e = absurd h
+sum layout room long op Bits64 Immediate i z (Ctx k) b (Number n) vb t h g e = absurd h
+sum layout room long op Bits64 Immediate i z (Ctx k) b (Stack n) vb t h g e = absurd h
+sum layout room long op Bits64 Immediate i z (Stk k) b Unset vb t h g e = absurd h
+sum layout room long op Bits64 Immediate i z (Stk k) b (Number n) vb t h g e = absurd h
+sum layout room long op Bits64 Immediate i z (Stk k) b (Context n) vb t h g e = absurd h
+sum layout room long op Bits64 Immediate i z Num b Unset vb t h g e = absurd h
+sum layout room long op Bits64 Immediate i z Num b (Context n) vb t h g e = absurd h
+sum layout room long op Bits64 Immediate i z Num b (Stack n) vb t h g e = absurd h
+sum layout room long op Bits64 Immediate i z (Const c) b Unset vb t h g e = absurd h
+sum layout room long op Bits64 Immediate i z (Const c) b (Context n) vb t h g e = absurd h
+sum layout room long op Bits64 Immediate i z (Const c) b (Stack n) vb t h g e = absurd h
 
 set_fits : (t : RegType) (v : Value) → is_unset t ≡ false → FitsType t v → Gives (set_value v) t
 set_fits Anything v e h = absurd (cc)
@@ -182,30 +182,30 @@ copied src b vb t g e =
 
 move_fits : (w : Width) (i : Inst) (o : ℤ) (t : RegType) → ok_of (cond (is_plain o) (Const (low w (immediate w i.imm))) Num) ≡ ok_of t
     → Gives (move_value w Immediate o (Number (immediate w i.imm))) t
-move_fits Narrow i (pos zero) t e = subst (λ u. Gives (move_value Narrow Immediate (pos zero) (Number (immediate Narrow i.imm))) u) (ok_inj e) refl
-move_fits Narrow i (pos (suc n)) t e = subst (λ u. Gives (move_value Narrow Immediate (pos (suc n)) (Number (immediate Narrow i.imm))) u) (ok_inj e) tt
-move_fits Narrow i (negsuc n) t e = subst (λ u. Gives (move_value Narrow Immediate (negsuc n) (Number (immediate Narrow i.imm))) u) (ok_inj e) tt
-move_fits Full i (pos zero) t e = subst (λ u. Gives (move_value Full Immediate (pos zero) (Number (immediate Full i.imm))) u) (ok_inj e) refl
-move_fits Full i (pos (suc n)) t e = subst (λ u. Gives (move_value Full Immediate (pos (suc n)) (Number (immediate Full i.imm))) u) (ok_inj e) tt
-move_fits Full i (negsuc n) t e = subst (λ u. Gives (move_value Full Immediate (negsuc n) (Number (immediate Full i.imm))) u) (ok_inj e) tt
+move_fits Bits32 i (pos zero) t e = subst (λ u. Gives (move_value Bits32 Immediate (pos zero) (Number (immediate Bits32 i.imm))) u) (ok_inj e) refl
+move_fits Bits32 i (pos (suc n)) t e = subst (λ u. Gives (move_value Bits32 Immediate (pos (suc n)) (Number (immediate Bits32 i.imm))) u) (ok_inj e) tt
+move_fits Bits32 i (negsuc n) t e = subst (λ u. Gives (move_value Bits32 Immediate (negsuc n) (Number (immediate Bits32 i.imm))) u) (ok_inj e) tt
+move_fits Bits64 i (pos zero) t e = subst (λ u. Gives (move_value Bits64 Immediate (pos zero) (Number (immediate Bits64 i.imm))) u) (ok_inj e) refl
+move_fits Bits64 i (pos (suc n)) t e = subst (λ u. Gives (move_value Bits64 Immediate (pos (suc n)) (Number (immediate Bits64 i.imm))) u) (ok_inj e) tt
+move_fits Bits64 i (negsuc n) t e = subst (λ u. Gives (move_value Bits64 Immediate (negsuc n) (Number (immediate Bits64 i.imm))) u) (ok_inj e) tt
 
 moved : (o : ℤ) (src : ℕ) (b : RegType) (vb : Value) (t : RegType) → FitsType b vb → cond (is_plain o) (copied_type src b) (one_number src b) ≡ Ok t
-    → Gives (move_value Full Register o vb) t
+    → Gives (move_value Bits64 Register o vb) t
 moved (pos zero) src b vb t g e = copied src b vb t g e
-moved (pos (suc n)) src b vb t g e = on_one (alu Move Full (pos (suc n)) 0) src b vb t g e
-moved (negsuc n) src b vb t g e = on_one (alu Move Full (negsuc n) 0) src b vb t g e
+moved (pos (suc n)) src b vb t g e = on_one (alu Mov Bits64 (pos (suc n)) 0) src b vb t g e
+moved (negsuc n) src b vb t g e = on_one (alu Mov Bits64 (negsuc n) 0) src b vb t g e
 
 -- what arithmetic gives fits the type that the rules give
 pub arithmetic : (layout : Layout) (room : ℕ) → room ≡ context_len layout
     → (op : Operator) (w : Width) (s : Source) (i : Inst) (registers : List Value) (a b : RegType) (va : Value) (t : RegType) → FitsType a va
     → FitsType b (operand s w i registers) → alu_type layout op w s i a b ≡ Ok t → Gives (alu_value room op w s i va (operand s w i registers)) t
-arithmetic layout room long Sum w s i registers a b va t h g e = sum layout room long Sum w s i i.imm a b va (operand s w i registers) t h g e
-arithmetic layout room long Difference w s i registers a b va t h g e =
-    sum layout room long Difference w s i (neg_ℤ i.imm) a b va (operand s w i registers) t h g e
-arithmetic layout room long Move w Immediate i registers a b va t h g e = move_fits w i i.offset t e
-arithmetic layout room long Move Narrow Register i registers a b va t h g e =
-    on_one (alu Move Narrow i.offset 0) i.src b (operand Register Narrow i registers) t g e
-arithmetic layout room long Move Full Register i registers a b va t h g e = moved i.offset i.src b (operand Register Full i registers) t g e
-arithmetic layout room long Negate w s i registers a b va t h g e = on_one (λ x. alu Negate w i.offset x 0) i.dst a va t h e
+arithmetic layout room long Add w s i registers a b va t h g e = sum layout room long Add w s i i.imm a b va (operand s w i registers) t h g e
+arithmetic layout room long Sub w s i registers a b va t h g e =
+    sum layout room long Sub w s i (neg_ℤ i.imm) a b va (operand s w i registers) t h g e
+arithmetic layout room long Mov w Immediate i registers a b va t h g e = move_fits w i i.offset t e
+arithmetic layout room long Mov Bits32 Register i registers a b va t h g e =
+    on_one (alu Mov Bits32 i.offset 0) i.src b (operand Register Bits32 i registers) t g e
+arithmetic layout room long Mov Bits64 Register i registers a b va t h g e = moved i.offset i.src b (operand Register Bits64 i registers) t g e
+arithmetic layout room long Neg w s i registers a b va t h g e = on_one (λ x. alu Neg w i.offset x 0) i.dst a va t h e
 arithmetic layout room long SwapBytes w s i registers a b va t h g e = on_one (swapped w s (cast_unsigned w32 i.imm)) i.dst a va t h e
 arithmetic layout room long op w s i registers a b va t h g e = on_two (alu op w i.offset) i.dst i.src a b va (operand s w i registers) t h g e

@@ -12,9 +12,9 @@ use Rattle.bpf_model.specs.Reading.{form_of, imm_at}
 use Rattle.bpf_model.specs.Machine.{and_then, shifted}
 use Rattle.bpf_model.specs.Flow.{IsAhead, target, distance_by, distance_of}
 use Rattle.bpf_model.proofs.Reading.{wide_at, count_of_units}
-use Rattle.reg_types.specs.declared.types.Terms.{Terms}
+use Rattle.reg_types.specs.declared.types.LoadOptions.{LoadOptions}
 use Rattle.reg_types.specs.declared.types.Fact.{Fact}
-use Rattle.reg_types.specs.declared.types.Stored.{Stored}
+use Rattle.reg_types.specs.declared.types.StoredFact.{StoredFact}
 use Rattle.reg_types.specs.Effects.{Effect}
 use Rattle.reg_types.specs.declared.types.Flaw.{Flaw}
 use Rattle.reg_types.specs.declared.types.Successors.{Successors}
@@ -80,7 +80,7 @@ entered_if : (t : Bool) (f : Fact) (o : Option Fact) → is_some (cond t (Some f
 entered_if true f o = or_yes (is_some o)
 entered_if false f o = or_no (is_some o)
 
--- a jump's target has a fact afterwards, and no other unit has one that had none
+-- after a jump its target has a fact, and no other unit has gained one
 jumped_some : (q : ℕ) (fact : Fact) (next : Successors) (old : Option Fact) → is_some (arrived_all q fact (jumps_of next) old)
     ≡ (is_some old || goes (jump_of next) q)
 jumped_some q fact End old = or_no (is_some old)
@@ -88,7 +88,7 @@ jumped_some q fact (Next to) old = or_no (is_some old)
 jumped_some q fact (Jump to) old = entered_if (q == to) (taken_in old fact) old
 jumped_some q fact (Either to next) old = entered_if (q == to) (taken_in old fact) old
 
--- jumps and the rest together lead where the instruction does
+-- what the jumps bring and what is carried on lead where the instruction does
 seen_led : (q : ℕ) (fact : Fact) (next : Successors) (old new : Option Fact) → AreSame new (arrived_all q fact (jumps_of next) old)
     → AreSame (brought q (carried_of fact next) new) (arrived_all q fact (list_of next) old)
 seen_led q fact End old new h = h
@@ -100,7 +100,7 @@ entry_by : (t : Bool) (f : Fact) → IsSame f entry_fact → AreSame (cond t (So
 entry_by true f h = h
 entry_by false f h = tt
 
-module _ (us : List ProgramUnit) (terms : Terms) (pc : ℕ) (i : Inst) (fact : Fact) (form : Form) (upper : ℤ) (sound : IsSound us)
+module _ (us : List ProgramUnit) (terms : LoadOptions) (pc : ℕ) (i : Inst) (fact : Fact) (form : Form) (upper : ℤ) (sound : IsSound us)
     (at : slice_get us pc ≡ Some (First i)) (is : form_of i.opcode ≡ Some form) where
   ahead_of : (e : Effect) → ok_of e ≡ judged (length us) pc terms fact i upper form → (tos : List ℕ) × (leads pc i form ≡ Some tos)
       × AllByRecursion (IsAhead us pc) tos
@@ -142,7 +142,7 @@ module _ (us : List ProgramUnit) (terms : Terms) (pc : ℕ) (i : Inst) (fact : F
   jumps_ahead (Jump to) h = h
   jumps_ahead (Either to next) h = (h.0, tt)
 
-  -- where the rest is carried an instruction begins
+  -- an instruction begins where the fact is carried to
   goes_to : (after : Fact) (next : Successors) → IsNext pc form next → AllByRecursion (IsAhead us pc) (list_of next)
       → IsCarriedTo us (pc + 1) (carried_of after next)
   goes_to after End n h = tt
@@ -172,8 +172,8 @@ module _ (us : List ProgramUnit) (terms : Terms) (pc : ℕ) (i : Inst) (fact : F
       → IfSome (jump_of next) (λ to. to ≤ 512)
   jump_small e next j to = small_jump next (jumps_ahead next (next_ahead e next j to))
 
-  -- the stored facts afterwards, and the one that is carried on
-  pub visited : (e : Effect) (after : Fact) (next : Successors) (carried : Option Stored) (old new : Facts) → upper ≡ upper_of us pc
+  -- the stored facts after an instruction, and the one that is carried on
+  pub visited : (e : Effect) (after : Fact) (next : Successors) (carried : Option StoredFact) (old new : Facts) → upper ≡ upper_of us pc
       → ok_of e ≡ judged (length us) pc terms fact i upper form → IsAfter fact e after → some_of (list_of next) ≡ leads pc i form → IsNext pc form next
       → jump_of next ≡ target_by pc form i → carried ≡ carried_of after next → ((q : ℕ) → AreSame (new q) (arrived_all q after (jumps_of next) (old q)))
       → IsVisited us terms pc fact carried old new
@@ -196,7 +196,7 @@ module _ (us : List ProgramUnit) (terms : Terms) (pc : ℕ) (i : Inst) (fact : F
 
 -- ---- one unit
 
-brought_elsewhere : (q pc : ℕ) (c : Option Stored) → IsCarriedAt pc c → q ≢ pc → (old : Option Fact) → brought q c old ≡ old
+brought_elsewhere : (q pc : ℕ) (c : Option StoredFact) → IsCarriedAt pc c → q ≢ pc → (old : Option Fact) → brought q c old ≡ old
 brought_elsewhere q pc None at n old = refl
 brought_elsewhere q pc (Some s) at n old = not_arrived q s.at s.fact old (λ e. n (e ∙ at))
 
@@ -216,13 +216,13 @@ AreStored-refl (Some a) = AreSame-refl (Some a)
 no_two : (i : Inst) (v : ℤ) (o : Option ProgramUnit) → o ≡ Some (First i) → o ≡ Some (Second v) → ⊥
 no_two i v o a b = cc
 
--- a fact is carried to the unit itself, where an instruction begins there
-pub at_first : (us : List ProgramUnit) (pc : ℕ) (i : Inst) (c : Option Stored) → slice_get us pc ≡ Some (First i) → IsCarriedTo us pc c → IsCarriedAt pc c
+-- where an instruction begins at unit pc, the fact is carried to pc itself
+pub at_first : (us : List ProgramUnit) (pc : ℕ) (i : Inst) (c : Option StoredFact) → slice_get us pc ≡ Some (First i) → IsCarriedTo us pc c → IsCarriedAt pc c
 at_first us pc i None first c = tt
 at_first us pc i (Some s) first c = elim c.1 [ inl e ↦ e | inr w ↦ absurd (no_two i w.1.0 (slice_get us pc) first w.1.1) ]
 
-module _ (us : List ProgramUnit) (terms : Terms) (pc : ℕ) (carried : Option Stored) (old : Facts) where
-  pub passes : (fact : Fact) (next : Option Stored) (settled new : Facts) → IsCarriedAt pc carried → IsSettled pc carried (Some fact) old settled
+module _ (us : List ProgramUnit) (terms : LoadOptions) (pc : ℕ) (carried : Option StoredFact) (old : Facts) where
+  pub passes : (fact : Fact) (next : Option StoredFact) (settled new : Facts) → IsCarriedAt pc carried → IsSettled pc carried (Some fact) old settled
       → IsVisited us terms pc fact next settled new → IsPassed us terms pc carried next old new
   passes fact next settled new at s v =
       record {
@@ -241,7 +241,7 @@ module _ (us : List ProgramUnit) (terms : Terms) (pc : ℕ) (carried : Option St
             ∙ ap (λ b. is_some (old q) || (b && goes (target us pc) q)) (same_some (Some fact) (seen carried old pc) s.is);
       }
 
-  pub passes_if : (r : Result Unit Refusal) (fact : Fact) (next : Option Stored) (settled new : Facts) → IsCarriedAt pc carried
+  pub passes_if : (r : Result Unit Refusal) (fact : Fact) (next : Option StoredFact) (settled new : Facts) → IsCarriedAt pc carried
       → IsSettled pc carried (Some fact) old settled → OnOk r (IsVisited us terms pc fact next settled new) → OnOk r (IsPassed us terms pc carried next old new)
   passes_if (Ok done) fact next settled new at s v = passes fact next settled new at s v
   passes_if (Err refusal) fact next settled new at s v = tt
@@ -287,7 +287,7 @@ module _ (us : List ProgramUnit) (terms : Terms) (pc : ℕ) (carried : Option St
     no_jump : target us pc ≡ None
     no_jump = ap (λ o. and_then (and_then o distance_of) (λ z. shifted (pc + 1) z 512)) second
 
-    further : (c : Option Stored) → IsCarriedTo us pc c → IsCarriedTo us (pc + 1) c × ((x : Option Fact) → brought pc c x ≡ x)
+    further : (c : Option StoredFact) → IsCarriedTo us pc c → IsCarriedTo us (pc + 1) c × ((x : Option Fact) → brought pc c x ≡ x)
     further None c = (tt, λ x. refl)
     further (Some s) c = elim c.1 [
       | inl e ↦ absurd (no_two c.0.0 v (slice_get us pc) (subst (λ k. slice_get us k ≡ Some (First c.0.0)) e c.0.1) second)
@@ -313,7 +313,7 @@ module _ (us : List ProgramUnit) (terms : Terms) (pc : ℕ) (carried : Option St
 
 -- ---- settling
 
-pub settled_by : (pc : ℕ) (s : Stored) (joined : Fact) (old new : Facts) → s.at ≡ pc → new pc ≡ Some joined → IsJoined pc s.fact old new
+pub settled_by : (pc : ℕ) (s : StoredFact) (joined : Fact) (old new : Facts) → s.at ≡ pc → new pc ≡ Some joined → IsJoined pc s.fact old new
     → IsSettled pc (Some s) (Some joined) old new
 settled_by pc s joined old new at is j =
     record {
@@ -323,7 +323,7 @@ settled_by pc s joined old new at is j =
       kept = j.kept;
     }
 
-pub settled_new : (pc : ℕ) (s : Stored) (old : Facts) → s.at ≡ pc → old pc ≡ None → IsSettled pc (Some s) (Some s.fact) old old
+pub settled_new : (pc : ℕ) (s : StoredFact) (old : Facts) → s.at ≡ pc → old pc ≡ None → IsSettled pc (Some s) (Some s.fact) old old
 settled_new pc s old at none =
     let to : arrived pc s.fact s.at (old pc) ≡ Some (taken_in (old pc) s.fact) =
     cond-true (pc == s.at) (Some (taken_in (old pc) s.fact)) (old pc) (eq-eqb pc s.at (sym at)) in
@@ -345,13 +345,14 @@ settled_as pc fact old e =
 
 -- ---- the pass
 
-pub start_same : (us : List ProgramUnit) (terms : Terms) (f : Fact) → IsEntry f → (q : ℕ)
+pub start_same : (us : List ProgramUnit) (terms : LoadOptions) (f : Fact) → IsEntry f → (q : ℕ)
     → AreSame (stored (record { at = 0; fact = f } ∷ []) q) (known us terms 0 q)
 unfolding known
 start_same us terms f entry q = entry_by (q == 0) f (same_entry f entry)
 
--- the stored facts of the units below pc are theirs, and none of these has a flaw; from pc on is known what the edges from below bring
-pub record IsReached (us : List ProgramUnit) (terms : Terms) (carried : Option Stored) (facts : Facts) (pc : ℕ) : Type 0 where
+-- after the units below pc: their stored facts are what is inferred of them, none of them has a flaw, and of each unit from pc
+-- on, what the edges from below bring is known
+pub record IsReached (us : List ProgramUnit) (terms : LoadOptions) (carried : Option StoredFact) (facts : Facts) (pc : ℕ) : Type 0 where
   pub behind : (q : ℕ) → q < pc → AreStored (facts q) (inferred us terms q)
   pub ahead : (q : ℕ) → pc ≤ q → AreSame (seen carried facts q) (known us terms pc q)
   pub flawless : first_flaw_below us terms pc ≡ None
@@ -362,7 +363,7 @@ first_if : (t : Bool) → is_some (cond t (Some entry_fact) None) ≡ t
 first_if true = refl
 first_if false = refl
 
-module _ (us : List ProgramUnit) (terms : Terms) where
+module _ (us : List ProgramUnit) (terms : LoadOptions) where
   no_flaw_yet : first_flaw_below us terms 0 ≡ None
   unfolding first_flaw_below
   no_flaw_yet = refl
@@ -386,7 +387,7 @@ module _ (us : List ProgramUnit) (terms : Terms) where
   unfolding is_entered
   entered_more pc q o e = ap (λ b. is_entered us terms pc q || (b && goes (target us pc) q)) e
 
-  flaw_here : (carried : Option Stored) (facts : Facts) (pc : ℕ) → IsReached us terms carried facts pc → flaw_under us terms pc (seen carried facts pc)
+  flaw_here : (carried : Option StoredFact) (facts : Facts) (pc : ℕ) → IsReached us terms carried facts pc → flaw_under us terms pc (seen carried facts pc)
       ≡ flaw_under us terms pc (inferred us terms pc)
   flaw_here carried facts pc r = flaw_same us terms pc (seen carried facts pc) (inferred us terms pc) (r.ahead pc (omega arith))
 
@@ -399,7 +400,7 @@ module _ (us : List ProgramUnit) (terms : Terms) where
   unfolding first_flaw_below
   first_here pc fault none here = ap (λ o. or_else o (flaw_under us terms pc (inferred us terms pc))) none ∙ here
 
-  known_more : (pc q : ℕ) (carried next : Option Stored) (old new : Facts) → IsReached us terms carried old pc → pc ≤ q
+  known_more : (pc q : ℕ) (carried next : Option StoredFact) (old new : Facts) → IsReached us terms carried old pc → pc ≤ q
       → AreSame (seen next new q) (passed us terms pc (seen carried old pc) q (seen carried old q)) → AreSame (seen next new q) (known us terms (suc pc) q)
   unfolding known
   known_more pc q carried next old new r l same =
@@ -407,7 +408,7 @@ module _ (us : List ProgramUnit) (terms : Terms) where
       (passed_same us terms pc (seen carried old pc) (known us terms pc pc) q (seen carried old q) (known us terms pc q)
       (r.ahead pc (omega arith)) (r.ahead q l))
 
-  reached_suc : (carried next : Option Stored) (old new : Facts) (pc : ℕ) → IsReached us terms carried old pc → IsPassed us terms pc carried next old new
+  reached_suc : (carried next : Option StoredFact) (old new : Facts) (pc : ℕ) → IsReached us terms carried old pc → IsPassed us terms pc carried next old new
       → IsReached us terms next new (suc pc)
   reached_suc carried next old new pc r p =
       record {
@@ -428,25 +429,25 @@ module _ (us : List ProgramUnit) (terms : Terms) where
             ∙ entered_more pc q (seen carried old pc) (same_some (seen carried old pc) (inferred us terms pc) (r.ahead pc (omega arith)));
       }
 
-  pub reached_more : (carried next : Option Stored) (old new : Facts) (pc : ℕ) → IsReached us terms carried old pc → IsPassed us terms pc carried next old new
+  pub reached_more : (carried next : Option StoredFact) (old new : Facts) (pc : ℕ) → IsReached us terms carried old pc → IsPassed us terms pc carried next old new
       → IsReached us terms next new (pc + 1)
   reached_more carried next old new pc r p = subst (IsReached us terms next new) (sym (add-one pc)) (reached_suc carried next old new pc r p)
 
-  pub flaw_found : (carried : Option Stored) (facts : Facts) (pc : ℕ) (fault : TypeFault) → pc < length us → IsReached us terms carried facts pc
+  pub flaw_found : (carried : Option StoredFact) (facts : Facts) (pc : ℕ) (fault : TypeFault) → pc < length us → IsReached us terms carried facts pc
       → flaw_under us terms pc (seen carried facts pc) ≡ Some fault → first_flaw us terms ≡ Some fault
   flaw_found carried facts pc fault l r here =
       flaw_stays us terms (suc pc) (length us) fault (first_here pc fault r.flawless (sym (flaw_here carried facts pc r) ∙ here)) (omega arith)
 
-  pub refused_at : (carried : Option Stored) (facts : Facts) (pc : ℕ) (refusal : Refusal) → pc < length us → IsReached us terms carried facts pc
+  pub refused_at : (carried : Option StoredFact) (facts : Facts) (pc : ℕ) (refusal : Refusal) → pc < length us → IsReached us terms carried facts pc
       → IsUnitRefused us terms pc (seen carried facts pc) refusal → IsPassRefused us terms refusal
   refused_at carried facts pc (Decode fault) l r h = h
   refused_at carried facts pc (FlowRefusal fault) l r h = h
   refused_at carried facts pc (TypeRefusal fault) l r h = flaw_found carried facts pc fault l r h
   refused_at carried facts pc OutOfMemory l r h = tt
 
-  pub reached_all : (carried : Option Stored) (facts : Facts) (pc : ℕ) → length us ≡ pc → IsReached us terms carried facts pc → AreInferred us terms facts
+  pub reached_all : (carried : Option StoredFact) (facts : Facts) (pc : ℕ) → length us ≡ pc → IsReached us terms carried facts pc → AreInferred us terms facts
   reached_all carried facts pc l r =
       record { each = λ q inside. r.behind q (omega (arith, inside, l)); kept = λ q. r.kept q ∙ ap (λ n. is_entered us terms n q) (sym l) }
 
-  pub flawless_all : (carried : Option Stored) (facts : Facts) (pc : ℕ) → length us ≡ pc → IsReached us terms carried facts pc → first_flaw us terms ≡ None
+  pub flawless_all : (carried : Option StoredFact) (facts : Facts) (pc : ℕ) → length us ≡ pc → IsReached us terms carried facts pc → first_flaw us terms ≡ None
   flawless_all carried facts pc l r = ap (first_flaw_below us terms) l ∙ r.flawless

@@ -1,18 +1,18 @@
--- A unit that isn't entered is reached from the instruction in front of it alone.
+-- A unit that isn't the first, and that no reached jump goes to, is reached only from the instruction before it.
 use Rattle.std.proofs.Common.{◌≡◌, ◌≢◌, ℕ, zero, suc, ◌+◌, ◌<◌, ◌⊎◌, List, [], ◌∷◌, Option, Some, None, true, false, refl, sym, ap, ◌∙◌, subst, inl, inr, arith}
 use Rattle.std.proofs.Common.{length}
 use Rattle.std.specs.Prelude.{Result, Ok, Err, ◌==◌, ◌&&◌, ◌-◌, is_some, slice_get}
 use Rattle.std.proofs.lemmas.Bool.{cases_eq, eq-eqb, or_parts, cond-false}
 use Rattle.bpf_model.specs.declared.instruction.Inst.{Inst}
 use Rattle.bpf_model.specs.declared.instruction.Form.{Form}
-use Rattle.bpf_model.specs.declared.instruction.Form.TheVariants.{Arithmetic, Wide, Load, LoadSigned, StoreImmediate, StoreRegister, Goto, GotoLong, Branch}
+use Rattle.bpf_model.specs.declared.instruction.Form.TheVariants.{Arithmetic, Wide, Load, LoadSigned, StoreImmediate, StoreRegister, Ja, Ja32, Branch}
 use Rattle.bpf_model.specs.declared.instruction.Form.TheVariants.{Call, Exit}
 use Rattle.bpf_model.specs.declared.instruction.Unit.{Unit as ProgramUnit}
 use Rattle.bpf_model.specs.Reading.{units}
 use Rattle.bpf_model.specs.Machine.{and_then, shifted}
 use Rattle.bpf_model.specs.Flow.{distance_by, distance_of, target}
 use Rattle.bpf_model.proofs.Reading.{wide_at}
-use Rattle.reg_types.specs.declared.types.Terms.{Terms}
+use Rattle.reg_types.specs.declared.types.LoadOptions.{LoadOptions}
 use Rattle.reg_types.specs.declared.types.Fact.{Fact}
 use Rattle.reg_types.specs.Effects.{Effect}
 use Rattle.reg_types.specs.declared.types.Flaw.{Flaw}
@@ -35,7 +35,7 @@ abbrev led : ℕ → Fact → Option (List ℕ) → Option Fact → Option Fact
 led q fact None o = o
 led q fact (Some tos) o = arrived_all q fact tos o
 
--- a jump that goes elsewhere, and then the next instruction or none
+-- a jump that goes elsewhere brings nothing to unit q, if the other edges bring nothing
 jump_elsewhere : (q : ℕ) (fact : Fact) (to : Option ℕ) (tos : List ℕ) (o : Option Fact) → to ≢ Some q → ((p : Option Fact) → arrived_all q fact tos p ≡ p)
     → led q fact (option_cons to tos) o ≡ o
 jump_elsewhere q fact None tos o n rest = refl
@@ -45,8 +45,8 @@ jump_elsewhere q fact (Some to) tos o n rest =
 
 elsewhere : (pc q : ℕ) (i : Inst) (form : Form) (fact : Fact) (o : Option Fact) → IsElsewhere pc q i form → led q fact (leads pc i form) o ≡ o
 elsewhere pc q i Exit fact o e = refl
-elsewhere pc q i Goto fact o e = jump_elsewhere q fact (shifted (pc + 1) i.offset 512) [] o e.jump (λ p. refl)
-elsewhere pc q i GotoLong fact o e = jump_elsewhere q fact (shifted (pc + 1) i.imm 512) [] o e.jump (λ p. refl)
+elsewhere pc q i Ja fact o e = jump_elsewhere q fact (shifted (pc + 1) i.offset 512) [] o e.jump (λ p. refl)
+elsewhere pc q i Ja32 fact o e = jump_elsewhere q fact (shifted (pc + 1) i.imm 512) [] o e.jump (λ p. refl)
 elsewhere pc q i (Branch c w s) fact o e =
     jump_elsewhere q fact (shifted (pc + 1) i.offset 512) ((pc + 1) ∷ []) o e.jump (λ p. not_arrived q (pc + 1) fact p e.next)
 elsewhere pc q i Wide fact o e = not_arrived q (pc + 2) fact o e.next
@@ -63,13 +63,13 @@ by_led q fact (Err flaw) tos o h = refl
 by_led q fact (Ok e) None o h = refl
 by_led q fact (Ok e) (Some tos) o h = h (fact_after fact e)
 
-module _ (us : List ProgramUnit) (terms : Terms) (pc q : ℕ) (no_jump : target us pc ≢ Some q) where
+module _ (us : List ProgramUnit) (terms : LoadOptions) (pc q : ℕ) (no_jump : target us pc ≢ Some q) where
   goes_is : (x : Inst × Form) → instruction_at us pc ≡ Some x → target us pc ≡ target_by pc x.1 x.0
   goes_is x at =
       let is = instruction_is (slice_get us pc) x at in
       ap (λ o. and_then (and_then o distance_of) (λ z. shifted (pc + 1) z 512)) is.0 ∙ ap (λ o. and_then (distance_by o x.0) (λ z. shifted (pc + 1) z 512)) is.1
 
-  -- what the unit brings to one that its jump doesn't go to and that isn't next
+  -- a unit brings nothing to one that its jump doesn't go to and that isn't next
   from_elsewhere : (fact : Fact) (o : Option (Inst × Form)) (old : Option Fact) → instruction_at us pc ≡ o
       → ((x : Inst × Form) → o ≡ Some x → q ≢ following pc x.1) → passed_from us terms pc fact o q old ≡ old
   from_elsewhere fact None old at n = refl
@@ -88,8 +88,8 @@ after_is pc (Load size) = inl refl
 after_is pc (LoadSigned size) = inl refl
 after_is pc (StoreImmediate size) = inl refl
 after_is pc (StoreRegister size) = inl refl
-after_is pc Goto = inl refl
-after_is pc GotoLong = inl refl
+after_is pc Ja = inl refl
+after_is pc Ja32 = inl refl
 after_is pc (Branch c w s) = inl refl
 after_is pc Call = inl refl
 after_is pc Exit = inl refl
@@ -104,8 +104,8 @@ not_gone (Some to) q e = λ x. let same : to ≡ q = cc in no_two_truths (sym (e
 one_instruction : (x y : Inst × Form) (o : Option (Inst × Form)) → o ≡ Some x → o ≡ Some y → x ≡ y
 one_instruction x y o a b = cc
 
-module _ (us : List ProgramUnit) (terms : Terms) (q : ℕ) where
-  -- what the instruction in front of a unit leaves, once it has been passed
+module _ (us : List ProgramUnit) (terms : LoadOptions) (q : ℕ) where
+  -- the instruction before unit q has been passed, and what is known of q is what it leaves
   record IsLast (n : ℕ) : Type 0 where
     before : ℕ
     below : before < n
@@ -180,7 +180,7 @@ module _ (us : List ProgramUnit) (terms : Terms) (q : ℕ) where
               h
         ]
 
-    -- what is known of a unit that no reached jump below n goes to
+    -- if no reached jump below n goes to unit q, then nothing is known of q, or what the instruction before it leaves
     lasts : (n : ℕ) → is_entered us terms n q ≡ false → (known us terms n q ≡ None) ⊎ IsLast n
     unfolding known is_entered
     lasts zero e = inl (cond-false (q == 0) (Some entry_fact) None e)
@@ -205,6 +205,6 @@ module _ (us : List ProgramUnit) (terms : Terms) (q : ℕ) where
           | inr is ↦ inr (record { before = is.before; instruction = is.instruction; stands = is.stands; next = is.next; is = is.is })
         ]
 
--- the facts that aren't stored are had by going from each instruction to the next
-pub walked : (bytes : List ℕ) (us : List ProgramUnit) (terms : Terms) → units bytes ≡ Some us → AreWalked us terms
+-- a fact that isn't stored is what the instruction before its unit leaves
+pub walked : (bytes : List ℕ) (us : List ProgramUnit) (terms : LoadOptions) → units bytes ≡ Some us → AreWalked us terms
 walked bytes us terms reads q e l = walks us terms q bytes reads e l

@@ -1,11 +1,11 @@
--- Promises: how the verifier goes through a plain program.
+-- Promises: the verifier accepts each instruction of a plain program.
 use Rattle.std.specs.Prelude.{◌≡◌, ℕ, ◌≤◌, ◌⊎◌, true, ℤ, List, length, Option, Some, None, Ok, slice_get, ⊤}
 use Rattle.bpf_model.specs.declared.instruction.Inst.{Inst}
 use Rattle.bpf_model.specs.declared.instruction.Form.{Form}
 use Rattle.bpf_model.specs.declared.instruction.Unit.{Unit as ProgramUnit}
 use Rattle.bpf_model.specs.declared.instruction.Unit.TheVariants.{First}
 use Rattle.bpf_model.specs.Reading.{form_of}
-use Rattle.reg_types.specs.declared.types.Terms.{Terms}
+use Rattle.reg_types.specs.declared.types.LoadOptions.{LoadOptions}
 use Rattle.reg_types.specs.declared.types.RegType.{RegType}
 use Rattle.reg_types.specs.declared.types.RegType.TheVariants.{Ctx}
 use Rattle.reg_types.specs.declared.types.Fact.{Fact}
@@ -24,7 +24,7 @@ PlainOption None = ⊤
 PlainOption (Some fact) = ArePlain fact.types
 
 -- the instruction is accepted under this fact, and leaves plain types
-abbrev pub PlainAt : List ProgramUnit → ℕ → Terms → Inst → Fact → Type 0
+abbrev pub PlainAt : List ProgramUnit → ℕ → LoadOptions → Inst → Fact → Type 0
 PlainAt us pc terms i fact =
     (upper : ℤ) (form : Form) → form_of i.opcode ≡ Some form → (e : Effect) × (judged (length us) pc terms fact i upper form ≡ Ok e) × ArePlain e.types
 
@@ -32,6 +32,6 @@ PlainAt us pc terms i fact =
 abbrev pub PlainTypesAt : ℕ → List RegType → Type 0
 PlainTypesAt pc types = ((pc ≡ 0) × (types ≡ entry_types)) ⊎ ArePlain types
 
--- every instruction is accepted under such types
-pub record AcceptsAll (us : List ProgramUnit) (terms : Terms) : Type 0 where
+-- each instruction is accepted under the types that a plain program can have there
+pub record AcceptsAll (us : List ProgramUnit) (terms : LoadOptions) : Type 0 where
   pub each : (pc : ℕ) (i : Inst) (fact : Fact) → slice_get us pc ≡ Some (First i) → PlainTypesAt pc fact.types → PlainAt us pc terms i fact

@@ -17,17 +17,17 @@ use Rattle.bpf_model.specs.Flow.{IsAhead, GoesForward}
 use Rattle.bpf_model.specs.Machine.{Counters, counter, register, cell_at, kept_at}
 use Rattle.bpf_model.specs.Runs.{AreCounters}
 use Rattle.stack_map.specs.Places.{Has, Within}
-use Rattle.reg_types.specs.declared.types.Terms.{Terms}
+use Rattle.reg_types.specs.declared.types.LoadOptions.{LoadOptions}
 use Rattle.reg_types.specs.declared.types.RegType.{RegType}
 use Rattle.reg_types.specs.declared.types.RegType.TheVariants.{Unset as Anything, Num, Const, Ctx, Stk}
 use Rattle.reg_types.specs.declared.types.Fact.{Fact}
-use Rattle.reg_types.specs.declared.types.Stored.{Stored}
-use Rattle.reg_types.specs.declared.types.Running.{Running}
+use Rattle.reg_types.specs.declared.types.StoredFact.{StoredFact}
+use Rattle.reg_types.specs.declared.types.CarriedFact.{CarriedFact}
 use Rattle.reg_types.specs.Effects.{Effect}
 use Rattle.reg_types.specs.declared.types.Successors.{Successors}
 use Rattle.reg_types.specs.declared.types.Successors.TheVariants.{End, Next, Jump, Either}
-use Rattle.reg_types.specs.Rules.{type_at, is_unset, note_of, noted_type, judged}
-use Rattle.reg_types.specs.Inference.{leads, entry_types, no_notes, renoted}
+use Rattle.reg_types.specs.Rules.{type_at, is_unset, spill_of, spilled_type, judged}
+use Rattle.reg_types.specs.Inference.{leads, entry_types, no_spills, respilled}
 use Rattle.operations.specs.Operations.{upper_of}
 
 -- ---- states that fit
@@ -44,11 +44,11 @@ FitsType t v = ⊥
 abbrev pub HasByte : Cell → Type 0
 HasByte c = (b : ℕ) × (c ≡ Byte b)
 
--- each place of the set is set
+-- each byte of the stack whose place is in the set is set
 pub record Covered (set : List Bool) (stack : List Cell) : Type 0 where
   pub bytes : (p : ℕ) → Has set p → HasByte (cell_at stack p)
 
--- a pointer of this type, if it is one, is kept at the place
+-- unless the type is Unset, a value that fits it is kept at the place
 abbrev pub IsKept : RegType → List Cell → ℕ → Type 0
 IsKept t stack at = is_unset t ≡ false → (v : Value) × FitsType t v × (kept_at stack at ≡ Some v)
 
@@ -57,13 +57,13 @@ pub record Fits (fact : Fact) (s : State) : Type 0 where
   pub many : length s.registers ≡ 11
   pub stack : Covered fact.stack s.stack
   pub long : length s.stack ≡ 512
-  pub notes : (k : ℕ) → IsKept (noted_type (slice_index fact.notes k)) s.stack (8 * k)
+  pub spills : (k : ℕ) → IsKept (spilled_type (slice_index fact.spills k)) s.stack (8 * k)
 
 -- every state that fits the first fits the second
 pub record IsBelow (fact wider : Fact) : Type 0 where
   pub weakens : (s : State) → Fits fact s → Fits wider s
 
--- declared counters alone change, and within their bounds
+-- only declared counters change, and within their bounds
 pub record Changes (declared : ℕ) (old new : Counters) : Type 0 where
   pub right : AreCounters old → AreCounters new
   pub undeclared : (c : ℕ) → declared / 2 ^ c % 2 ≡ 0 → counter new c ≡ counter old c
@@ -71,14 +71,14 @@ pub record Changes (declared : ℕ) (old new : Counters) : Type 0 where
 
 -- ---- where instructions lead
 
--- the units in a choice of none, one or two
+-- all units that the instruction can lead to: none, one or two
 abbrev pub list_of : Successors → List ℕ
 list_of End = []
 list_of (Next to) = to ∷ []
 list_of (Jump to) = to ∷ []
 list_of (Either to next) = to ∷ next ∷ []
 
--- the units among them that a jump goes to
+-- those of them that a jump goes to
 abbrev pub jumps_of : Successors → List ℕ
 jumps_of End = []
 jumps_of (Next to) = []
@@ -92,21 +92,21 @@ jump_of (Next to) = None
 jump_of (Jump to) = Some to
 jump_of (Either to next) = Some to
 
--- the next instruction, where it is led to
+-- the next instruction, if this one can go on to it
 abbrev pub next_of : Successors → Option ℕ
 next_of End = None
 next_of (Next to) = Some to
 next_of (Jump to) = None
 next_of (Either to next) = Some next
 
--- the fact is carried on to the next instruction
-abbrev pub carried_of : Fact → Successors → Option Stored
+-- the fact as it is carried on to the next instruction, if this one can go on to it
+abbrev pub carried_of : Fact → Successors → Option StoredFact
 carried_of fact End = None
 carried_of fact (Next to) = Some (record { at = to; fact = fact })
 carried_of fact (Jump to) = None
 carried_of fact (Either to next) = Some (record { at = next; fact = fact })
 
--- the next instruction begins at the next unit, or behind a wide load's second
+-- the next instruction begins at the next unit, or after a wide load's second one
 abbrev pub IsNext : ℕ → Form → Successors → Type 0
 IsNext pc form End = ⊤
 IsNext pc form (Next to) = (to ≡ pc + 1) ⊎ ((to ≡ pc + 2) × (form ≡ Wide))
@@ -115,60 +115,62 @@ IsNext pc form (Either to next) = next ≡ pc + 1
 
 -- ---- tables of facts
 
--- the fact before each reached unit
+-- for each unit the fact before it, if there is one
 abbrev pub Facts : Type 0
 Facts = ℕ → Option Fact
 
--- the facts that are stored
-abbrev pub stored : List Stored → Facts
+-- the facts of a list, each found by its unit
+abbrev pub stored : List StoredFact → Facts
 stored [] q = None
 stored (s ∷ rest) q = if q == s.at then Some s.fact else stored rest q
 
--- the first place at which a unit's fact is stored
-pub record IsPlace (facts : List Stored) (at k : ℕ) : Type 0 where
+-- k is the first place in the list at which a fact of unit `at` is stored
+pub record IsPlace (facts : List StoredFact) (at k : ℕ) : Type 0 where
   pub inside : k < length facts
-  pub earlier : (j : ℕ) (d : Stored) → j < k → (slice_index_or facts j d).at ≢ at
-  pub here : (d : Stored) → (slice_index_or facts k d).at ≡ at
+  pub earlier : (j : ℕ) (d : StoredFact) → j < k → (slice_index_or facts j d).at ≢ at
+  pub here : (d : StoredFact) → (slice_index_or facts k d).at ≡ at
 
 -- no unit has two facts
-unfoldable pub AreDistinct : List Stored → Type 0
+unfoldable pub AreDistinct : List StoredFact → Type 0
 AreDistinct [] = ⊤
 AreDistinct (s ∷ rest) = (stored rest s.at ≡ None) × AreDistinct rest
 
--- for each unit one more than the place of its fact, or 0 where none is stored
-pub record IsIndexed (facts : List Stored) (places : List ℕ) : Type 0 where
+-- `places` has for each unit one more than the place of its fact, or 0 where none is stored
+pub record IsIndexed (facts : List StoredFact) (places : List ℕ) : Type 0 where
   pub many : length places ≡ 513
   pub none : (q : ℕ) → q ≤ 512 → slice_index places q ≡ 0 → stored facts q ≡ None
   pub some : (q k : ℕ) → slice_index places q ≡ suc k → IsPlace facts q k
   pub distinct : AreDistinct facts
 
--- the fact that is carried along, with the unit that it comes to
-abbrev pub carried_to : Option ℕ → Fact → Option Stored
+-- a carried fact with the unit that it is carried to, if there is one
+abbrev pub carried_to : Option ℕ → Fact → Option StoredFact
 carried_to None fact = None
 carried_to (Some at) fact = Some (record { at = at; fact = fact })
 
-abbrev pub carried_in : Running → Option Stored
+abbrev pub carried_in : CarriedFact → Option StoredFact
 carried_in running = carried_to running.at running.fact
 
--- the byte was in the set or is one of the number's, or else was in it and is none of the pointer's
+-- place p is in the set after a write of `len` bytes from `at` on: a number's bytes (true) are added, a pointer's (false) are
+-- removed
 abbrev pub HasAfter : Bool → List Bool → ℕ → ℕ → ℕ → Type 0
 HasAfter true set at len p = Has set p ⊎ Within at len p
 HasAfter false set at len p = Has set p × ¬ (Within at len p)
 
--- the types after an instruction, the old places with those that it sets or without a pointer's, and the notes
+-- the fact after an instruction: the types of its effect, the set with a number's bytes added or a pointer's removed, and the new
+-- spills
 pub record IsAfter (fact : Fact) (effect : Effect) (after : Fact) : Type 0 where
   pub types : after.types ≡ effect.types
   pub places : (p : ℕ) → Has after.stack p ↔ HasAfter (is_unset effect.kept) fact.stack effect.at effect.len p
-  pub notes : after.notes ≡ renoted (note_of effect.kept) effect.at effect.len 0 fact.notes
+  pub spills : after.spills ≡ respilled (spill_of effect.kept) effect.at effect.len 0 fact.spills
 
--- the unit's fact takes in this one
+-- the unit has a fact, and every state that fits `fact` fits that one too
 pub record Enters (facts : Facts) (fact : Fact) (to : ℕ) : Type 0 where
   pub wider : Fact
   pub is : facts to ≡ Some wider
   pub below : IsBelow fact wider
 
--- the instruction is well typed, and the facts of the units after it take in the result
-pub record IsTyped (us : List ProgramUnit) (terms : Terms) (facts : Facts) (pc : ℕ) (i : Inst) (fact : Fact) : Type 0 where
+-- the instruction is well typed, and the facts of the units that it leads to take in the fact after it
+pub record IsTyped (us : List ProgramUnit) (terms : LoadOptions) (facts : Facts) (pc : ℕ) (i : Inst) (fact : Fact) : Type 0 where
   pub form : Form
   pub form_is : form_of i.opcode ≡ Some form
   pub effect : Effect
@@ -180,14 +182,14 @@ pub record IsTyped (us : List ProgramUnit) (terms : Terms) (facts : Facts) (pc :
   pub ahead : AllByRecursion (IsAhead us pc) tos
   pub enters : AllByRecursion (Enters facts after) tos
 
--- what is known on entry: where R1 and R10 point, and nothing of the stack
+-- the fact on entry: R1 and R10 have the types of pointers, and nothing is known of the stack
 pub record IsEntry (fact : Fact) : Type 0 where
   pub types : fact.types ≡ entry_types
   pub places : (p : ℕ) → Has fact.stack p → ⊥
-  pub notes : fact.notes ≡ no_notes
+  pub spills : fact.spills ≡ no_spills
 
--- the first unit's fact takes in the entry, and each reached unit is well typed
-pub record Covers (us : List ProgramUnit) (terms : Terms) (facts : Facts) : Type 0 where
+-- the first unit's fact takes in the fact on entry, and the instruction of each reached unit is well typed
+pub record Covers (us : List ProgramUnit) (terms : LoadOptions) (facts : Facts) : Type 0 where
   pub unit : Inst
   pub begins : slice_get us 0 ≡ Some (First unit)
   pub start : Fact
@@ -203,8 +205,8 @@ pub record IsAt (us : List ProgramUnit) (facts : Facts) (s : State) : Type 0 whe
   pub is : facts s.pc ≡ Some fact
   pub fits : Fits fact s
 
--- the bytes are a program, and some facts cover it
-pub record IsCovered (bytes : List ℕ) (terms : Terms) (us : List ProgramUnit) : Type 0 where
+-- the bytes are these units, and some facts cover them
+pub record IsCovered (bytes : List ℕ) (terms : LoadOptions) (us : List ProgramUnit) : Type 0 where
   pub reads : units bytes ≡ Some us
   pub facts : Facts
   pub covers : Covers us terms facts

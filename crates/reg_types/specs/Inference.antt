@@ -4,14 +4,14 @@ use Rattle.std.specs.Prelude.{ℕ, zero, suc, ◌+◌, pos, ◌==◌, ◌&&◌, 
 use Rattle.std.specs.Prelude.{slice_get, slice_index_or, nat_lt, ◌*◌, Option, Some, None, Result, Ok, Err}
 use Rattle.bpf_model.specs.declared.instruction.Inst.{Inst}
 use Rattle.bpf_model.specs.declared.instruction.Form.{Form}
-use Rattle.bpf_model.specs.declared.instruction.Form.TheVariants.{Wide, Goto, GotoLong, Branch, Exit}
+use Rattle.bpf_model.specs.declared.instruction.Form.TheVariants.{Wide, Ja, Ja32, Branch, Exit}
 use Rattle.bpf_model.specs.declared.instruction.Unit.{Unit as ProgramUnit}
 use Rattle.bpf_model.specs.declared.instruction.Unit.TheVariants.{First, Second}
 use Rattle.bpf_model.specs.Reading.{form_of}
 use Rattle.bpf_model.specs.Machine.{shifted}
 use Rattle.bpf_model.specs.Flow.{target}
 use Rattle.operations.specs.Operations.{upper_of}
-use Rattle.reg_types.specs.declared.types.Terms.{Terms}
+use Rattle.reg_types.specs.declared.types.LoadOptions.{LoadOptions}
 use Rattle.reg_types.specs.declared.types.RegType.{RegType}
 use Rattle.reg_types.specs.declared.types.RegType.TheVariants.{Unset as Anything, Ctx, Stk}
 use Rattle.reg_types.specs.declared.types.Fact.{Fact}
@@ -19,9 +19,9 @@ use Rattle.reg_types.specs.Effects.{Effect}
 use Rattle.reg_types.specs.declared.types.Flaw.{Flaw}
 use Rattle.reg_types.specs.declared.refusal.TypeFault.{TypeFault}
 use Rattle.reg_types.specs.Refusals.{located}
-use Rattle.reg_types.specs.Rules.{join_type, is_unset, note_of, judged}
+use Rattle.reg_types.specs.Rules.{join_type, is_unset, spill_of, judged}
 
--- ---- sets of stack bytes: truth values from the lowest byte on; a byte past their end isn't in the set
+-- ---- sets of stack bytes: one truth value for each byte, from the lowest on; a byte beyond the list's end isn't in the set
 
 -- the bytes that are in both sets
 abbrev pub common : List Bool → List Bool → List Bool
@@ -29,34 +29,34 @@ common [] bs = []
 common (a ∷ rest) [] = []
 common (a ∷ rest) (b ∷ bs) = (a && b) ∷ common rest bs
 
--- the set, and `len` bytes from `at` on
+-- the set with `len` bytes from `at` on added
 abbrev pub marked : ℕ → ℕ → List Bool → List Bool
 marked zero zero set = set
 marked zero (suc len) set = true ∷ marked zero len (drop 1 set)
 marked (suc at) len set = slice_index_or set 0 false ∷ marked at len (drop 1 set)
 
--- the set without `len` bytes from `at` on
+-- the set with `len` bytes from `at` on removed
 abbrev pub cleared : ℕ → ℕ → List Bool → List Bool
 cleared zero zero set = set
 cleared zero (suc len) set = false ∷ cleared zero len (drop 1 set)
 cleared (suc at) len set = slice_index_or set 0 false ∷ cleared at len (drop 1 set)
 
--- ---- notes of the 64 aligned places, from the lowest on
+-- ---- spills of the 64 aligned places, from the lowest on
 
--- equal notes stay, and others give none
-abbrev pub join_notes : List ℕ → List ℕ → List ℕ
-join_notes [] bs = []
-join_notes (a ∷ rest) [] = []
-join_notes (a ∷ rest) (b ∷ bs) = (if a == b then a else 0) ∷ join_notes rest bs
+-- the join of spills: a spill that both have stays, and where they differ there is none
+abbrev pub join_spills : List ℕ → List ℕ → List ℕ
+join_spills [] bs = []
+join_spills (a ∷ rest) [] = []
+join_spills (a ∷ rest) (b ∷ bs) = (if a == b then a else 0) ∷ join_spills rest bs
 
 -- a store of `len` bytes from `at` on writes a byte of aligned place k
 abbrev pub touches : ℕ → ℕ → ℕ → Bool
 touches at len k = nat_lt at (8 * k + 8) && nat_lt (8 * k) (at + len)
 
--- the notes, from that of place k on, once those of the touched places have become n
-abbrev pub renoted : ℕ → ℕ → ℕ → ℕ → List ℕ → List ℕ
-renoted n at len k [] = []
-renoted n at len k (m ∷ rest) = (if touches at len k then n else m) ∷ renoted n at len (suc k) rest
+-- the spills of place k and the places above it, after those of the touched places have become n
+abbrev pub respilled : ℕ → ℕ → ℕ → ℕ → List ℕ → List ℕ
+respilled n at len k [] = []
+respilled n at len k (m ∷ rest) = (if touches at len k then n else m) ∷ respilled n at len (suc k) rest
 
 -- ---- facts
 
@@ -65,24 +65,24 @@ join_types [] bs = []
 join_types (a ∷ rest) [] = []
 join_types (a ∷ rest) (b ∷ bs) = join_type a b ∷ join_types rest bs
 
--- what two facts both say
+-- the join of two facts: what both say
 abbrev pub join_fact : Fact → Fact → Fact
 join_fact a b =
-    record { types = join_types a.types b.types; stack = common a.stack b.stack; notes = join_notes a.notes b.notes }
+    record { types = join_types a.types b.types; stack = common a.stack b.stack; spills = join_spills a.spills b.spills }
 
 -- the types on entry
 abbrev pub entry_types : List RegType
 entry_types =
     Anything ∷ Ctx 0 ∷ Anything ∷ Anything ∷ Anything ∷ Anything ∷ Anything ∷ Anything ∷ Anything ∷ Anything ∷ Stk (pos 0) ∷ []
 
-abbrev pub no_notes : List ℕ
-no_notes = replicate 64 0
+abbrev pub no_spills : List ℕ
+no_spills = replicate 64 0
 
--- on entry no byte is set, and no pointer is kept
+-- the fact on entry: no byte is set, and no pointer is spilled
 abbrev pub entry_fact : Fact
-entry_fact = record { types = entry_types; stack = []; notes = no_notes }
+entry_fact = record { types = entry_types; stack = []; spills = no_spills }
 
--- the bytes of a number are set, and those of a pointer aren't
+-- the set after an instruction: the bytes of a number that it writes are set, and those of a pointer aren't
 abbrev pub set_after : Effect → List Bool → List Bool
 set_after effect set = if is_unset effect.kept then marked effect.at effect.len set else cleared effect.at effect.len set
 
@@ -92,7 +92,7 @@ fact_after fact effect =
     record {
       types = effect.types;
       stack = set_after effect fact.stack;
-      notes = renoted (note_of effect.kept) effect.at effect.len 0 fact.notes;
+      spills = respilled (spill_of effect.kept) effect.at effect.len 0 fact.spills;
     }
 
 -- ---- one unit
@@ -101,16 +101,16 @@ abbrev pub option_cons : Option ℕ → List ℕ → Option (List ℕ)
 option_cons None tos = None
 option_cons (Some to) tos = Some (to ∷ tos)
 
--- the units that an instruction can lead to
+-- the units that an instruction can lead to; None where its jump goes outside the units 0 to 512
 abbrev pub leads : ℕ → Inst → Form → Option (List ℕ)
 leads pc i Wide = Some ((pc + 2) ∷ [])
-leads pc i Goto = option_cons (shifted (pc + 1) i.offset 512) []
-leads pc i GotoLong = option_cons (shifted (pc + 1) i.imm 512) []
+leads pc i Ja = option_cons (shifted (pc + 1) i.offset 512) []
+leads pc i Ja32 = option_cons (shifted (pc + 1) i.imm 512) []
 leads pc i (Branch c w s) = option_cons (shifted (pc + 1) i.offset 512) ((pc + 1) ∷ [])
 leads pc i Exit = Some []
 leads pc i form = Some ((pc + 1) ∷ [])
 
--- the instruction that begins at a unit, with its form
+-- an instruction with its form, if its opcode has one
 abbrev pub form_with : Inst → Option Form → Option (Inst × Form)
 form_with i None = None
 form_with i (Some form) = Some (i, form)
@@ -124,7 +124,7 @@ abbrev pub instruction_at : List ProgramUnit → ℕ → Option (Inst × Form)
 instruction_at us pc = instruction_of (slice_get us pc)
 
 -- what the rules say of the instruction at a unit under a fact
-abbrev pub ruled : List ProgramUnit → Terms → ℕ → Fact → Inst × Form → Result Effect Flaw
+abbrev pub ruled : List ProgramUnit → LoadOptions → ℕ → Fact → Inst × Form → Result Effect Flaw
 ruled us terms pc fact x = judged (length us) pc terms fact x.0 (upper_of us pc) x.1
 
 -- the flaw of the unit's instruction; a unit that isn't reached has no fact and no flaw
@@ -132,22 +132,22 @@ abbrev pub flaw_in : ℕ → Result Effect Flaw → Option TypeFault
 flaw_in pc (Ok effect) = None
 flaw_in pc (Err flaw) = Some (located pc flaw)
 
-abbrev pub flaw_of : List ProgramUnit → Terms → ℕ → Fact → Option (Inst × Form) → Option TypeFault
+abbrev pub flaw_of : List ProgramUnit → LoadOptions → ℕ → Fact → Option (Inst × Form) → Option TypeFault
 flaw_of us terms pc fact None = None
 flaw_of us terms pc fact (Some x) = flaw_in pc (ruled us terms pc fact x)
 
-abbrev pub flaw_under : List ProgramUnit → Terms → ℕ → Option Fact → Option TypeFault
+abbrev pub flaw_under : List ProgramUnit → LoadOptions → ℕ → Option Fact → Option TypeFault
 flaw_under us terms pc None = None
 flaw_under us terms pc (Some fact) = flaw_of us terms pc fact (instruction_at us pc)
 
 -- ---- edges
 
--- what a unit's fact becomes where an edge brings this one
+-- a unit's fact after an edge has brought it this one: the join of both, if the unit had one
 abbrev pub taken_in : Option Fact → Fact → Fact
 taken_in None fact = fact
 taken_in (Some old) fact = join_fact old fact
 
--- what is known of unit q once a fact has come to a unit
+-- what is known of unit q after a fact has come to unit `to`
 abbrev pub arrived : ℕ → Fact → ℕ → Option Fact → Option Fact
 arrived q fact to old = if q == to then Some (taken_in old fact) else old
 
@@ -155,42 +155,43 @@ abbrev pub arrived_all : ℕ → Fact → List ℕ → Option Fact → Option Fa
 arrived_all q fact [] old = old
 arrived_all q fact (to ∷ tos) old = arrived_all q fact tos (arrived q fact to old)
 
--- the edges of an instruction: a refused one has none
+-- what is known of unit q after the edges of an instruction; a refused instruction has no edges
 abbrev pub passed_by : ℕ → Fact → Result Effect Flaw → Option (List ℕ) → Option Fact → Option Fact
 passed_by q fact (Err flaw) tos old = old
 passed_by q fact (Ok effect) None old = old
 passed_by q fact (Ok effect) (Some tos) old = arrived_all q (fact_after fact effect) tos old
 
-abbrev pub passed_from : List ProgramUnit → Terms → ℕ → Fact → Option (Inst × Form) → ℕ → Option Fact → Option Fact
+abbrev pub passed_from : List ProgramUnit → LoadOptions → ℕ → Fact → Option (Inst × Form) → ℕ → Option Fact → Option Fact
 passed_from us terms pc fact None q old = old
 passed_from us terms pc fact (Some x) q old = passed_by q fact (ruled us terms pc fact x) (leads pc x.0 x.1) old
 
--- what is known of unit q once unit pc has been passed, before which this was known
-abbrev pub passed : List ProgramUnit → Terms → ℕ → Option Fact → ℕ → Option Fact → Option Fact
+-- what is known of unit q after unit pc has been passed; `old` is what was known of q before
+abbrev pub passed : List ProgramUnit → LoadOptions → ℕ → Option Fact → ℕ → Option Fact → Option Fact
 passed us terms pc None q old = old
 passed us terms pc (Some fact) q old = passed_from us terms pc fact (instruction_at us pc) q old
 
 -- ---- the whole program
 
--- what is known of unit q by the entry and by the edges from the units below n: nothing where none reaches it
-unfoldable pub known : List ProgramUnit → Terms → ℕ → ℕ → Option Fact
+-- what is known of unit q from the entry and from the edges of the units below n: nothing where none of these reaches it
+unfoldable pub known : List ProgramUnit → LoadOptions → ℕ → ℕ → Option Fact
 known us terms zero q = if q == 0 then Some entry_fact else None
 known us terms (suc n) q = passed us terms n (known us terms n n) q (known us terms n q)
 
 -- the fact of a unit: the join over the edges from the reached units before it
-abbrev pub inferred : List ProgramUnit → Terms → ℕ → Option Fact
+abbrev pub inferred : List ProgramUnit → LoadOptions → ℕ → Option Fact
 inferred us terms q = known us terms q q
 
 abbrev pub or_else : Option TypeFault → Option TypeFault → Option TypeFault
 or_else None b = b
 or_else (Some fault) b = Some fault
 
--- the first among the first n units that is reached and that the rules refuse, with its flaw of the least number
-unfoldable pub first_flaw_below : List ProgramUnit → Terms → ℕ → Option TypeFault
+-- the first fault among the first n units: that of the lowest unit that is reached and refused, with its flaw of the lowest V
+-- number
+unfoldable pub first_flaw_below : List ProgramUnit → LoadOptions → ℕ → Option TypeFault
 first_flaw_below us terms zero = None
 first_flaw_below us terms (suc n) = or_else (first_flaw_below us terms n) (flaw_under us terms n (inferred us terms n))
 
-abbrev pub first_flaw : List ProgramUnit → Terms → Option TypeFault
+abbrev pub first_flaw : List ProgramUnit → LoadOptions → Option TypeFault
 first_flaw us terms = first_flaw_below us terms (length us)
 
 -- ---- where facts are stored: at the first unit, and where the jumps of reached units go
@@ -201,7 +202,7 @@ goes None q = false
 goes (Some to) q = q == to
 
 -- q is the first unit, or the jump of a reached unit below n goes to it
-unfoldable pub is_entered : List ProgramUnit → Terms → ℕ → ℕ → Bool
+unfoldable pub is_entered : List ProgramUnit → LoadOptions → ℕ → ℕ → Bool
 is_entered us terms zero q = q == 0
 is_entered us terms (suc n) q = is_entered us terms n q || (is_some (inferred us terms n) && goes (target us n) q)
 
@@ -210,13 +211,13 @@ unfoldable pub is_target : List ProgramUnit → ℕ → ℕ → Bool
 is_target us zero q = false
 is_target us (suc n) q = is_target us n q || goes (target us n) q
 
--- how many numbers below n are so
+-- how many numbers below n pass the test
 unfoldable pub count_below : ℕ → (ℕ → Bool) → ℕ
 count_below zero is = 0
 count_below (suc n) is = if is n then suc (count_below n is) else count_below n is
 
 -- the number of units whose facts are stored
-abbrev pub facts_in : List ProgramUnit → Terms → ℕ
+abbrev pub facts_in : List ProgramUnit → LoadOptions → ℕ
 facts_in us terms = count_below (length us) (is_entered us terms (length us))
 
 -- the number of different targets of jumps

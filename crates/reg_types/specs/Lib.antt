@@ -1,4 +1,4 @@
-pub mod Terms
+pub mod LoadOptions
 pub mod Rules
 pub mod Effects
 pub mod Facts

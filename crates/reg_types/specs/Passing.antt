@@ -1,12 +1,12 @@
--- Promises: what the pass over the units does, what it leaves, and how its refusal is told.
+-- Promises: what the pass over the units does, what it leaves, and which refusal it returns.
 use Rattle.std.specs.Prelude.{◌≡◌, ◌≢◌, ℕ, ◌+◌, ◌<◌, ◌≤◌, ◌⊎◌, ◌↔◌, Bool, true, false, ◌&&◌, ◌||◌, is_some, ℤ, List, length, Option, Some, None, slice_get, ⊤}
 use Rattle.bpf_model.specs.declared.instruction.Unit.{Unit as ProgramUnit}
 use Rattle.bpf_model.specs.declared.instruction.Inst.{Inst}
 use Rattle.bpf_model.specs.declared.instruction.Unit.TheVariants.{First, Second}
 use Rattle.bpf_model.specs.declared.instruction.Form.{Form}
 use Rattle.bpf_model.specs.declared.instruction.Form.TheVariants.{Wide}
-use Rattle.reg_types.specs.declared.types.Terms.{Terms}
-use Rattle.reg_types.specs.declared.types.Stored.{Stored}
+use Rattle.reg_types.specs.declared.types.LoadOptions.{LoadOptions}
+use Rattle.reg_types.specs.declared.types.StoredFact.{StoredFact}
 use Rattle.bpf_model.specs.Reading.{units}
 use Rattle.bpf_model.specs.Program.{ProgramText}
 use Rattle.bpf_model.specs.Flow.{GoesForward, flow_fault, target}
@@ -17,7 +17,7 @@ use Rattle.flow_check.specs.declared.FlowFault.TheVariants.{OutOfMemory as NoMem
 use Rattle.reg_types.specs.declared.types.Fact.{Fact}
 use Rattle.reg_types.specs.declared.refusal.Refusal.{Refusal}
 use Rattle.reg_types.specs.declared.refusal.Refusal.TheVariants.{Decode, Flow, «Type» as TypeRefusal, OutOfMemory}
-use Rattle.reg_types.specs.Terms.{terms_of}
+use Rattle.reg_types.specs.LoadOptions.{terms_of}
 use Rattle.reg_types.specs.Facts.{Facts, AreDistinct, IsCovered, stored}
 use Rattle.operations.specs.declared.operation.Operation.{Operation}
 use Rattle.operations.specs.Operations.{AreOperations}
@@ -25,11 +25,11 @@ use Rattle.reg_types.specs.Inference.{flaw_under, arrived, passed, inferred, fir
 
 -- ---- facts that say the same
 
--- the same types, the same bytes of the stack, and the same notes
+-- they have the same types, the same bytes of the stack that are set, and the same spills
 pub record IsSame (a b : Fact) : Type 0 where
   pub types : a.types ≡ b.types
   pub places : (p : ℕ) → Has a.stack p ↔ Has b.stack p
-  pub notes : a.notes ≡ b.notes
+  pub spills : a.spills ≡ b.spills
 
 abbrev pub AreSame : Option Fact → Option Fact → Type 0
 AreSame None None = ⊤
@@ -37,58 +37,60 @@ AreSame (Some a) (Some b) = IsSame a b
 AreSame None (Some b) = ⊥
 AreSame (Some a) None = ⊥
 
--- a unit's stored fact, where one is stored, is this one
+-- the unit's stored fact, if one is stored, says the same as this one
 abbrev pub AreStored : Option Fact → Option Fact → Type 0
 AreStored None fact = ⊤
 AreStored (Some a) fact = AreSame (Some a) fact
 
 -- ---- the facts stored, and the one that is carried along
 
--- what is known of unit q where a fact is carried to some unit
-abbrev pub brought : ℕ → Option Stored → Option Fact → Option Fact
+-- what is known of unit q after the carried fact, if there is one, has come to its unit
+abbrev pub brought : ℕ → Option StoredFact → Option Fact → Option Fact
 brought q None old = old
 brought q (Some s) old = arrived q s.fact s.at old
 
-abbrev pub seen : Option Stored → Facts → Facts
+-- what is known of each unit from the stored facts and the carried one
+abbrev pub seen : Option StoredFact → Facts → Facts
 seen carried facts q = brought q carried (facts q)
 
--- the fact is carried to the unit pc, or past it where that is a wide load's second
-abbrev pub IsCarriedTo : List ProgramUnit → ℕ → Option Stored → Type 0
+-- the fact is carried to unit pc, or to the unit after it where pc is the second unit of a wide load
+abbrev pub IsCarriedTo : List ProgramUnit → ℕ → Option StoredFact → Type 0
 IsCarriedTo us pc None = ⊤
 IsCarriedTo us pc (Some s) =
     ((i : Inst) × (slice_get us s.at ≡ Some (First i))) × ((s.at ≡ pc) ⊎ ((s.at ≡ pc + 1) × ((v : ℤ) × (slice_get us pc ≡ Some (Second v)))))
 
-abbrev pub IsCarriedAt : ℕ → Option Stored → Type 0
+abbrev pub IsCarriedAt : ℕ → Option StoredFact → Type 0
 IsCarriedAt pc None = ⊤
 IsCarriedAt pc (Some s) = s.at ≡ pc
 
--- the fact, where the unit is reached
+-- the fact, if the unit is reached
 abbrev pub fact_if : Bool → Fact → Option Fact
 fact_if false fact = None
 fact_if true fact = Some fact
 
--- a fact that comes to a unit with a stored one is taken in there
+-- a fact comes to a unit that has a stored one, and is joined with it there
 pub record IsJoined (at : ℕ) (fact : Fact) (old new : Facts) : Type 0 where
   pub each : (q : ℕ) → AreSame (new q) (arrived q fact at (old q))
   pub kept : (q : ℕ) → is_some (new q) ≡ is_some (old q)
 
--- what is known of the unit, and stored there if a fact was
-pub record IsSettled (pc : ℕ) (carried : Option Stored) (fact : Option Fact) (old new : Facts) : Type 0 where
+-- `fact` is what is known before unit pc, and it is stored there if a fact was stored before
+pub record IsSettled (pc : ℕ) (carried : Option StoredFact) (fact : Option Fact) (old new : Facts) : Type 0 where
   pub is : AreSame fact (seen carried old pc)
   pub others : (q : ℕ) → q ≢ pc → AreSame (new q) (old q)
   pub here : AreStored (new pc) fact
   pub kept : (q : ℕ) → is_some (new q) ≡ is_some (old q)
 
--- the instruction has no flaw under the fact; its jumps have brought what they bring, and the rest is carried on
-pub record IsVisited (us : List ProgramUnit) (terms : Terms) (pc : ℕ) (fact : Fact) (next : Option Stored) (old new : Facts) : Type 0 where
+-- the instruction at pc has no flaw under the fact, its jump's target has taken in the fact after it, and that is carried on to
+-- the next instruction
+pub record IsVisited (us : List ProgramUnit) (terms : LoadOptions) (pc : ℕ) (fact : Fact) (next : Option StoredFact) (old new : Facts) : Type 0 where
   pub flawless : flaw_under us terms pc (Some fact) ≡ None
   pub ahead : (q : ℕ) → pc < q → AreSame (seen next new q) (passed us terms pc (Some fact) q (old q))
   pub behind : (q : ℕ) → q ≤ pc → AreSame (new q) (old q)
   pub goes_on : IsCarriedTo us (pc + 1) next
   pub kept : (q : ℕ) → is_some (new q) ≡ (is_some (old q) || goes (target us pc) q)
 
--- the unit has no flaw, and its edges have brought what they bring
-pub record IsPassed (us : List ProgramUnit) (terms : Terms) (pc : ℕ) (carried next : Option Stored) (old new : Facts) : Type 0 where
+-- unit pc has no flaw, and the units that it leads to have taken in what its edges bring
+pub record IsPassed (us : List ProgramUnit) (terms : LoadOptions) (pc : ℕ) (carried next : Option StoredFact) (old new : Facts) : Type 0 where
   pub flawless : flaw_under us terms pc (seen carried old pc) ≡ None
   pub ahead : (q : ℕ) → pc < q → AreSame (seen next new q) (passed us terms pc (seen carried old pc) q (seen carried old q))
   pub behind : (q : ℕ) → q < pc → AreSame (new q) (old q)
@@ -96,32 +98,31 @@ pub record IsPassed (us : List ProgramUnit) (terms : Terms) (pc : ℕ) (carried 
   pub goes_on : IsCarriedTo us (pc + 1) next
   pub kept : (q : ℕ) → is_some (new q) ≡ (is_some (old q) || (is_some (seen carried old pc) && goes (target us pc) q))
 
--- facts are stored of the first unit and of the units that reached jumps go to, each the fact of its unit
-pub record AreInferred (us : List ProgramUnit) (terms : Terms) (facts : Facts) : Type 0 where
+-- facts are stored for the first unit and for the targets of reached jumps, and each is what is inferred of its unit
+pub record AreInferred (us : List ProgramUnit) (terms : LoadOptions) (facts : Facts) : Type 0 where
   pub each : (q : ℕ) → q < length us → AreStored (facts q) (inferred us terms q)
   pub kept : (q : ℕ) → is_some (facts q) ≡ is_entered us terms (length us) q
 
--- the unit after an instruction
+-- the unit where the next instruction begins
 abbrev pub following : ℕ → Form → ℕ
 following pc Wide = pc + 2
 following pc form = pc + 1
 
--- what is known of a unit is what the instruction in front of it leaves
-pub record IsBrought (us : List ProgramUnit) (terms : Terms) (q : ℕ) : Type 0 where
+-- what is known of unit q is what the instruction before it leaves
+pub record IsBrought (us : List ProgramUnit) (terms : LoadOptions) (q : ℕ) : Type 0 where
   pub before : ℕ
   pub instruction : Inst × Form
   pub stands : instruction_at us before ≡ Some instruction
   pub next : q ≡ following before instruction.1
   pub is : inferred us terms q ≡ passed us terms before (inferred us terms before) q None
 
--- from the stored facts the others are had by going from each instruction to the next
-abbrev pub AreWalked : List ProgramUnit → Terms → Type 0
+-- if no fact of a unit is stored, then nothing is known of it, or what the instruction before it leaves
+abbrev pub AreWalked : List ProgramUnit → LoadOptions → Type 0
 AreWalked us terms =
     (q : ℕ) → is_entered us terms (length us) q ≡ false → q < length us → (inferred us terms q ≡ None) ⊎ IsBrought us terms q
 
--- the bytes are these units, no jump of which is at fault and in which there is no flaw, and these facts are stored of
--- them, from which the others are had
-pub record IsAccepted (bytes : List ℕ) (terms : Terms) (us : List ProgramUnit) (facts : List Stored) : Type 0 where
+-- the bytes are these units, no jump is at fault, there is no flaw, these facts are stored, and the other facts follow from them
+pub record IsAccepted (bytes : List ℕ) (terms : LoadOptions) (us : List ProgramUnit) (facts : List StoredFact) : Type 0 where
   pub reads : units bytes ≡ Some us
   pub forward : GoesForward us
   pub flows : flow_fault us ≡ None
@@ -130,13 +131,13 @@ pub record IsAccepted (bytes : List ℕ) (terms : Terms) (us : List ProgramUnit)
   pub distinct : AreDistinct facts
   pub walked : AreWalked us terms
 
--- the bytes are accepted with these facts stored, and these are the operations of their units
-pub record IsKept (bytes : List ℕ) (terms : Terms) (facts : List Stored) (ops : List Operation) : Type 0 where
+-- the bytes are accepted, these facts are stored, and these are the operations of their units
+pub record IsKept (bytes : List ℕ) (terms : LoadOptions) (facts : List StoredFact) (ops : List Operation) : Type 0 where
   pub us : List ProgramUnit
   pub accepted : IsAccepted bytes terms us facts
   pub decoded : AreOperations us ops
 
--- the operations of the program, whose units facts cover
+-- facts cover the program's units, and these are the operations of these units
 pub record IsDecoded (p : ProgramText) (ops : List Operation) : Type 0 where
   pub us : List ProgramUnit
   pub covered : IsCovered p.bytes (terms_of p) us
@@ -146,31 +147,31 @@ pub record IsDecoded (p : ProgramText) (ops : List Operation) : Type 0 where
 abbrev pub IsFactCount : ProgramText → ℕ → Type 0
 IsFactCount p n = (us : List ProgramUnit) → units p.bytes ≡ Some us → n ≡ facts_in us (terms_of p)
 
--- it is at most one more than the number of different targets of jumps
+-- n is at most one more than the number of different targets of jumps
 abbrev pub IsFew : List ℕ → ℕ → Type 0
 IsFew bytes n = (us : List ProgramUnit) → units bytes ≡ Some us → n ≤ 1 + targets_in us
 
 -- ---- refusals
 
--- the refusal for a fault of decoding; want of memory is a refusal of its own
+-- the refusal for a fault of decoding; out of memory is a refusal of its own
 abbrev pub decode_told : DecodeFault → Refusal
 decode_told NoMemoryToDecode = OutOfMemory
 decode_told fault = Decode fault
 
--- a refusal at a unit before which this is known
-abbrev pub IsUnitRefused : List ProgramUnit → Terms → ℕ → Option Fact → Refusal → Type 0
+-- the refusals that a unit can get where `fact` is known before it: its flaw, or out of memory
+abbrev pub IsUnitRefused : List ProgramUnit → LoadOptions → ℕ → Option Fact → Refusal → Type 0
 IsUnitRefused us terms pc fact (Decode fault) = ⊥
 IsUnitRefused us terms pc fact (Flow fault) = ⊥
 IsUnitRefused us terms pc fact (TypeRefusal fault) = flaw_under us terms pc fact ≡ Some fault
 IsUnitRefused us terms pc fact OutOfMemory = ⊤
 
--- a refusal of the pass over the units
-abbrev pub IsPassRefused : List ProgramUnit → Terms → Refusal → Type 0
+-- the refusals that the pass over the units can return: the first flaw, or out of memory
+abbrev pub IsPassRefused : List ProgramUnit → LoadOptions → Refusal → Type 0
 IsPassRefused us terms (Decode fault) = ⊥
 IsPassRefused us terms (Flow fault) = ⊥
 IsPassRefused us terms (TypeRefusal fault) = first_flaw us terms ≡ Some fault
 IsPassRefused us terms OutOfMemory = ⊤
 
--- want of memory is told by itself alone, never inside another refusal
+-- out of memory is a refusal of its own, never inside another one
 abbrev pub IsToldAlone : Refusal → Type 0
 IsToldAlone refusal = (refusal ≢ Decode NoMemoryToDecode) × (refusal ≢ Flow NoMemoryForFlow)

@@ -1,11 +1,11 @@
--- Definitions: plain programs, which are always accepted, want of memory aside (this profile).
+-- Definitions: plain programs, which are always accepted unless memory runs out (this profile).
 use Rattle.std.specs.Prelude.{◌≡◌, ℕ, ◌-◌, List, length, Some, None, IsSome, slice_get, ⊤}
 use Rattle.bpf_model.specs.declared.instruction.Inst.{Inst}
 use Rattle.bpf_model.specs.declared.instruction.Source.TheVariants.{Immediate, Register}
-use Rattle.bpf_model.specs.declared.instruction.Operator.TheVariants.{Move, SwapBytes}
+use Rattle.bpf_model.specs.declared.instruction.Operator.TheVariants.{Mov, SwapBytes}
 use Rattle.bpf_model.specs.declared.instruction.Size.{Size}
 use Rattle.bpf_model.specs.declared.instruction.Form.{Form}
-use Rattle.bpf_model.specs.declared.instruction.Form.TheVariants.{Arithmetic, Wide, Load, LoadSigned, Goto, GotoLong, Branch, Exit}
+use Rattle.bpf_model.specs.declared.instruction.Form.TheVariants.{Arithmetic, Wide, Load, LoadSigned, Ja, Ja32, Branch, Exit}
 use Rattle.bpf_model.specs.declared.instruction.Unit.{Unit as ProgramUnit}
 use Rattle.bpf_model.specs.declared.instruction.Unit.TheVariants.{First}
 use Rattle.bpf_model.specs.Reading.{bytes_in, form_of, units}
@@ -22,8 +22,8 @@ LoadsArgument layout i size = (i.dst ≡ 0) × (i.src ≡ 1) × IsSome (shifted 
 -- EXIT, a jump without condition, or a form that works on R0 alone or loads into it from the context
 abbrev pub IsPlainForm : Layout → Inst → Form → Type 0
 IsPlainForm layout i Exit = ⊤
-IsPlainForm layout i Goto = ⊤
-IsPlainForm layout i GotoLong = ⊤
+IsPlainForm layout i Ja = ⊤
+IsPlainForm layout i Ja32 = ⊤
 IsPlainForm layout i Wide = i.dst ≡ 0
 IsPlainForm layout i (Arithmetic SwapBytes w s) = i.dst ≡ 0
 IsPlainForm layout i (Arithmetic op w Immediate) = i.dst ≡ 0
@@ -39,7 +39,7 @@ abbrev pub SetsFirst : Form → Type 0
 SetsFirst Wide = ⊤
 SetsFirst (Load size) = ⊤
 SetsFirst (LoadSigned size) = ⊤
-SetsFirst (Arithmetic Move w Immediate) = ⊤
+SetsFirst (Arithmetic Mov w Immediate) = ⊤
 SetsFirst form = ⊥
 
 -- the last unit is EXIT, each instruction is of a plain form, and the first sets R0

@@ -1,17 +1,17 @@
--- Definitions: the typing rules, as functions (this profile, type rules). A program which they accept is good.
+-- Definitions: the typing rules, as functions (this profile, type rules). A program that they accept is good.
 use Rattle.std.specs.Prelude.{ℕ, zero, suc, ◌+◌, ◌*◌, ◌/◌, ◌%◌, ◌-◌, ◌^◌, ◌==◌, nat_le, Bool, true, false, ◌&&◌, ◌||◌, if◌then◌else◌, ℤ, pos, negsuc, neg_ℤ}
 use Rattle.std.specs.Prelude.{◌+ℤ◌, int_le, List, ◌∷◌, drop, slice_set, slice_index, slice_index_or, Option, Some, None, is_some, Result, Ok, Err}
 use Rattle.std.specs.Ordering.{int_eq}
 use Rattle.std.specs.Int.{cast_unsigned, w32}
 use Rattle.bpf_model.specs.declared.instruction.Inst.{Inst}
 use Rattle.bpf_model.specs.declared.instruction.Width.{Width}
-use Rattle.bpf_model.specs.declared.instruction.Width.TheVariants.{Narrow, Full}
+use Rattle.bpf_model.specs.declared.instruction.Width.TheVariants.{Bits32, Bits64}
 use Rattle.bpf_model.specs.declared.instruction.Source.{Source}
 use Rattle.bpf_model.specs.declared.instruction.Source.TheVariants.{Immediate, Register}
 use Rattle.bpf_model.specs.declared.instruction.Operator.{Operator}
-use Rattle.bpf_model.specs.declared.instruction.Operator.TheVariants.{Sum, Difference, Negate, Move, SwapBytes}
+use Rattle.bpf_model.specs.declared.instruction.Operator.TheVariants.{Add, Sub, Neg, Mov, SwapBytes}
 use Rattle.bpf_model.specs.declared.instruction.Form.{Form}
-use Rattle.bpf_model.specs.declared.instruction.Form.TheVariants.{Arithmetic, Wide, Load, LoadSigned, StoreImmediate, StoreRegister, Goto, GotoLong, Branch}
+use Rattle.bpf_model.specs.declared.instruction.Form.TheVariants.{Arithmetic, Wide, Load, LoadSigned, StoreImmediate, StoreRegister, Ja, Ja32, Branch}
 use Rattle.bpf_model.specs.declared.instruction.Form.TheVariants.{Call, Exit}
 use Rattle.bpf_model.specs.Reading.{bytes_in}
 use Rattle.bpf_model.specs.Arithmetic.{low}
@@ -21,7 +21,7 @@ use Rattle.helpers.specs.declared.Kind.TheVariants.{Nothing, Number, Counter, Pl
 use Rattle.helpers.specs.Calls.{signature}
 use Rattle.bpf_model.specs.declared.context.Layout.{Layout}
 use Rattle.bpf_model.specs.Layouts.{context_len}
-use Rattle.reg_types.specs.declared.types.Terms.{Terms}
+use Rattle.reg_types.specs.declared.types.LoadOptions.{LoadOptions}
 use Rattle.reg_types.specs.declared.types.RegType.{RegType}
 use Rattle.reg_types.specs.declared.types.RegType.TheVariants.{Unset, Num, Const, Ctx, Stk}
 use Rattle.reg_types.specs.declared.types.Fact.{Fact}
@@ -54,7 +54,7 @@ is_numeric Unset = false
 is_numeric (Ctx k) = false
 is_numeric (Stk k) = false
 
--- the least type above both
+-- the join of two types: the least type above both
 abbrev pub join_type : RegType → RegType → RegType
 join_type Num Num = Num
 join_type Num (Const d) = Num
@@ -83,10 +83,10 @@ ctx_at (Some k) = Ok (Ctx k)
 abbrev pub stk_at : ℤ → Result RegType Flaw
 stk_at k = if int_le (negsuc 511) k && int_le k (pos 0) then Ok (Stk k) else Err OutOfRange
 
--- an immediate added or taken away moves a pointer by z
+-- the type after ADD or SUB: with an immediate and 64 bits, a pointer moves by z; all else takes numbers
 abbrev pub sum_type : Layout → Width → Source → Inst → ℤ → RegType → RegType → Result RegType Flaw
-sum_type layout Full Immediate i z (Ctx k) b = ctx_at (shifted k z (context_len layout))
-sum_type layout Full Immediate i z (Stk k) b = stk_at (k +ℤ z)
+sum_type layout Bits64 Immediate i z (Ctx k) b = ctx_at (shifted k z (context_len layout))
+sum_type layout Bits64 Immediate i z (Stk k) b = stk_at (k +ℤ z)
 sum_type layout w s i z a b = two_numbers i.dst i.src a b
 
 abbrev pub copied_type : ℕ → RegType → Result RegType Flaw
@@ -99,14 +99,14 @@ is_plain (negsuc n) = false
 
 abbrev pub move_type : Width → Source → Inst → RegType → Result RegType Flaw
 move_type w Immediate i b = Ok (if is_plain i.offset then Const (low w (immediate w i.imm)) else Num)
-move_type Full Register i b = if is_plain i.offset then copied_type i.src b else one_number i.src b
-move_type Narrow Register i b = one_number i.src b
+move_type Bits64 Register i b = if is_plain i.offset then copied_type i.src b else one_number i.src b
+move_type Bits32 Register i b = one_number i.src b
 
 abbrev pub alu_type : Layout → Operator → Width → Source → Inst → RegType → RegType → Result RegType Flaw
-alu_type layout Sum w s i a b = sum_type layout w s i i.imm a b
-alu_type layout Difference w s i a b = sum_type layout w s i (neg_ℤ i.imm) a b
-alu_type layout Move w s i a b = move_type w s i b
-alu_type layout Negate w s i a b = one_number i.dst a
+alu_type layout Add w s i a b = sum_type layout w s i i.imm a b
+alu_type layout Sub w s i a b = sum_type layout w s i (neg_ℤ i.imm) a b
+alu_type layout Mov w s i a b = move_type w s i b
+alu_type layout Neg w s i a b = one_number i.dst a
 alu_type layout SwapBytes w s i a b = one_number i.dst a
 alu_type layout op w s i a b = two_numbers i.dst i.src a b
 
@@ -123,13 +123,13 @@ abbrev pub put_type : List RegType → ℕ → Result RegType Flaw → Result Ef
 put_type types dst (Err e) = Err e
 put_type types dst (Ok t) = Ok (unmarked (slice_set types dst t))
 
--- a register is written
+-- the effect of writing a register's type; R10 can't be written
 abbrev pub set_type : List RegType → ℕ → Result RegType Flaw → Result Effect Flaw
 set_type types dst r = if dst == 10 then Err WriteR10 else put_type types dst r
 
 -- ---- places
 
--- the place that a stack pointer's type names, counted from the stack's lowest byte
+-- `lowest` is where a stack pointer points, counted from the stack's lowest byte; 0 for one that is below it
 abbrev pub natural : ℤ → ℕ
 natural (pos n) = n
 natural (negsuc n) = 0
@@ -137,7 +137,7 @@ natural (negsuc n) = 0
 abbrev pub lowest : ℤ → ℕ
 lowest k = natural (k +ℤ pos 512)
 
--- a list of truth values has all of so many places from one on
+-- all of the given number of places, from `at` on, are in the set
 abbrev pub all_in : List Bool → ℕ → ℕ → Bool
 all_in set at zero = true
 all_in set at (suc n) = slice_index_or set at false && all_in set (suc at) n
@@ -157,36 +157,36 @@ load_type layout set (Const c) i size = Err NotAPointer
 load_type layout set (Ctx k) i size = number_at (shifted k i.offset (context_len layout - size))
 load_type layout set (Stk k) i size = number_set set size (shifted (lowest k) i.offset (512 - size))
 
--- a note is the type of a pointer kept in the stack, as a number: 0 for none, 1 to 81 for Ctx 0 to 80, and 82 to 594 for
--- Stk -512 to 0, which are all that pointers have
-abbrev pub note_of : RegType → ℕ
-note_of (Ctx k) = if nat_le k 80 then k + 1 else 0
-note_of (Stk k) = if nat_le (lowest k) 512 then 82 + lowest k else 0
-note_of Unset = 0
-note_of Num = 0
-note_of (Const c) = 0
+-- a spill is the type of a pointer that is kept in the stack, as a number: 0 for none, 1 to 81 for Ctx 0 to 80, and 82 to 594 for
+-- Stk -512 to 0; these are all the types that pointers have
+abbrev pub spill_of : RegType → ℕ
+spill_of (Ctx k) = if nat_le k 80 then k + 1 else 0
+spill_of (Stk k) = if nat_le (lowest k) 512 then 82 + lowest k else 0
+spill_of Unset = 0
+spill_of Num = 0
+spill_of (Const c) = 0
 
-abbrev pub noted_type : ℕ → RegType
-noted_type n = if n == 0 then Unset else (if nat_le n 81 then Ctx (n - 1) else Stk (pos (n - 82) +ℤ negsuc 511))
+abbrev pub spilled_type : ℕ → RegType
+spilled_type n = if n == 0 then Unset else (if nat_le n 81 then Ctx (n - 1) else Stk (pos (n - 82) +ℤ negsuc 511))
 
--- the type noted for the bytes that are read, or Unset
-abbrev pub note_in : List ℕ → ℕ → Option ℕ → RegType
-note_in notes size None = Unset
-note_in notes size (Some at) = if is_aligned size at then noted_type (slice_index notes (at / 8)) else Unset
+-- the type of the pointer that is spilled at the place, or Unset
+abbrev pub spill_in : List ℕ → ℕ → Option ℕ → RegType
+spill_in spills size None = Unset
+spill_in spills size (Some at) = if is_aligned size at then spilled_type (slice_index spills (at / 8)) else Unset
 
 abbrev pub kept_type : List ℕ → RegType → Inst → ℕ → RegType
-kept_type notes (Stk k) i size = note_in notes size (shifted (lowest k) i.offset (512 - size))
-kept_type notes (Ctx k) i size = Unset
-kept_type notes (Const c) i size = Unset
-kept_type notes Num i size = Unset
-kept_type notes Unset i size = Unset
+kept_type spills (Stk k) i size = spill_in spills size (shifted (lowest k) i.offset (512 - size))
+kept_type spills (Ctx k) i size = Unset
+kept_type spills (Const c) i size = Unset
+kept_type spills Num i size = Unset
+kept_type spills Unset i size = Unset
 
 abbrev pub kept_or : RegType → Result RegType Flaw → Result RegType Flaw
 kept_or t r = if is_unset t then r else Ok t
 
--- a load that can find a pointer
+-- the type that a load gives: the spilled pointer's where there is one, else as load_type says
 abbrev pub loaded_type : Layout → List Bool → List ℕ → RegType → Inst → ℕ → Result RegType Flaw
-loaded_type layout set notes base i size = kept_or (kept_type notes base i size) (load_type layout set base i size)
+loaded_type layout set spills base i size = kept_or (kept_type spills base i size) (load_type layout set base i size)
 
 abbrev pub marks : List RegType → ℕ → Option ℕ → Result Effect Flaw
 marks types size None = Err OutOfRange
@@ -199,11 +199,11 @@ store_type types (Const c) i size = Err NotAPointer
 store_type types (Ctx k) i size = Err StoreToContext
 store_type types (Stk k) i size = marks types size (shifted (lowest k) i.offset (512 - size))
 
--- a pointer is kept where its bytes are an aligned place
+-- a pointer can be kept only where its bytes are an aligned place
 abbrev pub keeps : RegType → Effect → Result Effect Flaw
 keeps value e = if is_aligned e.len e.at then Ok (record e { kept = value }) else Err StorePointer
 
--- the flaw of a pointer that can't be kept comes after those of its place
+-- the flaws of a store's place come before the flaw of a pointer that can't be kept
 abbrev pub keeps_pointer : RegType → Result Effect Flaw → Result Effect Flaw
 keeps_pointer value (Err e) = Err e
 keeps_pointer value (Ok e) = if is_pointer value then keeps value e else Ok e
@@ -223,7 +223,7 @@ exited types a = if is_numeric a then Ok (unmarked types) else Err (NotANumber 0
 
 -- ---- calls
 
--- where a record of 16 bytes is put
+-- where a helper puts a record of 16 bytes, if the argument is a stack pointer with room for it
 abbrev pub place_by : RegType → Option ℕ
 place_by (Stk k) = shifted (lowest k) (pos 0) 496
 place_by Unset = None
@@ -244,7 +244,7 @@ fits_kind Number t = is_numeric t
 fits_kind Counter t = fits_counter t
 fits_kind Place t = is_some (place_by t)
 
--- the bit of a constant counter in the mask
+-- the bit of a constant counter is set in the mask
 abbrev pub declares : ℕ → RegType → Bool
 declares declared (Const c) = declared / 2 ^ c % 2 == 1
 declares declared Unset = true
@@ -289,18 +289,18 @@ call_type declared types (Some kinds) =
 
 -- ---- one instruction
 
--- what an instruction leaves; `upper` is the upper half of a wide load's number
-abbrev pub effect : Terms → Fact → Inst → ℤ → Form → Result Effect Flaw
+-- the effect of an instruction, or its flaw; `upper` is the upper half of a wide load's number
+abbrev pub effect : LoadOptions → Fact → Inst → ℤ → Form → Result Effect Flaw
 effect terms f i upper (Arithmetic op w s) =
     set_type f.types i.dst (alu_type terms.layout op w s i (type_at f.types i.dst) (operand_type s w i f.types))
 effect terms f i upper Wide = set_type f.types i.dst (Ok (Const (cast_unsigned w32 upper * 2 ^ 32 + cast_unsigned w32 i.imm)))
-effect terms f i upper (Load size) = set_type f.types i.dst (loaded_type terms.layout f.stack f.notes (type_at f.types i.src) i (bytes_in size))
+effect terms f i upper (Load size) = set_type f.types i.dst (loaded_type terms.layout f.stack f.spills (type_at f.types i.src) i (bytes_in size))
 effect terms f i upper (LoadSigned size) = set_type f.types i.dst (load_type terms.layout f.stack (type_at f.types i.src) i (bytes_in size))
 effect terms f i upper (StoreImmediate size) = store_type f.types (type_at f.types i.dst) i (bytes_in size)
 effect terms f i upper (StoreRegister size) =
     store_register f.types (type_at f.types i.dst) (type_at f.types i.src) i (bytes_in size)
-effect terms f i upper Goto = Ok (unmarked f.types)
-effect terms f i upper GotoLong = Ok (unmarked f.types)
+effect terms f i upper Ja = Ok (unmarked f.types)
+effect terms f i upper Ja32 = Ok (unmarked f.types)
 effect terms f i upper (Branch c w s) =
     compared f.types i.dst i.src (type_at f.types i.dst) (operand_type s w i f.types)
 effect terms f i upper Call = call_type terms.mask f.types (signature i.imm)
@@ -309,12 +309,12 @@ effect terms f i upper Exit = exited f.types (type_at f.types 0)
 -- the instruction goes on to the next one, and no unit follows
 abbrev pub falls_off : ℕ → ℕ → Form → Bool
 falls_off count pc Exit = false
-falls_off count pc Goto = false
-falls_off count pc GotoLong = false
+falls_off count pc Ja = false
+falls_off count pc Ja32 = false
 falls_off count pc Wide = nat_le count (pc + 2)
 falls_off count pc form = nat_le count (pc + 1)
 
--- what an instruction leaves, or the first flaw of it
-abbrev pub judged : ℕ → ℕ → Terms → Fact → Inst → ℤ → Form → Result Effect Flaw
+-- the effect of an instruction, or its first flaw
+abbrev pub judged : ℕ → ℕ → LoadOptions → Fact → Inst → ℤ → Form → Result Effect Flaw
 judged count pc terms f i upper form =
     if falls_off count pc form then Err FallsOff else effect terms f i upper form

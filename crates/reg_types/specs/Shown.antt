@@ -1,12 +1,12 @@
--- Definitions: what a refusal shows of the bytes (this profile, V faults).
+-- Definitions: what a refusal says of the bytes (this profile, V faults).
 use Rattle.std.specs.Prelude.{◌≡◌, ◌≢◌, ℕ, ◌+◌, ◌/◌, ◌≤◌, ◌⊎◌, if◌then◌else◌, pos, List, length, Option, Some, None, slice_get, ⊤, Result, Ok, Err}
 use Rattle.bpf_model.specs.declared.instruction.Inst.{Inst}
-use Rattle.bpf_model.specs.declared.instruction.Width.TheVariants.{Full}
+use Rattle.bpf_model.specs.declared.instruction.Width.TheVariants.{Bits64}
 use Rattle.bpf_model.specs.declared.instruction.Source.{Source}
 use Rattle.bpf_model.specs.declared.instruction.Source.TheVariants.{Immediate, Register}
-use Rattle.bpf_model.specs.declared.instruction.Operator.TheVariants.{Sum, Difference, Move, Negate, SwapBytes}
+use Rattle.bpf_model.specs.declared.instruction.Operator.TheVariants.{Add, Sub, Mov, Neg, SwapBytes}
 use Rattle.bpf_model.specs.declared.instruction.Form.{Form}
-use Rattle.bpf_model.specs.declared.instruction.Form.TheVariants.{Arithmetic, Wide, Load, LoadSigned, StoreImmediate, StoreRegister, Goto, GotoLong, Branch}
+use Rattle.bpf_model.specs.declared.instruction.Form.TheVariants.{Arithmetic, Wide, Load, LoadSigned, StoreImmediate, StoreRegister, Ja, Ja32, Branch}
 use Rattle.bpf_model.specs.declared.instruction.Form.TheVariants.{Call, Exit}
 use Rattle.bpf_model.specs.declared.instruction.Unit.{Unit as ProgramUnit}
 use Rattle.bpf_model.specs.declared.instruction.Unit.TheVariants.{First}
@@ -23,7 +23,7 @@ use Rattle.bpf_decode.specs.declared.DecodeFault.TheVariants.{Length, OutOfMemor
 use Rattle.bpf_decode.specs.Faults.{IsRefusedFor, numbered as decode_numbered}
 use Rattle.flow_check.specs.declared.FlowFault.{FlowFault}
 use Rattle.flow_check.specs.Faults.{IsShown as IsFlowShown, numbered as flow_numbered}
-use Rattle.reg_types.specs.declared.types.Terms.{Terms}
+use Rattle.reg_types.specs.declared.types.LoadOptions.{LoadOptions}
 use Rattle.reg_types.specs.declared.types.Flaw.{Flaw}
 use Rattle.reg_types.specs.declared.types.Flaw.TheVariants.{FallsOff, WriteR10, NotANumber, NotAPointer, OutOfRange, UnsetBytes, StoreToContext, StorePointer}
 use Rattle.reg_types.specs.declared.types.Flaw.TheVariants.{PointerArithmetic, NoSuchHelper, BadArgument, UndeclaredCounter}
@@ -31,14 +31,14 @@ use Rattle.reg_types.specs.declared.refusal.TypeFault.{TypeFault}
 use Rattle.reg_types.specs.declared.refusal.Refusal.{Refusal}
 use Rattle.reg_types.specs.declared.refusal.Refusal.TheVariants.{Decode, Flow, «Type» as TypeRefusal, OutOfMemory}
 use Rattle.reg_types.specs.Refusals.{located}
-use Rattle.reg_types.specs.Terms.{terms_of}
+use Rattle.reg_types.specs.LoadOptions.{terms_of}
 use Rattle.reg_types.specs.Inference.{first_flaw}
 
--- it goes on to the next instruction, and no unit follows it
+-- the instruction goes on to the next one, and no unit follows
 abbrev pub FallsOffEnd : ℕ → ℕ → Form → Type 0
 FallsOffEnd count pc Exit = ⊥
-FallsOffEnd count pc Goto = ⊥
-FallsOffEnd count pc GotoLong = ⊥
+FallsOffEnd count pc Ja = ⊥
+FallsOffEnd count pc Ja32 = ⊥
 FallsOffEnd count pc Wide = count ≤ pc + 2
 FallsOffEnd count pc form = count ≤ pc + 1
 
@@ -50,7 +50,7 @@ WritesR10 i (Load size) = i.dst ≡ 10
 WritesR10 i (LoadSigned size) = i.dst ≡ 10
 WritesR10 i form = ⊥
 
--- the register is the operand in dst, or the second operand where that is a register
+-- register r is the operand in dst, or the second operand if that is a register
 abbrev pub IsOperand : Inst → Source → ℕ → Type 0
 IsOperand i Register r = (r ≡ i.dst) ⊎ (r ≡ i.src)
 IsOperand i Immediate r = r ≡ i.dst
@@ -59,10 +59,10 @@ abbrev pub IsSecond : Inst → Source → ℕ → Type 0
 IsSecond i Register r = r ≡ i.src
 IsSecond i Immediate r = ⊥
 
--- the instruction reads the register as an operand of arithmetic, a comparison, a store or an exit
+-- the instruction reads register r as an operand of arithmetic, a comparison, a store or an exit
 abbrev pub Reads : Inst → Form → ℕ → Type 0
-Reads i (Arithmetic Move w s) r = IsSecond i s r
-Reads i (Arithmetic Negate w s) r = r ≡ i.dst
+Reads i (Arithmetic Mov w s) r = IsSecond i s r
+Reads i (Arithmetic Neg w s) r = r ≡ i.dst
 Reads i (Arithmetic SwapBytes w s) r = r ≡ i.dst
 Reads i (Arithmetic op w s) r = IsOperand i s r
 Reads i (Branch c w s) r = IsOperand i s r
@@ -86,21 +86,21 @@ StoresRegister form = ⊥
 
 -- ADD and SUB of 64 bits with an immediate
 abbrev pub MovesPointer : Form → Type 0
-MovesPointer (Arithmetic Sum Full Immediate) = ⊤
-MovesPointer (Arithmetic Difference Full Immediate) = ⊤
+MovesPointer (Arithmetic Add Bits64 Immediate) = ⊤
+MovesPointer (Arithmetic Sub Bits64 Immediate) = ⊤
 MovesPointer form = ⊥
 
--- arithmetic that takes numbers alone: not a MOV of an immediate or a plain one of 64 bits, and no ADD or SUB of
--- 64 bits with an immediate
+-- arithmetic that takes numbers only: all but a MOV of an immediate, a plain MOV of 64 bits, and ADD and SUB of 64 bits with an
+-- immediate
 abbrev pub TakesNumbers : Inst → Form → Type 0
-TakesNumbers i (Arithmetic Sum Full Immediate) = ⊥
-TakesNumbers i (Arithmetic Difference Full Immediate) = ⊥
-TakesNumbers i (Arithmetic Move w Immediate) = ⊥
-TakesNumbers i (Arithmetic Move Full Register) = ¬ (i.offset ≡ pos 0)
+TakesNumbers i (Arithmetic Add Bits64 Immediate) = ⊥
+TakesNumbers i (Arithmetic Sub Bits64 Immediate) = ⊥
+TakesNumbers i (Arithmetic Mov w Immediate) = ⊥
+TakesNumbers i (Arithmetic Mov Bits64 Register) = ¬ (i.offset ≡ pos 0)
 TakesNumbers i (Arithmetic op w s) = ⊤
 TakesNumbers i form = ⊥
 
--- a call, with what holds of its helper, if there is one
+-- a call, and P holds of its helper, if there is one
 abbrev pub CallsBy : Inst → Form → (Option Helper → Type 0) → Type 0
 CallsBy i Call P = P (helper_of i.imm)
 CallsBy i form P = ⊥
@@ -128,7 +128,7 @@ UsesCounter (Some PointRecord) = ⊥
 UsesCounter (Some PriceOf) = ⊥
 UsesCounter None = ⊥
 
--- what stands at a unit where an instruction has the flaw
+-- the instruction can have the flaw
 abbrev pub MayHave : ℕ → ℕ → Inst → Form → Flaw → Type 0
 MayHave count pc i form FallsOff = FallsOffEnd count pc form
 MayHave count pc i form WriteR10 = WritesR10 i form
@@ -143,7 +143,7 @@ MayHave count pc i form NoSuchHelper = CallsBy i form NoHelper
 MayHave count pc i form (BadArgument n) = CallsBy i form (HasArgument n)
 MayHave count pc i form UndeclaredCounter = CallsBy i form UsesCounter
 
--- the bytes are units, no jump is at fault, and at the unit that the fault names an instruction begins that can have it
+-- the bytes are units, no jump is at fault, and the fault names a unit where an instruction begins that can have it
 pub record IsTypeShown (bytes : List ℕ) (fault : TypeFault) : Type 0 where
   pub code : List ProgramUnit
   pub reads : units bytes ≡ Some code
@@ -157,7 +157,7 @@ pub record IsTypeShown (bytes : List ℕ) (fault : TypeFault) : Type 0 where
   pub shows : MayHave (length code) pc unit form flaw
   pub fault_is : fault ≡ located pc flaw
 
--- what a fault of decoding says of the bytes; want of memory is a refusal of its own, never told as such a fault
+-- what a fault of decoding says of the bytes; out of memory is a refusal of its own, never such a fault
 abbrev pub IsDecodeRefused : List ℕ → DecodeFault → Type 0
 IsDecodeRefused bytes NoMemoryToDecode = ⊥
 IsDecodeRefused bytes fault = IsRefusedFor bytes fault
@@ -175,7 +175,7 @@ IsRefused p OutOfMemory = ⊤
 
 -- ---- which refusal it is
 
--- the first of two
+-- the first of two refusals, if there is one, else the second
 abbrev pub or_refused : Option Refusal → Option Refusal → Option Refusal
 or_refused None b = b
 or_refused (Some refusal) b = Some refusal
@@ -195,26 +195,26 @@ abbrev pub type_refusal : Option TypeFault → Option Refusal
 type_refusal None = None
 type_refusal (Some fault) = Some (TypeRefusal fault)
 
-abbrev pub code_refusal : Terms → Option (List ProgramUnit) → Option Refusal
+abbrev pub code_refusal : LoadOptions → Option (List ProgramUnit) → Option Refusal
 code_refusal terms None = None
 code_refusal terms (Some us) = or_refused (flow_refusal (flow_fault us)) (type_refusal (first_flaw us terms))
 
--- the first fault of decoding, else of the jumps, else of the types; None where the bytes are a program
+-- the first fault: of decoding, else of the jumps, else of the types; None where the bytes are a program
 unfoldable pub refusal_of : ProgramText → Option Refusal
 refusal_of p = or_refused (decode_refusal p.bytes) (code_refusal (terms_of p) (units p.bytes))
 
--- the refusal is this one, or memory was wanting
+-- the refusal is the expected one, or out of memory
 abbrev pub IsRefusal : Option Refusal → Refusal → Type 0
 IsRefusal wanted OutOfMemory = ⊤
 IsRefusal wanted (Decode fault) = wanted ≡ Some (Decode fault)
 IsRefusal wanted (Flow fault) = wanted ≡ Some (Flow fault)
 IsRefusal wanted (TypeRefusal fault) = wanted ≡ Some (TypeRefusal fault)
 
--- the answer to bytes, a mask and a layout: the program where nothing is wrong, else the refusal; or memory was wanting
+-- the answer for bytes, a mask and a layout: the program where nothing is wrong, else its refusal; or out of memory
 abbrev pub IsVerdict : ProgramText → Result ProgramText Refusal → Type 0
 IsVerdict asked (Ok p) = (p ≡ asked) × (refusal_of asked ≡ None)
 IsVerdict asked (Err refusal) = IsRefusal (refusal_of asked) refusal
 
--- two answers to the same bytes, mask and layout are the same, unless memory was wanting
+-- two answers to the same bytes, mask and layout are the same, unless one of them is out of memory
 abbrev pub OneAnswer : Type 0
 OneAnswer = (asked : ProgramText) (a b : Result ProgramText Refusal) → IsVerdict asked a → IsVerdict asked b → a ≢ Err OutOfMemory → b ≢ Err OutOfMemory → a ≡ b

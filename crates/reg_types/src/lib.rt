@@ -1,9 +1,9 @@
-// The verifier: types of registers, facts, and programs that never get stuck.
+// The verifier: register types, facts (abstract states), and programs whose runs never get stuck.
 #![tactic(auto)]
 
-mod notes;
 mod refusal;
 mod rules;
+mod spills;
 mod table;
 mod types;
 mod verifier;

@@ -8,8 +8,8 @@ use bpf_decode::DecodeFault;
 use flow_check::FlowFault;
 use thiserror::Error;
 
-/// What is wrong with an instruction under what is known before it: the unit that it begins at, and the register or
-/// the argument (1 or 2) where there is one. The words leave the unit to be told.
+/// What is wrong with an instruction under the fact before it. Each case holds the unit at which the instruction
+/// begins, and the register or the argument (1 or 2) where there is one. The messages leave out the unit.
 #[derive(Clone, Copy, Debug, PartialEq, Eq, Error)]
 pub enum TypeFault {
     #[error("the program runs past its last unit")]
@@ -38,7 +38,7 @@ pub enum TypeFault {
     UndeclaredCounter(u32),
 }
 
-/// Why bytes are no program.
+/// Why bytes are refused: for a fault of decoding, of a jump or of a type, or because memory ran out.
 #[derive(Clone, Copy, Debug, PartialEq, Eq, Error)]
 pub enum Refusal {
     #[error("{0}")]
@@ -95,7 +95,8 @@ fn show_type(fault: TypeFault) -> (u32, Option<u32>, Option<u32>)
 }
 
 impl Refusal {
-    /// The number of the V fault, its unit, and its register or argument; none for want of memory.
+    /// Returns the number of the V fault, its unit, and its register or argument, as far as it has them; `None` for out
+    /// of memory.
     pub fn shown(self) -> Option<(u32, Option<u32>, Option<u32>)>
         ensures { result ≡ shown_by self }
     {
@@ -109,7 +110,7 @@ impl Refusal {
 }
 
 impl Flaw {
-    /// The flaw of the instruction at a unit.
+    /// Returns the fault that this flaw is when the instruction at unit `pc` has it.
     pub fn at(self, pc: u32) -> TypeFault
         ensures { result ≡ located pc self }
     {

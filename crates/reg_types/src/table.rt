@@ -1,4 +1,4 @@
-// The facts that the pass stores, each found by its unit at once.
+// The facts that the pass stores, each found by its unit without a search.
 
 ghost use Rattle.std.specs.Prelude.{◌≡◌, ℕ, ◌≤◌, ◌+◌, ◌∷◌, [], IfOk, IfSome, OnOk, IsTrue};
 ghost use Rattle.std.specs.Prelude.{false, Some, None, replicate};
@@ -8,31 +8,31 @@ ghost use Rattle.reg_types.specs.Inference.{arrived};
 ghost use Rattle.reg_types.specs.Passing.{AreSame, IsJoined, fact_if};
 ghost use Rattle.bpf_model.specs.declared.limits.TheConstants.{UNITS};
 
-use crate::types::{Fact, Stored};
+use crate::types::{Fact, StoredFact};
 use std::alloc::{AllocError, Global};
 use std::marker::Model;
 
-/// Facts of some of the units 0 to 512, one each.
+/// Facts of some of the units 0 to 512, one for each of them.
 #[derive(Drop)]
 pub struct Table {
-    facts: Vec<Stored>,
-    // One more than the place of the unit's fact, or 0 where none is stored.
+    facts: Vec<StoredFact>,
+    // For each unit, one more than the index of its fact in `facts`, or 0 where none is stored.
     places: [usize; 513],
 }
 
 impl Model for Table {
     ghost use Rattle.std.specs.Prelude.{List};
-    ghost use Rattle.reg_types.specs.declared.types.Stored.{Stored};
+    ghost use Rattle.reg_types.specs.declared.types.StoredFact.{StoredFact};
     ghost use Rattle.reg_types.specs.Facts.{IsIndexed};
 
-    ghost Value = { List Stored };
+    ghost Value = { List StoredFact };
 
     ghost view = { λ t. t.facts.items };
 
     ghost invariant = { λ t. IsIndexed t.facts.items t.places };
 }
 
-// The first unit's fact stands first, and the others have none.
+// Returns the places of a table that stores a fact for the first unit only.
 fn first_alone() -> [usize; 513]
     ensures { result ≡ slice_set (replicate (UNITS + 1) 0) 0 1 }
 {
@@ -42,12 +42,12 @@ fn first_alone() -> [usize; 513]
 }
 
 impl Table {
-    /// The fact of the first unit alone.
+    /// Makes a table that stores this fact for the first unit, and no other. `Err` is out of memory.
     pub fn new(alloc: Global, fact: &Fact) -> Result<Table, AllocError>
         ensures { IfOk result (λ table. table ≡ record { at = 0; fact = fact.now } ∷ []) }
     {
         let mut facts = Vec::new(alloc);
-        facts.push(Stored { at: 0, fact: *fact })?;
+        facts.push(StoredFact { at: 0, fact: *fact })?;
         Ok(Table {
             facts,
             places: first_alone(),
@@ -65,7 +65,7 @@ impl Table {
         }
     }
 
-    /// The stored fact of a unit, if it has one, becomes what is known here.
+    /// Copies the stored fact of a unit, if it has one, to `fact`. Returns whether it has one.
     pub fn read_at(&self, at: u32, fact: &mut Fact) -> bool
         requires { at ≤ UNITS }
         ensures { fact_if result fact.new ≡ stored self.now at }
@@ -79,7 +79,8 @@ impl Table {
         }
     }
 
-    /// The stored fact of a unit, if it has one, and what is known where the unit is entered become what both say.
+    /// Joins the stored fact of a unit, if it has one, with `fact`: both become the join. Returns whether it has one;
+    /// if not, nothing changes.
     pub fn join_at(&mut self, at: u32, fact: &mut Fact) -> bool
         requires { at ≤ UNITS }
         ensures joined { IsTrue result → IsJoined at fact.old (stored self.old) (stored self.new) }
@@ -98,12 +99,13 @@ impl Table {
         requires new { stored self.old at ≡ None }
         ensures { OnOk result ((q : ℕ) → AreSame (stored self.new q) (arrived q fact.now at (stored self.old q))) }
     {
-        self.facts.push(Stored { at, fact: *fact })?;
+        self.facts.push(StoredFact { at, fact: *fact })?;
         self.places[at as usize] = self.facts.len();
         Ok(())
     }
 
-    /// A jump's target takes in what is known where it is entered.
+    /// Takes in the fact with which a jump comes to its target: joins it with the stored one, or stores it where there
+    /// is none. `Err` is out of memory.
     pub fn enter(&mut self, at: u32, fact: &Fact) -> Result<(), AllocError>
         requires { at ≤ UNITS }
         ensures { OnOk result ((q : ℕ) → AreSame (stored self.new q) (arrived q fact.now at (stored self.old q))) }
@@ -116,8 +118,8 @@ impl Table {
         Ok(())
     }
 
-    /// The facts, in the order in which their units were entered.
-    pub fn into_facts(self) -> Vec<Stored>
+    /// Returns the facts, in the order in which their units were entered.
+    pub fn into_facts(self) -> Vec<StoredFact>
         ensures same { result.items ≡ self }
         ensures distinct { AreDistinct result.items }
     {

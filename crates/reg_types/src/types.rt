@@ -1,20 +1,20 @@
-// What is known before an instruction.
+// The verifier's types: what is known before an instruction, and what an instruction does to it.
 
 ghost use Rattle.std.specs.Prelude.{◌≡◌, ℕ, ◌↔◌, ◌≤◌, ◌+◌};
 ghost use Rattle.stack_map.specs.Places.{Has};
-ghost use Rattle.reg_types.specs.Rules.{type_at, is_unset, is_pointer, is_numeric, join_type, note_of as note_by};
+ghost use Rattle.reg_types.specs.Rules.{type_at, is_unset, is_pointer, is_numeric, join_type, spill_of as spill_by};
 ghost use Rattle.reg_types.specs.Effects.{effect_of};
 ghost use Rattle.reg_types.specs.Facts.{HasAfter, IsAfter, IsEntry, jump_of, next_of};
-ghost use Rattle.reg_types.specs.Inference.{join_fact, renoted};
+ghost use Rattle.reg_types.specs.Inference.{join_fact, respilled};
 ghost use Rattle.reg_types.specs.Passing.{IsSame};
 ghost use Rattle.bpf_model.specs.declared.limits.TheConstants.{STACK_BYTES};
 
-use crate::notes::{join_notes, note_of, put_note};
+use crate::spills::{join_spills, put_spill, spill_of};
 use bpf_model::context::Layout;
 use stack_map::StackMap;
 
-/// What is known of a register: nothing, that it holds a number or which one, or where it points: so many bytes from
-/// the context's first byte, 0 to 80, or from the stack's end, -512 to 0.
+/// What is known of a register: nothing (`Unset`), that it holds a number (`Num`), which number (`Const`), or where it
+/// points. `Ctx` counts bytes from the context's first byte, 0 to 80, and `Stk` from the stack's end, -512 to 0.
 #[derive(Clone, Copy, PartialEq, Eq)]
 pub enum RegType {
     Unset,
@@ -24,47 +24,49 @@ pub enum RegType {
     Stk(i32),
 }
 
-/// What a program is loaded on: the counters that it declares, as a mask, and the layout of its contexts.
+/// What a program is loaded with: the counters that it declares, as a mask, and the layout of its contexts.
 #[derive(Clone, Copy)]
-pub struct Terms {
+pub struct LoadOptions {
     pub mask: u32,
     pub layout: Layout,
 }
 
-/// What is known before an instruction: the types of registers 0 to 10, which bytes of the stack are set, and for each
-/// of the stack's 64 aligned places of eight bytes, from the lowest on, a note of the pointer that is kept there: 0 for
-/// none, 1 to 81 for `Ctx(0)` to `Ctx(80)`, and 82 to 594 for `Stk(-512)` to `Stk(0)`, for both layouts alike.
+/// The abstract state before an instruction: the types of registers 0 to 10, which bytes of the stack are set, and the
+/// spills: for each of the stack's 64 aligned places of eight bytes, from the lowest on, the pointer that is spilled
+/// there. 0 is none, 1 to 81 are `Ctx(0)` to `Ctx(80)`, and 82 to 594 are `Stk(-512)` to `Stk(0)`, for both layouts
+/// alike.
 #[derive(Clone, Copy)]
 pub struct Fact {
     pub types: [RegType; 11],
     pub stack: StackMap,
-    pub notes: [u16; 64],
+    pub spills: [u16; 64],
 }
 
-/// What is known before the unit `at`.
+/// A fact that is stored: what is known before the unit `at`.
 #[derive(Clone, Copy)]
-pub struct Stored {
+pub struct StoredFact {
     pub at: u32,
     pub fact: Fact,
 }
 
-/// The fact that is carried from an instruction to the next, and the unit that it comes to, if it comes to one.
+/// The fact that is carried from an instruction to the next one, and the unit where that begins. `at` is `None` where
+/// the instruction doesn't go on to the next one.
 #[derive(Clone, Copy)]
-pub struct Running {
+pub struct CarriedFact {
     pub at: Option<u32>,
     pub fact: Fact,
 }
 
-/// The bytes of the stack that an instruction writes, `len` of them from `at` on, with the type of the pointer that it
-/// keeps there, or `Unset` where it sets them.
+/// The bytes of the stack that an instruction writes: `len` of them from `at` on. `kept` is the type of the pointer
+/// that it spills there, or `Unset` where it sets the bytes.
 #[derive(Clone, Copy)]
-pub struct Mark {
+pub struct StackWrite {
     pub at: u32,
     pub len: u32,
     pub kept: RegType,
 }
 
-/// What is wrong with an instruction under a fact.
+/// What is wrong with an instruction under a fact: a `TypeFault` without its unit.
 #[derive(Clone, Copy)]
 pub enum Flaw {
     FallsOff,
@@ -81,7 +83,8 @@ pub enum Flaw {
     UndeclaredCounter,
 }
 
-/// Where an instruction can lead to: nowhere, to the next one, by a jump, or to either, the jump's target first.
+/// Where an instruction can lead to: nowhere, to the next instruction, by a jump, or to either, the jump's target
+/// first.
 #[derive(Clone, Copy)]
 pub enum Successors {
     End,
@@ -91,7 +94,7 @@ pub enum Successors {
 }
 
 impl Successors {
-    /// Where the jump goes, if there is one.
+    /// Returns the unit that the jump goes to, if there is a jump.
     pub fn jump(self) -> Option<u32>
         ensures { result ≡ jump_of self }
     {
@@ -101,7 +104,7 @@ impl Successors {
         }
     }
 
-    /// The next instruction, if it is led to.
+    /// Returns the unit of the next instruction, if this one can go on to it.
     pub fn next(self) -> Option<u32>
         ensures { result ≡ next_of self }
     {
@@ -113,25 +116,28 @@ impl Successors {
 }
 
 impl RegType {
+    /// Returns whether nothing is known of the register.
     pub fn is_nothing(self) -> bool
         ensures { result ≡ is_unset self }
     {
         matches!(self, RegType::Unset)
     }
 
+    /// Returns whether the register holds a pointer.
     pub fn points(self) -> bool
         ensures { result ≡ is_pointer self }
     {
         matches!(self, RegType::Ctx(_) | RegType::Stk(_))
     }
 
+    /// Returns whether the register holds a number, known or not.
     pub fn counts(self) -> bool
         ensures { result ≡ is_numeric self }
     {
         matches!(self, RegType::Num | RegType::Const(_))
     }
 
-    /// Both become the least type above both. They are written only where they change.
+    /// Joins two types: both become the least type above both. They are written only where they change.
     #[inline(always)]
     pub fn join(&mut self, other: &mut RegType)
         ensures joined { self.new ≡ join_type self.old other.old }
@@ -152,7 +158,7 @@ impl RegType {
 }
 
 impl Fact {
-    /// What is known on entry.
+    /// Returns the fact on entry: R1 points to the context, R10 to the stack's end, and nothing is known of the stack.
     pub fn entry() -> Fact
         ensures { IsEntry result }
     {
@@ -162,27 +168,28 @@ impl Fact {
         Fact {
             types,
             stack: StackMap::empty(),
-            notes: [0; 64],
+            spills: [0; 64],
         }
     }
 
-    /// Both become what both say.
+    /// Joins two facts: both become what both say.
     pub fn join(&mut self, other: &mut Fact)
         ensures joined { IsSame self.new (join_fact self.old other.old) }
         ensures both { other.new ≡ self.new }
     {
         self.stack.meet(&other.stack);
-        join_notes(&mut self.notes, &other.notes);
+        join_spills(&mut self.spills, &other.spills);
         for r in 0..11 {
             self.types[r].join(&mut other.types[r]);
         }
-        // Copied last, since a processor waits where it reads widely what it has just written word by word.
+        // Copied last, since a processor stalls where it reads in wide words what it has just written in narrow ones.
         other.stack = self.stack;
-        other.notes = self.notes;
+        other.spills = self.spills;
     }
 
-    /// Becomes what is known after an instruction that writes these bytes, and has left these types.
-    pub fn apply(&mut self, mark: Mark)
+    /// Becomes the fact after an instruction that makes this write to the stack. The types stay: they are already those
+    /// after the instruction.
+    pub fn apply(&mut self, mark: StackWrite)
         requires { mark.at + mark.len ≤ STACK_BYTES }
         ensures { IsAfter self.old (effect_of self.old.types mark) self.new }
     {
@@ -191,19 +198,19 @@ impl Fact {
         }
     }
 
-    // The bytes that an instruction writes.
-    fn write(&mut self, mark: Mark)
+    // Takes in the bytes that an instruction writes: a number's become set, and a pointer's become a spill.
+    fn write(&mut self, mark: StackWrite)
         requires { mark.at + mark.len ≤ STACK_BYTES }
         ensures types { self.new.types ≡ self.old.types }
         ensures places { (p : ℕ)
             → Has self.new.stack p ↔ HasAfter (is_unset mark.kept) self.old.stack mark.at mark.len p }
-        ensures notes { self.new.notes ≡ renoted (note_by mark.kept) mark.at mark.len 0 self.old.notes }
+        ensures spills { self.new.spills ≡ respilled (spill_by mark.kept) mark.at mark.len 0 self.old.spills }
     {
         if mark.kept.is_nothing() {
             self.stack.mark(mark.at, mark.len);
         } else {
             self.stack.clear(mark.at, mark.len);
         }
-        put_note(&mut self.notes, note_of(mark.kept), mark.at, mark.len);
+        put_spill(&mut self.spills, spill_of(mark.kept), mark.at, mark.len);
     }
 }

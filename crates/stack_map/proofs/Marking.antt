@@ -1,4 +1,4 @@
--- Which places the words of a set stand for, and what masks do to them.
+-- Which places the words of a set mean, and what masks do to them.
 use Rattle.std.proofs.Common.{◌≡◌, ◌≢◌, ℕ, zero, suc, ◌+◌, ◌-◌, ◌*◌, ◌/◌, ◌%◌, ◌^◌, ◌<◌, ◌≤◌, ◌⊎◌, ◌↔◌, List, [], ◌∷◌, ◌++◌, Bool, true, false, refl, sym, ap}
 use Rattle.std.proofs.Common.{◌∙◌, subst, inl, inr, arith, length, replicate, bit_and, bit_or, min, max}
 use Rattle.std.specs.Prelude.{◌==◌, slice_index_or, slice_set}
@@ -73,14 +73,14 @@ mask_low lo hi i l below =
 mask_high : (lo hi i : ℕ) → lo ≤ hi → hi ≤ i → bit_at (2 ^ hi - 2 ^ lo) i ≡ 0
 mask_high lo hi i l above = let some = pow_pos lo in let most = power_le lo hi l in bit_at_above (2 ^ hi - 2 ^ lo) hi i (omega (arith, some, most)) above
 
--- the lowest bits without lower ones
+-- the bits from lo up to hi are the lowest hi bits without the lowest lo
 pub mask_of_low : (lo hi low high : ℕ) → lo ≤ hi → high ≡ 2 ^ hi - 1 → low ≡ 2 ^ lo - 1 → (low ≤ high) × (high - low ≡ 2 ^ hi - 2 ^ lo)
 mask_of_low lo hi low high l h e = let some = pow_pos lo in let most = power_le lo hi l in (omega (arith, h, e, some, most), omega (arith, h, e, some, most))
 
 never_one : (n : ℕ) → n ≡ 0 → n ≡ 1 → ⊥
 never_one n z e = cc
 
--- the bits from lo up to hi
+-- exactly the bits from lo up to hi are 1
 pub mask_is : (lo hi i : ℕ) → lo ≤ hi → (bit_at (2 ^ hi - 2 ^ lo) i ≡ 1) ↔ ((lo ≤ i) × (i < hi))
 mask_is lo hi i l =
     let low : bit_at (2 ^ hi - 2 ^ lo) i ≡ 1 → lo ≤ i = λ e. elim (cases_lt i lo) [ inl b ↦ absurd (never_one _ (mask_low lo hi i l b) e) | inr b ↦ b ] in
@@ -102,7 +102,7 @@ zero_word zero k = refl
 zero_word (suc n) zero = refl
 zero_word (suc n) (suc k) = zero_word n k
 
--- words without a bit stand for no place
+-- words whose bits are all 0 have no place
 pub no_place : (n p : ℕ) → Has (places_of (no_words n)) p → ⊥
 no_place n p h = never_one _ (ap (λ word. bit_at word (p % 64)) (zero_word n (p / 64)) ∙ bit_at-zero (p % 64)) ((marked_is (no_words n) p).0 h)
 
@@ -160,7 +160,7 @@ at_word words p k here =
     ap (λ j. bit_at (slice_index_or words j 0) (p % 64)) here in
     (λ e. sym same ∙ e, λ e. same ∙ e)
 
--- the places of word k in a run
+-- the mask has the bits of word k whose places are among `len` places from `at` on
 abbrev pub IsMask : ℕ → ℕ → ℕ → ℕ → Type 0
 IsMask mask k at len = (i : ℕ) → i < 64 → (bit_at mask i ≡ 1) ↔ Within at len (64 * k + i)
 
@@ -170,7 +170,7 @@ mask_at mask k at len p is here =
     let from : 64 * k + p % 64 ≡ p = omega (arith, here) in
     (λ e. subst (Within at len) from (it.0 e), λ w. it.1 (subst (Within at len) (sym from) w))
 
--- the run's places are taken in word by word
+-- the places are added word by word: those in the words before k are in the set
 abbrev pub IsTaken : List ℕ → List Bool → ℕ → ℕ → ℕ → Type 0
 IsTaken words old at len k = (p : ℕ) → IsMarked words p ↔ (Has old p ⊎ (Within at len p × (p < 64 * k)))
 
@@ -210,7 +210,7 @@ taken_all words old at len k l taken p =
       λ h. is.1 ((taken p).1 (elim h [ inl o ↦ inl o | inr w ↦ inr (w, let b = w.1 in omega (arith, b, l)) ])),
     )
 
--- ---- the places of a run are taken out, word by word
+-- ---- places are removed, word by word
 
 none_left : (b : ℕ) → b < 2 → (1 - b ≡ 1) ↔ ¬ (b ≡ 1)
 none_left b l = (λ e h. omega (arith, e, h), λ h. elim (cases_eq b 1) [ inl e ↦ absurd (h e) | inr n ↦ omega (arith, l, n) ])
@@ -222,7 +222,7 @@ without_is a mask i small l =
     let none = none_left (bit_at mask i) (bit_at-lt mask i) in
     (λ e. let h = both.0 e in (h.0, none.0 (sym other ∙ h.1)), λ h. both.1 (h.0, other ∙ none.1 h.1))
 
--- the places of the run in the words before k are gone
+-- the places are removed word by word: those in the words before k are no longer in the set
 abbrev pub IsFreed : List ℕ → List Bool → ℕ → ℕ → ℕ → Type 0
 IsFreed words old at len k = (p : ℕ) → IsMarked words p ↔ (Has old p × (Within at len p → 64 * k ≤ p))
 
@@ -307,9 +307,9 @@ met_all words old other others k many l e met p =
       λ h. is.1 ((met p).1 (h.0, λ b. there.0 (subst (λ set. Has set p) (sym e) h.1))),
     )
 
--- ---- whether a run is in the set
+-- ---- whether `len` places from `at` on are in the set
 
--- the places of the run in the words before k are in the set
+-- the places from `at` on that are in the words before k are in the set
 abbrev pub IsHeld : List ℕ → ℕ → ℕ → ℕ → Type 0
 IsHeld words at len k = (p : ℕ) → Within at len p → p < 64 * k → IsMarked words p
 
@@ -321,7 +321,7 @@ held_more words at len k mask is all held p w l = elim (cases_eq (p / 64) k) [
   | inr other ↦ held p w (omega (arith, l, other))
 ]
 
--- a mask whose places are all in the set is left as it is
+-- if all places are in the set, so are those of a word's mask
 pub not_held : (words : List ℕ) (at len k mask : ℕ) → k < 8 → mask < 2 ^ 64 → IsMask mask k at len → ((p : ℕ) → Within at len p → Has (places_of words) p)
     → bit_and (slice_index_or words k 0) mask ≡ mask
 not_held words at len k mask small below is all =

@@ -1,6 +1,6 @@
 use Rattle.std.proofs.Common.{◌≡◌, ◌∙◌, sym, ap, subst, length}
 use Rattle.bpf_model.specs.Layouts.{context_len, bytes_of}
-use Rattle.reg_types.specs.Terms.{terms_of}
+use Rattle.reg_types.specs.LoadOptions.{terms_of}
 use Rattle.bpf_model.specs.Program.{outcome}
 use Rattle.bpf_model.specs.Machine.{counter}
 use Rattle.counters.specs.Changes.{adopted}

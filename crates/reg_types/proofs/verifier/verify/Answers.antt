@@ -1,6 +1,6 @@
 use Rattle.std.proofs.Common.{◌≡◌, sym, subst, ◌∙◌, Some, None, ap}
 use Rattle.bpf_model.specs.Reading.{units}
-use Rattle.reg_types.specs.Terms.{terms_of}
+use Rattle.reg_types.specs.LoadOptions.{terms_of}
 use Rattle.bpf_model.specs.Program.{as_loaded}
 use Rattle.operations.specs.Operations.{AreOperations}
 use Rattle.reg_types.specs.Facts.{stored}

@@ -1,6 +1,6 @@
 // Writes crates/bpf_model/proofs/Edges.antt: what each operator and condition gives at edge values, by the C compiler.
 // Independent of the definitions in crates/bpf_model/specs: plain C on fixed width integers.
-//     gcc -O0 -o /tmp/edges docs/edges.c && /tmp/edges > crates/bpf_model/proofs/Edges.antt
+//     gcc -O0 -o /tmp/edges tools/edges.c && /tmp/edges > crates/bpf_model/proofs/Edges.antt
 #include <inttypes.h>
 #include <stdio.h>
 
@@ -95,30 +95,30 @@ static u64 swap(int kind, int bits, u64 a) {
 }
 
 static const char *ops[][3] = {
-    {"sum", "Sum", "0"}, {"difference", "Difference", "0"}, {"product", "Product", "0"}, {"quotient", "Quotient", "0"},
-    {"signed_quotient", "Quotient", "1"}, {"or", "Or", "0"}, {"and", "And", "0"}, {"shift_left", "ShiftLeft", "0"},
-    {"shift_right", "ShiftRight", "0"}, {"negate", "Negate", "0"}, {"remainder", "Remainder", "0"},
-    {"signed_remainder", "Remainder", "1"}, {"xor", "Xor", "0"}, {"move", "Move", "0"}, {"move_byte", "Move", "8"},
-    {"move_half", "Move", "16"}, {"move_word", "Move", "32"}, {"shift_signed", "ShiftSigned", "0"}
+    {"sum", "Add", "0"}, {"difference", "Sub", "0"}, {"product", "Mul", "0"}, {"quotient", "Div", "0"},
+    {"signed_quotient", "Div", "1"}, {"or", "Or", "0"}, {"and", "And", "0"}, {"shift_left", "Lsh", "0"},
+    {"shift_right", "Rsh", "0"}, {"negate", "Neg", "0"}, {"remainder", "Mod", "0"},
+    {"signed_remainder", "Mod", "1"}, {"xor", "Xor", "0"}, {"move", "Mov", "0"}, {"move_byte", "Mov", "8"},
+    {"move_half", "Mov", "16"}, {"move_word", "Mov", "32"}, {"shift_signed", "Arsh", "0"}
 };
 static const char *conditions[][2] = {
-    {"equal", "Equal"}, {"over", "Over"}, {"not_below", "NotBelow"}, {"shares_bit", "SharesBit"}, {"differs", "Differs"},
-    {"over_signed", "OverSigned"}, {"not_below_signed", "NotBelowSigned"}, {"below", "Below"}, {"not_over", "NotOver"},
-    {"below_signed", "BelowSigned"}, {"not_over_signed", "NotOverSigned"}
+    {"equal", "Jeq"}, {"over", "Jgt"}, {"not_below", "Jge"}, {"shares_bit", "Jset"}, {"differs", "Jne"},
+    {"over_signed", "Jsgt"}, {"not_below_signed", "Jsge"}, {"below", "Jlt"}, {"not_over", "Jle"},
+    {"below_signed", "Jslt"}, {"not_over_signed", "Jsle"}
 };
-static const char *widths[] = {"Narrow", "Full"};
+static const char *widths[] = {"Bits32", "Bits64"};
 static const char *names[] = {"narrow", "full"};
 
 int main(void) {
-    puts("-- Closed examples: each operator and condition at edge values. The expected values are C's: docs/edges.c wrote this file.");
+    puts("-- Closed examples: each operator and condition at edge values. The expected values are C's: tools/edges.c wrote this file.");
     puts("use Rattle.std.specs.Prelude.{◌≡◌, refl, ℕ, ℤ, pos, Bool, true, false, List, [], ◌∷◌, map}");
     puts("use Rattle.bpf_model.specs.declared.instruction.Width.{Width}");
-    puts("use Rattle.bpf_model.specs.declared.instruction.Width.TheVariants.{Narrow, Full}");
+    puts("use Rattle.bpf_model.specs.declared.instruction.Width.TheVariants.{Bits32, Bits64}");
     puts("use Rattle.bpf_model.specs.declared.instruction.Source.TheVariants.{Immediate, Register}");
     puts("use Rattle.bpf_model.specs.declared.instruction.Operator.{Operator}");
-    puts("use Rattle.bpf_model.specs.declared.instruction.Operator.TheVariants.{Sum, Difference, Product, Quotient, Or, And, ShiftLeft, ShiftRight, Negate, Remainder, Xor, Move, ShiftSigned}");
+    puts("use Rattle.bpf_model.specs.declared.instruction.Operator.TheVariants.{Add, Sub, Mul, Div, Or, And, Lsh, Rsh, Neg, Mod, Xor, Mov, Arsh}");
     puts("use Rattle.bpf_model.specs.declared.instruction.Condition.{Condition}");
-    puts("use Rattle.bpf_model.specs.declared.instruction.Condition.TheVariants.{Equal, Over, NotBelow, SharesBit, Differs, OverSigned, NotBelowSigned, Below, NotOver, BelowSigned, NotOverSigned}");
+    puts("use Rattle.bpf_model.specs.declared.instruction.Condition.TheVariants.{Jeq, Jgt, Jge, Jset, Jne, Jsgt, Jsge, Jlt, Jle, Jslt, Jsle}");
     puts("use Rattle.bpf_model.specs.Arithmetic.{alu, holds, swapped}\n");
     printf("-- the operands, dst first\nabbrev pairs : List (ℕ × ℕ)\npairs =\n    ");
     for (int i = 0; i < COUNT; i++) printf("(%" PRIu64 ", %" PRIu64 ") ∷ ", pairs[i][0], pairs[i][1]);
@@ -138,7 +138,7 @@ int main(void) {
             for (int i = 0; i < COUNT; i++) printf("%s ∷ ", (w ? holds_full : holds_narrow)(c, pairs[i][0], pairs[i][1]) ? "true" : "false");
             printf("[]\njumps_where_%s_%s = refl\n", conditions[c][0], names[w]);
         }
-    static const char *kinds[][2] = {{"kept", "Narrow Immediate"}, {"big_endian", "Narrow Register"}, {"swap", "Full Immediate"}};
+    static const char *kinds[][2] = {{"kept", "Bits32 Immediate"}, {"big_endian", "Bits32 Register"}, {"swap", "Bits64 Immediate"}};
     for (int k = 0; k < 3; k++)
         for (int bits = 16; bits <= 64; bits *= 2) {
             printf("\n%s_%d : map (λ p. swapped %s %d p.1) pairs ≡ ", kinds[k][0], bits, kinds[k][1], bits);

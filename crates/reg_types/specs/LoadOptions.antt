@@ -1,0 +1,12 @@
+-- Definitions: what a program is loaded with (this profile).
+use Rattle.std.specs.Prelude.{ℕ, List}
+use Rattle.bpf_model.specs.Program.{ProgramText}
+use Rattle.reg_types.specs.declared.types.LoadOptions.{LoadOptions}
+
+-- the load options of a program: the counters that it declares, and the layout of its contexts
+abbrev pub terms_of : ProgramText → LoadOptions
+terms_of p = record { mask = p.declared; layout = p.layout }
+
+-- the program of these bytes, loaded with these options
+abbrev pub loaded_on : List ℕ → LoadOptions → ProgramText
+loaded_on bytes terms = record { bytes = bytes; declared = terms.mask; layout = terms.layout }

@@ -1,0 +1,62 @@
+// Pointers that are spilled to the stack: a number for each aligned place of eight bytes.
+
+ghost use Rattle.std.specs.Prelude.{◌≡◌, ◌==◌, if◌then◌else◌, ◌≤◌, ◌+◌};
+ghost use Rattle.reg_types.specs.Rules.{spill_of as spill_by, spilled_type as spilled_by};
+ghost use Rattle.reg_types.specs.Inference.{join_spills as joined, respilled};
+ghost use Rattle.bpf_model.specs.declared.limits.TheConstants.{STACK_BYTES};
+
+use crate::rules::lowest_by;
+use crate::types::RegType;
+
+/// Returns the number by which `Fact::spills` stores a pointer's type; 0 for a type that is no pointer's.
+pub fn spill_of(value: RegType) -> u16
+    ensures { result ≡ spill_by value }
+{
+    match value {
+        RegType::Ctx(k) => if k <= 80 { k as u16 + 1 } else { 0 },
+        RegType::Stk(k) => {
+            let up = lowest_by(k);
+            if up <= 512 { 82 + up as u16 } else { 0 }
+        }
+        RegType::Unset | RegType::Num | RegType::Const(_) => 0,
+    }
+}
+
+/// Returns the type of the pointer that a number of `Fact::spills` means; `Unset` for 0, where no pointer is spilled.
+pub fn spilled_type(spill: u16) -> RegType
+    ensures { result ≡ spilled_by spill }
+{
+    if spill == 0 {
+        RegType::Unset
+    } else if spill <= 81 {
+        RegType::Ctx(u32::from(spill - 1))
+    } else {
+        RegType::Stk(i32::from(spill - 82) - 512)
+    }
+}
+
+#[inline(always)]
+fn common_spill(a: u16, b: u16) -> u16
+    ensures { result ≡ (if a == b then a else 0) }
+{
+    if a == b { a } else { 0 }
+}
+
+/// Joins spills in place: a spill that both have stays, and where they differ none is left.
+pub fn join_spills(spills: &mut [u16; 64], others: &[u16; 64])
+    ensures { spills.new ≡ joined spills.old others.now }
+{
+    for k in 0..64 {
+        spills[k] = common_spill(spills[k], others[k]);
+    }
+}
+
+/// Makes `spill` the spill of each place that the `len` bytes from `at` on touch.
+pub fn put_spill(spills: &mut [u16; 64], spill: u16, at: u32, len: u32)
+    requires { at + len ≤ STACK_BYTES }
+    ensures { spills.new ≡ respilled spill at len 0 spills.old }
+{
+    for k in at / 8..(at + len).div_ceil(8) {
+        spills[k as usize] = spill;
+    }
+}
