@@ -33,7 +33,7 @@ pub told-fault : {E : Type 0} → (config : ConfigValue) (entries : List Entry) 
     → (IsHistory config entries → fault ≡ OutOfMemory) → ShowsFault config entries fault → IfOk r (λ told. IsSaid told (audit_text fault) 1)
     → IfOk r (λ told. fault ≢ OutOfMemory) → IfOk r (AuditTells config entries)
 told-fault config entries fault (Ok told) complete shows said differs =
-    inr (record { none = λ h. differs (complete h); fault = fault; shows = shows; said = said })
+    inr (record { none = λ h. differs (complete h); fault = fault; shows = shows; no_want = differs; said = said })
 told-fault config entries fault (Err e) complete shows said differs = tt
 
 -- the whole text was read
@@ -86,7 +86,11 @@ no-journal config text new fault r wants j = wants (fault_again j.entries new fa
 pub fault-told : {E : Type 0} → (config : ConfigValue) (text : List ℕ) (new : Option (List ℕ)) (fault : JournalFault) (r : Result Told E)
     → ReadsFault (Some text) new fault → (IsWant fault → ⊥) → IfOk r (λ told. IsSaid told (journal_fault_text fault) 1) → IfOk r (JournalTells config text)
 fault-told config text new fault (Ok told) reads wants said =
-    inr (record { none = no-journal config text new fault reads wants; status_is = said.status_is; of = inr (new, fault, reads, said) })
+    inr (record {
+      none = no-journal config text new fault reads wants;
+      status_is = said.status_is;
+      of = inr (record { new = new; fault = fault; reads = reads; no_want = wants; said = said });
+    })
 fault-told config text new fault (Err e) reads wants said = tt
 
 pub bad-entry : (line : ℕ) → IsWant (journal.BadEntry line) → ⊥

@@ -1,5 +1,5 @@
 -- Definitions: what the program says of an assembler text, and of a program that is to be read back (this profile).
-use Rattle.std.specs.Prelude.{◌≡◌, ◌⊎◌, ◌≤◌, ℕ, List, [], ◌++◌, length, codes, Option, Some, Result, Ok, Err}
+use Rattle.std.specs.Prelude.{◌≡◌, ◌≢◌, ◌⊎◌, ◌≤◌, ℕ, List, [], ◌++◌, length, codes, Option, Some, Result, Ok, Err}
 use Rattle.std.specs.Fmt.{decimal}
 use Rattle.bpf_model.specs.declared.instruction.Unit.{Unit as ProgramUnit}
 use Rattle.bpf_model.specs.Reading.{units}
@@ -31,9 +31,12 @@ asm_fault_text OutOfMemory = []
 abbrev pub ToldUnits : List ℕ → Told → Type 0
 ToldUnits text told = (code : List ProgramUnit) × Spells text code × IsSaid told (unit_lines (encoded code)) 0
 
--- it spells none, and its fault is printed
-abbrev pub ToldAsmFault : List ℕ → Told → Type 0
-ToldAsmFault text told = (fault : AsmFault) × IsRefused text fault × IsSaid told (asm_fault_text fault) 1
+-- it spells none, and its fault is printed, which isn't want of memory
+pub record ToldAsmFault (text : List ℕ) (told : Told) : Type 0 where
+  pub fault : AsmFault
+  pub refused : IsRefused text fault
+  pub no_want : fault ≢ OutOfMemory
+  pub said : IsSaid told (asm_fault_text fault) 1
 
 -- a text of over 65,536 bytes isn't looked at
 abbrev pub AsmTells : List ℕ → Told → Type 0

@@ -1,5 +1,5 @@
 -- Definitions: what the program says of a journal (this profile).
-use Rattle.std.specs.Prelude.{◌≡◌, ◌⊎◌, ℕ, List, [], ◌++◌, length, codes, Option, Some, None}
+use Rattle.std.specs.Prelude.{◌≡◌, ◌≢◌, ◌⊎◌, ℕ, List, [], ◌++◌, length, codes, Option, Some, None}
 use Rattle.std.specs.Fmt.{decimal}
 use Rattle.decision_journal.specs.declared.entries.Entry.{Entry}
 use Rattle.decision_journal.specs.declared.fault.JournalFault.{JournalFault}
@@ -9,7 +9,7 @@ use Rattle.till_request.specs.Answer.{answer_line}
 use Rattle.reg_types.specs.Refusals.{shown_by}
 use Rattle.site_core.specs.Limits.{ConfigValue}
 use Rattle.decision_journal.specs.Text.{journal_text}
-use Rattle.decision_journal.specs.Journal.{ReadsFault}
+use Rattle.decision_journal.specs.Journal.{IsWant, ReadsFault}
 use Rattle.site_core.specs.Histories.{IsHistory, IsJournal}
 use Rattle.site_core.specs.Audit.{ShowsFault}
 use Rattle.site_core.specs.declared.auditing.AuditFault.{AuditFault}
@@ -35,11 +35,12 @@ legal_text entries = codes "legal " ++ decimal (length entries) ++ codes "\n"
 abbrev pub ToldLegal : ConfigValue → List Entry → Told → Type 0
 ToldLegal config entries told = IsHistory config entries × IsSaid told (legal_text entries) 0
 
--- no site of it can have them, and the fault that they show is told
+-- no site of it can have them, and the fault that they show is told, which isn't want of memory
 pub record ToldFault (config : ConfigValue) (entries : List Entry) (told : Told) : Type 0 where
   pub none : ¬ IsHistory config entries
   pub fault : AuditFault
   pub shows : ShowsFault config entries fault
+  pub no_want : fault ≢ OutOfMemory
   pub said : IsSaid told (audit_text fault) 1
 
 abbrev pub AuditTells : ConfigValue → List Entry → Told → Type 0
@@ -57,11 +58,18 @@ pub record LegalTold (config : ConfigValue) (text : List ℕ) (told : Told) : Ty
   pub journal : IsJournal config text
   pub said : IsSaid told (legal_text journal.entries) 0
 
+-- the text has a fault, which is told; neither a device's nor want of memory
+pub record TextFault (text : List ℕ) (told : Told) : Type 0 where
+  pub new : Option (List ℕ)
+  pub fault : JournalFault
+  pub reads : ReadsFault (Some text) new fault
+  pub no_want : ¬ IsWant fault
+  pub said : IsSaid told (journal_fault_text fault) 1
+
 -- the fault of the entries whose journal the text is, or of the text itself
 abbrev pub FaultOf : ConfigValue → List ℕ → Told → Type 0
 FaultOf config text told =
-    ((entries : List Entry) × (text ≡ journal_text entries) × ToldFault config entries told)
-    ⊎ ((new : Option (List ℕ)) × (fault : JournalFault) × ReadsFault (Some text) new fault × IsSaid told (journal_fault_text fault) 1)
+    ((entries : List Entry) × (text ≡ journal_text entries) × ToldFault config entries told) ⊎ TextFault text told
 
 -- the text is no such journal, and its fault is told
 pub record RefusedTold (config : ConfigValue) (text : List ℕ) (told : Told) : Type 0 where

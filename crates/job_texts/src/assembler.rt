@@ -1,5 +1,5 @@
 //! What is said of assembler texts, and of programs that are read back.
-ghost use Rattle.std.specs.Prelude.{◌≡◌, ◌⊎◌, ℕ, List, IfOk};
+ghost use Rattle.std.specs.Prelude.{◌≡◌, ◌≢◌, ◌⊎◌, ℕ, List, IfOk, OnOk};
 ghost use Rattle.bpf_decode.specs.Faults.{IsRefusedFor};
 ghost use Rattle.bpf_decode.specs.Encoded.{encoded};
 ghost use Rattle.bpf_asm.specs.Text.{canon};
@@ -28,7 +28,8 @@ fn told_units(alloc: Global, code: &Code) -> Result<Told, AllocError>
 
 /// The line of a fault of the assembler; none of want of memory.
 fn told_asm_fault(alloc: Global, fault: AsmFault) -> Result<Told, AllocError>
-    ensures { IfOk result (λ told. IsSaid told (asm_fault_text fault) 1) }
+    ensures said { IfOk result (λ told. IsSaid told (asm_fault_text fault) 1) }
+    ensures fault { OnOk result (fault ≢ AsmFault.OutOfMemory) }
 {
     let text = match fault {
         AsmFault::BadLine(line) => format!(in alloc; "A1 {line}\n")?,
