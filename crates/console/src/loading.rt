@@ -1,5 +1,5 @@
 //! Explains why the program of a load in a script is refused.
-ghost use Rattle.std.specs.Prelude.{◌≡◌, IfOk, MatchOption, Ok, option_map, string_bytes};
+ghost use Rattle.std.specs.Prelude.{◌≡◌, IfOk, MatchOption, Ok};
 ghost use Rattle.console.specs.Loading.{IsGoodAct, IsGoodLine, IsRefusedLoad, IsRefusedAct};
 
 use crate::script::{ScriptLine, parse_script_line};
@@ -8,7 +8,7 @@ use std::alloc::{AllocError, Global};
 use thiserror::Error;
 use till_request::{Act, LineFault};
 
-/// A load whose program is refused: its slot, and the explanation.
+/// A load whose program is refused.
 #[derive(Debug, Drop, Error)]
 #[error("slot {slot}: {program}")]
 pub struct RefusedLoad {
@@ -16,12 +16,12 @@ pub struct RefusedLoad {
     pub program: RefusedProgram,
 }
 
-/// Returns why the program of a script's line is refused, if the line is a load. The line comes without its LF. None
-/// where the line is something else or its program is accepted. The error is that memory ran out.
+/// Why the program of a script's line is refused, where the line is a load; the line is without its LF. None where it
+/// is another line, or where its program is accepted. The error is want of memory.
 pub fn refused_load(alloc: Global, line: &[u8]) -> Result<Option<RefusedLoad>, AllocError>
     ensures { IfOk result
         (λ found. MatchOption found (IsGoodLine line.now)
-        (λ load. IsRefusedLoad line.now load.slot load.program.refusal (option_map string_bytes load.program.line))) }
+        (λ load. IsRefusedLoad line.now load.slot load.program)) }
 {
     match parse_script_line(alloc, line) {
         Ok(ScriptLine::Act(act)) => refused_act(alloc, &act),
@@ -30,12 +30,11 @@ pub fn refused_load(alloc: Global, line: &[u8]) -> Result<Option<RefusedLoad>, A
     }
 }
 
-/// Returns why the program of an act is refused, if the act is a load. None where it isn't a load or its program is
-/// accepted. The error is that memory ran out.
+/// The same of an act.
 fn refused_act(alloc: Global, act: &Act) -> Result<Option<RefusedLoad>, AllocError>
     ensures { IfOk result
         (λ found. MatchOption found (IsGoodAct act.now)
-        (λ load. IsRefusedAct act.now load.slot load.program.refusal (option_map string_bytes load.program.line))) }
+        (λ load. IsRefusedAct act.now load.slot load.program)) }
 {
     match act {
         Act::Load {

@@ -1,41 +1,50 @@
 -- Definitions: what is told of a program file that is refused (this profile).
-use Rattle.std.specs.Prelude.{◌≡◌, ℕ, List, Some, Result, Ok, Err, string_bytes, option_map}
+use Rattle.std.specs.Prelude.{◌≡◌, ◌≢◌, ℕ, List, Some, Result, Ok, Err}
 use Rattle.bpf_model.specs.declared.context.Layout.{Layout}
-use Rattle.bpf_model.specs.Program.{IsGood, as_loaded}
+use Rattle.bpf_model.specs.Program.{as_loaded}
 use Rattle.bpf_model.specs.declared.instruction.Unit.{Unit as ProgramUnit}
 use Rattle.bpf_model.specs.Reading.{units}
 use Rattle.bpf_decode.specs.Faults.{IsRefusedFor}
 use Rattle.bpf_decode.specs.declared.DecodeFault.{DecodeFault}
+use Rattle.bpf_decode.specs.declared.DecodeFault.TheVariants.{OutOfMemory}
 use Rattle.reg_types.specs.declared.refusal.Refusal.TheVariants.{Decode}
 use Rattle.program_file.specs.declared.ProgramFileFault.{ProgramFileFault}
 use Rattle.program_file.specs.Digits.{program_in}
 use Rattle.job_texts.specs.declared.reasons.RefusedProgram.{RefusedProgram}
 use Rattle.job_texts.specs.declared.file_flaws.ProgramFlaw.{ProgramFlaw}
 use Rattle.job_texts.specs.declared.file_flaws.ProgramFlaw.TheVariants.{File, Program}
-use Rattle.job_texts.specs.Reasons.{IsExplained}
+use Rattle.job_texts.specs.Told.{Passes}
+use Rattle.job_texts.specs.Reasons.{IsExplained, Names}
 
 -- the file's own fault, or the refusal of its program for contexts of this layout
 abbrev pub VerifyFlawOf : Result (List ℕ) ProgramFileFault → ℕ → Layout → ProgramFlaw → Type 0
 VerifyFlawOf (Err fault) counters layout (File told) = fault ≡ told
-VerifyFlawOf (Ok bytes) counters layout (Program told) =
-    IsExplained (as_loaded bytes counters layout) told.refusal (option_map string_bytes told.line)
+VerifyFlawOf (Ok bytes) counters layout (Program told) = IsExplained (as_loaded bytes counters layout) told
 VerifyFlawOf read counters layout flaw = ⊥
 
 abbrev pub IsVerifyFlaw : List ℕ → ℕ → Layout → ProgramFlaw → Type 0
 IsVerifyFlaw file counters layout flaw = VerifyFlawOf (program_in file) counters layout flaw
 
+-- the decoder's fault of the bytes is told, which isn't want of memory, with what it names of them
+pub record IsUndecoded (bytes : List ℕ) (told : RefusedProgram) : Type 0 where
+  pub fault : DecodeFault
+  pub refused : IsRefusedFor bytes fault
+  pub no_want : fault ≢ OutOfMemory
+  pub refusal_is : told.refusal ≡ Decode fault
+  pub names : Names bytes told
+
 -- the file's own fault, or why its bytes are no units
 abbrev pub DisFlawOf : Result (List ℕ) ProgramFileFault → ProgramFlaw → Type 0
 DisFlawOf (Err fault) (File told) = fault ≡ told
-DisFlawOf (Ok bytes) (Program told) = (fault : DecodeFault) × IsRefusedFor bytes fault × (told.refusal ≡ Decode fault)
+DisFlawOf (Ok bytes) (Program told) = IsUndecoded bytes told
 DisFlawOf read flaw = ⊥
 
 abbrev pub IsDisFlaw : List ℕ → ProgramFlaw → Type 0
 IsDisFlaw file flaw = DisFlawOf (program_in file) flaw
 
--- the file's program is good for contexts of this layout
+-- the file's program is accepted, and good for contexts of this layout
 abbrev pub AcceptedOf : Result (List ℕ) ProgramFileFault → ℕ → Layout → Type 0
-AcceptedOf (Ok bytes) counters layout = IsGood (as_loaded bytes counters layout)
+AcceptedOf (Ok bytes) counters layout = Passes (as_loaded bytes counters layout)
 AcceptedOf (Err fault) counters layout = ⊥
 
 abbrev pub IsAccepted : List ℕ → ℕ → Layout → Type 0

@@ -1,12 +1,10 @@
 -- Definitions: what is told of a program that is refused (this profile).
-use Rattle.std.specs.Prelude.{◌≡◌, ◌≢◌, ◌==◌, ◌⊎◌, ℕ, ℤ, List, Option, Some, None, slice_get, if◌then◌else◌}
+use Rattle.std.specs.Prelude.{◌≡◌, ◌≢◌, ◌==◌, ◌+◌, ◌*◌, nat_le, ℕ, ℤ, List, length, Option, Some, None, slice_get, if◌then◌else◌}
+use Rattle.std.specs.Prelude.{option_map, string_bytes}
 use Rattle.bpf_model.specs.declared.instruction.Unit.{Unit as ProgramUnit}
-use Rattle.bpf_model.specs.declared.instruction.Unit.TheVariants.{First, Second}
+use Rattle.bpf_model.specs.declared.instruction.Unit.TheVariants.{First}
 use Rattle.bpf_model.specs.Program.{ProgramText}
 use Rattle.bpf_model.specs.Reading.{units}
-use Rattle.bpf_decode.specs.declared.DecodeFault.{DecodeFault}
-use Rattle.bpf_decode.specs.declared.DecodeFault.TheVariants.{OutOfMemory}
-use Rattle.bpf_decode.specs.Faults.{IsRefusedFor}
 use Rattle.bpf_asm.specs.Program.{Spells}
 use Rattle.bpf_asm.specs.Numbered.{line_of_unit}
 use Rattle.helpers.specs.declared.Kind.{Kind}
@@ -15,9 +13,16 @@ use Rattle.reg_types.specs.declared.refusal.Refusal.{Refusal}
 use Rattle.reg_types.specs.declared.refusal.Refusal.TheVariants.{«Type» as OfType}
 use Rattle.reg_types.specs.declared.refusal.TypeFault.TheVariants.{BadArgument}
 use Rattle.reg_types.specs.Refusals.{shown_by}
-use Rattle.reg_types.specs.Shown.{IsRefused}
+use Rattle.reg_types.specs.Shown.{IsRefused, refusal_of}
+use Rattle.program_file.specs.Digits.{line_at}
+use Rattle.job_texts.specs.declared.reasons.RefusedProgram.{RefusedProgram}
 
--- the unit among a refusal's numbers
+-- the V number among a refusal's numbers, 0 where it has none
+abbrev pub number_in : Option (ℕ × (Option ℕ) × (Option ℕ)) → ℕ
+number_in None = 0
+number_in (Some p) = p.0
+
+-- the unit among them
 abbrev pub unit_in : Option (ℕ × (Option ℕ) × (Option ℕ)) → Option ℕ
 unit_in None = None
 unit_in (Some p) = p.1
@@ -40,22 +45,41 @@ abbrev pub kind_wanted : List ProgramUnit → Refusal → Option Kind
 kind_wanted code (OfType (BadArgument unit argument)) = wanted_by (slice_get code unit) argument
 kind_wanted code refusal = None
 
--- the decoder refuses the bytes, and not for want of memory
-abbrev pub AreNoUnits : List ℕ → Type 0
-AreNoUnits bytes = (fault : DecodeFault) × (fault ≢ OutOfMemory) × IsRefusedFor bytes fault
+-- the same, where the bytes are units; where they are none it takes nothing
+abbrev pub wanted_in : Option (List ProgramUnit) → Refusal → Option Kind
+wanted_in None refusal = None
+wanted_in (Some code) refusal = kind_wanted code refusal
 
--- The line is that of the instruction at the unit, where the bytes are units; where they are none nothing is said of it.
-abbrev pub NamesLine : List ℕ → Option ℕ → Option (List ℕ) → Type 0
-NamesLine bytes None line = line ≡ None
-NamesLine bytes (Some unit) line =
-    ((code : List ProgramUnit) × (units bytes ≡ Some code) × (line ≡ line_of_unit code unit)) ⊎ AreNoUnits bytes
+-- the 16 digits of a unit with their LF, if there are so many bytes
+abbrev pub digits_line : List ℕ → ℕ → Option (List ℕ)
+digits_line bytes unit = if nat_le (8 * unit + 8) (length bytes) then Some (line_at bytes unit) else None
+
+-- the line of the instruction at the unit, where the bytes are units; where they are none the unit's digits
+abbrev pub line_by : Option (List ProgramUnit) → List ℕ → ℕ → Option (List ℕ)
+line_by None bytes unit = digits_line bytes unit
+line_by (Some code) bytes unit = line_of_unit code unit
+
+-- the line of the unit that a refusal names, if it names one
+abbrev pub line_named : List ℕ → Option ℕ → Option (List ℕ)
+line_named bytes None = None
+line_named bytes (Some unit) = line_by (units bytes) bytes unit
+
+-- what is told beside a refusal is what it names of these bytes
+pub record Names (bytes : List ℕ) (told : RefusedProgram) : Type 0 where
+  pub line_is : option_map string_bytes told.line ≡ line_named bytes (unit_in (shown_by told.refusal))
+  pub wanted_is : told.wanted ≡ wanted_in (units bytes) told.refusal
 
 -- the text spells a program
 abbrev pub IsSpelling : List ℕ → Type 0
 IsSpelling text = (code : List ProgramUnit) × Spells text code
 
--- the program's own refusal is told, with the line of the instruction that it names
-pub record IsExplained (p : ProgramText) (refusal : Refusal) (line : Option (List ℕ)) : Type 0 where
-  pub refused : IsRefused p refusal
-  pub numbered : shown_by refusal ≢ None
-  pub line_is : NamesLine p.bytes (unit_in (shown_by refusal)) line
+-- the program's own refusal is told, with what it names of the bytes
+pub record IsReason (p : ProgramText) (told : RefusedProgram) : Type 0 where
+  pub refused : refusal_of p ≡ Some told.refusal
+  pub names : Names p.bytes told
+
+-- it is told so; it has a number, and the bytes show it
+pub record IsExplained (p : ProgramText) (told : RefusedProgram) : Type 0 where
+  pub reason : IsReason p told
+  pub shows : IsRefused p told.refusal
+  pub numbered : shown_by told.refusal ≢ None

@@ -1,5 +1,5 @@
 -- Definitions: what the program says of a program file (this profile).
-use Rattle.std.specs.Prelude.{◌≡◌, ◌⊎◌, ℕ, ◌/◌, List, [], ◌++◌, length, codes, Option, Some, Result, Ok, Err, string_bytes}
+use Rattle.std.specs.Prelude.{◌≡◌, ◌⊎◌, ℕ, ◌/◌, List, [], ◌++◌, length, codes, Option, Some, None, Result, Ok, Err, string_bytes}
 use Rattle.std.specs.Fmt.{decimal}
 use Rattle.bpf_model.specs.declared.context.Layout.{Layout}
 use Rattle.bpf_model.specs.Program.{ProgramText, IsGood, as_loaded}
@@ -10,7 +10,7 @@ use Rattle.till_request.specs.declared.act.Answer.TheVariants.{Program}
 use Rattle.till_request.specs.Answer.{answer_line}
 use Rattle.reg_types.specs.declared.refusal.Refusal.{Refusal}
 use Rattle.reg_types.specs.Refusals.{shown_by}
-use Rattle.reg_types.specs.Shown.{IsRefused}
+use Rattle.reg_types.specs.Shown.{IsRefused, refusal_of}
 use Rattle.job_texts.specs.declared.told.Told.{Told}
 
 -- this text is printed, with this status
@@ -24,14 +24,20 @@ file_fault TooLong = codes "L1\n"
 file_fault BadDigits = codes "H1\n"
 file_fault OutOfMemory = []
 
--- a program that is accepted is good for the counters that it declares, on contexts of its layout
-abbrev pub Accepted : ProgramText → Told → Type 0
-Accepted p told = IsGood p × IsSaid told (codes "accepted " ++ decimal (length p.bytes / 8) ++ codes "\n") 0
+-- nothing is wrong with the program, which is good for the counters that it declares, on contexts of its layout
+pub record Passes (p : ProgramText) : Type 0 where
+  pub accepted : refusal_of p ≡ None
+  pub good : IsGood p
 
--- a refusal is one that the bytes show, and its numbers are printed
+-- so many units are accepted
+abbrev pub Accepted : ProgramText → Told → Type 0
+Accepted p told = Passes p × IsSaid told (codes "accepted " ++ decimal (length p.bytes / 8) ++ codes "\n") 0
+
+-- the numbers of the program's first fault are printed; the bytes show that refusal
 pub record Refused (p : ProgramText) (told : Told) : Type 0 where
   pub refusal : Refusal
-  pub refused : IsRefused p refusal
+  pub refused : refusal_of p ≡ Some refusal
+  pub shows : IsRefused p refusal
   pub number : ℕ
   pub unit : Option ℕ
   pub part : Option ℕ

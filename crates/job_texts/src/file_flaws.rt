@@ -1,5 +1,5 @@
 //! Why a program file is refused, in words.
-ghost use Rattle.std.specs.Prelude.{IfOk, MatchOption};
+ghost use Rattle.std.specs.Prelude.{◌≡◌, ◌≢◌, IfOk, OnOk, MatchOption};
 ghost use Rattle.job_texts.specs.FileFlaws.{IsAccepted, IsShown, IsVerifyFlaw, IsDisFlaw};
 
 use crate::reasons::{RefusedProgram, explain_refusal, refused_program};
@@ -18,6 +18,17 @@ pub enum ProgramFlaw {
     Program(RefusedProgram),
 }
 
+/// A file's own fault; want of memory is none.
+fn file_flaw(fault: ProgramFileFault) -> Result<ProgramFlaw, AllocError>
+    ensures flaw { IfOk result (λ flaw. flaw ≡ ProgramFlaw.File fault) }
+    ensures fault { OnOk result (fault ≢ ProgramFileFault.OutOfMemory) }
+{
+    match fault {
+        ProgramFileFault::TooLong | ProgramFileFault::BadDigits => Ok(ProgramFlaw::File(fault)),
+        ProgramFileFault::OutOfMemory => Err(AllocError),
+    }
+}
+
 /// Why a program file is refused, as `verify_file` does; none where its program is accepted. The error is want of
 /// memory.
 pub fn verify_flaw(
@@ -34,8 +45,7 @@ pub fn verify_flaw(
             Some(refused) => Ok(Some(ProgramFlaw::Program(refused))),
             None => Ok(None),
         },
-        Err(ProgramFileFault::OutOfMemory) => Err(AllocError),
-        Err(fault) => Ok(Some(ProgramFlaw::File(fault))),
+        Err(fault) => Ok(Some(file_flaw(fault)?)),
     }
 }
 
@@ -45,8 +55,7 @@ pub fn dis_flaw(alloc: Global, file: &[u8]) -> Result<Option<ProgramFlaw>, Alloc
 {
     let bytes = match read_program(alloc, file) {
         Ok(bytes) => bytes,
-        Err(ProgramFileFault::OutOfMemory) => return Err(AllocError),
-        Err(fault) => return Ok(Some(ProgramFlaw::File(fault))),
+        Err(fault) => return Ok(Some(file_flaw(fault)?)),
     };
     match decode(alloc, &bytes) {
         Ok(_) => Ok(None),

@@ -1,8 +1,8 @@
 //! What is said of program files.
 ghost use Rattle.std.specs.Prelude.{◌≡◌, ◌/◌, ◌++◌, ◌⊎◌, ℕ, List, codes, length, IfOk};
 ghost use Rattle.std.specs.Fmt.{decimal};
-ghost use Rattle.bpf_model.specs.Program.{ProgramText, IsGood, as_loaded};
-ghost use Rattle.reg_types.specs.Shown.{IsRefused};
+ghost use Rattle.bpf_model.specs.Program.{ProgramText, as_loaded};
+ghost use Rattle.reg_types.specs.Shown.{IsRefused, IsRefusal, refusal_of};
 ghost use Rattle.job_texts.specs.Told.{IsSaid, Accepted, Refused, VerifyTells};
 
 use crate::told::{REFUSED, Told, refused};
@@ -23,7 +23,8 @@ fn told_accepted(alloc: Global, program: &Program) -> Result<Told, AllocError>
 
 /// The line of a refusal.
 fn told_refusal(alloc: Global, refusal: Refusal) -> Result<Told, AllocError>
-    ensures { IfOk result (λ told. (p : ProgramText) → IsRefused p refusal → Refused p told) }
+    ensures { IfOk result
+        (λ told. (p : ProgramText) → IsRefusal (refusal_of p) refusal → IsRefused p refusal → Refused p told) }
 {
     let Some((number, unit, part)) = refusal.shown() else {
         return Err(AllocError);
@@ -55,7 +56,7 @@ fn verify_bytes(
 
 /// Whether a program file's program is accepted for contexts of this layout, with bit c of `counters` for each
 /// counter c that it declares: `accepted UNITS` with status 0, or with status 1 `L1` for a file of over 65,536 bytes,
-/// `H1` for one of other bytes than digits and blanks, or the V line of a refusal that the bytes show.
+/// `H1` for one of other bytes than digits and blanks, or the V line of the program's first fault.
 pub fn verify_file(
     alloc: Global,
     file: &[u8],

@@ -1,13 +1,13 @@
 //! Why a program or a text of the assembler is refused, in words.
-ghost use Rattle.std.specs.Prelude.{◌≡◌, ◌↔◌, IfOk, IfSome, IsTrue, MatchOption, Some, option_map, string_bytes};
-ghost use Rattle.bpf_model.specs.Program.{IsGood, as_loaded};
+ghost use Rattle.std.specs.Prelude.{◌≡◌, ◌↔◌, IfOk, IsTrue, MatchOption, Some, None, option_map, string_bytes};
+ghost use Rattle.bpf_model.specs.Program.{as_loaded};
 ghost use Rattle.bpf_model.specs.Reading.{units};
 ghost use Rattle.bpf_asm.specs.Flaws.{Explains};
 ghost use Rattle.bpf_asm.specs.Program as asm;
 ghost use Rattle.reg_types.specs.Refusals.{shown_by};
-ghost use Rattle.reg_types.specs.Shown.{IsRefused};
-ghost use Rattle.job_texts.specs.Reasons.{AreNoUnits, IsSpelling, NamesLine, IsExplained, unit_in, kind_wanted};
-ghost use Rattle.job_texts.specs.Reasons.{wanted_at};
+ghost use Rattle.job_texts.specs.Told.{Passes};
+ghost use Rattle.job_texts.specs.Reasons.{IsSpelling, IsExplained, number_in, unit_in, kind_wanted, wanted_at, wanted_in};
+ghost use Rattle.job_texts.specs.Reasons.{digits_line, line_named};
 
 use bpf_asm::{AsmFault, AsmFlaw, assemble, explain, instruction_line};
 use bpf_decode::{Code, DecodeFault, Unit, decode};
@@ -57,7 +57,9 @@ impl fmt::Display for RefusedProgram {
 
 impl RefusedProgram {
     /// The number of the V fault; 0 for want of memory, which has none.
-    pub fn number(&self) -> u32 {
+    pub fn number(&self) -> u32
+        ensures { result ≡ number_in (shown_by self.now.refusal) }
+    {
         match self.refusal.shown() {
             Some((number, _, _)) => number,
             None => 0,
@@ -73,9 +75,11 @@ fn unit_of(refusal: Refusal) -> Option<u32>
     unit
 }
 
-/// The digits of a unit.
-fn digits_of(alloc: Global, bytes: &[u8], unit: u32) -> Result<Option<String>, AllocError> {
-    let from = unit as usize * 8;
+/// The digits of a unit, with their LF.
+fn digits_of(alloc: Global, bytes: &[u8], unit: u32) -> Result<Option<String>, AllocError>
+    ensures { IfOk result (λ line. option_map string_bytes line ≡ digits_line bytes.now unit) }
+{
+    let from = 8 * unit as usize;
     match bytes.get(from..from + 8) {
         Some(bytes) => Ok(Some(unit_lines(alloc, bytes)?)),
         None => Ok(None),
@@ -117,7 +121,7 @@ fn is_memory(fault: DecodeFault) -> bool
 
 /// The units of bytes; none where they are none.
 fn units_of(alloc: Global, bytes: &[u8]) -> Result<Option<Code>, AllocError>
-    ensures { IfOk result (λ found. MatchOption found (AreNoUnits bytes.now) (λ code. units bytes.now ≡ Some code)) }
+    ensures { IfOk result (λ found. MatchOption found (units bytes.now ≡ None) (λ code. units bytes.now ≡ Some code)) }
 {
     match decode(alloc, bytes) {
         Ok(code) => Ok(Some(code)),
@@ -132,7 +136,7 @@ fn units_of(alloc: Global, bytes: &[u8]) -> Result<Option<Code>, AllocError>
 }
 
 /// Why bytes are no program, where they are refused so: the line is that of the instruction at the unit that the
-/// refusal names, where the bytes are units at all. The error is want of memory.
+/// refusal names, or the unit's digits where the bytes are no units. The error is want of memory.
 pub fn explain_refusal(
     alloc: Global,
     bytes: &[u8],
@@ -140,7 +144,8 @@ pub fn explain_refusal(
 ) -> Result<RefusedProgram, AllocError>
     ensures refusal { IfOk result (λ told. told.refusal ≡ refusal) }
     ensures line { IfOk result
-        (λ told. NamesLine bytes.now (unit_in (shown_by refusal)) (option_map string_bytes told.line)) }
+        (λ told. option_map string_bytes told.line ≡ line_named bytes.now (unit_in (shown_by refusal))) }
+    ensures wanted { IfOk result (λ told. told.wanted ≡ wanted_in (units bytes.now) refusal) }
 {
     let Some(unit) = unit_of(refusal) else {
         return Ok(RefusedProgram {
@@ -178,8 +183,8 @@ pub fn refused_program(
     context: Layout,
 ) -> Result<Option<RefusedProgram>, AllocError>
     ensures { IfOk result
-        (λ found. MatchOption found (IsGood (as_loaded bytes.now counters context))
-        (λ told. IsExplained (as_loaded bytes.now counters context) told.refusal (option_map string_bytes told.line))) }
+        (λ found. MatchOption found (Passes (as_loaded bytes.now counters context))
+        (IsExplained (as_loaded bytes.now counters context))) }
 {
     match verify(alloc, bytes, counters, context) {
         Ok(program) => {
