@@ -1,30 +1,59 @@
 -- Definitions: what is told of a journal that is refused (this profile).
-use Rattle.std.specs.Prelude.{◌≡◌, ◌⊎◌, ◌++◌, ◌∷◌, [], ℕ, List, Option, IfSome, ⊤}
+use Rattle.std.specs.Prelude.{◌≡◌, ◌<◌, ◌⊎◌, ◌++◌, ◌∷◌, [], ℕ, List, length, Option, Some, None}
+use Rattle.bpf_model.specs.Program.{as_loaded}
+use Rattle.till_request.specs.declared.act.Act.{Act}
+use Rattle.till_request.specs.declared.act.Act.TheVariants as act
 use Rattle.decision_journal.specs.declared.entries.Entry.{Entry}
 use Rattle.decision_journal.specs.declared.fault.JournalFault.{JournalFault}
-use Rattle.decision_journal.specs.Journal.{ReadsAll, ReadsFault}
+use Rattle.decision_journal.specs.declared.fault.JournalFault.TheVariants as journal
+use Rattle.decision_journal.specs.Journal.{IsWant, ReadsAll, ReadsFault}
 use Rattle.site_core.specs.declared.auditing.AuditFault.{AuditFault}
 use Rattle.site_core.specs.declared.auditing.AuditFault.TheVariants.{BadNumber, BadProgram, NotLegal, OutOfMemory}
-use Rattle.site_core.specs.Audit.{ShowsFault}
+use Rattle.site_core.specs.Audit.{Rejects, ShownAfter}
 use Rattle.site_core.specs.Limits.{ConfigValue}
 use Rattle.site_core.specs.Site.{SiteValue, Upholds, entered}
 use Rattle.job_texts.specs.declared.journal_reasons.JournalFlaw.{JournalFlaw}
 use Rattle.job_texts.specs.declared.journal_reasons.JournalFlaw.TheVariants as flaw
 use Rattle.job_texts.specs.Differing.{Differs}
+use Rattle.job_texts.specs.Reasons.{IsReason}
 
--- a site of this configuration with these entries entered the event of the next one
+-- a site of this configuration with these entries refuses the next one so
+pub record IsRejected (config : ConfigValue) (before : List Entry) (entry : Entry) (fault : AuditFault) : Type 0 where
+  pub old : SiteValue
+  pub config_is : old.config ≡ config
+  pub history_is : old.history ≡ before
+  pub upholds : Upholds old
+  pub rejects : Rejects old entry fault
+
+-- a site of this configuration with these entries had room, and entered the event of the next one
 pub record AnsweredAfter (config : ConfigValue) (before : List Entry) (entry : Entry) (new : SiteValue) : Type 0 where
   pub old : SiteValue
   pub config_is : old.config ≡ config
   pub history_is : old.history ≡ before
   pub upholds : Upholds old
+  pub room : length before < 1048576
   pub after : new.history ≡ before ++ entered old entry.pass entry.moment entry.act ∷ []
 
--- what is told of the entry is so of it and of what such a site enters
+-- the first part in which the entry differs from what such a site enters; none exactly where that takes no entry more
 abbrev pub IsEntryFlaw : ConfigValue → List Entry → Entry → JournalFlaw → Type 0
 IsEntryFlaw config before entry (flaw.Entry difference) =
-    (old : SiteValue) × (old.config ≡ config) × (old.history ≡ before) × Upholds old × Differs entry (entered old entry.pass entry.moment entry.act) difference
-IsEntryFlaw config before entry other = ⊤
+    (length before < 1048576) × (old : SiteValue) × (old.config ≡ config) × (old.history ≡ before) × Upholds old
+    × Differs entry (entered old entry.pass entry.moment entry.act) difference
+IsEntryFlaw config before entry flaw.NoEntry = length before ≡ 1048576
+IsEntryFlaw config before entry told = ⊥
+
+-- the load's slot, and why the verifier refuses its program
+abbrev pub IsLoadFlaw : Act → JournalFlaw → Type 0
+IsLoadFlaw (act.Load number mask layout bytes) (flaw.Program slot refused) = (slot ≡ number) × IsReason (as_loaded bytes mask layout) refused
+IsLoadFlaw act told = ⊥
+
+-- what is told of an entry for an audit's fault: for its number that and its place, for a load why its program is refused, else in what it
+-- differs
+abbrev pub TellsFault : ConfigValue → List Entry → Entry → AuditFault → JournalFlaw → Type 0
+TellsFault config before entry (BadNumber place) (flaw.Number number at) = (number ≡ entry.number) × (at ≡ place)
+TellsFault config before entry (BadProgram place refusal) told = IsLoadFlaw entry.act told
+TellsFault config before entry (NotLegal place) told = IsEntryFlaw config before entry told
+TellsFault config before entry fault told = ⊥
 
 -- the place of the entry that an audit's fault names
 abbrev pub IsPlaceOf : AuditFault → ℕ → Type 0
@@ -33,12 +62,36 @@ IsPlaceOf (BadProgram place refusal) at = at ≡ place
 IsPlaceOf (NotLegal place) at = at ≡ place
 IsPlaceOf OutOfMemory at = ⊥
 
--- the entries show a fault at this place, so they are no history
-abbrev pub ShowsFlawAt : ConfigValue → List Entry → ℕ → Type 0
-ShowsFlawAt config entries at = (fault : AuditFault) × ShowsFault config entries fault × IsPlaceOf fault at
+-- the entries show a fault at this place, so they are no history, and this is told of the entry there
+pub record ShowsFlawAt (config : ConfigValue) (entries : List Entry) (at : ℕ) (told : JournalFlaw) : Type 0 where
+  pub fault : AuditFault
+  pub place : IsPlaceOf fault at
+  pub shown : ShownAfter config entries fault
+  pub tells : TellsFault config shown.old.history shown.entry fault told
 
--- the text that was read has a fault, which is told, or it is the journal of entries that show one at this line
+-- the line that a fault of a text names
+abbrev pub line_in : JournalFault → Option ℕ
+line_in (journal.BadEntry line) = Some line
+line_in journal.Cut = None
+line_in journal.Device = None
+line_in journal.OutOfMemory = None
+
+-- the text that was read has this fault, neither a device's nor want of memory, at this line
+pub record IsTextFlaw (old new : Option (List ℕ)) (line : Option ℕ) (told : JournalFlaw) : Type 0 where
+  pub fault : JournalFault
+  pub reads : ReadsFault old new fault
+  pub no_want : ¬ IsWant fault
+  pub told_is : told ≡ flaw.Text fault
+  pub line_is : line ≡ line_in fault
+
+-- it is the journal of entries that show a fault at this line
+pub record IsEntriesFlaw (config : ConfigValue) (old new : Option (List ℕ)) (line : Option ℕ) (told : JournalFlaw) : Type 0 where
+  pub entries : List Entry
+  pub reads : ReadsAll old new entries
+  pub place : ℕ
+  pub line_is : line ≡ Some place
+  pub shows : ShowsFlawAt config entries place told
+
+-- why the text that was read is refused, and at which line
 abbrev pub IsJournalFlaw : ConfigValue → Option (List ℕ) → Option (List ℕ) → Option ℕ → JournalFlaw → Type 0
-IsJournalFlaw config old new line told =
-    ((fault : JournalFault) × ReadsFault old new fault × (told ≡ flaw.Text fault))
-    ⊎ ((entries : List Entry) × ReadsAll old new entries × IfSome line (ShowsFlawAt config entries))
+IsJournalFlaw config old new line told = IsTextFlaw old new line told ⊎ IsEntriesFlaw config old new line told

@@ -1,8 +1,11 @@
 //! Why a journal is refused, in words.
-ghost use Rattle.std.specs.Prelude.{◌≡◌, ◌↔◌, ℕ, List, Some, IfErr, IfOk, IfSome, IsNone};
-ghost use Rattle.decision_journal.specs.Journal.{IsWant};
-ghost use Rattle.site_core.specs.Histories.{IsHistory, IsJournal};
-ghost use Rattle.job_texts.specs.JournalFlaws.{AnsweredAfter, IsEntryFlaw, ShowsFlawAt, IsJournalFlaw};
+ghost use Rattle.std.specs.Prelude.{◌≡◌, ◌≢◌, ◌↔◌, ℕ, List, length, Some, None, IfErr, IfOk, IfSome, IsNone, OnOk};
+ghost use Rattle.std.specs.Prelude.{MatchOption};
+ghost use Rattle.decision_journal.specs.Journal.{FailsOrRunsOut, IsWant, SpendsBlocks};
+ghost use Rattle.site_core.specs.Audit.{ShowsFault};
+ghost use Rattle.site_core.specs.Histories.{IsHistory, IsJournal, load_refusal};
+ghost use Rattle.job_texts.specs.JournalFlaws.{AnsweredAfter, IsRejected, IsEntryFlaw, IsLoadFlaw, TellsFault, IsPlaceOf};
+ghost use Rattle.job_texts.specs.JournalFlaws.{ShowsFlawAt, IsJournalFlaw};
 
 use crate::differing::{Difference, first_difference};
 use crate::reasons::{RefusedProgram, explain_refusal};
@@ -33,31 +36,37 @@ pub enum JournalFlaw {
     NoEntry,
 }
 
-/// The site of a configuration after these entries and the event of a further one; none where the entries aren't its
-/// history, or where it takes no such event. The error is want of memory.
+/// The site of a configuration after these entries and the event of a further one; none where it takes no entry more.
+/// The error is want of memory.
 fn answered_after(
     alloc: Global,
     config: Config,
     before: &[Entry],
     entry: &Entry,
 ) -> Result<Option<Site>, AllocError>
-    ensures { IfOk result (λ found. IfSome found (AnsweredAfter config before.now entry.now)) }
+    requires before { IsHistory config before.now }
+    requires accepted { load_refusal entry.now.act ≡ None }
+    ensures { IfOk result
+        (λ found. MatchOption found (length before.now ≡ 1048576) (AnsweredAfter config before.now entry.now)) }
 {
     let mut site = match audit(alloc, config, before) {
         Ok(site) => site,
         Err(AuditFault::OutOfMemory) => return Err(AllocError),
-        Err(_) => return Ok(None),
+        Err(AuditFault::BadNumber(_) | AuditFault::BadProgram(_, _) | AuditFault::NotLegal(_)) =>
+            unreachable!(),
     };
     let what = match event_of(alloc, &entry.act) {
         Ok(what) => what,
         Err(Refusal::OutOfMemory) => return Err(AllocError),
-        Err(_) => return Ok(None),
+        Err(Refusal::Decode(_) | Refusal::Flow(_) | Refusal::Type(_)) => unreachable!(),
     };
     let event = Event {
         pass: entry.pass,
         moment: entry.moment,
         what,
     };
+    // A site upholds what its type says.
+    let _ = site.history();
     match site.apply(event) {
         Ok(_) => Ok(Some(site)),
         Err(CallFault::JournalFull) => Ok(None),
@@ -65,36 +74,91 @@ fn answered_after(
     }
 }
 
-/// In what an entry differs from what the site enters after those before it.
+/// In what an entry differs from what the site enters after those before it, which refuses this one.
 fn entry_flaw(
     alloc: Global,
     config: Config,
     before: &[Entry],
     entry: &Entry,
+    number: u32,
 ) -> Result<JournalFlaw, AllocError>
+    requires { IsRejected config before.now entry.now (AuditFault.NotLegal number) }
     ensures { IfOk result (IsEntryFlaw config before.now entry.now) }
 {
     let Some(site) = answered_after(alloc, config, before, entry)? else {
         return Ok(JournalFlaw::NoEntry);
     };
-    match site.history().last() {
-        Some(answered) => match first_difference(entry, answered) {
-            Some(difference) => Ok(JournalFlaw::Entry(difference)),
-            None => Ok(JournalFlaw::NoEntry),
-        },
-        None => Ok(JournalFlaw::NoEntry),
-    }
+    let Some(answered) = site.history().last() else {
+        unreachable!()
+    };
+    let Some(difference) = first_difference(entry, answered) else {
+        unreachable!()
+    };
+    Ok(JournalFlaw::Entry(difference))
 }
 
 /// Why a load's program is refused.
-fn program_flaw(alloc: Global, act: &Act, refusal: Refusal) -> Result<JournalFlaw, AllocError> {
+fn load_flaw(alloc: Global, act: &Act, refusal: Refusal) -> Result<JournalFlaw, AllocError>
+    requires { load_refusal act.now ≡ Some refusal }
+    ensures { IfOk result (IsLoadFlaw act.now) }
+{
     match act {
         Act::Load { slot, bytes, .. } => {
             let refused = explain_refusal(alloc, bytes.as_slice(), refusal)?;
             Ok(JournalFlaw::Program(*slot, refused))
         }
-        _ => Ok(JournalFlaw::NoEntry),
+        Act::Till { .. } | Act::Dispenser { .. } => unreachable!(),
     }
+}
+
+/// What is told of the entry behind these, which an audit refuses.
+fn fault_flaw(
+    alloc: Global,
+    config: Config,
+    before: &[Entry],
+    entry: &Entry,
+    fault: AuditFault,
+) -> Result<JournalFlaw, AllocError>
+    requires { IsRejected config before.now entry.now fault }
+    ensures { IfOk result (TellsFault config before.now entry.now fault) }
+{
+    match fault {
+        AuditFault::BadNumber(place) => Ok(JournalFlaw::Number(entry.number, place)),
+        AuditFault::BadProgram(_, refusal) => load_flaw(alloc, &entry.act, refusal),
+        AuditFault::NotLegal(number) => entry_flaw(alloc, config, before, entry, number),
+        AuditFault::OutOfMemory => Err(AllocError),
+    }
+}
+
+/// The place that an audit's fault names; none of want of memory.
+fn place_of(fault: AuditFault) -> Option<u32>
+    ensures { MatchOption result (fault ≡ AuditFault.OutOfMemory) (IsPlaceOf fault) }
+{
+    match fault {
+        AuditFault::BadNumber(place)
+        | AuditFault::BadProgram(place, _)
+        | AuditFault::NotLegal(place) => Some(place),
+        AuditFault::OutOfMemory => None,
+    }
+}
+
+/// The place of the entry at fault where entries show a fault, and what is told of it. The error is want of memory.
+fn shown_flaw(
+    alloc: Global,
+    config: Config,
+    entries: &[Entry],
+    fault: AuditFault,
+) -> Result<(u32, JournalFlaw), AllocError>
+    requires { ShowsFault config entries.now fault }
+    ensures flaw { IfOk result (λ p. ShowsFlawAt config entries.now p.0 p.1) }
+    ensures fault { OnOk result (fault ≢ AuditFault.OutOfMemory) }
+{
+    let Some(place) = place_of(fault) else {
+        return Err(AllocError);
+    };
+    let at = place as usize - 1;
+    let flaw = fault_flaw(alloc, config, &entries[..at], &entries[at], fault)?;
+    Ok((place, flaw))
 }
 
 /// Why entries are no history of a site of this configuration, with the place of the first that is at fault; none
@@ -105,28 +169,12 @@ pub fn entries_flaw(
     entries: &[Entry],
 ) -> Result<Option<(u32, JournalFlaw)>, AllocError>
     ensures none { IfOk result (λ found. IsNone found ↔ IsHistory config entries.now) }
-    ensures some { IfOk result (λ found. IfSome found (λ p. ShowsFlawAt config entries.now p.0)) }
+    ensures some { IfOk result (λ found. IfSome found (λ p. ShowsFlawAt config entries.now p.0 p.1)) }
 {
-    let fault = match audit(alloc, config.copied(alloc)?, entries) {
-        Ok(_) => return Ok(None),
-        Err(fault) => fault,
-    };
-    let place = match fault {
-        AuditFault::BadNumber(place)
-        | AuditFault::BadProgram(place, _)
-        | AuditFault::NotLegal(place) => place,
-        AuditFault::OutOfMemory => return Err(AllocError),
-    };
-    let upto = entries.get(..place as usize).unwrap_or(entries);
-    let Some((entry, before)) = upto.split_last() else {
-        return Ok(Some((place, JournalFlaw::NoEntry)));
-    };
-    let flaw = match fault {
-        AuditFault::BadNumber(_) => JournalFlaw::Number(entry.number, place),
-        AuditFault::BadProgram(_, refusal) => program_flaw(alloc, &entry.act, refusal)?,
-        _ => entry_flaw(alloc, config, before, entry)?,
-    };
-    Ok(Some((place, flaw)))
+    match audit(alloc, config.copied(alloc)?, entries) {
+        Ok(_) => Ok(None),
+        Err(fault) => Ok(Some(shown_flaw(alloc, config, entries, fault)?)),
+    }
 }
 
 /// Why the journal that a device gives is none of a site of this configuration, with the line at fault, if one is;
@@ -143,6 +191,9 @@ pub fn journal_flaw<I: LineIn>(
     ensures told { IfOk result
         (λ found. IfSome found (λ p. IsJournalFlaw config (I.remaining input.old) (I.remaining input.new) p.0 p.1)) }
     ensures want { IfErr result IsWant }
+    ensures failed { FailsOrRunsOut result (I.failures input.old) (I.failures input.new) (I.reads input.old)
+        (I.reads input.new) }
+    ensures reads { SpendsBlocks (I.reads input.old) (I.reads input.new) (I.asked input.old) (I.asked input.new) }
 {
     match read_entries(alloc, input) {
         Ok(entries) => match entries_flaw(alloc, config, &entries) {
@@ -155,6 +206,7 @@ pub fn journal_flaw<I: LineIn>(
             Ok(Some((Some(line), JournalFlaw::Text(fault))))
         }
         Err(JournalFault::Cut) => Ok(Some((None, JournalFlaw::Text(JournalFault::Cut)))),
-        Err(fault) => Err(fault),
+        Err(JournalFault::Device) => Err(JournalFault::Device),
+        Err(JournalFault::OutOfMemory) => Err(JournalFault::OutOfMemory),
     }
 }
