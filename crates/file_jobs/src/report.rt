@@ -7,7 +7,7 @@ use crate::settings::settings_and;
 use crate::statuses::DONE;
 use day_page::Page;
 use decision_journal::read_entries;
-use site_core::{Site, audit};
+use site_core::{AuditFault, Site, audit};
 use std::io::{self, BufWriter, Write};
 use till_request::devices::StreamIn;
 
@@ -39,7 +39,10 @@ pub fn report_files(rt: &HostRuntime, config: &str, journal: &str) -> io::Result
     };
     match audit(rt.alloc(), settings.config.copied(rt.alloc())?, &entries) {
         Ok(site) => print_page(rt, &site),
-        Err(_) => refuse_history(rt, journal, &settings.config, &entries),
+        Err(AuditFault::OutOfMemory) => Ok(out_of_memory(rt)),
+        Err(AuditFault::BadNumber(_) | AuditFault::BadProgram(_, _) | AuditFault::NotLegal(_)) => {
+            refuse_history(rt, journal, &settings.config, &entries)
+        }
     }
 }
 
