@@ -8,7 +8,7 @@ use std::alloc::{AllocError, Global};
 use thiserror::Error;
 use till_request::{Act, LineFault};
 
-/// A load whose program is refused.
+/// A load whose program is refused: its slot, and the explanation.
 #[derive(Debug, Drop, Error)]
 #[error("slot {slot}: {program}")]
 pub struct RefusedLoad {
@@ -16,8 +16,8 @@ pub struct RefusedLoad {
     pub program: RefusedProgram,
 }
 
-/// Why the program of a script's line is refused, where the line is a load; the line is without its LF. None where it
-/// is another line, or where its program is accepted. The error is want of memory.
+/// Returns why the program of a script's line is refused, if the line is a load. The line comes without its LF. None
+/// where the line is something else or its program is accepted. The error is that memory ran out.
 pub fn refused_load(alloc: Global, line: &[u8]) -> Result<Option<RefusedLoad>, AllocError>
     ensures { IfOk result
         (λ found. MatchOption found (IsGoodLine line.now)
@@ -30,7 +30,8 @@ pub fn refused_load(alloc: Global, line: &[u8]) -> Result<Option<RefusedLoad>, A
     }
 }
 
-/// The same of an act.
+/// Returns why the program of an act is refused, if the act is a load. None where it isn't a load or its program is
+/// accepted. The error is that memory ran out.
 fn refused_act(alloc: Global, act: &Act) -> Result<Option<RefusedLoad>, AllocError>
     ensures { IfOk result
         (λ found. MatchOption found (IsGoodAct act.now)
