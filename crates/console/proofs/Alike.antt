@@ -31,14 +31,17 @@ event_alike old moment act (answers.Entered number reply) answers.JournalFull ne
 event_alike old moment act (answers.Entered number reply) answers.OutOfMemory new other h k p q = absurd (q refl)
 event_alike old moment act (answers.Entered number reply) (answers.Line fault) new other h k p q = absurd k
 event_alike old moment act (answers.Entered number reply) (answers.Program n u t) new other h k p q = absurd k
+event_alike old moment act (answers.Entered number reply) answers.JournalFailed new other h k p q = absurd k
 event_alike old moment act answers.JournalFull (answers.Entered n r) new other h k p q = absurd (k.0 h.0)
 event_alike old moment act answers.JournalFull answers.JournalFull new other h k p q = (refl, h.1 ∙ sym k.1)
 event_alike old moment act answers.JournalFull answers.OutOfMemory new other h k p q = absurd (q refl)
 event_alike old moment act answers.JournalFull (answers.Line fault) new other h k p q = absurd k
 event_alike old moment act answers.JournalFull (answers.Program n u t) new other h k p q = absurd k
+event_alike old moment act answers.JournalFull answers.JournalFailed new other h k p q = absurd k
 event_alike old moment act answers.OutOfMemory b new other h k p q = absurd (p refl)
 event_alike old moment act (answers.Line fault) b new other h k p q = absurd h
 event_alike old moment act (answers.Program n u t) b new other h k p q = absurd h
+event_alike old moment act answers.JournalFailed b new other h k p q = absurd h
 
 -- A refusal that shows numbers is the one that the program has.
 wanted_is : (wanted : Option Refusal) (refusal : Refusal) (numbers : ℕ × (Option ℕ) × (Option ℕ)) → IsRefusal wanted refusal
@@ -67,6 +70,7 @@ module _ (old : SiteValue) (moment slot : ℕ) (text : ProgramText) where
   load_alike (answers.Entered number reply) answers.OutOfMemory new other h k p q = absurd (q refl)
   load_alike (answers.Entered number reply) (answers.Line fault) new other h k p q = absurd k
   load_alike (answers.Entered number reply) (answers.Program n u t) new other h k p q = absurd (not_both n u t other h.0 k)
+  load_alike (answers.Entered number reply) answers.JournalFailed new other h k p q = absurd k
   load_alike answers.JournalFull (answers.Entered n r) new other h k p q =
       event_alike old moment (load_of slot text) answers.JournalFull (answers.Entered n r) new other (second h) (second k) p q
   load_alike answers.JournalFull answers.JournalFull new other h k p q =
@@ -74,12 +78,15 @@ module _ (old : SiteValue) (moment slot : ℕ) (text : ProgramText) where
   load_alike answers.JournalFull answers.OutOfMemory new other h k p q = absurd (q refl)
   load_alike answers.JournalFull (answers.Line fault) new other h k p q = absurd k
   load_alike answers.JournalFull (answers.Program n u t) new other h k p q = absurd (not_both n u t other h.0 k)
+  load_alike answers.JournalFull answers.JournalFailed new other h k p q = absurd k
   load_alike answers.OutOfMemory b new other h k p q = absurd (p refl)
   load_alike (answers.Line fault) b new other h k p q = absurd h
+  load_alike answers.JournalFailed b new other h k p q = absurd h
   load_alike (answers.Program number unit part) (answers.Entered n r) new other h k p q = absurd (not_both number unit part new k.0 h)
   load_alike (answers.Program number unit part) answers.JournalFull new other h k p q = absurd (not_both number unit part new k.0 h)
   load_alike (answers.Program number unit part) answers.OutOfMemory new other h k p q = absurd (q refl)
   load_alike (answers.Program number unit part) (answers.Line fault) new other h k p q = absurd k
+  load_alike (answers.Program number unit part) answers.JournalFailed new other h k p q = absurd k
   load_alike (answers.Program number unit part) (answers.Program n u t) new other h k p q =
       let one : refusal_of text ≡ Some h.refusal = wanted_is (refusal_of text) h.refusal (number, unit, part) h.answers h.shown in
       let two : refusal_of text ≡ Some k.refusal = wanted_is (refusal_of text) k.refusal (n, u, t) k.answers k.shown in

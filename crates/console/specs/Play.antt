@@ -33,6 +33,7 @@ EventAnswered old moment act answers.JournalFull new = (length old.history ≡ 1
 EventAnswered old moment act answers.OutOfMemory new = new ≡ old
 EventAnswered old moment act (answers.Line fault) new = ⊥
 EventAnswered old moment act (answers.Program number unit part) new = ⊥
+EventAnswered old moment act answers.JournalFailed new = ⊥
 
 -- The verifier refuses the program with a refusal that shows these numbers, and the site is unchanged.
 pub record ProgramRefused (old : SiteValue) (p : ProgramText) (number : ℕ) (unit part : Option ℕ) (new : SiteValue) : Type 0 where
@@ -58,6 +59,7 @@ LoadAnswered old moment slot p answers.JournalFull new = IsAccepted p × EventAn
 LoadAnswered old moment slot p answers.OutOfMemory new = new ≡ old
 LoadAnswered old moment slot p (answers.Line fault) new = ⊥
 LoadAnswered old moment slot p (answers.Program number unit part) new = ProgramRefused old p number unit part new
+LoadAnswered old moment slot p answers.JournalFailed new = ⊥
 
 abbrev pub ActAnswered : SiteValue → ℕ → Act → Answer → SiteValue → Type 0
 ActAnswered old moment (acts.Till till request) answer new = EventAnswered old moment (acts.Till till request) answer new

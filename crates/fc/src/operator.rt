@@ -30,6 +30,7 @@ fn code_of(breach: Breach) -> &'static str {
         Breach::Session(SessionFault::Write) => " (N2)",
         Breach::Session(SessionFault::ReadsSpent) => " (N3)",
         Breach::Session(SessionFault::OutOfMemory) => "",
+        Breach::Session(SessionFault::Journal) => "",
     }
 }
 

@@ -49,6 +49,8 @@ fn status_of(
         Err(SessionFault::Write) => answers.tell_failure(rt),
         Err(SessionFault::ReadsSpent) => complain(rt, place, &SessionFault::ReadsSpent, "N3"),
         Err(SessionFault::OutOfMemory) => return out_of_memory(rt),
+        // A play keeps no journal.
+        Err(SessionFault::Journal) => answers.tell_failure(rt),
     }
     FAILED
 }

@@ -10,6 +10,8 @@ use Rattle.till_request.specs.declared.act.Answer.TheVariants.{Line}
 use Rattle.till_request.specs.Answer.{answer_line}
 use Rattle.till_request.specs.Line.{IsLine}
 use Rattle.line_session.specs.Talk.{with_lf, cut_line, cut_count, FallsShort, Said, IsCut, AnswersCut, IsUpToLine, Ends, Breaks}
+use Rattle.line_session.specs.declared.speaker.SpeakFault.{SpeakFault}
+use Rattle.line_session.specs.declared.speaker.SpeakFault.TheVariants as speech
 use Rattle.line_session.specs.Holding.{Gathers, EndsHeld, BreaksHeld, LetsGo}
 use Rattle.line_session.proofs.Saying.{is_line_empty, consumes_none, appends_none, talks_none, talks_more, breaks_here, breaks_line, breaks_cut}
 
@@ -63,21 +65,21 @@ module _ {C D : Type 0} (says : C × D → List ℕ → List ℕ → C × D → 
     out = g.out;
   }
 
-  half_behind : {O : Type 0} (bytes : O → List ℕ) (sent l : List ℕ) (m s' : C × D) (p q : O)
-      → FallsShort says drops (λ (x : O). Some (bytes x)) l m s' p q → FallsShort says drops (λ (x : O). Some (sent ++ bytes x)) l m s' p q
-  half_behind bytes sent l m s' p q (inl a) = inl a
-  half_behind bytes sent l m s' p q (inr (inl a)) = inr (inl a)
-  half_behind bytes sent l m s' p q (inr (inr a)) =
-      inr (inr (record { text = a.text; says_it = a.says_it; kept = a.kept; written = behind sent (bytes p) (bytes q) (take a.kept a.text) a.written }))
+  half_behind : {O : Type 0} (bytes : O → List ℕ) (sent l : List ℕ) (m s' : C × D) (p q : O) (fault : SpeakFault)
+      → FallsShort says drops (λ (x : O). Some (bytes x)) fault l m s' p q → FallsShort says drops (λ (x : O). Some (sent ++ bytes x)) fault l m s' p q
+  half_behind bytes sent l m s' p q speech.OutOfMemory a = a
+  half_behind bytes sent l m s' p q speech.Journal a = a
+  half_behind bytes sent l m s' p q speech.Write a =
+      record { text = a.text; says_it = a.says_it; kept = a.kept; written = behind sent (bytes p) (bytes q) (take a.kept a.text) a.written }
 
   pub breaks_spoken : {O : Type 0} (bytes : O → List ℕ) (s m s' : C × D) (i j k o r : Option (List ℕ)) (p q : O) (count : ℕ) (l : List ℕ)
       → Gathers says s m i j o r (bytes p) count → IsLine l → Consumes j k (l ++ 10 ∷ [])
-      → FallsShort says drops (λ (x : O). Some (bytes x)) l m s' p q → BreaksHeld says drops s s' i k o r (bytes q)
+      → (fault : SpeakFault) × FallsShort says drops (λ (x : O). Some (bytes x)) fault l m s' p q → BreaksHeld says drops s s' i k o r (bytes q)
   breaks_spoken {O} bytes s m s' i j k o r p q count l g whole taken e = record {
     sent = g.sent;
     lost = [];
     breaks = rw append-nil (breaks_line says drops (λ (x : O). Some (g.sent ++ bytes x)) s m s' i j k (Some []) p q count l g.talks whole taken
-        (half_behind bytes g.sent l m s' p q e));
+        e.0 (half_behind bytes g.sent l m s' p q e.0 e.1));
     out = g.out;
   }
 

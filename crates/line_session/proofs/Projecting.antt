@@ -3,20 +3,20 @@ use Rattle.std.proofs.Common.{ℕ, List, [], ◌∷◌, Option, Some, None, Resu
 use Rattle.till_request.specs.declared.act.Act.{Act}
 use Rattle.till_request.specs.declared.act.Role.{Role}
 use Rattle.till_request.specs.declared.act.LineFault.{LineFault}
-use Rattle.till_request.specs.declared.act.LineFault.TheVariants.{OutOfMemory}
 use Rattle.till_request.specs.declared.act.Answer.{Answer}
-use Rattle.till_request.specs.declared.act.Answer.TheVariants.{Line}
+use Rattle.till_request.specs.declared.act.Answer.TheVariants.{JournalFailed}
 use Rattle.till_request.specs.Grammar.{line_read}
 use Rattle.line_session.specs.declared.answering.Ended.{Ended}
 use Rattle.line_session.specs.declared.answering.SessionFault.{SessionFault}
-use Rattle.line_session.specs.Session.{AnswersAct, desk_says, desk_drops}
-use Rattle.line_session.specs.Talk.{SaysAll, Talks, Ends, DropsNext, Breaks}
+use Rattle.line_session.specs.Session.{AnswersAct, desk_says, desk_drops, desk_fails}
+use Rattle.line_session.specs.Talk.{SaysAll, Talks, Ends, DropsNext, Breaks, FailsAt}
 use Rattle.line_session.specs.Serving.{Outcome, Sits, Visits, VisitsAll, Serves}
 
-module _ {S T : Type 0} (f : S → T) (says : S → List ℕ → List ℕ → S → Type 0) (drops : S → List ℕ → S → Type 0)
-    (seen : T → List ℕ → List ℕ → T → Type 0) (lost : T → List ℕ → T → Type 0)
+module _ {S T : Type 0} (f : S → T) (says : S → List ℕ → List ℕ → S → Type 0) (drops fails : S → List ℕ → S → Type 0)
+    (seen : T → List ℕ → List ℕ → T → Type 0) (lost failed : T → List ℕ → T → Type 0)
     (shows : (s : S) (line text : List ℕ) (s' : S) → says s line text s' → seen (f s) line text (f s'))
-    (loses : (s : S) (line : List ℕ) (s' : S) → drops s line s' → lost (f s) line (f s')) where
+    (loses : (s : S) (line : List ℕ) (s' : S) → drops s line s' → lost (f s) line (f s'))
+    (stops : (s : S) (line : List ℕ) (s' : S) → fails s line s' → failed (f s) line (f s')) where
   all_seen : (lines : List (List ℕ)) (s : S) (texts : List (List ℕ)) (s' : S) → SaysAll says lines s texts s' → SaysAll seen lines (f s) texts (f s')
   all_seen [] s [] s' h = ap f h
   all_seen (line ∷ lines) s (text ∷ texts) s' h = (f h.0, shows s line text h.0 h.1, all_seen lines h.0 texts s' h.2)
@@ -67,10 +67,13 @@ module _ {S T : Type 0} (f : S → T) (says : S → List ℕ → List ℕ → S 
     begins = b.begins;
   }
 
+  fails_seen : (s' : S) → FailsAt fails s' → FailsAt failed (f s')
+  fails_seen s' h = (f h.0, h.1, stops h.0 h.1 s' h.2)
+
   module _ {I O : Type 0} (remaining : I → Option (List ℕ)) (reads read_failures : I → ℕ) (written : O → Option (List ℕ)) (write_failures : O → ℕ) where
     sits_seen : (result : Result Ended SessionFault) (i : I) (o : O) (s s' : S)
-        → Sits says drops remaining reads read_failures written write_failures result i o s s'
-        → Sits seen lost remaining reads read_failures written write_failures result i o (f s) (f s')
+        → Sits says drops fails remaining reads read_failures written write_failures result i o s s'
+        → Sits seen lost failed remaining reads read_failures written write_failures result i o (f s) (f s')
     sits_seen (Ok ended) i o s s' t = record {
       input = t.input;
       output = t.output;
@@ -82,6 +85,7 @@ module _ {S T : Type 0} (f : S → T) (says : S → List ℕ → List ℕ → S 
       few = t.few;
       counted = t.counted;
       spent = t.spent;
+      journal = λ e. fails_seen s' (t.journal e);
     }
     sits_seen (Err fault) i o s s' t = record {
       input = t.input;
@@ -94,24 +98,25 @@ module _ {S T : Type 0} (f : S → T) (says : S → List ℕ → List ℕ → S 
       few = t.few;
       counted = t.counted;
       spent = t.spent;
+      journal = λ e. fails_seen s' (t.journal e);
     }
 
-    module _ {D : Type 0} (opens : D → I → O → D → Type 0) (fails : D → D → Type 0) where
+    module _ {D : Type 0} (opens : D → I → O → D → Type 0) (stays : D → D → Type 0) where
       visits_seen : (outcome : Outcome) (d : D) (s : S) (d' : D) (s' : S)
-          → Visits opens fails (Sits says drops remaining reads read_failures written write_failures) outcome d s d' s'
-          → Visits opens fails (Sits seen lost remaining reads read_failures written write_failures) outcome d (f s) d' (f s')
+          → Visits opens stays (Sits says drops fails remaining reads read_failures written write_failures) outcome d s d' s'
+          → Visits opens stays (Sits seen lost failed remaining reads read_failures written write_failures) outcome d (f s) d' (f s')
       visits_seen None d s d' s' v = (v.0, ap f v.1)
       visits_seen (Some result) d s d' s' v = (v.0, v.1, v.2, sits_seen result v.0 v.1 s s' v.3)
 
       all_visits_seen : (outcomes : List Outcome) (d : D) (s : S) (d' : D) (s' : S)
-          → VisitsAll (Visits opens fails (Sits says drops remaining reads read_failures written write_failures)) outcomes d s d' s'
-          → VisitsAll (Visits opens fails (Sits seen lost remaining reads read_failures written write_failures)) outcomes d (f s) d' (f s')
+          → VisitsAll (Visits opens stays (Sits says drops fails remaining reads read_failures written write_failures)) outcomes d s d' s'
+          → VisitsAll (Visits opens stays (Sits seen lost failed remaining reads read_failures written write_failures)) outcomes d (f s) d' (f s')
       all_visits_seen [] d s d' s' h = (h.0, ap f h.1)
       all_visits_seen (outcome ∷ outcomes) d s d' s' h = (h.0, f h.1, visits_seen outcome d s h.0 h.1 h.2, all_visits_seen outcomes h.0 h.1 d' s' h.3)
 
       pub serves_seen : (asked well : ℕ) (d : D) (s : S) (d' : D) (s' : S)
-          → Serves (Visits opens fails (Sits says drops remaining reads read_failures written write_failures)) asked well d s d' s'
-          → Serves (Visits opens fails (Sits seen lost remaining reads read_failures written write_failures)) asked well d (f s) d' (f s')
+          → Serves (Visits opens stays (Sits says drops fails remaining reads read_failures written write_failures)) asked well d s d' s'
+          → Serves (Visits opens stays (Sits seen lost failed remaining reads read_failures written write_failures)) asked well d (f s) d' (f s')
       serves_seen asked well d s d' s' h = record {
         outcomes = h.outcomes;
         each = all_visits_seen h.outcomes d s d' s' h.each;
@@ -139,4 +144,8 @@ module _ {C C' D D' : Type 0} (f : C → C') (g : D → D') (step : D → Act �
 
   pub desk_lost : (role : Role) (s : C × D) (line : List ℕ) (s' : C × D) → desk_drops step tick role s line s'
       → desk_drops step' tick' role (f s.0, g s.1) line (f s'.0, g s'.1)
-  desk_lost role s line s' h = (h.0, h.1, h.2, ticks s.0 h.1 s'.0 h.3, steps s.1 h.0 h.1 (Line OutOfMemory) s'.1 h.4)
+  desk_lost role s line s' h = (h.0, h.1, h.2, h.3, h.4, ticks s.0 h.1 s'.0 h.5, steps s.1 h.0 h.1 h.2 s'.1 h.6)
+
+  pub desk_failed : (role : Role) (s : C × D) (line : List ℕ) (s' : C × D) → desk_fails step tick role s line s'
+      → desk_fails step' tick' role (f s.0, g s.1) line (f s'.0, g s'.1)
+  desk_failed role s line s' h = (h.0, h.1, h.2, ticks s.0 h.1 s'.0 h.3, steps s.1 h.0 h.1 JournalFailed s'.1 h.4)

@@ -9,7 +9,9 @@ use Rattle.till_request.specs.declared.act.LineFault.{LineFault}
 use Rattle.till_request.specs.Line.{IsLine}
 use Rattle.till_request.specs.declared.act.Answer.TheVariants.{Line}
 use Rattle.till_request.specs.Answer.{answer_line}
-use Rattle.line_session.specs.Talk.{FallsShort, with_lf, Said, SaysAll, Talks, IsCut, IsUpToLine, Breaks}
+use Rattle.line_session.specs.declared.speaker.SpeakFault.{SpeakFault}
+use Rattle.line_session.specs.declared.speaker.SpeakFault.TheVariants as speech
+use Rattle.line_session.specs.Talk.{FallsShort, Half, Dropped, with_lf, Said, SaysAll, Talks, IsCut, IsUpToLine, Breaks}
 
 pub is_line_empty : IsLine []
 is_line_empty = (tt, omega arith)
@@ -77,14 +79,10 @@ module _ {C D : Type 0} (says : C × D → List ℕ → List ℕ → C × D → 
       begins = refl;
     }
 
-    pub breaks_line : {O : Type 0} (out : O → Option (List ℕ)) (s m s' : C × D) (i j k : Option (List ℕ)) (o : Option (List ℕ)) (p q : O)
-        (count : ℕ) (l : List ℕ)
-        → Talks says s m i j o (out p) count [] [] → IsLine l → Consumes j k (l ++ 10 ∷ [])
-        → FallsShort says drops out l m s' p q
+    breaks_dropped : {O : Type 0} (out : O → Option (List ℕ)) (s m s' : C × D) (i j k o : Option (List ℕ)) (p q : O) (count : ℕ) (l : List ℕ)
+        → Talks says s m i j o (out p) count [] [] → IsLine l → Consumes j k (l ++ 10 ∷ []) → Dropped drops l m s' p q
         → Breaks says drops s s' i k o (out q)
-    breaks_line out s m s' i j k o p q count l t whole taken (inl a) =
-        rw (a.state, a.output) (breaks_here s m i j o (out p) count k (l ++ 10 ∷ []) t taken (inr (l, whole, refl)))
-    breaks_line out s m s' i j k o p q count l t whole taken (inr (inl a)) = rw a.output record {
+    breaks_dropped out s m s' i j k o p q count l t whole taken a = rw a.output record {
       lines = t.lines;
       texts = t.texts;
       each = t.each;
@@ -100,7 +98,11 @@ module _ {C D : Type 0} (says : C × D → List ℕ → List ℕ → C × D → 
       written = rw append-nil at t.written;
       begins = refl;
     }
-    breaks_line out s m s' i j k o p q count l t whole taken (inr (inr a)) = record {
+
+    breaks_half : (s m s' : C × D) (i j k o p q : Option (List ℕ)) (count : ℕ) (l : List ℕ)
+        → Talks says s m i j o p count [] [] → IsLine l → Consumes j k (l ++ 10 ∷ []) → Half says l m s' p q
+        → Breaks says drops s s' i k o q
+    breaks_half s m s' i j k o p q count l t whole taken a = record {
       lines = t.lines ++ l ∷ [];
       texts = t.texts ++ a.text ∷ [];
       each = lines_more IsLine t.lines l t.each whole;
@@ -113,9 +115,20 @@ module _ {C D : Type 0} (says : C × D → List ℕ → List ℕ → C × D → 
       is_cut = inl is_line_empty;
       front = flat_map same t.texts ++ take a.kept a.text;
       after = drop a.kept a.text;
-      written = appends_more o (out p) (out q) (flat_map same t.texts) (take a.kept a.text) (rw append-nil at t.written) a.written;
+      written = appends_more o p q (flat_map same t.texts) (take a.kept a.text) (rw append-nil at t.written) a.written;
       begins = rw (append-nil, flat_more same t.texts a.text, append_assoc) (ap (λ x. flat_map same t.texts ++ x) (sym (take-append-drop a.kept a.text)));
     }
+
+    pub breaks_line : {O : Type 0} (out : O → Option (List ℕ)) (s m s' : C × D) (i j k : Option (List ℕ)) (o : Option (List ℕ)) (p q : O)
+        (count : ℕ) (l : List ℕ)
+        → Talks says s m i j o (out p) count [] [] → IsLine l → Consumes j k (l ++ 10 ∷ [])
+        → (fault : SpeakFault) → FallsShort says drops out fault l m s' p q
+        → Breaks says drops s s' i k o (out q)
+    breaks_line out s m s' i j k o p q count l t whole taken speech.OutOfMemory (inl a) =
+        rw (a.state, a.output) (breaks_here s m i j o (out p) count k (l ++ 10 ∷ []) t taken (inr (l, whole, refl)))
+    breaks_line out s m s' i j k o p q count l t whole taken speech.OutOfMemory (inr a) = breaks_dropped out s m s' i j k o p q count l t whole taken a
+    breaks_line out s m s' i j k o p q count l t whole taken speech.Journal a = breaks_dropped out s m s' i j k o p q count l t whole taken a
+    breaks_line out s m s' i j k o p q count l t whole taken speech.Write a = breaks_half s m s' i j k o (out p) (out q) count l t whole taken a
 
     pub breaks_cut : (s m : C × D) (i j k o p q : Option (List ℕ)) (count : ℕ) (more : List ℕ) (fault : LineFault) (kept : ℕ)
         → Talks says s m i j o p count [] [] → Consumes j k more → IsCut (Some fault) k more → Appends p q (take kept (answer_line (Line fault)))

@@ -4,8 +4,8 @@ use Rattle.std.specs.Prelude.{◌≡◌, ℕ, ◌+◌, ◌≤◌, List, [], ◌�
 use Rattle.till_request.specs.Count.{RoseBy, one_if}
 use Rattle.line_session.specs.declared.answering.Ended.{Ended}
 use Rattle.line_session.specs.declared.answering.SessionFault.{SessionFault}
-use Rattle.line_session.specs.declared.answering.SessionFault.TheVariants.{ReadsSpent}
-use Rattle.line_session.specs.Talk.{Ends, Breaks, is_read, is_write, session_reads}
+use Rattle.line_session.specs.declared.answering.SessionFault.TheVariants.{Journal, ReadsSpent}
+use Rattle.line_session.specs.Talk.{Ends, Breaks, FailsAt, is_read, is_write, session_reads}
 
 -- how a connection went: None, the door did not open; else what its session answered
 abbrev pub Outcome : Type 0
@@ -23,10 +23,10 @@ good [] = 0
 good (outcome ∷ outcomes) = one_good outcome + good outcomes
 
 -- a session that ended so at this input and output: all was said, or a beginning of it is out. It failed by a device only
--- where that failed, and for its reads only where they ran out.
-pub record Sits {S I O : Type 0} (says : S → List ℕ → List ℕ → S → Type 0) (drops : S → List ℕ → S → Type 0) (remaining : I
-    → Option (List ℕ)) (reads read_failures : I → ℕ) (written : O → Option (List ℕ)) (write_failures : O → ℕ) (result : Result Ended SessionFault) (i : I)
-    (o : O) (s s' : S) : Type 0 where
+-- where that failed, for its reads only where they ran out, and by the journal only at a line at which this failed.
+pub record Sits {S I O : Type 0} (says : S → List ℕ → List ℕ → S → Type 0) (drops fails : S → List ℕ → S → Type 0)
+    (remaining : I → Option (List ℕ)) (reads read_failures : I → ℕ) (written : O → Option (List ℕ)) (write_failures : O → ℕ)
+    (result : Result Ended SessionFault) (i : I) (o : O) (s s' : S) : Type 0 where
   pub input : I
   pub output : O
   pub said : IfOk result (λ ended. Ends says s s' (remaining i) (remaining input) (written o) (written output) ended.lines ended.cut)
@@ -37,6 +37,7 @@ pub record Sits {S I O : Type 0} (says : S → List ℕ → List ℕ → S → T
   pub few : count ≤ session_reads
   pub counted : RoseBy count (reads i) (reads input)
   pub spent : result ≡ Err ReadsSpent → count ≡ session_reads
+  pub journal : result ≡ Err Journal → FailsAt fails s'
 
 -- one connection: the door did not open, and nobody was asked; or it opened, and a session ran at it
 abbrev pub Visits : {D S I O : Type 0} → (D → I → O → D → Type 0) → (D → D → Type 0) → (Result Ended SessionFault → I → O → S → S → Type 0) → Outcome

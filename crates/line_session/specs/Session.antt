@@ -1,46 +1,72 @@
 -- Definitions: what a desk says to a line (this profile). The act of the line is answered at the moment that the clock
 -- tells for it; a line that stands for no act is answered by its fault, and then neither clock nor desk is asked.
--- Where the desk tells want of memory at a line, this has no answer: the session ends.
-use Rattle.std.specs.Prelude.{◌≡◌, ◌≢◌, ℕ, List, take, Option, Result, Ok, Err}
+-- Where the desk tells want of memory at a line, or that the journal failed, the line has no answer: the session ends.
+use Rattle.std.specs.Prelude.{◌≡◌, ℕ, List, take, Option, Result, Ok, Err, Bool, true, false}
 use Rattle.std.specs.Io.KnownBytes.{Appends}
 use Rattle.till_request.specs.declared.act.Act.{Act}
 use Rattle.till_request.specs.declared.act.Role.{Role}
 use Rattle.till_request.specs.declared.act.LineFault.{LineFault}
 use Rattle.till_request.specs.declared.act.LineFault.TheVariants as fault
 use Rattle.till_request.specs.declared.act.Answer.{Answer}
-use Rattle.till_request.specs.declared.act.Answer.TheVariants.{Line}
+use Rattle.till_request.specs.declared.act.Answer.TheVariants.{Line, JournalFailed}
 use Rattle.till_request.specs.Grammar.{line_read}
 use Rattle.till_request.specs.Answer.{answer_line}
+use Rattle.line_session.specs.declared.speaker.SpeakFault.{SpeakFault}
+use Rattle.line_session.specs.declared.speaker.SpeakFault.TheVariants as speech
 
 -- What is answered to an act: what the desk may answer at the moment that the clock may tell. A fault is answered as it is.
 abbrev pub AnswersAct : {C D : Type 0} → (D → Act → ℕ → Answer → D → Type 0) → (C → ℕ → C → Type 0) → Result Act LineFault → C → D → Answer → C → D → Type 0
 AnswersAct step tick (Ok act) c d a c' d' = (moment : ℕ) × tick c moment c' × step d act moment a d'
 AnswersAct step tick (Err why) c d a c' d' = (a ≡ Line why) × (c' ≡ c) × (d' ≡ d)
 
+-- the answer has no line, and ends the session
+abbrev pub ends_unsaid : Answer → Bool
+ends_unsaid (Line fault.OutOfMemory) = true
+ends_unsaid JournalFailed = true
+ends_unsaid answer = false
+
 -- the answer has a line, and this was written
 pub record Writes {O : Type 0} (took : O → Option (List ℕ)) (answer : Answer) (o o' : O) : Type 0 where
-  pub has_line : answer ≢ Line fault.OutOfMemory
+  pub has_line : ends_unsaid answer ≡ false
   pub written : Appends (took o) (took o') (answer_line answer)
 
 -- the same of a front of it
 pub record WritesFront {O : Type 0} (took : O → Option (List ℕ)) (answer : Answer) (o o' : O) : Type 0 where
-  pub has_line : answer ≢ Line fault.OutOfMemory
+  pub has_line : ends_unsaid answer ≡ false
   pub kept : ℕ
   pub written : Appends (took o) (took o') (take kept (answer_line answer))
 
--- the text is the line of such an answer, which isn't want of memory
+-- why an answer has no line
+abbrev pub IsUnsaid : SpeakFault → Answer → Type 0
+IsUnsaid speech.Write answer = ⊥
+IsUnsaid speech.OutOfMemory answer = answer ≡ Line fault.OutOfMemory
+IsUnsaid speech.Journal answer = answer ≡ JournalFailed
+
+-- why an answer isn't out: the device failed, and a front of its line is; or it has no line, and nothing is written
+abbrev pub StaysUnsaid : {O : Type 0} → (O → Option (List ℕ)) → SpeakFault → Answer → O → O → Type 0
+StaysUnsaid took speech.Write answer o o' = WritesFront took answer o o'
+StaysUnsaid took speech.OutOfMemory answer o o' = IsUnsaid speech.OutOfMemory answer × (o' ≡ o)
+StaysUnsaid took speech.Journal answer o o' = IsUnsaid speech.Journal answer × (o' ≡ o)
+
+-- the text is the line of such an answer
 pub record SpeaksAt {C D : Type 0} (step : D → Act → ℕ → Answer → D → Type 0) (tick : C → ℕ → C → Type 0) (role : Role) (line text : List ℕ) (c : C) (d : D)
     (c' : C) (d' : D) : Type 0 where
   pub answer : Answer
   pub answers : AnswersAct step tick (line_read role line) c d answer c' d'
-  pub has_line : answer ≢ Line fault.OutOfMemory
+  pub has_line : ends_unsaid answer ≡ false
   pub text_is : text ≡ answer_line answer
 
 -- what a clock and a desk say to a line of somebody of this role
 abbrev pub desk_says : {C D : Type 0} → (D → Act → ℕ → Answer → D → Type 0) → (C → ℕ → C → Type 0) → Role → C × D → List ℕ → List ℕ → C × D → Type 0
 desk_says step tick role s line text s' = SpeaksAt step tick role line text s.0 s.1 s'.0 s'.1
 
--- a line that has no answer: the desk told want of memory
+-- a line that has no answer: what the desk told has no line
 abbrev pub desk_drops : {C D : Type 0} → (D → Act → ℕ → Answer → D → Type 0) → (C → ℕ → C → Type 0) → Role → C × D → List ℕ → C × D → Type 0
 desk_drops step tick role s line s' =
-    (act : Act) × (moment : ℕ) × (line_read role line ≡ Ok act) × tick s.0 moment s'.0 × step s.1 act moment (Line fault.OutOfMemory) s'.1
+    (act : Act) × (moment : ℕ) × (answer : Answer) × (ends_unsaid answer ≡ true) × (line_read role line ≡ Ok act) × tick s.0 moment s'.0
+    × step s.1 act moment answer s'.1
+
+-- a line at which the journal failed: the desk told so
+abbrev pub desk_fails : {C D : Type 0} → (D → Act → ℕ → Answer → D → Type 0) → (C → ℕ → C → Type 0) → Role → C × D → List ℕ → C × D → Type 0
+desk_fails step tick role s line s' =
+    (act : Act) × (moment : ℕ) × (line_read role line ≡ Ok act) × tick s.0 moment s'.0 × step s.1 act moment JournalFailed s'.1

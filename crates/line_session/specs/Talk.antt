@@ -28,7 +28,7 @@ pub record Half {S : Type 0} (says : S → List ℕ → List ℕ → S → Type 
   pub kept : ℕ
   pub written : Appends out_old out_new (take kept text)
 
--- the line has no answer, for want of memory, and nothing of one is out
+-- the line has no answer, since memory was refused or the journal failed, and nothing of one is out
 pub record Dropped {S O : Type 0} (drops : S → List ℕ → S → Type 0) (line : List ℕ) (s s' : S) (o o' : O) : Type 0 where
   pub drops_it : drops s line s'
   pub output : o' ≡ o
@@ -42,10 +42,21 @@ pub record Silent {S O : Type 0} (s s' : S) (o o' : O) : Type 0 where
   pub state : s' ≡ s
   pub output : o' ≡ o
 
--- the line has no whole answer: nothing changed, or it has none for want of memory, or a front of it is out
-abbrev pub FallsShort : {S O : Type 0} → (S → List ℕ → List ℕ → S → Type 0) → (S → List ℕ → S → Type 0) → (O → Option (List ℕ)) → List ℕ → S → S → O → O
-    → Type 0
-FallsShort says drops out line s s' o o' = Silent s s' o o' ⊎ (Dropped drops line s s' o o' ⊎ Half says line s s' (out o) (out o'))
+-- why the line has no whole answer: the device failed, and a front of the answer is out; or memory was refused, and nothing changed or the line has
+-- no answer; or the journal failed, and the line has no answer
+abbrev pub FallsShort : {S O : Type 0} → (S → List ℕ → List ℕ → S → Type 0) → (S → List ℕ → S → Type 0) → (O → Option (List ℕ)) → SpeakFault → List ℕ → S
+    → S → O → O → Type 0
+FallsShort says drops out speech.Write line s s' o o' = Half says line s s' (out o) (out o')
+FallsShort says drops out speech.OutOfMemory line s s' o o' = Silent s s' o o' ⊎ Dropped drops line s s' o o'
+FallsShort says drops out speech.Journal line s s' o o' = Dropped drops line s s' o o'
+
+-- the state is what a line leaves at which the journal failed
+abbrev pub FailsAt : {S : Type 0} → (S → List ℕ → S → Type 0) → S → Type 0
+FailsAt {S} fails s' = (s : S) × (line : List ℕ) × fails s line s'
+
+-- at what lines the journal of somebody fails who keeps none
+abbrev pub fails_none : {S : Type 0} → S → List ℕ → S → Type 0
+fails_none s line s' = ⊥
 
 -- a line with its LF
 abbrev pub with_lf : List ℕ → List ℕ
@@ -142,6 +153,7 @@ is_read (Err session.Read) = true
 is_read (Err session.Write) = false
 is_read (Err session.ReadsSpent) = false
 is_read (Err session.OutOfMemory) = false
+is_read (Err session.Journal) = false
 
 abbrev pub is_write : {T : Type 0} → Result T SessionFault → Bool
 is_write (Ok x) = false
@@ -149,11 +161,13 @@ is_write (Err session.Read) = false
 is_write (Err session.Write) = true
 is_write (Err session.ReadsSpent) = false
 is_write (Err session.OutOfMemory) = false
+is_write (Err session.Journal) = false
 
 abbrev pub is_write_fault : {T : Type 0} → Result T SpeakFault → Bool
 is_write_fault (Ok x) = false
 is_write_fault (Err speech.Write) = true
 is_write_fault (Err speech.OutOfMemory) = false
+is_write_fault (Err speech.Journal) = false
 
 -- how many reads a session may make (this profile)
 abbrev pub session_reads : ℕ

@@ -4,15 +4,15 @@ ghost use Rattle.std.specs.Io.KnownBytes.{Appends};
 ghost use Rattle.till_request.specs.Answer.{answer_line};
 ghost use Rattle.till_request.specs.Count.{RoseBy, one_if};
 ghost use Rattle.line_session.specs.Holding.{BreaksHeld, EndsHeld, LetsGo};
-ghost use Rattle.line_session.specs.Session.{desk_says, desk_drops};
-ghost use Rattle.line_session.specs.Talk.{Ends, Breaks, FallsShort, Said, SpendsReads};
+ghost use Rattle.line_session.specs.Session.{desk_says, desk_drops, desk_fails};
+ghost use Rattle.line_session.specs.Talk.{Ends, Breaks, FailsAt, FallsShort, Said, SpendsReads};
 ghost use Rattle.line_session.specs.Talk.{is_read, is_write, session_reads};
 
 use crate::answering::{Ended, READS, SessionFault};
 use crate::at_desk::AtDesk;
 use crate::desk::{Clock, Desk};
 use crate::doors::Doors;
-use crate::speaker::Speaker;
+use crate::speaker::{SpeakFault, Speaker};
 use std::alloc::Global;
 use till_request::devices::MemoryOut;
 use till_request::{Answer, Found, LineFault, LineOut, Role, find_line, write_all, write_answer};
@@ -70,13 +70,18 @@ fn hold_answer<C, D, P: Speaker<C, D>>(
     ensures ok { OnOk result (Said (P.says speaker.now) line.now (clock.old, desk.old) (clock.new, desk.new)
         (Some held.old.bytes.items) (Some held.new.bytes.items)) }
     ensures err { OnErr result
-        (FallsShort (P.says speaker.now) (P.drops speaker.now) (λ h. Some h.bytes.items) line.now (clock.old, desk.old)
-        (clock.new, desk.new) held.old held.new) }
-    ensures cause { IfErr result (λ e. e ≡ SessionFault.OutOfMemory) }
+        ((fault : SpeakFault) × FallsShort (P.says speaker.now) (P.drops speaker.now) (λ h. Some h.bytes.items) fault
+        line.now (clock.old, desk.old) (clock.new, desk.new) held.old held.new) }
+    ensures cause { IfErr result (λ e. (e ≡ SessionFault.OutOfMemory) ⊎ (e ≡ SessionFault.Journal)) }
+    ensures journal { result ≡ Err SessionFault.Journal
+        → P.fails speaker.now (clock.old, desk.old) line.now (clock.new, desk.new) }
 {
     match speaker.speak(alloc, line, clock, desk, held) {
         Ok(()) => Ok(()),
-        Err(_) => Err(SessionFault::OutOfMemory),
+        // What holds the answers is memory, so a write to it fails for want of that.
+        Err(SpeakFault::Write) => Err(SessionFault::OutOfMemory),
+        Err(SpeakFault::OutOfMemory) => Err(SessionFault::OutOfMemory),
+        Err(SpeakFault::Journal) => Err(SessionFault::Journal),
     }
 }
 
@@ -119,6 +124,7 @@ fn talk_held<S: Doors, C, D, P: Speaker<C, D>>(
     ensures spent { result ≡ Err SessionFault.ReadsSpent → left.new ≡ 0 }
     ensures counted { RoseBy (left.old - left.new) (S.In.reads input.old) (S.In.reads input.new) }
     ensures asked { RoseBy (left.old - left.new) (S.In.asked input.old) (S.In.asked input.new) }
+    ensures journal { result ≡ Err SessionFault.Journal → FailsAt (P.fails speaker.now) (clock.new, desk.new) }
 {
     let mut line = Vec::new(alloc);
     let mut count = 0u64;
@@ -171,6 +177,7 @@ fn talk_ahead<S: Doors, C, D, P: Speaker<C, D>>(
     ensures write_fault { RoseBy (one_if (is_write result)) (S.Out.failures output.old) (S.Out.failures output.new) }
     ensures reads { SpendsReads session_reads result (S.In.reads input.old) (S.In.reads input.new)
         (S.In.asked input.old) (S.In.asked input.new) }
+    ensures journal { result ≡ Err SessionFault.Journal → FailsAt (P.fails speaker.now) (clock.new, desk.new) }
 {
     let mut left = READS;
     let mut held = MemoryOut::new(alloc, Vec::new(alloc), None);
@@ -214,6 +221,7 @@ pub fn session_ahead<S: Doors, C: Clock, D: Desk>(
     ensures write_fault { RoseBy (one_if (is_write result)) (S.Out.failures output.old) (S.Out.failures output.new) }
     ensures reads { SpendsReads session_reads result (S.In.reads input.old) (S.In.reads input.new)
         (S.In.asked input.old) (S.In.asked input.new) }
+    ensures journal { result ≡ Err SessionFault.Journal → FailsAt (desk_fails D.step C.tick role) (clock.new, desk.new) }
 {
     talk_ahead(alloc, doors, input, output, &AtDesk { role }, clock, desk)
 }

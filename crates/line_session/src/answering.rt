@@ -3,7 +3,7 @@ ghost use Rattle.std.specs.Prelude.{◌≡◌, ◌⊎◌, ◌+◌, ◌-◌, ◌<
 ghost use Rattle.std.specs.Io.KnownBytes.{Appends};
 ghost use Rattle.till_request.specs.Count.{RoseBy, one_if};
 ghost use Rattle.till_request.specs.Answer.{answer_line};
-ghost use Rattle.line_session.specs.Talk.{Ends, Breaks, SpendsReads, is_read, is_write, session_reads};
+ghost use Rattle.line_session.specs.Talk.{Ends, Breaks, FailsAt, SpendsReads, is_read, is_write, session_reads};
 
 use crate::speaker::{SpeakFault, Speaker};
 use std::alloc::Global;
@@ -36,6 +36,9 @@ pub enum SessionFault {
     ReadsSpent,
     #[error("out of memory")]
     OutOfMemory,
+    /// A line has no answer, since the site takes no further event.
+    #[error("the journal failed")]
+    Journal,
 }
 
 impl From<InputFault> for SessionFault {
@@ -61,6 +64,7 @@ impl From<SpeakFault> for SessionFault {
         match fault {
             SpeakFault::Write => SessionFault::Write,
             SpeakFault::OutOfMemory => SessionFault::OutOfMemory,
+            SpeakFault::Journal => SessionFault::Journal,
         }
     }
 }
@@ -109,6 +113,7 @@ pub fn talk_within<I: LineIn, O: LineOut, C, D, S: Speaker<C, D>>(
     ensures spent { result ≡ Err SessionFault.ReadsSpent → left.new ≡ 0 }
     ensures counted { RoseBy (left.old - left.new) (I.reads input.old) (I.reads input.new) }
     ensures asked { RoseBy (left.old - left.new) (I.asked input.old) (I.asked input.new) }
+    ensures journal { result ≡ Err SessionFault.Journal → FailsAt (S.fails speaker.now) (clock.new, desk.new) }
 {
     let mut line = Vec::new(alloc);
     let mut count = 0u64;
@@ -159,6 +164,7 @@ pub fn talk<I: LineIn, O: LineOut, C, D, S: Speaker<C, D>>(
     ensures write_fault { RoseBy (one_if (is_write result)) (O.failures output.old) (O.failures output.new) }
     ensures reads { SpendsReads session_reads result (I.reads input.old) (I.reads input.new) (I.asked input.old)
         (I.asked input.new) }
+    ensures journal { result ≡ Err SessionFault.Journal → FailsAt (S.fails speaker.now) (clock.new, desk.new) }
 {
     let mut left = READS;
     talk_within(alloc, input, output, speaker, clock, desk, &mut left)

@@ -1,30 +1,41 @@
 //! A desk and a clock that answer lines.
-ghost use Rattle.std.specs.Prelude.{◌≡◌, ◌⊎◌, ◌↔◌, IsTrue, OnOk, OnErr};
+ghost use Rattle.std.specs.Prelude.{◌≡◌, OnOk, IfErr, IfSome, IfNone, false};
 ghost use Rattle.till_request.specs.Count.{RoseBy, one_if};
 ghost use Rattle.line_session.specs.Talk.{is_write_fault};
-ghost use Rattle.line_session.specs.Session.{Writes, WritesFront};
+ghost use Rattle.line_session.specs.Session.{IsUnsaid, StaysUnsaid, Writes, ends_unsaid};
 
 use crate::desk::{Clock, Desk};
 use crate::speaker::{SpeakFault, Speaker};
 use std::alloc::Global;
 use till_request::{Answer, LineFault, LineOut, Role, WriteFault, parse_line, write_answer};
 
-// Whether an answer has no line, and ends the session.
-fn ends_unsaid(answer: &Answer) -> bool
-    ensures { IsTrue result ↔ (answer.now ≡ Answer.Line LineFault.OutOfMemory) }
+// Why an answer has no line, and ends the session, if it does.
+fn unsaid(answer: &Answer) -> Option<SpeakFault>
+    ensures some { IfSome result (λ fault. IsUnsaid fault answer.now) }
+    ensures none { IfNone result (ends_unsaid answer.now ≡ false) }
 {
-    matches!(answer, Answer::Line(LineFault::OutOfMemory))
+    match answer {
+        Answer::Entered { .. } => None,
+        Answer::JournalFull => None,
+        Answer::OutOfMemory => None,
+        Answer::Line(LineFault::TooLong) => None,
+        Answer::Line(LineFault::BadLine) => None,
+        Answer::Line(LineFault::BadNumber) => None,
+        Answer::Line(LineFault::CutLine) => None,
+        Answer::Line(LineFault::OutOfMemory) => Some(SpeakFault::OutOfMemory),
+        Answer::Program(..) => None,
+        Answer::JournalFailed => Some(SpeakFault::Journal),
+    }
 }
 
-// Writes an answer. Want of memory at a line has none, whoever tells it.
+// Writes an answer. Want of memory at a line has no line, whoever tells it, nor has a failed journal.
 fn say<O: LineOut>(alloc: Global, output: &mut O, answer: &Answer) -> Result<(), SpeakFault>
     ensures ok { OnOk result (Writes O.written answer.now output.old output.new) }
-    ensures err { OnErr result (((answer.now ≡ Answer.Line LineFault.OutOfMemory) × (output.new ≡ output.old))
-        ⊎ WritesFront O.written answer.now output.old output.new) }
+    ensures err { IfErr result (λ fault. StaysUnsaid O.written fault answer.now output.old output.new) }
     ensures failed { RoseBy (one_if (is_write_fault result)) (O.failures output.old) (O.failures output.new) }
 {
-    if ends_unsaid(answer) {
-        return Err(SpeakFault::OutOfMemory);
+    if let Some(fault) = unsaid(answer) {
+        return Err(fault);
     }
     match write_answer(alloc, output, answer) {
         Ok(()) => Ok(()),
@@ -40,11 +51,13 @@ pub struct AtDesk {
 }
 
 impl<C: Clock, D: Desk> Speaker<C, D> for AtDesk {
-    ghost use Rattle.line_session.specs.Session.{desk_says, desk_drops};
+    ghost use Rattle.line_session.specs.Session.{desk_says, desk_drops, desk_fails};
 
     ghost says = { λ a. desk_says D.step C.tick a.role };
 
     ghost drops = { λ a. desk_drops D.step C.tick a.role };
+
+    ghost fails = { λ a. desk_fails D.step C.tick a.role };
 
     fn speak<O: LineOut>(
         &self,

@@ -1,8 +1,8 @@
 //! Sessions at a desk.
 ghost use Rattle.std.specs.Prelude.{◌≡◌, ◌≤◌, ℕ, IfOk, OnErr, Err};
 ghost use Rattle.till_request.specs.Count.{RoseBy, one_if};
-ghost use Rattle.line_session.specs.Talk.{Ends, Breaks, SpendsReads, is_read, is_write, session_reads};
-ghost use Rattle.line_session.specs.Session.{desk_says, desk_drops};
+ghost use Rattle.line_session.specs.Talk.{Ends, Breaks, FailsAt, SpendsReads, is_read, is_write, session_reads};
+ghost use Rattle.line_session.specs.Session.{desk_says, desk_drops, desk_fails};
 
 use crate::answering::{Ended, READS, SessionFault, talk};
 use crate::at_desk::AtDesk;
@@ -33,6 +33,7 @@ pub fn session<I: LineIn, O: LineOut, C: Clock, D: Desk>(
     ensures write_fault { RoseBy (one_if (is_write result)) (O.failures output.old) (O.failures output.new) }
     ensures reads { SpendsReads session_reads result (I.reads input.old) (I.reads input.new) (I.asked input.old)
         (I.asked input.new) }
+    ensures journal { result ≡ Err SessionFault.Journal → FailsAt (desk_fails D.step C.tick role) (clock.new, desk.new) }
 {
     talk(alloc, input, output, &AtDesk { role }, clock, desk)
 }

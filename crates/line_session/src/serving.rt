@@ -1,6 +1,6 @@
 //! Sessions at a desk, connection by connection.
 ghost use Rattle.std.specs.Prelude.{◌≡◌, ◌≤◌};
-ghost use Rattle.line_session.specs.Session.{desk_says, desk_drops};
+ghost use Rattle.line_session.specs.Session.{desk_says, desk_drops, desk_fails};
 ghost use Rattle.line_session.specs.Serving.{Serves, Sits, Visits, one_good};
 
 use crate::ahead::session_ahead;
@@ -19,8 +19,8 @@ fn attend<S: Doors, C: Clock, D: Desk>(
     desk: &mut D,
 ) -> Option<Result<Ended, SessionFault>>
     ensures { Visits S.opens S.fails
-        (Sits (desk_says D.step C.tick role) (desk_drops D.step C.tick role) S.In.remaining S.In.reads S.In.failures
-        S.Out.written S.Out.failures)
+        (Sits (desk_says D.step C.tick role) (desk_drops D.step C.tick role) (desk_fails D.step C.tick role)
+        S.In.remaining S.In.reads S.In.failures S.Out.written S.Out.failures)
         result doors.old (clock.old, desk.old) doors.new (clock.new, desk.new) }
 {
     match doors.next() {
@@ -58,8 +58,8 @@ pub fn worker<S: Doors, C: Clock, D: Desk>(
 ) -> u64
     ensures { Serves
         (Visits S.opens S.fails
-        (Sits (desk_says D.step C.tick role) (desk_drops D.step C.tick role) S.In.remaining S.In.reads S.In.failures
-        S.Out.written S.Out.failures))
+        (Sits (desk_says D.step C.tick role) (desk_drops D.step C.tick role) (desk_fails D.step C.tick role)
+        S.In.remaining S.In.reads S.In.failures S.Out.written S.Out.failures))
         connections result doors.old (clock.old, desk.old) doors.new (clock.new, desk.new) }
 {
     let mut well = 0;

@@ -10,7 +10,7 @@ use Rattle.till_request.specs.declared.act.LineFault.TheVariants as faults
 use Rattle.till_request.specs.declared.act.Reply.{Reply}
 use Rattle.till_request.specs.declared.act.Reply.TheVariants as replies
 use Rattle.till_request.specs.declared.act.Answer.{Answer}
-use Rattle.till_request.specs.declared.act.Answer.TheVariants.{Entered, JournalFull, OutOfMemory, Line, Program}
+use Rattle.till_request.specs.declared.act.Answer.TheVariants.{Entered, JournalFull, OutOfMemory, Line, Program, JournalFailed}
 
 -- the words of a reply
 abbrev pub order_words : Order → List (List ℕ)
@@ -53,6 +53,7 @@ answer_text JournalFull = codes "S29"
 answer_text OutOfMemory = codes "S31"
 answer_text (Line fault) = fault_text fault
 answer_text (Program number unit part) = join_with_byte 32 (program_words number unit part)
+answer_text JournalFailed = codes "journal failed"
 
 -- the line of an answer
 abbrev pub answer_line : Answer → List ℕ

@@ -163,4 +163,6 @@ pub enum Answer {
     Line(LineFault),
     /// A program's refusal: its V number, the unit, and the register or the argument.
     Program(u32, Option<u32>, Option<u32>),
+    /// The journal failed: the site takes no further event. It has no line, and ends the session.
+    JournalFailed,
 }

@@ -73,6 +73,7 @@ impl fmt::Display for Answer {
             Answer::Program(number, Some(unit), Some(part)) => {
                 write!(f, "V{number} {unit} {part}")
             }
+            Answer::JournalFailed => write!(f, "journal failed"),
         }
     }
 }

@@ -179,6 +179,7 @@ fn put_answer(text: &mut ShortText, answer: &Answer)
         Answer::OutOfMemory => text.push_str("S31"),
         Answer::Line(fault) => text.push_str(fault_word(*fault)),
         Answer::Program(number, unit, part) => put_program(text, *number, *unit, *part),
+        Answer::JournalFailed => text.push_str("journal failed"),
     }
 }
 

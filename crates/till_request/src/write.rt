@@ -1,5 +1,5 @@
 //! Answers written out.
-ghost use Rattle.std.specs.Prelude.{◌≡◌, ℕ, take, OnOk, IfErr, Err, is_err};
+ghost use Rattle.std.specs.Prelude.{◌≡◌, ◌≢◌, ℕ, take, OnOk, IfErr, Err, is_err};
 ghost use Rattle.std.specs.Io.KnownBytes.{Appends};
 ghost use Rattle.till_request.specs.Count.{RoseBy, one_if};
 ghost use Rattle.till_request.specs.Write.{is_write_fault};
@@ -35,7 +35,7 @@ pub fn write_all<O: LineOut>(output: &mut O, bytes: &[u8]) -> Result<(), DeviceF
     Ok(())
 }
 
-/// Writes an answer with its LF, or a front of that: nothing where memory was refused.
+/// Writes an answer with its LF, or a front of that where the device fails. Takes no memory.
 pub fn write_answer<O: LineOut>(
     alloc: Global,
     output: &mut O,
@@ -44,7 +44,7 @@ pub fn write_answer<O: LineOut>(
     ensures ok { OnOk result (Appends (O.written output.old) (O.written output.new) (answer_line answer.now)) }
     ensures err { IfErr result
         (λ _. (k : ℕ) × Appends (O.written output.old) (O.written output.new) (take k (answer_line answer.now))) }
-    ensures refused { result ≡ Err WriteFault.OutOfMemory → output.new ≡ output.old }
+    ensures memory { result ≢ Err WriteFault.OutOfMemory }
     ensures failed { RoseBy (one_if (is_write_fault result)) (O.failures output.old) (O.failures output.new) }
 {
     // An answer's line needs no memory.

@@ -25,7 +25,7 @@ pub returns-in_err-speak-in-Line-clause-broken :
 returns-in_err-speak-in-Line-clause-broken g c =
     let t = rw c.in-Line.is at c.in_ok-find_line.ensures.taken in
     on_err_always _ (breaks_line _ _ g.O.LineOut.written _ _ _ _ _ _ _ _ _ c.turns.count c.find_line.new.line.items c.turns.invariant.talks t.1 t.0
-    (rw c.deref.ensures.value at c.in_err-speak-in-Line.ensures.err))
+    _ (rw c.deref.ensures.value at c.in_err-speak-in-Line.ensures.err))
 
 pub returns-in_err-write_cut-in-TooLong-clause-broken :
     goal.returns-in_err-write_cut-in-TooLong-clause-broken

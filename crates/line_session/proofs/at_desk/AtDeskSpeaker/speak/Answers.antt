@@ -1,4 +1,4 @@
-use Rattle.line_session.proofs.Desking.{fault_said, fault_broke}
+use Rattle.line_session.proofs.Desking.{fault_said, fault_broke, fault_journal}
 use Rattle.line_session.proofs.at_desk.AtDeskSpeaker.speak.Goals as goal
 
 pub returns-in-Err-clause-ok : goal.returns-in-Err-clause-ok
@@ -9,4 +9,9 @@ returns-in-Err-clause-ok g c =
 pub returns-in-Err-clause-err : goal.returns-in-Err-clause-err
 returns-in-Err-clause-err g c =
     fault_broke g.D.Desk.step g.C.Clock.tick g.O.LineOut.written c.args.self.now.role c.args.line.now c.in-Err.fault c.args.clock.now c.args.desk.now
+    c.args.output.now c.say.new.output c.in-Err.ensures c.say.result c.say.ensures.err
+
+pub returns-in-Err-clause-journal : goal.returns-in-Err-clause-journal
+returns-in-Err-clause-journal g c =
+    fault_journal g.D.Desk.step g.C.Clock.tick g.O.LineOut.written c.args.self.now.role c.args.line.now c.in-Err.fault c.args.clock.now c.args.desk.now
     c.args.output.now c.say.new.output c.in-Err.ensures c.say.result c.say.ensures.err
