@@ -1,5 +1,5 @@
 -- What a desk says to a line, by what is said of its answer.
-use Rattle.std.proofs.Common.{◌≡◌, ℕ, List, Option, Result, Ok, Err, OnOk, IfErr, Bool, true, false, refl, sym, ap, ◌∙◌, subst, inl, inr}
+use Rattle.std.proofs.Common.{◌≡◌, ℕ, List, Option, Result, Ok, Err, OnOk, IfErr, true, false, refl, sym, ap, subst, inl, inr}
 use Rattle.till_request.specs.declared.act.Act.{Act}
 use Rattle.till_request.specs.declared.act.Role.{Role}
 use Rattle.till_request.specs.declared.act.LineFault.{LineFault}
@@ -11,7 +11,7 @@ use Rattle.till_request.specs.Grammar.{line_read}
 use Rattle.till_request.specs.Answer.{answer_line}
 use Rattle.line_session.specs.declared.speaker.SpeakFault.{SpeakFault}
 use Rattle.line_session.specs.declared.speaker.SpeakFault.TheVariants as speech
-use Rattle.line_session.specs.Session.{AnswersAct, Writes, StaysUnsaid, SpeaksAt, desk_says, desk_drops, desk_fails, ends_unsaid}
+use Rattle.line_session.specs.Session.{AnswersAct, Writes, StaysUnsaid, SpeaksAt, desk_says, desk_drops, desk_fails, desk_takes, ends_unsaid}
 use Rattle.line_session.specs.Talk.{FallsShort, Said}
 
 true_is_not_false : true ≡ false → ⊥
@@ -24,13 +24,17 @@ fails_is BadNumber given h has = h
 fails_is CutLine given h has = h
 fails_is OutOfMemory given h has = absurd (true_is_not_false has)
 
+line_fault : (a b : LineFault) → Line a ≡ Line b → a ≡ b
+line_fault a b e = cc
+
 no_fault : (fault : LineFault) → Line fault ≡ JournalFailed → ⊥
 no_fault fault e = absurd (cc)
 
 module _ {C D O : Type 0} (step : D → Act → ℕ → Answer → D → Type 0) (tick : C → ℕ → C → Type 0) (written : O → Option (List ℕ)) (role : Role)
     (line : List ℕ) where
   -- a line that stands for no act
-  module _ (fault : LineFault) (c : C) (d : D) (o o' : O) (f : Fails fault (line_read role line)) where
+  module _ (fault : LineFault) (c : C) (d : D) (o o' : O) (f : Fails fault (line_read role line))
+      (takes : fault ≡ OutOfMemory → desk_takes role line) where
     told : ends_unsaid (Line fault) ≡ false → SpeaksAt step tick role line (answer_line (Line fault)) c d c d
     told has =
         let P : Result Act LineFault → Type 0 = λ r. AnswersAct step tick r c d (Line fault) c d in
@@ -42,10 +46,10 @@ module _ {C D O : Type 0} (step : D → Act → ℕ → Answer → D → Type 0)
     fault_said (Err e) w = tt
 
     pub fault_broke : {T : Type 0} (r : Result T SpeakFault) → IfErr r (λ e. StaysUnsaid written e (Line fault) o o')
-        → IfErr r (λ e. FallsShort (desk_says step tick role) (desk_drops step tick role) written e line (c, d) (c, d) o o')
+        → IfErr r (λ e. FallsShort (desk_says step tick role) (desk_drops step tick role) (desk_takes role) written e line (c, d) (c, d) o o')
     fault_broke (Ok x) w = tt
     fault_broke (Err speech.Write) w = record { text = answer_line (Line fault); says_it = told w.has_line; kept = w.kept; written = w.written }
-    fault_broke (Err speech.OutOfMemory) w = inl record { state = refl; output = w.1 }
+    fault_broke (Err speech.OutOfMemory) w = inl record { takes_it = takes (line_fault fault OutOfMemory w.0); state = refl; output = w.1 }
     fault_broke (Err speech.Journal) w = absurd (no_fault fault w.0)
 
     pub fault_journal : {T : Type 0} (r : Result T SpeakFault) → IfErr r (λ e. StaysUnsaid written e (Line fault) o o') → r ≡ Err speech.Journal
@@ -69,7 +73,7 @@ module _ {C D O : Type 0} (step : D → Act → ℕ → Answer → D → Type 0)
     act_said (Err e) w = tt
 
     pub act_broke : {T : Type 0} (r : Result T SpeakFault) → IfErr r (λ e. StaysUnsaid written e answer o o')
-        → IfErr r (λ e. FallsShort (desk_says step tick role) (desk_drops step tick role) written e line (c, d) (c', d') o o')
+        → IfErr r (λ e. FallsShort (desk_says step tick role) (desk_drops step tick role) (desk_takes role) written e line (c, d) (c', d') o o')
     act_broke (Ok x) w = tt
     act_broke (Err speech.Write) w = record { text = answer_line answer; says_it = answered w.has_line; kept = w.kept; written = w.written }
     act_broke (Err speech.OutOfMemory) w =

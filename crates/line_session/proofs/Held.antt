@@ -65,21 +65,21 @@ module _ {C D : Type 0} (says : C × D → List ℕ → List ℕ → C × D → 
     out = g.out;
   }
 
-  half_behind : {O : Type 0} (bytes : O → List ℕ) (sent l : List ℕ) (m s' : C × D) (p q : O) (fault : SpeakFault)
-      → FallsShort says drops (λ (x : O). Some (bytes x)) fault l m s' p q → FallsShort says drops (λ (x : O). Some (sent ++ bytes x)) fault l m s' p q
-  half_behind bytes sent l m s' p q speech.OutOfMemory a = a
-  half_behind bytes sent l m s' p q speech.Journal a = a
-  half_behind bytes sent l m s' p q speech.Write a =
+  half_behind : {O : Type 0} (bytes : O → List ℕ) (sent l : List ℕ) (m s' : C × D) (p q : O) (takes : List ℕ → Type 0) (fault : SpeakFault)
+      → FallsShort says drops takes (λ (x : O). Some (bytes x)) fault l m s' p q → FallsShort says drops takes (λ (x : O). Some (sent ++ bytes x)) fault l m s' p q
+  half_behind bytes sent l m s' p q takes speech.OutOfMemory a = a
+  half_behind bytes sent l m s' p q takes speech.Journal a = a
+  half_behind bytes sent l m s' p q takes speech.Write a =
       record { text = a.text; says_it = a.says_it; kept = a.kept; written = behind sent (bytes p) (bytes q) (take a.kept a.text) a.written }
 
   pub breaks_spoken : {O : Type 0} (bytes : O → List ℕ) (s m s' : C × D) (i j k o r : Option (List ℕ)) (p q : O) (count : ℕ) (l : List ℕ)
       → Gathers says s m i j o r (bytes p) count → IsLine l → Consumes j k (l ++ 10 ∷ [])
-      → (fault : SpeakFault) × FallsShort says drops (λ (x : O). Some (bytes x)) fault l m s' p q → BreaksHeld says drops s s' i k o r (bytes q)
-  breaks_spoken {O} bytes s m s' i j k o r p q count l g whole taken e = record {
+      → (takes : List ℕ → Type 0) → (fault : SpeakFault) × FallsShort says drops takes (λ (x : O). Some (bytes x)) fault l m s' p q → BreaksHeld says drops s s' i k o r (bytes q)
+  breaks_spoken {O} bytes s m s' i j k o r p q count l g whole taken takes e = record {
     sent = g.sent;
     lost = [];
     breaks = rw append-nil (breaks_line says drops (λ (x : O). Some (g.sent ++ bytes x)) s m s' i j k (Some []) p q count l g.talks whole taken
-        e.0 (half_behind bytes g.sent l m s' p q e.0 e.1));
+        takes e.0 (half_behind bytes g.sent l m s' p q takes e.0 e.1));
     out = g.out;
   }
 

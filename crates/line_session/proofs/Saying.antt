@@ -122,13 +122,13 @@ module _ {C D : Type 0} (says : C × D → List ℕ → List ℕ → C × D → 
     pub breaks_line : {O : Type 0} (out : O → Option (List ℕ)) (s m s' : C × D) (i j k : Option (List ℕ)) (o : Option (List ℕ)) (p q : O)
         (count : ℕ) (l : List ℕ)
         → Talks says s m i j o (out p) count [] [] → IsLine l → Consumes j k (l ++ 10 ∷ [])
-        → (fault : SpeakFault) → FallsShort says drops out fault l m s' p q
+        → (takes : List ℕ → Type 0) (fault : SpeakFault) → FallsShort says drops takes out fault l m s' p q
         → Breaks says drops s s' i k o (out q)
-    breaks_line out s m s' i j k o p q count l t whole taken speech.OutOfMemory (inl a) =
+    breaks_line out s m s' i j k o p q count l t whole taken takes speech.OutOfMemory (inl a) =
         rw (a.state, a.output) (breaks_here s m i j o (out p) count k (l ++ 10 ∷ []) t taken (inr (l, whole, refl)))
-    breaks_line out s m s' i j k o p q count l t whole taken speech.OutOfMemory (inr a) = breaks_dropped out s m s' i j k o p q count l t whole taken a
-    breaks_line out s m s' i j k o p q count l t whole taken speech.Journal a = breaks_dropped out s m s' i j k o p q count l t whole taken a
-    breaks_line out s m s' i j k o p q count l t whole taken speech.Write a = breaks_half s m s' i j k o (out p) (out q) count l t whole taken a
+    breaks_line out s m s' i j k o p q count l t whole taken takes speech.OutOfMemory (inr a) = breaks_dropped out s m s' i j k o p q count l t whole taken a
+    breaks_line out s m s' i j k o p q count l t whole taken takes speech.Journal a = breaks_dropped out s m s' i j k o p q count l t whole taken a
+    breaks_line out s m s' i j k o p q count l t whole taken takes speech.Write a = breaks_half s m s' i j k o (out p) (out q) count l t whole taken a
 
     pub breaks_cut : (s m : C × D) (i j k o p q : Option (List ℕ)) (count : ℕ) (more : List ℕ) (fault : LineFault) (kept : ℕ)
         → Talks says s m i j o p count [] [] → Consumes j k more → IsCut (Some fault) k more → Appends p q (take kept (answer_line (Line fault)))

@@ -9,7 +9,7 @@ use Rattle.till_request.specs.declared.act.LineFault.{LineFault}
 use Rattle.till_request.specs.declared.act.LineFault.TheVariants as fault
 use Rattle.till_request.specs.declared.act.Answer.{Answer}
 use Rattle.till_request.specs.declared.act.Answer.TheVariants.{Line, JournalFailed}
-use Rattle.till_request.specs.Grammar.{line_read}
+use Rattle.till_request.specs.Grammar.{IsLoad, line_read, words}
 use Rattle.till_request.specs.Answer.{answer_line}
 use Rattle.line_session.specs.declared.speaker.SpeakFault.{SpeakFault}
 use Rattle.line_session.specs.declared.speaker.SpeakFault.TheVariants as speech
@@ -70,3 +70,7 @@ desk_drops step tick role s line s' =
 abbrev pub desk_fails : {C D : Type 0} → (D → Act → ℕ → Answer → D → Type 0) → (C → ℕ → C → Type 0) → Role → C × D → List ℕ → C × D → Type 0
 desk_fails step tick role s line s' =
     (act : Act) × (moment : ℕ) × (line_read role line ≡ Ok act) × tick s.0 moment s'.0 × step s.1 act moment JournalFailed s'.1
+
+-- only a load takes memory before the desk is asked
+abbrev pub desk_takes : Role → List ℕ → Type 0
+desk_takes role line = IsLoad role (words line)

@@ -37,18 +37,19 @@ pub record Dropped {S O : Type 0} (drops : S → List ℕ → S → Type 0) (lin
 abbrev pub drops_none : {S : Type 0} → S → List ℕ → S → Type 0
 drops_none s line s' = ⊥
 
--- nothing changed
-pub record Silent {S O : Type 0} (s s' : S) (o o' : O) : Type 0 where
+-- the line takes memory, which was refused, and nothing changed
+pub record Silent {S O : Type 0} (takes : List ℕ → Type 0) (line : List ℕ) (s s' : S) (o o' : O) : Type 0 where
+  pub takes_it : takes line
   pub state : s' ≡ s
   pub output : o' ≡ o
 
 -- why the line has no whole answer: the device failed, and a front of the answer is out; or memory was refused, and nothing changed or the line has
 -- no answer; or the journal failed, and the line has no answer
-abbrev pub FallsShort : {S O : Type 0} → (S → List ℕ → List ℕ → S → Type 0) → (S → List ℕ → S → Type 0) → (O → Option (List ℕ)) → SpeakFault → List ℕ → S
-    → S → O → O → Type 0
-FallsShort says drops out speech.Write line s s' o o' = Half says line s s' (out o) (out o')
-FallsShort says drops out speech.OutOfMemory line s s' o o' = Silent s s' o o' ⊎ Dropped drops line s s' o o'
-FallsShort says drops out speech.Journal line s s' o o' = Dropped drops line s s' o o'
+abbrev pub FallsShort : {S O : Type 0} → (S → List ℕ → List ℕ → S → Type 0) → (S → List ℕ → S → Type 0) → (List ℕ → Type 0) → (O → Option (List ℕ))
+    → SpeakFault → List ℕ → S → S → O → O → Type 0
+FallsShort says drops takes out speech.Write line s s' o o' = Half says line s s' (out o) (out o')
+FallsShort says drops takes out speech.OutOfMemory line s s' o o' = Silent takes line s s' o o' ⊎ Dropped drops line s s' o o'
+FallsShort says drops takes out speech.Journal line s s' o o' = Dropped drops line s s' o o'
 
 -- the state is what a line leaves at which the journal failed
 abbrev pub FailsAt : {S : Type 0} → (S → List ℕ → S → Type 0) → S → Type 0

@@ -15,7 +15,10 @@ use crate::doors::Doors;
 use crate::speaker::{SpeakFault, Speaker};
 use std::alloc::Global;
 use till_request::devices::MemoryOut;
-use till_request::{Answer, Found, LineFault, LineOut, Role, find_line, write_all, write_answer};
+use till_request::{
+    Answer, DeviceFault, Found, LineFault, LineOut, Role, WriteFault, find_line, write_all,
+    write_answer,
+};
 
 /// How many bytes of answers may wait for the lines that are there already.
 const MOST_HELD: usize = 16_384;
@@ -33,7 +36,7 @@ fn let_go<O: LineOut>(output: &mut O, held: &mut MemoryOut) -> Result<(), Sessio
     held.bytes.clear();
     match written {
         Ok(()) => Ok(()),
-        Err(_) => Err(SessionFault::Write),
+        Err(DeviceFault) => Err(SessionFault::Write),
     }
 }
 
@@ -70,8 +73,8 @@ fn hold_answer<C, D, P: Speaker<C, D>>(
     ensures ok { OnOk result (Said (P.says speaker.now) line.now (clock.old, desk.old) (clock.new, desk.new)
         (Some held.old.bytes.items) (Some held.new.bytes.items)) }
     ensures err { OnErr result
-        ((fault : SpeakFault) × FallsShort (P.says speaker.now) (P.drops speaker.now) (λ h. Some h.bytes.items) fault
-        line.now (clock.old, desk.old) (clock.new, desk.new) held.old held.new) }
+        ((fault : SpeakFault) × FallsShort (P.says speaker.now) (P.drops speaker.now) (P.takes speaker.now)
+        (λ h. Some h.bytes.items) fault line.now (clock.old, desk.old) (clock.new, desk.new) held.old held.new) }
     ensures cause { IfErr result (λ e. (e ≡ SessionFault.OutOfMemory) ⊎ (e ≡ SessionFault.Journal)) }
     ensures journal { result ≡ Err SessionFault.Journal
         → P.fails speaker.now (clock.old, desk.old) line.now (clock.new, desk.new) }
@@ -94,7 +97,8 @@ fn hold_cut(alloc: Global, held: &mut MemoryOut, fault: LineFault) -> Result<(),
 {
     match write_answer(alloc, held, &Answer::Line(fault)) {
         Ok(()) => Ok(()),
-        Err(_) => Err(SessionFault::OutOfMemory),
+        Err(WriteFault::Write) => Err(SessionFault::OutOfMemory),
+        Err(WriteFault::OutOfMemory) => Err(SessionFault::OutOfMemory),
     }
 }
 

@@ -79,7 +79,7 @@ fn write_cut<O: LineOut>(
     ensures err { OnErr result
         ((k : ℕ) × Appends (O.written output.old) (O.written output.new) (take k (answer_line (Answer.Line fault)))) }
     ensures failed { RoseBy (one_if (is_write result)) (O.failures output.old) (O.failures output.new) }
-    ensures cause { IfErr result (λ e. (e ≡ SessionFault.Write) ⊎ (e ≡ SessionFault.OutOfMemory)) }
+    ensures cause { IfErr result (λ e. e ≡ SessionFault.Write) }
 {
     match write_answer(alloc, output, &Answer::Line(fault)) {
         Ok(()) => Ok(()),

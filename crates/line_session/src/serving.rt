@@ -8,7 +8,7 @@ use crate::answering::{Ended, SessionFault};
 use crate::desk::{Clock, Desk};
 use crate::doors::Doors;
 use std::alloc::Global;
-use till_request::Role;
+use till_request::{DeviceFault, Role};
 
 /// Opens a door and runs a session at it. `None`: the door did not open.
 fn attend<S: Doors, C: Clock, D: Desk>(
@@ -29,7 +29,7 @@ fn attend<S: Doors, C: Clock, D: Desk>(
             doors.ended(&outcome);
             Some(outcome)
         }
-        Err(_) => None,
+        Err(DeviceFault) => None,
     }
 }
 
@@ -40,7 +40,7 @@ fn one_if_good(outcome: Option<Result<Ended, SessionFault>>) -> u64
 {
     match outcome {
         Some(Ok(_)) => 1,
-        _ => 0,
+        Some(Err(_)) | None => 0,
     }
 }
 

@@ -31,6 +31,9 @@ pub trait Speaker<C, D> {
     /// What clock and desk go on to at a line at which the journal failed.
     ghost fails: { Self → (C × D) → List ℕ → (C × D) → Type 0 };
 
+    /// The lines that take memory before anything changes.
+    ghost takes: { Self → List ℕ → Type 0 };
+
     /// Answers a line, which comes without its LF. After an error nobody is asked any more.
     fn speak<O: LineOut>(
         &self,
@@ -44,7 +47,7 @@ pub trait Speaker<C, D> {
             (Said (says self.now) line.now (clock.old, desk.old) (clock.new, desk.new) (O.written output.old)
             (O.written output.new)) }
         ensures err { IfErr result
-            (λ fault. FallsShort (says self.now) (drops self.now) O.written fault line.now (clock.old, desk.old)
+            (λ fault. FallsShort (says self.now) (drops self.now) (takes self.now) O.written fault line.now (clock.old, desk.old)
             (clock.new, desk.new) output.old output.new) }
         ensures journal { result ≡ Err SpeakFault.Journal
             → fails self.now (clock.old, desk.old) line.now (clock.new, desk.new) }

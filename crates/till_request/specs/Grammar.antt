@@ -1,7 +1,7 @@
 -- Definitions: what a line stands for (this profile). A line is words with one space between them. It has a form,
 -- which is a list of fixed words and of places for values; a line without a form is a bad line, and only then are
 -- the values read, from left to right.
-use Rattle.std.specs.Prelude.{◌==◌, ◌&&◌, not, nat_lt, ℕ, ◌^◌, List, [], ◌∷◌, length, slice_index, codes, Bool, true, false, Option, Some, None, Result, Ok}
+use Rattle.std.specs.Prelude.{◌≡◌, ◌==◌, ◌&&◌, not, nat_lt, ℕ, ◌^◌, List, [], ◌∷◌, length, slice_index, codes, Bool, true, false, Option, Some, None, Result, Ok}
 use Rattle.std.specs.Prelude.{Err, if◌then◌else◌, find}
 use Rattle.std.specs.List.{slice_split, list_all}
 use Rattle.std.specs.Str.{bytes_eq}
@@ -122,6 +122,10 @@ fits parts ws = pointwise part_fits parts ws
 -- the role may send the form, and the words have it
 abbrev pub suits : Role → List (List ℕ) → Form → Bool
 suits role ws form = allows role (sender form) && fits (template form) ws
+
+-- the words have the form of a load, and the role may send it: only the bytes of such a line take memory
+abbrev pub IsLoad : Role → List (List ℕ) → Type 0
+IsLoad role ws = (layout : Layout) × (suits role ws (forms.Load layout) ≡ true)
 
 -- something, and a zero in front only alone
 abbrev pub has_no_leading_zero : List ℕ → Bool

@@ -139,6 +139,7 @@ impl<R: Read + Drop> LineIn for StreamIn<R> {
         self.asked = self.asked.wrapping_add(buffer.len() as u64);
         match self.reader.read(buffer) {
             Ok(count) => Ok(count),
+            // Whatever the reader says, the session ends.
             Err(_) => {
                 self.failures = self.failures.wrapping_add(1);
                 Err(DeviceFault)
@@ -199,6 +200,7 @@ impl<I: LineIn + Drop> LineIn for Ahead<I> {
         self.calls = self.calls.wrapping_add(1);
         self.asked = self.asked.wrapping_add(buffer.len() as u64);
         let mut left = 1;
+        // A read is left and none takes memory, so only the device can fail.
         if self.block.fill(&mut self.input, &mut left).is_err() {
             self.failures = self.failures.wrapping_add(1);
             return Err(DeviceFault);
@@ -296,7 +298,7 @@ impl<W: Write + Drop> LineOut for StreamOut<W> {
     fn write(&mut self, piece: &[u8]) -> Result<usize, DeviceFault> {
         match self.writer.write(piece) {
             Ok(count) if count > 0 || piece.is_empty() => Ok(count),
-            _ => {
+            Ok(_) | Err(_) => {
                 self.failures = self.failures.wrapping_add(1);
                 Err(DeviceFault)
             }

@@ -1,5 +1,5 @@
 //! The form of a line's words.
-ghost use Rattle.std.specs.Prelude.{◌≡◌, ◌∷◌, [], map, find, slice_index};
+ghost use Rattle.std.specs.Prelude.{◌≡◌, ◌∷◌, [], map, find, slice_index, IfSome, true};
 ghost use Rattle.till_request.specs.Grammar.{template, all_forms, part_fits, fits, suits};
 ghost use Rattle.till_request.specs.Told.{layout_told, report_told, point_told, till_told};
 ghost use Rattle.till_request.specs.declared.form.Part.TheVariants.{Word, Value};
@@ -192,7 +192,8 @@ fn form_by(words: &[&[u8]]) -> Option<Form>
 
 /// The form that the role may send and the words have.
 pub fn form_of(role: Role, words: &[&[u8]]) -> Option<Form>
-    ensures { result ≡ find (suits role (map (λ w. w.now) words.now)) all_forms }
+    ensures found { result ≡ find (suits role (map (λ w. w.now) words.now)) all_forms }
+    ensures suited { IfSome result (λ form. suits role (map (λ w. w.now) words.now) form ≡ true) }
 {
     let form = form_by(words)?;
     if is_suited(role, words, form) {

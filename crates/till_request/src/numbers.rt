@@ -1,5 +1,5 @@
 //! Numbers in decimal digits.
-ghost use Rattle.std.specs.Prelude.{◌≡◌, ◌⊎◌, ◌+◌, ◌*◌, ◌^◌, ◌≤◌, ◌&&◌, nat_lt, true, false, IfSome, IfNone};
+ghost use Rattle.std.specs.Prelude.{◌≡◌, ◌≢◌, ◌⊎◌, ◌+◌, ◌*◌, ◌^◌, ◌≤◌, ◌&&◌, nat_lt, true, false, IfSome, IfNone, Err};
 ghost use Rattle.std.specs.Char.{digit_value, is_ascii_digit};
 ghost use Rattle.std.specs.List.{list_all};
 ghost use Rattle.std.specs.Str.Parse.{digits_value};
@@ -44,7 +44,8 @@ fn is_canonical(word: &[u8]) -> bool
 
 /// The number that the word spells in decimal digits without leading zeros, or `BadNumber`.
 pub fn number_u64(word: &[u8]) -> Result<u64, LineFault>
-    ensures { result ≡ number 64 word.now }
+    ensures value { result ≡ number 64 word.now }
+    ensures memory { result ≢ Err LineFault.OutOfMemory }
 {
     if !is_canonical(word) {
         return Err(LineFault::BadNumber);
@@ -57,7 +58,8 @@ pub fn number_u64(word: &[u8]) -> Result<u64, LineFault>
 
 /// The number of 32 bits that the word spells in decimal digits without leading zeros, or `BadNumber`.
 pub fn number_u32(word: &[u8]) -> Result<u32, LineFault>
-    ensures { result ≡ number 32 word.now }
+    ensures value { result ≡ number 32 word.now }
+    ensures memory { result ≢ Err LineFault.OutOfMemory }
 {
     u32::try_from(number_u64(word)?).map_err(|_| LineFault::BadNumber)
 }

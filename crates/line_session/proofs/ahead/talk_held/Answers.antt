@@ -2,6 +2,7 @@ use Rattle.std.proofs.Common.{arith, rules}
 use Rattle.till_request.proofs.Taken.{on_err_always}
 use Rattle.till_request.proofs.Counts.{rose_more, rose_left}
 use Rattle.till_request.specs.declared.act.LineFault.TheVariants.{TooLong, CutLine}
+use Rattle.line_session.proofs.Failing.{handed}
 use Rattle.line_session.proofs.Held.{gathers_none, gathers_way, gathers_more, breaks_gone, breaks_read, breaks_spoken, breaks_held_cut, ends_here, ends_cut}
 use Rattle.line_session.proofs.ahead.talk_held.Goals as goal
 
@@ -34,7 +35,7 @@ returns-in_err-hold_answer-in-Line-clause-broken g c =
     let way = gathers_way (g.P.Speaker.says c.args.speaker.now) (g.P.Speaker.drops c.args.speaker.now) _ _ _ _ _ _ _ _ _ c.turns.count c.turns.invariant.talks
     c.in_ok-make_way.ensures.ok in
     on_err_always _ (breaks_spoken (g.P.Speaker.says c.args.speaker.now) (g.P.Speaker.drops c.args.speaker.now)
-    (λ x. x.bytes.items) _ _ _ _ _ _ _ _ c.make_way.new.held c.hold_answer.new.held c.turns.count c.find_line.new.line.items way t.1 t.0
+    (λ x. x.bytes.items) _ _ _ _ _ _ _ _ c.make_way.new.held c.hold_answer.new.held c.turns.count c.find_line.new.line.items way t.1 t.0 _
     (rw c.deref.ensures.value at c.in_err-hold_answer-in-Line.ensures.err))
 
 pub returns-in-End-clause-said : goal.returns-in-End-clause-said
@@ -94,3 +95,12 @@ turns-preserved g c =
       read = rose_more c.turns.invariant.read c.in_ok-find_line.ensures.failed;
       write = rose_more c.turns.invariant.write c.in_ok-make_way.ensures.failed;
     }
+
+pub returns-in_err-hold_answer-in-Line-clause-journal : goal.returns-in_err-hold_answer-in-Line-clause-journal
+returns-in_err-hold_answer-in-Line-clause-journal g c = λ e. (
+  (c.turns.clock, c.turns.desk),
+  c.deref.result.now,
+  c.in_err-hold_answer-in-Line.ensures.journal
+      (handed c.from_residual-in_err-hold_answer-in-Line.result c.in_err-hold_answer-in-Line.field-0.0
+      c.from_residual-in_err-hold_answer-in-Line.ensures e),
+)

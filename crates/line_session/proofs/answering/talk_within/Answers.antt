@@ -2,6 +2,7 @@ use Rattle.std.proofs.Common.{arith, rules, inl}
 use Rattle.till_request.proofs.Taken.{on_err_always}
 use Rattle.till_request.proofs.Counts.{rose_more, rose_left}
 use Rattle.till_request.specs.declared.act.LineFault.TheVariants.{TooLong, CutLine}
+use Rattle.line_session.proofs.Failing.{spoke}
 use Rattle.line_session.proofs.Saying.{talks_none, talks_more, breaks_here, breaks_line, breaks_cut}
 use Rattle.line_session.proofs.answering.talk_within.Goals as goal
 
@@ -25,7 +26,7 @@ pub returns-in_err-speak-in-Line-clause-broken :
 returns-in_err-speak-in-Line-clause-broken g c =
     let t = rw c.in-Line.is at c.in_ok-find_line.ensures.taken in
     on_err_always _ (breaks_line _ _ g.O.LineOut.written _ _ _ _ _ _ _ _ _ c.turns.count c.find_line.new.line.items c.turns.invariant.talks t.1 t.0
-    _ (rw c.deref.ensures.value at c.in_err-speak-in-Line.ensures.err))
+    _ _ (rw c.deref.ensures.value at c.in_err-speak-in-Line.ensures.err))
 
 pub returns-in_err-write_cut-in-TooLong-clause-broken :
     goal.returns-in_err-write_cut-in-TooLong-clause-broken
@@ -54,3 +55,11 @@ turns-preserved g c =
       read = rose_more c.turns.invariant.read c.in_ok-find_line.ensures.failed;
       write = rose_more c.turns.invariant.write c.in_ok-speak-in-Line.ensures.failed;
     }
+
+pub returns-in_err-speak-in-Line-clause-journal : goal.returns-in_err-speak-in-Line-clause-journal
+returns-in_err-speak-in-Line-clause-journal g c = λ e. (
+  (c.turns.clock, c.turns.desk),
+  c.deref.result.now,
+  c.in_err-speak-in-Line.ensures.journal
+      (spoke c.from_residual-in_err-speak-in-Line.result c.in_err-speak-in-Line.field-0.0 c.from_residual-in_err-speak-in-Line.ensures e),
+)

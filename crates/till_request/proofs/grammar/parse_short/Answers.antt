@@ -1,9 +1,14 @@
 use Rattle.std.proofs.Common.{ap, subst, ◌∙◌, map, List, ℕ, Bor}
-use Rattle.till_request.specs.Grammar.{act_of_words}
+use Rattle.till_request.specs.Grammar.{act_of_words, IsLoad}
 use Rattle.till_request.specs.Gives.{Gives}
 use Rattle.till_request.proofs.grammar.parse_short.Goals as goal
 
-pub returns : goal.returns
-returns c =
+pub returns-clause-given : goal.returns-clause-given
+returns-clause-given c =
     let now : List (Bor (List ℕ)) → List (List ℕ) = map (λ w. w.now) in
-    subst (λ ws. Gives c.parse_words.result (act_of_words c.args.role ws)) (ap now c.as_slice.ensures.value ∙ c.in-Some.ensures) c.parse_words.ensures
+    subst (λ ws. Gives c.parse_words.result (act_of_words c.args.role ws)) (ap now c.as_slice.ensures.value ∙ c.in-Some.ensures) c.parse_words.ensures.given
+
+pub returns-clause-memory : goal.returns-clause-memory
+returns-clause-memory c = λ refused.
+    let now : List (Bor (List ℕ)) → List (List ℕ) = map (λ w. w.now) in
+    subst (IsLoad c.args.role) (ap now c.as_slice.ensures.value ∙ c.in-Some.ensures) (c.parse_words.ensures.memory refused)
