@@ -20,19 +20,19 @@ pub struct Answers<'a> {
 impl<'a> Answers<'a> {
     /// None waits yet.
     pub fn new(rt: &'a HostRuntime) -> io::Result<Answers<'a>> {
-        let outlet = Outlet {
-            writer: io::writer(rt),
-            failure: None,
-        };
+        let outlet = Outlet::new(io::writer(rt));
         Ok(Answers {
             waiting: RefCell::new(BufWriter::new(rt.alloc(), outlet)?),
         })
     }
 
-    /// Lets all leave that wait.
+    /// Lets all leave that wait, where none failed to leave before.
     fn let_go(&self) -> io::Result<()> {
         match self.waiting.try_borrow_mut() {
-            Ok(mut waiting) => waiting.flush(),
+            Ok(mut waiting) => match waiting.flush() {
+                Ok(()) => Ok(()),
+                Err(error) => Err(waiting.get_mut().keep(error)),
+            },
             // Nobody keeps them borrowed from one call to the next.
             Err(_) => Err(Error::from(ErrorKind::WouldBlock)),
         }
@@ -43,7 +43,7 @@ impl<'a> Answers<'a> {
         ensures { IfOk result (λ count. count ≤ length piece.now) }
     {
         match self.waiting.try_borrow_mut() {
-            Ok(mut waiting) => match &waiting.get_ref().failure {
+            Ok(mut waiting) => match waiting.get_ref().failure() {
                 Some(error) => Err(Error::from(error.kind())),
                 None => waiting.write(piece),
             },
@@ -62,7 +62,7 @@ impl<'a> Answers<'a> {
     /// Says why they couldn't leave.
     pub fn tell_failure(&self, rt: &HostRuntime) {
         match self.waiting.try_borrow() {
-            Ok(waiting) => tell_write(rt, waiting.get_ref().failure.as_ref()),
+            Ok(waiting) => tell_write(rt, waiting.get_ref().failure()),
             Err(_) => tell_write(rt, None),
         }
     }

@@ -72,7 +72,7 @@ pub fn complain<D: Display>(rt: &HostRuntime, place: Place<'_>, words: &D, code:
 }
 
 /// The status, once something was printed.
-fn once_printed(rt: &HostRuntime, printed: io::Result<()>, status: u8) -> u8 {
+pub fn once_printed(rt: &HostRuntime, printed: io::Result<()>, status: u8) -> u8 {
     match printed {
         Ok(()) => status,
         Err(error) => {
@@ -96,6 +96,13 @@ pub fn refuse(rt: &HostRuntime, fault: &str) -> u8 {
 pub fn tell_write(rt: &HostRuntime, failure: Option<&io::Error>) {
     match failure {
         Some(error) if error.kind() == ErrorKind::BrokenPipe => (),
+        Some(_) | None => tell_loss(rt, failure),
+    }
+}
+
+/// The same of what is lost where nobody takes it.
+pub fn tell_loss(rt: &HostRuntime, failure: Option<&io::Error>) {
+    match failure {
         Some(error) => complain(rt, Place::output(), error, "N2"),
         None => complain(rt, Place::output(), &WriteFault::Write, "N2"),
     }
@@ -109,14 +116,22 @@ pub fn refuse_length(rt: &HostRuntime, word: &str) -> u8 {
 
 /// Says why a file can't be read, and answers the status.
 pub fn cannot_read(rt: &HostRuntime, word: &str, error: &io::Error) -> u8 {
+    if error.kind() == ErrorKind::OutOfMemory && error.raw_os_error().is_none() {
+        return out_of_memory(rt);
+    }
     let place = Place::of(word);
     let _ = eprintln!(rt; "fc: {place}: {error}");
     FAILED
 }
 
+/// Says that memory was refused.
+fn tell_want(rt: &HostRuntime) {
+    let _ = eprintln!(rt; "fc: out of memory");
+}
+
 /// Says that memory was refused, and answers the status.
 pub fn out_of_memory(rt: &HostRuntime) -> u8 {
-    let _ = eprintln!(rt; "fc: out of memory");
+    tell_want(rt);
     FAILED
 }
 
@@ -141,7 +156,8 @@ pub fn tell_program(rt: &HostRuntime, word: &str, flaw: &ProgramFlaw) {
     let place = Place::of(word);
     match flaw {
         ProgramFlaw::File(ProgramFileFault::TooLong) => complain(rt, place, flaw, "L1"),
-        ProgramFlaw::File(_) => complain(rt, place, flaw, "H1"),
+        ProgramFlaw::File(ProgramFileFault::BadDigits) => complain(rt, place, flaw, "H1"),
+        ProgramFlaw::File(ProgramFileFault::OutOfMemory) => tell_want(rt),
         ProgramFlaw::Program(refused) => {
             let number = refused.number();
             let _ = eprintln!(rt; "fc: {place}: {refused} (V{number})");
@@ -158,7 +174,8 @@ pub fn tell_text(rt: &HostRuntime, word: &str, text: &[u8]) -> Result<(), AllocE
         AsmFault::BadLine(line) => (Place::of(word).line(line), "A1"),
         AsmFault::BadLabel(line) => (Place::of(word).line(line), "A2"),
         AsmFault::OutOfRange(line) => (Place::of(word).line(line), "A3"),
-        AsmFault::Length | AsmFault::OutOfMemory => (Place::of(word), "A4"),
+        AsmFault::Length => (Place::of(word), "A4"),
+        AsmFault::OutOfMemory => return Err(AllocError),
     };
     complain(rt, place, &flaw, code);
     Ok(())
@@ -169,7 +186,8 @@ pub fn tell_journal(rt: &HostRuntime, word: &str, line: Option<u32>, flaw: &Jour
     let code = match flaw {
         JournalFlaw::Text(JournalFault::BadEntry(_)) => "J1",
         JournalFlaw::Text(JournalFault::Cut) => "J2",
-        JournalFlaw::Text(_) => "J3",
+        JournalFlaw::Text(JournalFault::Device) => "J3",
+        JournalFlaw::Text(JournalFault::OutOfMemory) => return tell_want(rt),
         JournalFlaw::Number(..) => "F1",
         JournalFlaw::Program(..) => "F2",
         JournalFlaw::Entry(_) | JournalFlaw::NoEntry => "F3",
@@ -186,6 +204,8 @@ pub fn tell_cut(rt: &HostRuntime, word: &str, line: u64, fault: LineFault) {
     let place = Place::of(word).line(line);
     match fault {
         LineFault::TooLong => complain(rt, place, &"over 8,400 bytes", "L1"),
-        _ => complain(rt, place, &"the last line has no LF", "L4"),
+        LineFault::CutLine => complain(rt, place, &"the last line has no LF", "L4"),
+        // A script goes on behind these.
+        LineFault::BadLine | LineFault::BadNumber | LineFault::OutOfMemory => (),
     }
 }

@@ -1,6 +1,6 @@
 //! The page of an audited journal.
 use crate::audits::tell_journal_fault;
-use crate::faults::out_of_memory;
+use crate::faults::{once_printed, out_of_memory};
 use crate::kept::refuse_history;
 use crate::progress::{Progress, Watch, Watched};
 use crate::settings::settings_and;
@@ -51,7 +51,9 @@ fn print_page(rt: &HostRuntime, site: &Site) -> io::Result<u8> {
         return Ok(out_of_memory(rt));
     };
     let mut output = BufWriter::new(rt.alloc(), io::writer(rt))?;
-    write!(output, "{page}")?;
-    output.flush()?;
-    Ok(DONE)
+    let printed = match write!(output, "{page}") {
+        Ok(()) => output.flush(),
+        Err(error) => Err(error),
+    };
+    Ok(once_printed(rt, printed, DONE))
 }
