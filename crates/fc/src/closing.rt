@@ -16,6 +16,6 @@ pub fn refuse_close(rt: &HostRuntime, word: &str, why: CloseRefusal) -> io::Resu
             let told = format!(in rt.alloc(); "{code} {pass} {number}")?;
             Ok(refuse(rt, &told))
         }
-        _ => Ok(refuse(rt, code)),
+        CloseRefusal::PassMissing | CloseRefusal::OtherConfig => Ok(refuse(rt, code)),
     }
 }

@@ -3,6 +3,7 @@
 
 mod closing;
 mod jobs;
+mod journal_file;
 mod operator;
 mod serve;
 mod synced;
@@ -24,6 +25,7 @@ fn job_of(rt: &HostRuntime) -> Result<Job, u8> {
     let words = match words_of(rt) {
         Ok(words) => words,
         Err(error) if error.kind() == ErrorKind::OutOfMemory => return Err(out_of_memory(rt)),
+        // The only other cause.
         Err(_) => {
             let _ = eprintln!(rt; "fc: the words are not text; see fc --help");
             return Err(USAGE);

@@ -25,7 +25,9 @@ fn name_of(role: Role) -> &'static str {
 fn code_of(breach: Breach) -> &'static str {
     match breach {
         Breach::Line(LineFault::TooLong) => " (L1)",
-        Breach::Line(_) => " (L4)",
+        Breach::Line(LineFault::CutLine) => " (L4)",
+        // A session goes on behind these.
+        Breach::Line(LineFault::BadLine | LineFault::BadNumber | LineFault::OutOfMemory) => "",
         Breach::Session(SessionFault::Read) => " (N1)",
         Breach::Session(SessionFault::Write) => " (N2)",
         Breach::Session(SessionFault::ReadsSpent) => " (N3)",
@@ -44,6 +46,7 @@ impl<'a, H: Wait + Clock> Operator<'a, H> {
         }
     }
 
+    /// The second of now. Where the clock can't be read, or stands before 1970, all lines are of one second.
     fn second(&self) -> u64 {
         match SystemTime::now(self.host) {
             Ok(time) => match time.duration_since(UNIX_EPOCH) {

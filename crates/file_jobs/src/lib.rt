@@ -16,8 +16,8 @@ mod statuses;
 
 pub use audits::audit_files;
 pub use console::{CommandFault, Job, Serve, Settings, command};
-pub use faults::{Place, cannot_read, complain, out_of_memory, refuse, say};
-pub use files::is_input;
+pub use faults::{Place, cannot_read, complain, out_of_memory, refuse, say, tell_loss};
+pub use files::{Outlet, is_input};
 pub use kept::{Kept, open_journal};
 pub use plays::{play_files, play_input};
 pub use programs::{Tell, tell_file};
