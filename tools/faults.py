@@ -1,0 +1,440 @@
+#!/usr/bin/env python3
+"""Refuses the program each allocation, read, write and sync in turn, once and from then on, and looks at what it says.
+
+usage: tools/faults.py PROGRAM [WORD]    WORD: only the calls whose name has it
+
+tools/faults.c, preloaded, refuses the Nth of a kind, N from 1 until a call ends unhindered. What has to hold:
+- the status is that of the unhindered call, or 3; no signal ends it;
+- with the unhindered status all is printed as then, else a beginning of it. A line of a script may be answered S31:
+  then the others are answered as without that line;
+- with status 3 a line on standard error says why; each line there begins with 'fc: ', and none has a debug text;
+- a kept journal's file has each answered line, and its whole lines are legal;
+- where each read and write is cut to one byte, all is as unhindered.
+Where no C compiler is there (CC, or cc), nothing is tried, and said. The last line is 'N passed, M failed', of calls,
+each with one kind and one way of refusing.
+"""
+import itertools
+import os
+import re
+import shlex
+import shutil
+import socket
+import struct
+import subprocess
+import sys
+import tempfile
+import time
+from concurrent.futures import ThreadPoolExecutor
+
+HERE = os.path.dirname(os.path.dirname(os.path.realpath(__file__)))
+KINDS = ("memory", "read", "write", "sync")
+UNHINDERED = ("none", 0, "once")
+CUT = ("cut", 0, "on")
+COUNTS = struct.Struct("5Q")
+PATIENCE = 60  # seconds that a call may take
+SILENCE = 5  # seconds after which a peer that isn't answered hangs up
+DEBUG = re.compile(r"::|\w+Fault\b|\w+Error\b|\b(Os|Custom|Error) \{|\bKind\(|panicked")
+
+SITE = """tills = 2
+price_slot = 2
+prices = [1799, 1849, 0, 0, 0, 0, 0, 0]
+point = [{release = 0, preset = 1}, {release = 0, preset = 1}]
+counter = [{value = 2, bound = 100}]
+"""
+SERVE = """[serve]
+till_port = %d
+dispenser_port = %d
+owner_port = %d
+till_workers = 1
+dispenser_workers = 1
+connections = 1
+"""
+AS_ASKED = "79101800000000009500000000000000"
+NOTHING_SET = "9500000000000000"
+QUOTA = "b701000000000000b70200000100000085000000020000009500000000000000"
+# It is longer than a block that is read at once, so some of its answers leave before the rest of it is read.
+SCRIPT = f"""load 0 0 {AS_ASKED}
+till 1 open 1
+disp 1 up 1
+till 1 release 1 8000
+disp 1 order
+disp 1 started
+disp 1 flow 2500 1390
+load 0 0 {NOTHING_SET}
+disp 1 down
+till 2 lock 1 1
+till 1 clear 1 1
+till 2 clear 1 1
+no such line
+{"x" * 5000}
+load2 2 0 {AS_ASKED}
+till 2 price 1 1899
+load 0 1 {QUOTA}
+till 1 release 1 3000
+till 9 show 1
+till 1 show 1
+"""
+
+
+def write(path, text):
+    with open(path, "w", encoding="utf-8") as file:
+        file.write(text)
+
+
+def text_of(path):
+    with open(path, encoding="utf-8", errors="replace") as file:
+        return file.read()
+
+
+class Told:
+    """What a call said and left, how often it called, and whether it was refused something."""
+
+    def __init__(self, status, printed, said, counts, journal="", answers=()):
+        self.status, self.printed, self.said = status, printed, said
+        self.calls, self.is_refused = dict(zip(KINDS, counts)), counts[4] == 1
+        self.journal, self.answers = journal, list(answers)
+
+    def seen(self):
+        return self.status, self.printed, self.said, self.journal, self.answers
+
+
+class Shim:
+    """The library that refuses, the program that it is put before, and the folder for both."""
+
+    def __init__(self, program, folder):
+        self.program, self.folder = program, folder
+        self.library = os.path.join(folder, "faults.so")
+        self.numbers = itertools.count()
+
+    def build(self, compiler):
+        source = os.path.join(HERE, "tools", "faults.c")
+        subprocess.run([compiler, "-shared", "-fPIC", "-O2", "-nostdlib", "-o", self.library, source], check=True)
+
+    def path(self, name):
+        """A path that no other run has."""
+        return os.path.join(self.folder, f"{name}{next(self.numbers)}")
+
+    def environment(self, fault, counts):
+        """The environment in which this is refused, with the file that its counts come to."""
+        with open(counts, "wb") as file:
+            file.write(bytes(COUNTS.size))
+        return {**os.environ, "LD_PRELOAD": self.library, "FAULTS": f"{fault[0]} {fault[1]} {fault[2]} {counts}"}
+
+    @staticmethod
+    def counted(counts):
+        with open(counts, "rb") as file:
+            counted = COUNTS.unpack(file.read())
+        os.remove(counts)
+        return counted
+
+    def run(self, words, stdin="", fault=UNHINDERED, folder=None):
+        counts = self.path("counts")
+        try:
+            ran = subprocess.run(
+                [self.program, *words], input=stdin.encode(), capture_output=True, timeout=PATIENCE,
+                cwd=folder or self.folder, env=self.environment(fault, counts),
+            )
+            ended = ran.returncode, ran.stdout, ran.stderr
+        except subprocess.TimeoutExpired as late:
+            ended = "none: it doesn't end", late.stdout or b"", late.stderr or b""
+        status, printed, said = ended
+        return Told(status, printed.decode(errors="replace"), said.decode(errors="replace"), self.counted(counts))
+
+
+def ended_ill(told, plain):
+    """What is wrong with a call's status or with what it says on standard error."""
+    if told.status not in (plain.status, 3):
+        return f"status {told.status}, unhindered {plain.status}"
+    said = [line for line in told.said.splitlines() if not line.startswith("fc: serving on ")]
+    if told.status == 3 and not said:
+        return "status 3 without a word"
+    ill = [line for line in said if not line.startswith("fc: ") or DEBUG.search(line)]
+    return f"it says {ill[0]!r}" if ill else None
+
+
+def printed_ill(told, wanted, status):
+    """What is wrong with what a call printed, where this is wanted of one that ends with this status."""
+    if told.status == status and told.printed != wanted:
+        return f"status {status}, and it prints {told.printed[-300:]!r}"
+    if not wanted.startswith(told.printed):
+        return f"it prints no beginning: {told.printed[-300:]!r}"
+    return None
+
+
+class Call:
+    """A call of the program: its name, its words and what it reads."""
+
+    def __init__(self, name, *words, stdin=""):
+        self.name, self.words, self.stdin = name, words, stdin
+
+    def run(self, shim, fault=UNHINDERED):
+        return shim.run(self.words, self.stdin, fault)
+
+    def ill(self, _shim, told, plain):
+        return ended_ill(told, plain) or printed_ill(told, plain.printed, plain.status)
+
+    def command(self, shim, fault):
+        """How it is called by hand, in the folder of a run."""
+        refusing = "FAULTS={} LD_PRELOAD=faults.so ".format(shlex.quote("{} {} {} counts".format(*fault)))
+        return refusing + shlex.join([shim.program, *self.words])
+
+
+class Play(Call):
+    """A play, whose script has one answer a line."""
+
+    def __init__(self, name, *words, script, stdin=""):
+        super().__init__(name, *words, stdin=stdin)
+        self.script, self.without = script, {}
+
+    def answered_without(self, shim, left_out):
+        """What the script is answered without these of its lines."""
+        if left_out not in self.without:
+            lines = [line for at, line in enumerate(self.script.splitlines(True)) if at not in left_out]
+            path = shim.path("script")
+            write(path, "".join(lines))
+            self.without[left_out] = shim.run(("play", "site.toml", path)).printed
+        return self.without[left_out]
+
+    def ill(self, shim, told, plain):
+        answers = told.printed.splitlines(True)
+        left_out = frozenset(at for at, answer in enumerate(answers) if answer == "S31\n")
+        wanted = self.answered_without(shim, left_out) if left_out else plain.printed
+        told.printed = "".join(answer for answer in answers if answer != "S31\n")
+        return ended_ill(told, plain) or printed_ill(told, wanted, plain.status)
+
+
+class Start(Call):
+    """The start of a site that goes on from this journal, whose ports are taken."""
+
+    def __init__(self, name, journal, *words):
+        super().__init__(name, "serve", "--journal", "day.journal", *words, "../taken.toml")
+        self.journal = journal
+
+    def run(self, shim, fault=UNHINDERED):
+        folder = shim.path("start")
+        os.mkdir(folder)
+        kept = os.path.join(folder, "day.journal")
+        write(kept, self.journal)
+        told = shim.run(self.words, "", fault, folder)
+        told.journal = text_of(kept)
+        shutil.rmtree(folder)
+        return told
+
+    def ill(self, shim, told, plain):
+        if told.journal not in (self.journal, plain.journal):
+            return f"the journal is then {told.journal[-300:]!r}"
+        return super().ill(shim, told, plain)
+
+
+class Peer:
+    """A connection of a served site, until it isn't answered any more."""
+
+    def __init__(self, port):
+        try:
+            self.socket = socket.create_connection(("127.0.0.1", port), timeout=SILENCE)
+            self.reader = self.socket.makefile("rb")
+        except OSError:
+            self.socket = self.reader = None
+
+    def ask(self, line):
+        """The answer, if there is one."""
+        if self.socket is None:
+            return None
+        try:
+            self.socket.sendall(f"{line}\n".encode())
+            answer = self.reader.readline().decode()
+        except OSError:
+            answer = ""
+        if answer.endswith("\n"):
+            return answer[:-1]
+        self.close()
+        return None
+
+    def close(self):
+        if self.socket is not None:
+            self.reader.close()
+            self.socket.close()
+            self.socket = None
+
+
+def free_ports(count):
+    sockets = [socket.create_server(("127.0.0.1", 0)) for _ in range(count)]
+    ports = [one.getsockname()[1] for one in sockets]
+    for one in sockets:
+        one.close()
+    return ports
+
+
+class Served(Call):
+    """A day of a till, a dispenser and the owner, by the lines of a script."""
+
+    def __init__(self, name, *words):
+        super().__init__(name, "serve", *words, "site.toml")
+        self.is_kept = "--journal" in words
+
+    def run(self, shim, fault=UNHINDERED):
+        folder, counts = shim.path("served"), shim.path("counts")
+        os.mkdir(folder)
+        journal, said = (os.path.join(folder, name) for name in ("day.journal" if self.is_kept else "printed", "said"))
+        for _ in range(5):
+            ports = free_ports(3)
+            write(os.path.join(folder, "site.toml"), SITE + SERVE % tuple(ports))
+            with open(os.path.join(folder, "printed"), "wb") as out, open(said, "wb") as errors:
+                program = subprocess.Popen(
+                    [shim.program, *self.words], stdin=subprocess.DEVNULL, stdout=out, stderr=errors, cwd=folder,
+                    env=shim.environment(fault, counts),
+                )
+            answers = self.talk(program, ports, said)
+            if "Address already in use" not in text_of(said):
+                break
+        try:
+            status = program.wait(timeout=PATIENCE)
+        except subprocess.TimeoutExpired:
+            program.kill()
+            program.wait()
+            status = "none: it doesn't end"
+        printed = "" if not self.is_kept else text_of(os.path.join(folder, "printed"))
+        kept = text_of(journal) if os.path.exists(journal) else ""
+        told = Told(status, printed, text_of(said), shim.counted(counts), kept, answers)
+        shutil.rmtree(folder)
+        return told
+
+    @staticmethod
+    def talk(program, ports, said):
+        """Sends the lines, each to its port, once the ports are open, and gives each with its answer."""
+        until = time.monotonic() + PATIENCE
+        while "fc: serving on " not in text_of(said) and program.poll() is None and time.monotonic() < until:
+            time.sleep(0.005)
+        if program.poll() is not None:
+            return []
+        peers = dict(zip(("till", "disp", "load"), map(Peer, ports)))
+        answers = []
+        for line in SCRIPT.splitlines():
+            answer = peers.get(line[:4], peers["till"]).ask(line)
+            if answer is not None:
+                answers.append((line, answer))
+        for peer in peers.values():
+            peer.close()
+        return answers
+
+    def ill(self, shim, told, plain):
+        whole = told.journal[: told.journal.rfind("\n") + 1]
+        if (self.is_kept or told.status == 0) and (ill := self.missing(told, whole)):
+            return ill
+        audited = shim.run(("audit", "site.toml", "-"), whole)
+        if audited.status != 0 or (told.status == 0 and whole != told.journal):
+            return f"an audit of its journal says {audited.printed!r}"
+        if not told.is_refused and told.answers != plain.answers:
+            return f"it was refused nothing, and answers {told.answers}"
+        return ended_ill(told, plain)
+
+    @staticmethod
+    def missing(told, whole):
+        """What an answer says that the journal doesn't."""
+        entries = {}
+        for line in whole.splitlines():
+            number, _, _, rest = line.split(" ", 3)
+            entries[number] = tuple(rest.split(" ; ")[0].split(" = "))
+        for line, answer in told.answers:
+            number, _, reply = answer.partition(" ")
+            if number.isdigit() and entries.get(number) != (line, reply):
+                return f"{line!r} was answered {answer!r}, and the journal has {entries.get(number)}"
+        return None
+
+
+def calls_of_files(shim):
+    """Plays, audits, pages and what is said of one file, each accepted and refused; their files are made here."""
+    def put(name, text):
+        write(os.path.join(shim.folder, name), text)
+
+    journal = shim.run((), f"{SITE}---\n{SCRIPT}journal\n").printed
+    journal = "".join(line for line in journal.splitlines(True) if re.match(r"\d+ \d+ \d+ ", line))
+    put("site.toml", SITE)
+    put("wrong.toml", SITE.replace("tills = 2", "tills = 65"))
+    put("day.script", SCRIPT)
+    put("cut.script", SCRIPT + "till 1 sh")
+    put("day.journal", journal)
+    put("told.journal", journal.replace("granted 8000", "granted 8001", 1))
+    put("bad.journal", journal.replace(" = done", " = don", 1))
+    put("loaded.journal", journal.replace(AS_ASKED, NOTHING_SET, 1))
+    put("rule.bpf", text_of(os.path.join(HERE, "examples", "rules", "quota_by_counter.bpf")))
+    put("form.bpf", "r0 = 0\nfoo\n")
+    put("label.bpf", "goto end\n")
+    put("rule.hex", shim.run(("asm", "rule.bpf")).printed)
+    put("call.hex", "61110000000000008500000001000000" + NOTHING_SET)
+    put("odd.hex", "950")
+    yield Play("play of files", "play", "site.toml", "day.script", script=SCRIPT)
+    yield Play("play of a script that is cut", "play", "site.toml", "cut.script", script=SCRIPT + "till 1 sh")
+    yield Play("play of standard input", stdin=f"{SITE}---\n{SCRIPT}", script=SCRIPT)
+    yield Call("play at a wrong configuration", "play", "wrong.toml", "day.script")
+    yield Call("audit", "audit", "site.toml", "day.journal")
+    yield Call("audit of another reply", "audit", "site.toml", "told.journal")
+    yield Call("audit of no entry", "audit", "site.toml", "bad.journal")
+    yield Call("audit of a refused program", "audit", "site.toml", "loaded.journal")
+    yield Call("audit of standard input", "audit", "site.toml", "-", stdin=journal)
+    yield Call("report", "report", "site.toml", "day.journal")
+    yield Call("report of another reply", "report", "site.toml", "told.journal")
+    yield Call("asm", "asm", "rule.bpf")
+    yield Call("asm of no form", "asm", "form.bpf")
+    yield Call("asm of no label", "asm", "label.bpf")
+    yield Call("dis", "dis", "rule.hex")
+    yield Call("dis of units", "dis", "--units", "rule.hex")
+    yield Call("dis of an odd digit", "dis", "odd.hex")
+    yield Call("verify", "verify", "--counters", "1", "rule.hex")
+    yield Call("verify of a wrong argument", "verify", "call.hex")
+
+
+def calls_of_sites(shim, taken):
+    """Starts of a site that goes on from a journal, at a port that is taken, and days that are served."""
+    journal = text_of(os.path.join(shim.folder, "day.journal"))
+    write(os.path.join(shim.folder, "taken.toml"), SITE + SERVE % (taken, *free_ports(2)))
+    yield Start("start with a line that is cut, synced", journal + "21 1 0 ti", "--sync")
+    yield Start("start with another reply", journal.replace("granted 8000", "granted 8001", 1))
+    yield Start("start with no entry", journal.replace(" = done", " = don", 1))
+    yield Served("served day, printed")
+    yield Served("served day, kept", "--journal", "day.journal")
+    yield Served("served day, synced", "--journal", "day.journal", "--sync")
+
+
+def look(shim, call, pool):
+    """Tries a call under each fault: how many runs there were, and what is wrong by kind and way of refusing."""
+    plain = call.run(shim)
+    wrong, runs = {}, 2
+    for kind, how in itertools.product(KINDS, ("once", "on")):
+        faults = [(kind, at, how) for at in range(1, plain.calls[kind] + 2)]
+        ill = pool.map(lambda fault: (fault, call.ill(shim, call.run(shim, fault), plain)), faults)
+        wrong[kind, how] = [(fault, what) for fault, what in ill if what]
+        runs += len(faults)
+    cut = call.run(shim, CUT)
+    is_same = cut.answers == plain.answers if plain.answers else cut.seen() == plain.seen()
+    wrong["cut", "on"] = [] if is_same else [(CUT, f"it isn't as unhindered: {cut.seen()}")]
+    return runs, wrong
+
+
+def main():
+    program, word = os.path.realpath(sys.argv[1]), "".join(sys.argv[2:3])
+    compiler = shutil.which(os.environ.get("CC", "cc"))
+    if compiler is None:
+        print("faults.py: no C compiler is here (CC, or cc), so nothing was tried")
+        print("0 passed, 0 failed")
+        return
+    passed = failed = runs = 0
+    with tempfile.TemporaryDirectory() as folder, ThreadPoolExecutor(2 * (os.cpu_count() or 1)) as pool:
+        shim = Shim(program, folder)
+        shim.build(compiler)
+        with socket.create_server(("127.0.0.1", 0)) as taken:
+            for call in itertools.chain(calls_of_files(shim), calls_of_sites(shim, taken.getsockname()[1])):
+                if word not in call.name:
+                    continue
+                count, wrong = look(shim, call, pool)
+                runs += count
+                for (kind, how), found in wrong.items():
+                    passed, failed = passed + (not found), failed + bool(found)
+                    for fault, what in found[:3]:
+                        print(f"{call.name}: {call.command(shim, fault)}\n  {what}")
+    print(f"faults.py: {runs} runs")
+    print(f"{passed} passed, {failed} failed")
+    sys.exit(failed != 0 or passed == 0)
+
+
+main()
