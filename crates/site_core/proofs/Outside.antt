@@ -11,6 +11,7 @@ use Rattle.decision_journal.specs.declared.entries.Entry.{Entry}
 use Rattle.decision_journal.specs.declared.entries.Run.{Run}
 use Rattle.till_request.specs.declared.act.Request.{Request}
 use Rattle.till_request.specs.declared.act.Request.TheVariants as request
+use Rattle.till_request.specs.declared.act.Act.{Act}
 use Rattle.till_request.specs.declared.act.Act.TheVariants as act
 use Rattle.bpf_model.specs.Machine.{Counters, counter}
 use Rattle.bpf_model.specs.Runs.{Ended}
@@ -30,11 +31,11 @@ use Rattle.site_core.specs.Step.{effect, asked, commanded, command_effect}
 use Rattle.site_core.specs.Keeping.{Agrees, Performs}
 use Rattle.site_core.specs.Legal.{GoodLoad}
 use Rattle.site_core.specs.Histories.{load_refusal}
-use Rattle.site_core.specs.Draft.{context_for, DraftValue, basis_of, routed}
+use Rattle.site_core.specs.Draft.{context_for, DraftValue, ReadyValue, basis_of, routed}
 use Rattle.site_core.specs.Asked.{asked_question, question_of, StillAsked, IsDraft, Drafts, basis_in}
 use Rattle.site_core.specs.declared.draft.Begin.{Begin}
 use Rattle.site_core.specs.declared.draft.Begin.TheVariants as begin
-use Rattle.site_core.specs.Outside.{run_now, reply_now, Begins, Begun, basis, drafted}
+use Rattle.site_core.specs.Outside.{run_now, reply_now, Begins, Begun, IsRunOf, basis, drafted}
 use Rattle.site_core.specs.Site.{SiteValue, Enters, entered}
 use Rattle.site_core.proofs.Points.{commanded-none, commanded-some}
 use Rattle.site_core.proofs.Decisions.{decided-refused, decided-none, decided-some, decided-ended}
@@ -233,3 +234,9 @@ pub basis-is : (config : ConfigValue) (history : List Entry) (s : SiteState) (sl
     → basis_in config s slots draft ≡ basis (record { config = config; history = history; state = s }) draft
 basis-is config history s slots draft agrees =
     λ i. basis_of (λ slot. sym (agrees.in_force slot) i) s draft.till draft.moment (routed config s draft.till draft.request)
+
+-- the run of what was performed is that of the entry
+pub entered-run : (site : SiteValue) (pass moment : ℕ) (asked : Act) (ready : ReadyValue) (p : Entry) (new : SiteState) (slots : SlotsValue)
+    → Performs site.config (reverse site.history) site.state moment asked p new slots → IsRunOf ready p.run → IsRunOf ready (entered site pass moment asked).run
+unfolding entered
+entered-run site pass moment asked ready p new slots performs h = subst (IsRunOf ready) (sym (ap (λ (e : Effect). e.run) performs.effect_is)) h

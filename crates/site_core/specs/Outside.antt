@@ -3,8 +3,8 @@
 -- For a caller: `run_now` is the run that the site's step would make now for a till's request, and `reply_now` is its reply. `begin` returns Direct
 -- exactly where there is no such run or the history is full; where no program is run, the reply is neither a grant nor S24. Otherwise `begin`
 -- returns a draft, which `Begun` relates to the site. `commit` returns Done exactly where `IsFresh` holds: nothing that the draft's run depends on
--- differs. It is then one step of the site at the draft's moment. Otherwise `commit` returns Stale with the first difference, and nothing has
--- changed.
+-- differs. It is then one step of the site at the draft's moment, and the entry's run is the draft's. Otherwise `commit` returns Stale with the
+-- first difference, and nothing has changed.
 use Rattle.std.specs.Prelude.{◌≡◌, ℕ, ◌<◌, ◌⊎◌, false, IsSome, length, reverse, Option, Some, None}
 use Rattle.decision_journal.specs.declared.entries.Run.{Run}
 use Rattle.till_request.specs.declared.act.Request.{Request}
@@ -19,7 +19,7 @@ use Rattle.site_core.specs.Decide.{is_decided}
 use Rattle.site_core.specs.Step.{effect}
 use Rattle.site_core.specs.Draft.{DraftValue, ReadyValue, Basis, basis_of, routed}
 use Rattle.site_core.specs.Differences.{IsFresh, Differs}
-use Rattle.site_core.specs.Site.{SiteValue, Enters}
+use Rattle.site_core.specs.Site.{SiteValue, Enters, entered}
 
 -- What the draft's run would be made on now.
 abbrev pub basis : SiteValue → DraftValue → Basis
@@ -56,8 +56,14 @@ Begins site till moment request begin.Direct =
     ⊎ ((run_now site till moment request ≡ None) × (is_decided (reply_now site till moment request) ≡ false))
 Begins site till moment request (begin.Run draft) = (length site.history < 1048576) × Begun site till moment request draft
 
+-- An entry's run is the draft's: it has its version and its program's answer.
+abbrev pub IsRunOf : ReadyValue → Option Run → Type 0
+IsRunOf ready None = ⊥
+IsRunOf ready (Some run) = (run.version ≡ ready.draft.version.number) × (run.r0 ≡ ready.r0)
+
 abbrev pub Commits : SiteValue → ℕ → ReadyValue → Commit → SiteValue → Type 0
 Commits old pass ready (commit.Done answered) new =
     IsFresh (basis old ready.draft) ready.draft
     × Enters old pass ready.draft.moment (act.Till ready.draft.till ready.draft.request) answered.number answered.reply new
+    × IsRunOf ready (entered old pass ready.draft.moment (act.Till ready.draft.till ready.draft.request)).run
 Commits old pass ready (commit.Stale why) new = (new ≡ old) × Differs (basis old ready.draft) ready.draft why

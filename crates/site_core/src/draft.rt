@@ -166,13 +166,14 @@ impl Model for Ready {
 }
 
 impl Ready {
-    ghost use Rattle.std.specs.Prelude.{MatchResult, OnErr, ◌≡◌, ℕ, ◌+◌, List};
+    ghost use Rattle.std.specs.Prelude.{MatchResult, OnOk, OnErr, ◌≡◌, ℕ, ◌+◌, List};
     ghost use Rattle.decision_journal.specs.declared.entries.Entry.{Entry};
     ghost use Rattle.till_request.specs.declared.act.Act.TheVariants as act;
     ghost use Rattle.site_core.specs.Bounds.{Bounded, HasRoom};
     ghost use Rattle.site_core.specs.Keeping.{Agrees, Performs, blank};
     ghost use Rattle.site_core.specs.Differences.{IsFresh, Differs};
     ghost use Rattle.site_core.specs.Asked.{basis_in};
+    ghost use Rattle.site_core.specs.Outside.{IsRunOf};
 
     /// Does what the program answered and writes the entry, if nothing that the run depends on differs now. Counters
     /// that the program doesn't declare keep their current values, and a release is bounded by the point's current
@@ -195,6 +196,7 @@ impl Ready {
             Performs config.now past station.old self.now.draft.moment
             (act.Till self.now.draft.till self.now.draft.request) entry.new station.new slots.now))
             (Differs (basis_in config.now station.old slots.now self.now.draft) self.now.draft) }
+        ensures run { OnOk result (IsRunOf self.now entry.new.run) }
         ensures unchanged { OnErr result (station.new ≡ station.old) }
         ensures bounded { (k : ℕ) → Bounded k station.old → Bounded (k + 1) station.new }
         ensures points { length station.new.points ≡ length station.old.points }

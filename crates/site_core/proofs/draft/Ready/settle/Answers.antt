@@ -87,6 +87,13 @@ returns-clause-performed c =
           verdict_is,
     )
 
+pub returns-clause-run : goal.returns-clause-run
+returns-clause-run c =
+    let noted = c.insert-run.ensures.value in (
+      ap (λ (r : Run). r.version) noted ∙ ap (λ (d : DraftValue). d.version.number) (c.draft.view_is ∙ ap (λ (r : ReadyValue). r.draft) c.self.view_is),
+      ap (λ (r : Run). r.r0) noted ∙ ap (λ (r : ReadyValue). r.r0) c.self.view_is,
+    )
+
 pub returns-clause-bounded : goal.returns-clause-bounded
 returns-clause-bounded c = λ k b.
     let after : Counters = c.adopt.new.self.counters in
