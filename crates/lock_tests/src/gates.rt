@@ -138,7 +138,11 @@ struct Loading<'a, L: Yard, R: Wait> {
 }
 
 impl<L: Yard, R: Wait> Gate for Loading<'_, L, R> {
+    ghost use Rattle.till_request.specs.Count.{RoseBy};
+
     ghost calls = { λ s. s.calls };
+
+    ghost makes = { λ before _ after. RoseBy 1 before.calls after.calls };
 
     fn run(&mut self, _till: u32, draft: Draft) -> Ready {
         self.calls = self.calls.wrapping_add(1);
@@ -226,7 +230,11 @@ fn wait_for(flag: &AtomicBool) -> bool {
 }
 
 impl Gate for Holding<'_> {
+    ghost use Rattle.till_request.specs.Count.{RoseBy};
+
     ghost calls = { λ s. s.calls };
+
+    ghost makes = { λ before _ after. RoseBy 1 before.calls after.calls };
 
     fn run(&mut self, _till: u32, draft: Draft) -> Ready {
         self.calls = self.calls.wrapping_add(1);

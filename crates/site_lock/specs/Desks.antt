@@ -1,7 +1,8 @@
 -- Definitions: what a desk over a forecourt and a pass answers (this profile).
-use Rattle.std.specs.Prelude.{◌≡◌, ℕ, ◌≤◌, length, true, Option, Some, Result, Ok, Err}
+use Rattle.std.specs.Prelude.{◌≡◌, ℕ, ◌≤◌, length, true, Option, Some, None, Result, Ok, Err}
 use Rattle.reg_types.specs.declared.refusal.Refusal.{Refusal}
 use Rattle.reg_types.specs.Refusals.{shown_by}
+use Rattle.reg_types.specs.Shown.{IsRefusal}
 use Rattle.till_request.specs.declared.act.Act.{Act}
 use Rattle.till_request.specs.declared.act.Act.TheVariants.{Till, Dispenser, Load}
 use Rattle.till_request.specs.declared.act.Reply.{Reply}
@@ -13,24 +14,29 @@ use Rattle.till_request.specs.declared.act.LineFault.TheVariants as line
 use Rattle.site_lock.specs.declared.enter_fault.EnterFault.{EnterFault}
 use Rattle.site_lock.specs.declared.enter_fault.EnterFault.TheVariants as enter
 use Rattle.site_core.specs.Decide.{is_decided}
+use Rattle.site_core.specs.Draft.{ReadyValue}
 use Rattle.site_core.specs.Limits.{ConfigValue}
 use Rattle.site_core.specs.Step.{entered_moment}
 use Rattle.site_core.specs.Audit.{IsGoodAct, IsRefusedAct}
+use Rattle.site_core.specs.Histories.{load_refusal}
 use Rattle.site_lock.specs.Passes.{PassView}
 use Rattle.site_lock.specs.Calls.{Gains, FitsIn, RoseWithin}
+use Rattle.site_lock.specs.Decisions.{DecidedBy}
 
 -- The act was entered: the pass gained the receipt of this number and reply, of the act at its moment (a till's request has its own, all else has 0).
--- The reply fits, and a program that was loaded is good.
+-- The reply fits, and a program that was loaded is good, and the verifier refuses nothing of it.
 pub record DeskEnters (config : ConfigValue) (before now : PassView) (act : Act) (moment number : ℕ) (reply : Reply) : Type 0 where
   pub gains : Gains before now (entered_moment act moment) act (record { number = number; reply = reply })
   pub number_is : length now.receipts ≤ number
   pub fits : FitsIn config before.id (entered_moment act moment) act (record { number = number; reply = reply })
   pub good : IsGoodAct act
+  pub accepted : load_refusal act ≡ None
 
--- The act is a load, its bytes, mask and layout show this refusal, and nothing has changed.
+-- The act is a load, of whose bytes, mask and layout this is the verifier's refusal, and nothing has changed.
 pub record DeskRefuses (before now : PassView) (act : Act) (number : ℕ) (unit part : Option ℕ) : Type 0 where
   pub refusal : Refusal
   pub refused : IsRefusedAct act refusal
+  pub answers : IsRefusal (load_refusal act) refusal
   pub shown : shown_by refusal ≡ Some (number, unit, part)
   pub same : now ≡ before
 
@@ -55,6 +61,17 @@ AsksGate before now JournalFull act = Unit {0}
 AsksGate before now OutOfMemory act = Unit {0}
 AsksGate before now (Line fault) act = Unit {0}
 AsksGate before now (Program number unit part) act = Unit {0}
+
+-- what a till is answered is decided by the runs that the gate made
+abbrev pub DeskDecides : {G : Type 0} → (G → ReadyValue → G → Type 0) → ConfigValue → ℕ → ℕ → G → G → Answer → Act → Type 0
+DeskDecides makes config pass moment before now (Entered number reply) (Till till request) =
+    DecidedBy makes config pass till moment request before now (record { number = number; reply = reply })
+DeskDecides makes config pass moment before now (Entered number reply) (Dispenser point event) = Unit {0}
+DeskDecides makes config pass moment before now (Entered number reply) (Load slot mask layout bytes) = Unit {0}
+DeskDecides makes config pass moment before now JournalFull act = Unit {0}
+DeskDecides makes config pass moment before now OutOfMemory act = Unit {0}
+DeskDecides makes config pass moment before now (Line fault) act = Unit {0}
+DeskDecides makes config pass moment before now (Program number unit part) act = Unit {0}
 
 -- a call's answer as a desk says it
 abbrev pub said_of : Result Answered EnterFault → Answer

@@ -1,12 +1,14 @@
 //! A desk over a forecourt and a pass.
-ghost use Rattle.std.specs.Prelude.{◌≡◌, ℕ};
+ghost use Rattle.std.specs.Prelude.{◌≡◌, ℕ, None};
 ghost use Rattle.till_request.specs.declared.act.Act.{Act};
+ghost use Rattle.reg_types.specs.Shown.{IsRefusal};
 ghost use Rattle.site_core.specs.Audit.{IsGoodAct, IsRefusedAct};
+ghost use Rattle.site_core.specs.Histories.{load_refusal};
 ghost use Rattle.site_core.specs.Limits.{ConfigValue};
 ghost use Rattle.site_core.specs.Site.{act_of};
 ghost use Rattle.site_lock.specs.Passes.{PassView};
 ghost use Rattle.site_lock.specs.Calls.{RoseWithin};
-ghost use Rattle.site_lock.specs.Desks.{AsksGate, DeskAnswers, said_of};
+ghost use Rattle.site_lock.specs.Desks.{AsksGate, DeskAnswers, DeskDecides, said_of};
 
 use super::enter_fault::EnterFault;
 use super::forecourt::Forecourt;
@@ -63,12 +65,13 @@ impl<'a, L: Yard, R: Wait, G: Gate + Drop, J: Journal> PassDesk<'a, L, R, G, J> 
 
 impl<L: Yard, R: Wait, G: Gate + Drop, J: Journal> Desk for PassDesk<'_, L, R, G, J> {
     ghost use Rattle.site_lock.specs.Calls.{RoseWithin};
-    ghost use Rattle.site_lock.specs.Desks.{DeskAnswers, AsksGate};
+    ghost use Rattle.site_lock.specs.Desks.{DeskAnswers, DeskDecides, AsksGate};
 
     ghost step = { λ desk act moment answer after. DeskAnswers L.config J.may_fail desk.pass
         after.pass act moment answer
         × RoseWithin 0 2 (G.calls desk.gate) (G.calls after.gate)
-        × AsksGate (G.calls desk.gate) (G.calls after.gate) answer act };
+        × AsksGate (G.calls desk.gate) (G.calls after.gate) answer act
+        × DeskDecides G.makes L.config desk.pass.id moment desk.gate after.gate answer act };
 
     fn answer(&mut self, act: Act, moment: u64) -> Answer {
         let PassDesk {
@@ -80,7 +83,7 @@ impl<L: Yard, R: Wait, G: Gate + Drop, J: Journal> Desk for PassDesk<'_, L, R, G
         } = self;
         match event_of(*alloc, &act) {
             Ok(what) => call(*rt, yard, pass, gate, moment, act, what),
-            Err(refusal) => refused::<J>(refusal),
+            Err(refusal) => refused::<G, J>(refusal),
         }
     }
 }
@@ -97,9 +100,11 @@ fn call<L: Yard, R: Wait, G: Gate, J: Journal>(
 ) -> Answer
     requires event { act_of what ≡ act }
     requires good { IsGoodAct act }
+    requires accepted { load_refusal act ≡ None }
     ensures answers { DeskAnswers L.config J.may_fail pass.old pass.new act moment result }
     ensures gate { RoseWithin 0 2 (G.calls gate.old) (G.calls gate.new) }
     ensures decided { AsksGate (G.calls gate.old) (G.calls gate.new) result act }
+    ensures decided_by { DeskDecides G.makes L.config pass.old.id moment gate.old gate.new result act }
 {
     // Lets the proof know that the configuration is the ledger's.
     let _ = yard.config();
@@ -132,10 +137,12 @@ fn said(called: Result<Answered, EnterFault>) -> Answer
 }
 
 // The answer to a load that is no event.
-fn refused<J: Journal>(refusal: Refusal) -> Answer
+fn refused<G: Gate, J: Journal>(refusal: Refusal) -> Answer
     ensures answers { (config : ConfigValue) (pass : PassView) (act : Act) (moment : ℕ) → IsRefusedAct act refusal
-        → DeskAnswers config J.may_fail pass pass act moment result }
+        → IsRefusal (load_refusal act) refusal → DeskAnswers config J.may_fail pass pass act moment result }
     ensures asks { (calls : ℕ) (act : Act) → AsksGate calls calls result act }
+    ensures decides { (config : ConfigValue) (pass moment : ℕ) (gate : G) (act : Act)
+        → DeskDecides G.makes config pass moment gate gate result act }
 {
     match refusal.shown() {
         Some((number, unit, part)) => Answer::Program(number, unit, part),

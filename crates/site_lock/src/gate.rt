@@ -7,13 +7,18 @@ use site_core::{Draft, Ready};
 pub trait Gate {
     ghost use Rattle.std.specs.Prelude.{◌≡◌, ℕ};
     ghost use Rattle.till_request.specs.Count.{RoseBy};
+    ghost use Rattle.site_core.specs.Draft.{ReadyValue};
 
     /// How often it was called.
     ghost calls: { Self → ℕ };
 
+    /// That a call made this run, and left it so.
+    ghost makes: { Self → ReadyValue → Self → Type 0 };
+
     /// Runs the draft of a till's request.
     fn run(&mut self, till: u32, draft: Draft) -> Ready
         ensures run { result.draft ≡ draft }
+        ensures made { makes self.old result self.new }
         ensures counted { RoseBy 1 (calls self.old) (calls self.new) };
 }
 
@@ -24,7 +29,11 @@ pub struct Straight {
 }
 
 impl Gate for Straight {
+    ghost use Rattle.till_request.specs.Count.{RoseBy};
+
     ghost calls = { λ s. s.calls };
+
+    ghost makes = { λ before _ after. RoseBy 1 before.calls after.calls };
 
     fn run(&mut self, _till: u32, draft: Draft) -> Ready {
         self.calls = self.calls.wrapping_add(1);

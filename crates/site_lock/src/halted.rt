@@ -79,6 +79,13 @@ impl<L: Yard, J: Journal> Halted<L, J> {
         self.ground.history()
     }
 
+    /// Whether the journal failed: then the last entry isn't answered.
+    pub fn has_stopped(&self) -> bool
+        ensures { result ≡ self.now.ground.stopped }
+    {
+        self.ground.has_stopped()
+    }
+
     /// The forecourt, for further calls and another close.
     pub fn reopen(self) -> Forecourt<L, J>
         ensures { result ≡ self.opened }

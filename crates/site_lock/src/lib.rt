@@ -13,6 +13,7 @@ mod halted;
 mod journal;
 mod opening;
 mod pass;
+mod plot;
 mod programs;
 
 pub use check::{are_all, fault, fault_since};
@@ -25,4 +26,5 @@ pub use halted::Halted;
 pub use journal::{Journal, LineJournal, NoJournal};
 pub use line_session::{Clock, Desk, Doors, Ended, SessionFault, session, worker};
 pub use pass::{Pass, Receipt, Yard};
+pub use plot::Plot;
 pub use programs::verify_all;
