@@ -74,8 +74,11 @@ fn serve<R: Net<Listener = TcpListener, Stream = TcpStream> + Threads + Wait + C
     let release = Shared { rt, group };
     let served = resume_site(
         rt, alloc, site, journal, crew, listeners, &Silent, &release, 1,
-    )?;
-    Ok(served.journal.into_output().into_output().bytes)
+    );
+    match served {
+        Ok(served) => Ok(served.journal.into_output().into_output().bytes),
+        Err(unclosed) => Err(unclosed.why),
+    }
 }
 
 fn serve_day<R: Net<Listener = TcpListener, Stream = TcpStream> + Threads + Wait + Clock + Sync>(

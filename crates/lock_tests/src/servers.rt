@@ -113,7 +113,7 @@ fn one_of_each<R: Net<Listener = TcpListener, Stream = TcpStream> + Threads + Wa
     rt: &R,
     alloc: Global,
 ) -> Result<(Served, String), Fail> {
-    let config = config(alloc).ok_or("a configuration")?;
+    let site = Site::start(alloc, config(alloc).ok_or("a configuration")?)?;
     let opened = Listeners::open(rt, alloc, 0, 0, 0);
     let listeners = match opened {
         Ok(listeners) => listeners,
@@ -123,7 +123,7 @@ fn one_of_each<R: Net<Listener = TcpListener, Stream = TcpStream> + Threads + Wa
     let crew = Crew::new(1, 1).ok_or("a crew")?;
     let (served, heard) = join(
         rt,
-        || serve_site(rt, alloc, config, crew, listeners, &Silent, 1),
+        || serve_site(rt, alloc, site, crew, listeners, &Silent, 1),
         || in_turn(rt, alloc, at),
     );
     match served {

@@ -1,11 +1,12 @@
 -- What the posts hand in is what all workers handed back.
 use Rattle.std.proofs.Common.{◌≡◌, ℕ, ◌+◌, ◌<◌, List, [], ◌∷◌, ◌++◌, length, map, slice_index_or, Option, Some, None, slice_get, refl, sym, ◌∙◌, ap, subst}
-use Rattle.std.proofs.Common.{arith, zero, suc}
+use Rattle.std.proofs.Common.{◌*◌, ◌≤◌, Ok, Err, arith, zero, suc}
 use Rattle.std.proofs.lemmas.List.{length-map}
+use Rattle.line_session.specs.Serving.{Outcome, good}
 use Rattle.site_lock.specs.Passes.{PassView, new_pass, AreNew}
 use Rattle.site_core.specs.Limits.{ConfigValue}
-use Rattle.site_server.specs.Ending.{HandedBack, HandsBack}
-use Rattle.site_server.specs.Handing.{AreWaiting, Manned, handed_in, waits}
+use Rattle.site_server.specs.Ending.{HandedBack, HandsBack, all_well}
+use Rattle.site_server.specs.Handing.{AreWaiting, Manned, handed_in, waits, well_in}
 use Rattle.site_server.proofs.Numbering.{handed_back}
 
 -- what stands at those posts at which something was handed back
@@ -18,6 +19,18 @@ pub handed_first : (posts : List (Option (PassView × ℕ))) → handed_in posts
 handed_first [] = refl
 handed_first (None ∷ posts) = handed_first posts
 handed_first (Some r ∷ posts) = ap (λ (ps : List PassView). r.0 ∷ ps) (handed_first posts)
+
+pub well_first : (posts : List (Option (PassView × ℕ))) → well_in posts ≡ all_well (results posts)
+well_first [] = refl
+well_first (None ∷ posts) = omega (arith, well_first posts)
+well_first (Some r ∷ posts) = ap (λ (n : ℕ). r.1 + n) (well_first posts)
+
+-- no more are good than there are
+good_few : (outcomes : List Outcome) → good outcomes ≤ length outcomes
+good_few [] = omega arith
+good_few (None ∷ outcomes) = omega (arith, good_few outcomes)
+good_few (Some (Ok ended) ∷ outcomes) = omega (arith, good_few outcomes)
+good_few (Some (Err fault) ∷ outcomes) = omega (arith, good_few outcomes)
 
 abbrev IsThere : Option PassView → Type 0
 IsThere None = ⊥
@@ -51,6 +64,28 @@ module _ (config own : ConfigValue) (same : config ≡ own) (may_fail : Type 0) 
   all_back w d b (x ∷ xs) (y ∷ ys) is waiting manned =
       one_back b (w x) (d y) (map d ys) (waiting 0 (b + 1) None (omega arith) (omega arith)) (manned 0 x (omega arith))
       (all_back w d (b + 1) xs ys (omega arith) (λ k n e num lt. waiting (suc k) n e (omega arith) (omega arith)) (λ k e lt. manned (suc k) e (omega arith)))
+
+  -- the same of posts that stood there as they were handed in
+  pub posts_back : {P A : Type 0} (w : P → Option (PassView × A)) (d : P → Option (PassView × ℕ)) (n : ℕ) (posts xs ys : List P) → posts ≡ xs
+      → length ys ≡ length xs → AreWaiting n (map (λ p. waits (w p)) posts)
+      → ((k : ℕ) (e : P) → k < length xs → Manned own may_fail tills dispensers connections (w (slice_index_or xs k e)) (d (slice_index_or ys k e)))
+      → AllBack 0 (map d ys)
+  posts_back {P} {A} w d n posts xs ys same as_many waiting manned =
+      let W : List P → Type 0 = λ l. AreWaiting n (map (λ p. waits (w p)) l) in
+      let there : AreWaiting n (map (λ p. waits (w p)) xs) = subst W same waiting in
+      all_back w d 0 xs ys as_many
+      (λ k m e num lt. subst (λ (j : ℕ). slice_index_or (map (λ p. waits (w p)) xs) k e ≡ Some (new_pass j)) (omega (arith, num))
+      (there.1 k e (omega (arith, lt, there.0, length-map xs (λ p. waits (w p))))))
+      manned
+
+  one_few : (b : ℕ) (r : PassView × ℕ) → HandedBack config may_fail tills dispensers connections b r → r.1 ≤ connections
+  one_few b r h = omega (arith, h.1.counted, h.1.all_asked, good_few h.1.outcomes)
+
+  -- so few end without fault that they can be counted
+  pub well_few : (b : ℕ) (posts : List (Option (PassView × ℕ))) → AllBack b posts → connections < 4294967296 → well_in posts ≤ 4294967296 * length posts
+  well_few b [] h few = omega arith
+  well_few b (None ∷ posts) h few = absurd h
+  well_few b (Some r ∷ posts) h few = omega (arith, well_few (b + 1) posts h.1 few, one_few b r h.0, few)
 
   back_at : (b : ℕ) (posts : List (Option (PassView × ℕ))) → AllBack b posts → (k n : ℕ) (d : PassView × ℕ) → n ≡ b + k → k < length (results posts)
       → HandedBack config may_fail tills dispensers connections n (slice_index_or (results posts) k d)

@@ -10,6 +10,11 @@ abbrev pub waits : {A : Type 0} → Option (PassView × A) → Option PassView
 waits None = None
 waits (Some w) = Some w.0
 
+-- the same with its port, as that is seen
+abbrev pub waits_at : {A B : Type 0} → (A → B) → Option (PassView × A) → Option (PassView × B)
+waits_at port None = None
+waits_at port (Some w) = Some (w.0, port w.1)
+
 -- the passes 1 to n, without receipts, wait at so many posts
 abbrev pub AreWaiting : ℕ → List (Option PassView) → Type 0
 AreWaiting n posts = (length posts ≡ n) × ((k : ℕ) (d : Option PassView) → k < n → slice_index_or posts k d ≡ Some (new_pass (k + 1)))
@@ -26,3 +31,12 @@ abbrev pub handed_in : List (Option (PassView × ℕ)) → List PassView
 handed_in [] = []
 handed_in (None ∷ posts) = handed_in posts
 handed_in (Some d ∷ posts) = d.0 ∷ handed_in posts
+
+-- how many connections ended without fault at a post, and at all posts together
+abbrev pub well_at : Option (PassView × ℕ) → ℕ
+well_at None = 0
+well_at (Some d) = d.1
+
+abbrev pub well_in : List (Option (PassView × ℕ)) → ℕ
+well_in [] = 0
+well_in (post ∷ posts) = well_at post + well_in posts

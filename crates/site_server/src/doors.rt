@@ -61,6 +61,9 @@ impl<'a, R: Clock, N: Notices> TcpDoors<'a, R, N> {
         role: Role,
         pass: u32,
     ) -> TcpDoors<'a, R, N>
+        ensures listener { result.listener.now ≡ listener.now }
+        ensures role { result.role ≡ role }
+        ensures pass { result.pass ≡ pass }
         ensures asked { result.asked ≡ 0 }
         ensures pause { result.pause ≡ 0 }
     {

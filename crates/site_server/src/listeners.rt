@@ -1,5 +1,6 @@
 //! The open ports.
 ghost use Rattle.std.specs.Prelude.{◌≡◌, ◌⊎◌, IfErr};
+ghost use Rattle.site_server.specs.Crews.{port_of};
 
 use std::alloc::Global;
 use std::io;
@@ -74,10 +75,7 @@ impl Listeners {
 
     /// Where somebody of a role connects; who may send all lines connects as the owner.
     pub fn of(&self, role: Role) -> &Arc<TcpListener>
-        ensures till { role ≡ Role.Till → result.now ≡ self.now.till }
-        ensures dispenser { role ≡ Role.Dispenser → result.now ≡ self.now.dispenser }
-        ensures owner { role ≡ Role.Owner → result.now ≡ self.now.owner }
-        ensures all { role ≡ Role.All → result.now ≡ self.now.owner }
+        ensures { result.now ≡ port_of self.now.till self.now.dispenser self.now.owner role }
     {
         match role {
             Role::Till => &self.till,

@@ -18,6 +18,7 @@ impl fmt::Display for Breach {
             Breach::Line(LineFault::TooLong) => {
                 f.write_str("ended by a line of more than 8,400 bytes")
             }
+            // No other line ends a session than one that is too long or has no end.
             Breach::Line(_) => f.write_str("ended in mid-line"),
             Breach::Session(fault) => write!(f, "{fault}"),
         }

@@ -1,7 +1,8 @@
 //! The posts of the workers.
-ghost use Rattle.std.specs.Prelude.{◌≡◌, ◌++◌, ◌∷◌, ◌+◌, ◌≤◌, [], IfOk, Some, length, map, vec_capacity, vec_len};
-ghost use Rattle.site_server.specs.Crews.{role_of};
-ghost use Rattle.site_server.specs.Handing.{Manned, handed_in, waits};
+ghost use Rattle.std.specs.Prelude.{◌≡◌, ◌++◌, ◌∷◌, ◌+◌, ◌^◌, ◌<◌, ◌≤◌, [], IfOk, Some, length, map, vec_capacity, vec_len};
+ghost use Rattle.std.specs.Arc.{arc_value};
+ghost use Rattle.site_server.specs.Crews.{port_of, role_of};
+ghost use Rattle.site_server.specs.Handing.{Manned, handed_in, waits, waits_at, well_at, well_in};
 ghost use Rattle.site_server.specs.Posts.{Worked};
 
 use crate::crew::Crew;
@@ -31,7 +32,13 @@ pub fn posts_of<L: Yard>(
     listeners: Listeners,
     crew: Crew,
 ) -> Result<Vec<Post<L>>, AllocError>
-    ensures { IfOk result (λ posts. map (λ p. waits p.waiting) posts.items ≡ map (λ p. Some p) passes.items) }
+    ensures passes { IfOk result (λ posts. map (λ p. waits p.waiting) posts.items ≡ map (λ p. Some p) passes.items) }
+    ensures ports { IfOk result (λ posts. map (λ p. waits_at arc_value p.waiting) posts.items
+        ≡ map (λ p. Some (
+          p,
+          arc_value (port_of listeners.till listeners.dispenser listeners.owner
+              (role_of crew.tills crew.dispensers p.id)),
+        )) passes.items) }
 {
     let mut posts = Vec::with_capacity(alloc, passes.len())?;
     for pass in passes {
@@ -102,6 +109,7 @@ fn hand_in<L: Yard>(post: &mut Post<L>, passes: &mut Vec<Pass<L>>) -> u64
     ensures items { passes.new.items ≡ passes.old.items ++ handed_in (post.old.done ∷ []) }
     ensures len { vec_len passes.new ≤ vec_len passes.old + 1 }
     ensures capacity { vec_capacity passes.new ≡ vec_capacity passes.old }
+    ensures well { result ≡ well_at post.old.done }
 {
     match post.done.take() {
         Some((pass, well)) => {
@@ -115,12 +123,14 @@ fn hand_in<L: Yard>(post: &mut Post<L>, passes: &mut Vec<Pass<L>>) -> u64
 /// Moves the passes that were handed back to others, for which there is room, and answers how many connections ended
 /// without fault.
 pub fn gather<L: Yard>(posts: &mut [Post<L>], passes: &mut Vec<Pass<L>>) -> u64
-    requires { vec_len passes.old + length posts.old ≤ vec_capacity passes.old }
-    ensures { passes.new.items ≡ passes.old.items ++ handed_in (map (λ p. p.done) posts.old) }
+    requires room { vec_len passes.old + length posts.old ≤ vec_capacity passes.old }
+    requires few { well_in (map (λ p. p.done) posts.old) < 2 ^ 64 }
+    ensures items { passes.new.items ≡ passes.old.items ++ handed_in (map (λ p. p.done) posts.old) }
+    ensures well { result ≡ well_in (map (λ p. p.done) posts.old) }
 {
     let Some((post, rest)) = posts.split_first_mut() else {
         return 0;
     };
     let well = hand_in(post, passes);
-    well.wrapping_add(gather(rest, passes))
+    well + gather(rest, passes)
 }

@@ -1,9 +1,9 @@
 //! Serving a site.
-ghost use Rattle.std.specs.Prelude.{◌≡◌, ◌≢◌, ◌≤◌, ℕ, [], Err, IfErr, IfOk, length, map, vec_capacity};
+ghost use Rattle.std.specs.Prelude.{◌≡◌, ◌≢◌, ◌≤◌, ℕ, [], Err, IfErr, IfOk, Some, length, map, option_map, vec_capacity};
 ghost use Rattle.line_session.specs.Session.{desk_says, desk_drops};
 ghost use Rattle.line_session.specs.Serving.{Serves, Sits, Visits};
 ghost use Rattle.site_server.specs.Crews.{passes_of};
-ghost use Rattle.site_server.specs.Ending.{Leaves, LeavesSince, Spoils, SpoilsSince, from_site};
+ghost use Rattle.site_server.specs.Ending.{Leaves, LeavesSince, Spoils, SpoilsSince, fault_of_close, from_site};
 ghost use Rattle.site_server.specs.Handing.{AreWaiting, Manned, waits};
 ghost use Rattle.site_server.specs.Posts.{Worked, pass_answers, tells};
 
@@ -15,7 +15,9 @@ use crate::posts::{Post, gather, man, posts_of};
 use group_sync::{AtOnce, Release};
 use line_session::{Doors, worker};
 use site_core::{Config, Site};
-use site_lock::{CloseRefusal, Forecourt, Journal, NoJournal, Pass, PassDesk, Straight, Yard};
+use site_lock::{
+    CloseRefusal, Forecourt, Journal, NoJournal, Pass, PassDesk, Plot, Straight, Yard,
+};
 use std::alloc::{AllocError, Global};
 use std::marker::Brand;
 use std::sync::Wait;
@@ -60,6 +62,14 @@ impl From<AllocError> for ServeFault {
     }
 }
 
+/// Serving that left no closed site.
+#[derive(Drop)]
+pub struct Unclosed<J: Journal = NoJournal> {
+    pub why: ServeFault,
+    /// After want of memory the site and the journal as they were handed in: nothing was served.
+    pub back: Option<(Site, J)>,
+}
+
 /// Serves so many connections of a role for one pass, whose programs run while nobody holds the site's lock, and
 /// answers the pass, with the receipts that it gained, and how many connections ended without fault.
 pub fn serve_pass<L: Yard, J: Journal, S: Doors, R: Wait + Clock>(
@@ -84,6 +94,18 @@ pub fn serve_pass<L: Yard, J: Journal, S: Doors, R: Wait + Clock>(
     let mut desk = PassDesk::new(rt, alloc, yard, pass, Straight { calls: 0 });
     let well = worker(alloc, role, doors, &mut clock, &mut desk, connections);
     (desk.into_pass(), well)
+}
+
+/// Why a site wasn't closed, where its journal failed or didn't.
+fn why_not_closed(why: CloseRefusal, has_stopped: bool) -> ServeFault
+    ensures is { result ≡ fault_of_close why has_stopped }
+    ensures memory { result ≢ ServeFault.OutOfMemory }
+{
+    if has_stopped {
+        ServeFault::Journal
+    } else {
+        ServeFault::NotClosed(why)
+    }
 }
 
 /// Serves with each post's pass, beside one another, and then closes the site. Takes no memory of its own: what it
@@ -111,7 +133,7 @@ fn serve_posts<
     requires room { (room.items ≡ []) × (length posts.items ≤ vec_capacity room) }
     ensures memory { result ≢ Err ServeFault.OutOfMemory }
     ensures ok { IfOk result
-        (λ served. LeavesSince yard J.may_fail crew.tills crew.dispensers connections served.site
+        (λ served. LeavesSince yard J.may_fail crew.tills crew.dispensers connections served.well served.site
         (J.written served.journal)) }
     ensures err { IfErr result (λ fault. SpoilsSince yard J.may_fail crew.tills crew.dispensers connections fault) }
 {
@@ -130,24 +152,55 @@ fn serve_posts<
         { man(rt, alloc, shared, post, crew, notices, release, connections) },
     );
     let well = gather(all, &mut passes);
-    if yard.has_stopped(rt) {
-        return Err(ServeFault::Journal);
-    }
     match yard.finish(rt, passes) {
         Ok((closed, journal)) => Ok(Served {
             site: closed.site,
             journal,
             well,
         }),
-        Err(fault) => Err(ServeFault::NotClosed(fault.why)),
+        Err(fault) => Err(why_not_closed(fault.why, fault.forecourt.has_stopped())),
     }
+}
+
+/// All of serving that takes memory.
+#[derive(Drop)]
+struct Prepared<L: Yard> {
+    plot: Plot<L>,
+    posts: Vec<Post<L>>,
+    /// For the passes that come back.
+    room: Vec<Pass<L>>,
+}
+
+fn prepare<L: Yard>(
+    alloc: Global,
+    config: &Config,
+    blank: Blank,
+    crew: Crew,
+    listeners: Listeners,
+) -> Result<Prepared<L>, AllocError>
+    requires name { blank.name ≡ L.name }
+    requires parts { blank.parts ≡ L.parts }
+    requires config { config.now ≡ L.config }
+    requires passes { blank.parts ≡ passes_of crew.tills crew.dispensers }
+    ensures config { IfOk result (λ p. p.plot.config ≡ config.now) }
+    ensures passes { IfOk result (λ p. p.plot.passes ≡ passes_of crew.tills crew.dispensers) }
+    ensures base { IfOk result (λ p. p.plot.base ≡ L.base) }
+    ensures taken { IfOk result (λ p. p.plot.taken ≡ L.taken) }
+    ensures posts { IfOk result
+        (λ p. AreWaiting (passes_of crew.tills crew.dispensers) (map (λ q. waits q.waiting) p.posts.items)) }
+    ensures room { IfOk result (λ p. (p.room.items ≡ []) × (length p.posts.items ≤ vec_capacity p.room)) }
+{
+    let (plot, passes) = Plot::new(alloc, config, crew.passes(), blank)?;
+    let room = Vec::with_capacity(alloc, passes.len())?;
+    let posts = posts_of(alloc, passes, listeners, crew)?;
+    Ok(Prepared { plot, posts, room })
 }
 
 /// Serves a site from where it stands: each worker of the crew serves so many connections, one after another, and then
 /// the site is closed. Each entry's line is handed to the journal before the entry is answered, and the answer leaves
 /// once it may. A role's port is closed when its last worker ends.
 ///
-/// Want of memory is told only before anything is served.
+/// Want of memory is told only before anything is served, and hands site and journal back.
 pub fn serve_on<
     L: Yard + Send + Sync,
     J: Journal + Send,
@@ -165,7 +218,7 @@ pub fn serve_on<
     notices: &N,
     release: &A,
     connections: u32,
-) -> Result<Served<J>, ServeFault>
+) -> Result<Served<J>, Unclosed<J>>
     requires name { blank.name ≡ L.name }
     requires parts { blank.parts ≡ L.parts }
     requires config { site.config ≡ L.config }
@@ -174,15 +227,22 @@ pub fn serve_on<
     requires passes { blank.parts ≡ passes_of crew.tills crew.dispensers }
     ensures ok { IfOk result
         (λ served. LeavesSince (from_site site (J.written journal) crew.tills crew.dispensers) J.may_fail crew.tills
-        crew.dispensers connections served.site (J.written served.journal)) }
+        crew.dispensers connections served.well served.site (J.written served.journal)) }
     ensures err { IfErr result
-        (λ fault. SpoilsSince (from_site site (J.written journal) crew.tills crew.dispensers) J.may_fail crew.tills
-        crew.dispensers connections fault) }
+        (λ unclosed. SpoilsSince (from_site site (J.written journal) crew.tills crew.dispensers) J.may_fail crew.tills
+        crew.dispensers connections unclosed.why) }
+    ensures memory { IfErr result
+        (λ unclosed. unclosed.why ≡ ServeFault.OutOfMemory → unclosed.back ≡ Some (site, journal)) }
 {
-    let (yard, passes) = Forecourt::<L, J>::go_on(alloc, site, journal, crew.passes(), blank)?;
-    let room = Vec::with_capacity(alloc, passes.len())?;
-    let posts = posts_of(alloc, passes, listeners, crew)?;
-    serve_posts(
+    let Ok(prepared) = prepare::<L>(alloc, site.config(), blank, crew, listeners) else {
+        return Err(Unclosed {
+            why: ServeFault::OutOfMemory,
+            back: Some((site, journal)),
+        });
+    };
+    let Prepared { plot, posts, room } = prepared;
+    let yard = plot.open(site, journal);
+    match serve_posts(
         rt,
         alloc,
         yard,
@@ -192,23 +252,31 @@ pub fn serve_on<
         notices,
         release,
         connections,
-    )
+    ) {
+        Ok(served) => Ok(served),
+        Err(why) => Err(Unclosed { why, back: None }),
+    }
 }
 
-/// Serves a new site of this configuration, as `serve_on`, with a ledger of its own; no journal is kept.
+/// Serves a new site, as `serve_on`, with a ledger of its own; no journal is kept.
 pub fn serve_site<N: Notices + Sync, R: Threads + Wait + Clock + Sync>(
     rt: &R,
     alloc: Global,
-    config: Config,
+    site: Site,
     crew: Crew,
     listeners: Listeners,
     notices: &N,
     connections: u32,
-) -> Result<Served, ServeFault>
-    ensures ok { IfOk result (λ served. Leaves config crew.tills crew.dispensers connections served.site) }
-    ensures err { IfErr result (λ fault. Spoils config crew.tills crew.dispensers connections fault) }
+) -> Result<Served, Unclosed>
+    ensures ok { IfOk result
+        (λ served. site.history ≡ []
+        → Leaves site.config crew.tills crew.dispensers connections served.well served.site) }
+    ensures err { IfErr result
+        (λ unclosed. site.history ≡ []
+        → Spoils site.config crew.tills crew.dispensers connections unclosed.why) }
+    ensures memory { IfErr result
+        (λ unclosed. unclosed.why ≡ ServeFault.OutOfMemory → option_map (λ back. back.0) unclosed.back ≡ Some site) }
 {
-    let site = Site::start(alloc, config)?;
     resume_site(
         rt,
         alloc,
@@ -238,13 +306,15 @@ pub fn resume_site<
     notices: &N,
     release: &A,
     connections: u32,
-) -> Result<Served<J>, ServeFault>
+) -> Result<Served<J>, Unclosed<J>>
     ensures ok { IfOk result
         (λ served. LeavesSince (from_site site (J.written journal) crew.tills crew.dispensers) J.may_fail crew.tills
-        crew.dispensers connections served.site (J.written served.journal)) }
+        crew.dispensers connections served.well served.site (J.written served.journal)) }
     ensures err { IfErr result
-        (λ fault. SpoilsSince (from_site site (J.written journal) crew.tills crew.dispensers) J.may_fail crew.tills
-        crew.dispensers connections fault) }
+        (λ unclosed. SpoilsSince (from_site site (J.written journal) crew.tills crew.dispensers) J.may_fail crew.tills
+        crew.dispensers connections unclosed.why) }
+    ensures memory { IfErr result
+        (λ unclosed. unclosed.why ≡ ServeFault.OutOfMemory → unclosed.back ≡ Some (site, journal)) }
 {
     let blank = Blank::new(u64::from(crew.passes()));
     serve_on::<Brand, J, N, A, R>(
