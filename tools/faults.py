@@ -52,8 +52,7 @@ connections = 1
 AS_ASKED = "79101800000000009500000000000000"
 NOTHING_SET = "9500000000000000"
 QUOTA = "b701000000000000b70200000100000085000000020000009500000000000000"
-# It is longer than a block that is read at once, so some of its answers leave before the rest of it is read.
-SCRIPT = f"""load 0 0 {AS_ASKED}
+MORNING = f"""load 0 0 {AS_ASKED}
 till 1 open 1
 disp 1 up 1
 till 1 release 1 8000
@@ -66,14 +65,16 @@ till 2 lock 1 1
 till 1 clear 1 1
 till 2 clear 1 1
 no such line
-{"x" * 5000}
-load2 2 0 {AS_ASKED}
+"""
+EVENING = f"""load2 2 0 {AS_ASKED}
 till 2 price 1 1899
 load 0 1 {QUOTA}
 till 1 release 1 3000
 till 9 show 1
 till 1 show 1
 """
+# A file is read in blocks of 4,096 bytes, and answers leave before the next is read. The first block ends with a line.
+SCRIPT = MORNING + (4095 - len(MORNING)) * "x" + "\n" + EVENING
 
 
 def write(path, text):
