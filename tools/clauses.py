@@ -13,7 +13,8 @@ import subprocess
 import sys
 import tempfile
 
-HERE = os.path.dirname(os.path.dirname(os.path.realpath(__file__)))
+from shared import HERE
+
 OPENERS, CLOSERS = "([{", ")]}"
 HEAD = re.compile(
     r"(?P<owner>\b(?:impl|(?:pub(?:\([a-z]+\))? )?trait)\b[^;{]*\{)|(?P<function>\b(?P<public>pub )?fn (?P<name>\w+))"
@@ -72,7 +73,8 @@ def clauses_of(path, crate):
         if it["owner"]:
             owners.append((*owner_of(it[0]), end_of(text, it.end() - 1)))
             continue
-        owner, is_public = next(((name, public) for name, public, end in reversed(owners) if it.start() < end), ("", False))
+        around = ((name, public) for name, public, end in reversed(owners) if it.start() < end)
+        owner, is_public = next(around, ("", False))
         if it["public"] or is_public:
             name = "::".join(filter(None, (crate, owner, it["name"])))
             for kind, label, clause in clauses_behind(text, it.end()):
@@ -97,7 +99,8 @@ def listed(root):
 def listed_at(commit):
     """Returns all clauses of a commit."""
     with tempfile.TemporaryDirectory() as room:
-        packed = subprocess.run(["git", "archive", commit, "crates", "crates.txt"], cwd=HERE, stdout=subprocess.PIPE, check=True)
+        pack = ["git", "archive", commit, "crates", "crates.txt"]
+        packed = subprocess.run(pack, cwd=HERE, stdout=subprocess.PIPE, check=True)
         subprocess.run(["tar", "-x", "-C", room], input=packed.stdout, check=True)
         return listed(room)
 

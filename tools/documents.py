@@ -8,9 +8,9 @@ names (`crates/..`, `docs/..`, a page beside it, a file of a crate as `site_core
 import glob
 import os
 import re
-import sys
 
-ROOT = os.path.join(os.path.dirname(os.path.abspath(__file__)), "..")
+from shared import HERE, Count, text_of
+
 MOST = 120
 FROM_THE_TOP = r"(?:bench|cases|crates|docs|examples|tools)/[\w./-]*\w/?"
 OF_A_CRATE = r"\w+/(?:src|specs|proofs|must-fail)/[\w./-]*\w"
@@ -20,19 +20,17 @@ PATH = re.compile(rf"{FROM_THE_TOP}|{OF_A_CRATE}|[\w-]+\.md")
 def documents():
     found = ["README.md", "bench/README.md"]
     for pattern in ("docs/*.md", "docs/*/*.md"):
-        found += sorted(os.path.relpath(path, ROOT) for path in glob.glob(os.path.join(ROOT, pattern)))
-    return [path for path in found if not os.path.islink(os.path.join(ROOT, path))]
+        found += sorted(os.path.relpath(path, HERE) for path in glob.glob(f"{HERE}/{pattern}"))
+    return [path for path in found if not os.path.islink(os.path.join(HERE, path))]
 
 
 def is_there(name, document):
     places = ("", "crates", os.path.dirname(document))
-    return any(os.path.exists(os.path.join(ROOT, place, name)) for place in places)
+    return any(os.path.exists(os.path.join(HERE, place, name)) for place in places)
 
 
 def faults_of(document):
-    with open(os.path.join(ROOT, document)) as file:
-        lines = file.read().splitlines()
-    for number, line in enumerate(lines, 1):
+    for number, line in enumerate(text_of(document).splitlines(), 1):
         if len(line) > MOST:
             yield f"{document}:{number}: {len(line)} characters"
         for code in re.findall(r"`([^`\s]+)`", line):
@@ -42,14 +40,10 @@ def faults_of(document):
 
 
 def main():
-    good, bad = 0, 0
+    count = Count()
     for document in documents():
-        faults = list(faults_of(document))
-        for fault in faults:
-            print(fault)
-        good, bad = (good, bad + 1) if faults else (good + 1, bad)
-    print(f"{good} passed, {bad} failed")
-    sys.exit(bool(bad))
+        count.case(faults_of(document))
+    count.end()
 
 
 main()

@@ -5,11 +5,10 @@ which contexts are laid: each field's place, bytes and layouts, and the word for
     fields.py     the last line is 'N passed, M failed', of fields and of the layouts' lengths
 """
 
-import os
 import re
-import sys
 
-ROOT = os.path.join(os.path.dirname(os.path.abspath(__file__)), "..")
+from shared import Count, text_of
+
 DOCUMENT = "docs/use/writing-rules.md"
 FIELDS = "crates/site_core/specs/Context.antt"
 LENGTHS = "crates/bpf_model/specs/Layouts.antt"
@@ -45,11 +44,6 @@ MEMBERS = {
 }
 STRUCTS = {"1": "request", "2": "request2"}
 C_SIZES = {"uint32_t": 4, "uint64_t": 8}
-
-
-def text_of(path):
-    with open(os.path.join(ROOT, path)) as file:
-        return file.read()
 
 
 def one(pattern, text, what):
@@ -103,38 +97,28 @@ def asserted(struct):
         yield int(place), int(size), MEMBERS.get(name, name)
 
 
-def compare(fields, rows, where):
-    """Returns how many fields are as they are defined, and how many aren't."""
-    passed = failed = 0
+def compare(count, fields, rows, where):
+    """Counts the fields: those that are as they are defined passed."""
     for at in range(max(len(fields), len(rows))):
         field, row = (list_of[at] if at < len(list_of) else None for list_of in (fields, rows))
-        if field == row:
-            passed += 1
-        else:
-            failed += 1
-            print(f"field {at + 1}: {FIELDS} has {field}, {where} has {row}")
-    return passed, failed
+        fault = f"field {at + 1}: {FIELDS} has {field}, {where} has {row}"
+        count.case([fault] if field != row else [])
 
 
 def main():
-    fields = list(defined())
-    passed, failed = compare(fields, list(documented()), DOCUMENT)
+    count, fields = Count(), list(defined())
+    compare(count, fields, list(documented()), DOCUMENT)
     for number, struct in STRUCTS.items():
         laid = [(place, size, word) for place, size, layouts, word in fields if number in layouts.split(", ")]
         for found, where in ((members, "its declaration"), (asserted, "its assertion")):
-            good, bad = compare(laid, list(found(struct)), f"{HEADER}: struct {struct}, {where},")
-            passed, failed = passed + good, failed + bad
+            compare(count, laid, list(found(struct)), f"{HEADER}: struct {struct}, {where},")
     lengths = text_of(LENGTHS)
     for name, number in (("One", "1"), ("Two", "2")):
         length = int(one(rf"^context_len layout\.{name} = (\d+)$", lengths, f"{LENGTHS}: layout {number}"))
         laid = sum(size for _, size, layouts, _ in fields if number in layouts.split(", "))
-        if length == laid:
-            passed += 1
-        else:
-            failed += 1
-            print(f"layout {number}: {LENGTHS} says {length} bytes, its fields have {laid}")
-    print(f"{passed} passed, {failed} failed")
-    return 0 if passed and not failed else 1
+        fault = f"layout {number}: {LENGTHS} says {length} bytes, its fields have {laid}"
+        count.case([fault] if length != laid else [])
+    count.end()
 
 
-sys.exit(main())
+main()

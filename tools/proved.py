@@ -10,7 +10,8 @@ import os
 import re
 import sys
 
-ROOT = os.path.join(os.path.dirname(os.path.abspath(__file__)), "..")
+from shared import HERE, Count, text_of
+
 HEAD = re.compile(r"\s*(?:pub(?:\([a-z]+\))? )?fn (\w+)")
 NO_NAME = "-"
 
@@ -33,7 +34,7 @@ def owner_of(line):
 def contracts_of(crate):
     """By type ('' for none) and name, the clauses of each public function; `-` for one without a name."""
     found = {}
-    for path in glob.glob(os.path.join(ROOT, "crates", crate, "src", "**", "*.rt"), recursive=True):
+    for path in glob.glob(os.path.join(HERE, "crates", crate, "src", "**", "*.rt"), recursive=True):
         owner, clauses = "", None
         with open(path) as file:
             for line in file:
@@ -62,23 +63,17 @@ def faults_of(call, clauses, edits, contracts):
     faults = [f"{call} has no clause {clause}" for clause in clauses if clause not in contract]
     if not clauses:
         faults.append(f"{call}: no clause is named")
-    folder = os.path.join(ROOT, "crates", crate, "must-fail")
+    folder = os.path.join(HERE, "crates", crate, "must-fail")
     missing = [edit for edit in edits if not os.path.exists(os.path.join(folder, f"{edit}.edit"))]
     return faults + [f"{call}: crate {crate} has no edit {edit}" for edit in missing]
 
 
 def main():
-    path = sys.argv[1] if len(sys.argv) > 1 else os.path.join(ROOT, "docs", "code", "PROVED.md")
-    contracts, good, bad = {}, 0, 0
-    with open(path) as file:
-        rows = list(rows_of(file.read()))
-    for call, clauses, named in rows:
-        faults = faults_of(call, clauses, named, contracts)
-        for fault in faults:
-            print(f"proved: {fault}")
-        good, bad = (good, bad + 1) if faults else (good + 1, bad)
-    print(f"{good} passed, {bad} failed")
-    sys.exit(bool(bad) or not rows)
+    path = os.path.abspath(sys.argv[1]) if len(sys.argv) > 1 else "docs/code/PROVED.md"
+    contracts, count = {}, Count()
+    for call, clauses, named in rows_of(text_of(path)):
+        count.case(f"proved: {fault}" for fault in faults_of(call, clauses, named, contracts))
+    count.end()
 
 
 main()

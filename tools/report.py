@@ -3,9 +3,9 @@
 
 usage: tools/report.py PROGRAM
 
-The journals are an empty one, that of a day with two tills, two rules, unpaid deliveries and refusals, and a long one of
-bench/script.awk. Where tidy is there, it has to find nothing; where Chromium is there, it has to open each page and to
-find the headline in it. What isn't there is left out, and said. The last line is 'N passed, M failed'.
+The journals are an empty one, that of a day with two tills, two rules, unpaid deliveries and refusals, and a long one
+of bench/script.awk. Where tidy is there, it has to find nothing; where Chromium is there, it has to open each page and
+to find the headline in it. What isn't there is left out, and said. The last line is 'N passed, M failed'.
 """
 import html.parser
 import os
@@ -14,9 +14,12 @@ import subprocess
 import sys
 import tempfile
 
-HERE = os.path.dirname(os.path.dirname(os.path.abspath(__file__)))
+from shared import AS_ASKED, HERE, Count, played
+
 MOST_BYTES = 2_000_000
-DAY = """load 0 0 79101800000000009500000000000000
+# The program of a rule that denies.
+DENIED = "b7000000000000009500000000000000"
+DAY = f"""load 0 0 {AS_ASKED}
 till 1 open 1
 till 1 open 2
 moment 1790000000
@@ -36,10 +39,10 @@ disp 2 order
 disp 2 started
 disp 2 flow 1234 700
 disp 2 down
-load 0 0 b7000000000000009500000000000000
+load 0 0 {DENIED}
 till 1 release 1 3000
 till 1 show 9
-load 2 0 79101800000000009500000000000000
+load 2 0 {AS_ASKED}
 till 2 price 1 1899
 till 1 stop 1
 """
@@ -133,16 +136,9 @@ def cells(sales):
     return [f"{len(sales):,}", money(amounts[0]), money(amounts[1])]
 
 
-class Checks:
-    def __init__(self):
-        self.passed = self.failed = 0
-
+class Checks(Count):
     def same(self, what, got, want):
-        if got == want:
-            self.passed += 1
-        else:
-            self.failed += 1
-            print(f"{what}: {got}, wanted {want}")
+        self.case([f"{what}: {got}, wanted {want}"] if got != want else [])
 
 
 def compare(checks, name, page, lines):
@@ -176,9 +172,8 @@ def compare(checks, name, page, lines):
 
 
 def journal_of(program, site, script):
-    """The journal of a script: what its last line answers."""
-    answers = subprocess.run([program, "play", site, script], capture_output=True, text=True, check=True).stdout
-    return [line for line in answers.splitlines() if " = " in line]
+    """The journal of a script."""
+    return [line for line in played(program, site, script + "journal\n") if " = " in line]
 
 
 def main():
@@ -187,19 +182,13 @@ def main():
     station = os.path.join(HERE, "bench/station.toml")
     checks = Checks()
     with tempfile.TemporaryDirectory() as work:
-        script = os.path.join(work, "script")
-        with open(script, "w") as file:
-            file.write(DAY + "journal\n")
-        day = journal_of(program, two, script)
+        day = journal_of(program, two, DAY)
         awk = ["awk", "-v", "lines=30000", "-f", os.path.join(HERE, "bench/script.awk")]
-        with open(script, "w") as file:
-            file.write(subprocess.run(awk, capture_output=True, text=True, check=True).stdout + "journal\n")
-        long = journal_of(program, station, script)
+        long = journal_of(program, station, subprocess.run(awk, capture_output=True, text=True, check=True).stdout)
         for name, site, lines in (("empty", two, []), ("day", two, day), ("long", station, long)):
             show(checks, program, work, name, site, lines)
         faulty(checks, program, two, work, day)
-    print(f"{checks.passed} passed, {checks.failed} failed")
-    return 1 if checks.failed or not checks.passed else 0
+    checks.end()
 
 
 def show(checks, program, work, name, site, lines):
@@ -233,9 +222,10 @@ def faulty(checks, program, site, work, day):
         text = "".join(line + "\n" for line in day).replace(*change, 1)
         with open(journal, "w") as file:
             file.write(text)
-        said = [subprocess.run([program, word, site, journal], capture_output=True, text=True) for word in ("audit", "report")]
+        words = ("audit", "report")
+        said = [subprocess.run([program, it, site, journal], capture_output=True, text=True) for it in words]
         checks.same("a fault", (said[1].returncode, said[1].stdout), (1, said[0].stdout))
 
 
 if __name__ == "__main__":
-    sys.exit(main())
+    main()

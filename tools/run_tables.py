@@ -4,8 +4,8 @@
 ' | '. An empty line and a line that begins with '#' are no rows. In a column \\n is a new line, \\t a tab, \\\\ a
 backslash, \\xHH a byte, ~N*TEXT~ is TEXT, N times, and ~AS_ASKED~ the program of a rule that grants what is asked.
 
-    run: COMMAND    the shell runs COMMAND for each row, in the table's folder, with `fc` on the path: $1, $2, .. are the
-                    row's columns but the last, and what is printed, without the new line at its end, is the last
+    run: COMMAND    the shell runs COMMAND for each row, in the table's folder, with `fc` on the path: $1, $2, .. are
+                    the row's columns but the last, and what is printed, without the new line at its end, is the last
     play: CONFIG    the rows up to an empty line are one play of the site in the file CONFIG: a line of its script each,
                     and what it answers. A play that is cut off or ends with another status than 0 has a last row
                     'status | N'; where a row begins with '<', it is no line of the script but a further line of the
@@ -30,10 +30,10 @@ import sys
 import tempfile
 from concurrent.futures import ThreadPoolExecutor
 
-HERE = os.path.dirname(os.path.dirname(os.path.realpath(__file__)))
+from shared import AS_ASKED, HERE, Count
+
 LINE = re.compile(r"\\(n|t|\\|x[0-9a-f]{2})")
 TIMES = re.compile(r"~(\d+)\*(.*?)~")
-AS_ASKED = "79101800000000009500000000000000"
 CHANGE = re.compile(rb"([1-9]\d*)s/([^/]+)/([^/]*)/")
 
 
@@ -55,7 +55,7 @@ def wanting(commands):
 
 
 def rows_of(path):
-    """Returns what a table does, with what, and its rows as (number of the line, columns), with None for an empty line."""
+    """Returns what a table does, with what, and its rows as (number of the line, columns), None for an empty line."""
     kind, what, rows = None, None, []
     with open(path, encoding="utf-8") as file:
         for number, line in enumerate(file, 1):
@@ -168,16 +168,15 @@ def main():
     cases = [it for path in found if path.endswith(".table") and word in path for it in cases_of(path, program)]
     with ThreadPoolExecutor(os.cpu_count()) as pool:
         results = list(pool.map(lambda it: tried(it[1]), cases))
-    failed = 0
+    count = Count()
     for (place, _), (printed, wanted, said) in zip(cases, results):
+        faults = []
         if printed != wanted:
-            failed += 1
-            print(f"{place}: printed, wanted, and what standard error says:")
-            for it in (printed, wanted, said):
-                print("  " + it.decode(errors="replace")[:600].replace("\n", "\n  "))
-    print(f"{len(cases) - failed} passed, {failed} failed")
-    return 1 if failed or not cases else 0
+            texts = [it.decode(errors="replace")[:600].replace("\n", "\n  ") for it in (printed, wanted, said)]
+            faults = [f"{place}: printed, wanted, and what standard error says:", *(f"  {it}" for it in texts)]
+        count.case(faults)
+    count.end()
 
 
 if __name__ == "__main__":
-    sys.exit(main())
+    main()

@@ -11,14 +11,13 @@ What a cell tells for a condition that no situation meets is a fault of the tabl
 
 import os
 import re
-import subprocess
 import sys
 import tempfile
 
-ROOT = os.path.join(os.path.dirname(os.path.abspath(__file__)), "..")
+from shared import AS_ASKED, HERE, Count, played, text_of
+
 LIMIT = 8000
 POINTS = 32
-AS_ASKED = "79101800000000009500000000000000"
 SITE = "tills = 2\nprice_slot = 2\nprices = [1799, 1849, 0, 0, 0, 0, 0, 0]\n"
 SITE += POINTS * "[[point]]\nrelease = 0\npreset = 1\n"
 
@@ -162,17 +161,13 @@ def situations():
                 yield Situation(state, before + lines, up, pending, taken, amount, holders)
 
 
-def played(fc, config, trials):
+def answered(fc, config, trials):
     """What the program answers to each trial, a situation and a line, each at a point of its own."""
     script = [f"load 0 0 {AS_ASKED}", f"load 1 0 {AS_ASKED}"]
     for point, (situation, line) in enumerate(trials, 1):
         lines = situation.lines + ["till 2 show P", line, "till 2 show P", "disp P order"]
         script += [re.sub(r"\bP\b", str(point), one) for one in lines]
-    with tempfile.NamedTemporaryFile("w", suffix=".script") as file:
-        file.write("\n".join(script) + "\n")
-        file.flush()
-        told = subprocess.run([fc, "play", config, file.name], capture_output=True, text=True, timeout=60, check=True)
-    answers = [answer.split(" ", 1)[1] for answer in told.stdout.splitlines()]
+    answers = [answer.split(" ", 1)[1] for answer in played(fc, config, "\n".join(script) + "\n")]
     if len(answers) != len(script):
         raise SystemExit("a line of the play has no answer")
     at = 2
@@ -195,9 +190,8 @@ def seen(situation, answers):
 
 def main():
     fc = os.path.abspath(sys.argv[1])
-    path = sys.argv[2] if len(sys.argv) > 2 else os.path.join(ROOT, "docs", "use", "protocol.md")
-    with open(path) as file:
-        cells = table_of(file.read())
+    path = sys.argv[2] if len(sys.argv) > 2 else f"{HERE}/docs/use/protocol.md"
+    cells = table_of(text_of(os.path.abspath(path)))
     wanted = {(name, state) for name in LINES for state in range(1, 10)}
     if set(cells) != wanted:
         raise SystemExit(f"{path}: the table has {len(cells)} cells of {len(wanted)}")
@@ -209,8 +203,8 @@ def main():
         config.flush()
         for begin in range(0, len(trials), POINTS):
             part = trials[begin : begin + POINTS]
-            answered = played(fc, config.name, [(one, line) for one, _, line in part])
-            for (one, name, line), answers in zip(part, answered):
+            told_to_each = answered(fc, config.name, [(one, line) for one, _, line in part])
+            for (one, name, line), answers in zip(part, told_to_each):
                 place, told = one.told(name, line, cells[name, one.state])
                 used.add((name, one.state, place))
                 said = seen(one, answers)
@@ -222,8 +216,7 @@ def main():
             if (name, state, place) not in used:
                 bad.add((name, state))
                 print(f"{name} in state {state}: nothing comes to '{' '.join(words)}'")
-    print(f"{len(wanted) - len(bad)} passed, {len(bad)} failed")
-    sys.exit(bool(bad))
+    Count(len(wanted) - len(bad), len(bad)).end()
 
 
 main()
