@@ -3,6 +3,7 @@
 # with the words of the file args, one a line, and with stdin as its input, if these are there; what it prints and its
 # status must be stdout and status (0 where there is no such file), and what it says on standard error must be stderr
 # where there is such a file. Where there is an executable run, that is run with the program's path, and drives it.
+# A folder without stdout fails, unless it is a part of a case, has cases or tables below it, or files that tables name.
 # Prints each case that differs, and then 'N passed, M failed'.
 # usage: tools/run_cases.sh PROGRAM [WORD]    WORD: only the cases whose path has it
 set -u
@@ -12,9 +13,25 @@ cd "$here" || exit 1
 work=$(mktemp -d) || exit 1
 trap 'rm -rf "$work"' EXIT
 passed=0 failed=0
-find cases -name stdout | sort | grep -- "${2:-}" >"$work/cases"
-while IFS= read -r stdout <&3; do
-    case=${stdout%/stdout}
+
+# Whether a folder without stdout is no case: it is a part of one; or it has no file that cases alone have, but cases or
+# tables below it, or files that tables name.
+is_no_case() {
+    [ ! -f "${1%/*}/stdout" ] || return 0
+    for file in args stdin run status stderr; do [ ! -e "$1/$file" ] || return 1; done
+    [ -z "$(find "$1" -name stdout -o -name '*.table')" ] || return 0
+    find cases -name '*.table' -exec grep -qF -e "/${1##*/}/" -e " ${1##*/}/" {} +
+}
+
+find cases -type d | sed 's|$|/|' | sort | grep -- "${2:-}" >"$work/cases"
+while IFS= read -r folder <&3; do
+    case=${folder%/}
+    if [ ! -f "$case/stdout" ]; then
+        is_no_case "$case" && continue
+        failed=$((failed + 1))
+        echo "$case: there is no stdout, which says what is wanted"
+        continue
+    fi
     set --
     if [ -f "$case/args" ]; then
         while IFS= read -r word || [ -n "$word" ]; do set -- "$@" "$word"; done <"$case/args"
