@@ -26,7 +26,8 @@ import tempfile
 import time
 from concurrent.futures import ThreadPoolExecutor
 
-HERE = os.path.dirname(os.path.dirname(os.path.realpath(__file__)))
+from shared import AS_ASKED, HERE
+
 KINDS = ("memory", "read", "write", "sync")
 UNHINDERED = ("none", 0, "once")
 CUT = ("cut", 0, "on")
@@ -49,7 +50,6 @@ till_workers = 1
 dispenser_workers = 1
 connections = 1
 """
-AS_ASKED = "79101800000000009500000000000000"
 NOTHING_SET = "9500000000000000"
 QUOTA = "b701000000000000b70200000100000085000000020000009500000000000000"
 MORNING = f"""load 0 0 {AS_ASKED}
