@@ -1,6 +1,6 @@
 -- Definitions: what words ask for, as `clap` reads them. The first word is the program's name.
 use Rattle.std.specs.Prelude.{◌≡◌, ◌≢◌, ◌⊎◌, ◌<◌, ◌^◌, ℕ, List, [], ◌∷◌, codes, Bool, true, false, Option, Some, None, option_and_then, option_map}
-use Rattle.std.specs.Prelude.{if◌then◌else◌, string_bytes, pos}
+use Rattle.std.specs.Prelude.{if◌then◌else◌, ◌++◌, string_bytes, pos}
 use Rattle.std.specs.Option.{option_map_or}
 use Rattle.std.specs.Str.{bytes_eq}
 use Rattle.std.specs.Str.Parse.{IsNumeral, digits_value, without_leading_plus}
@@ -195,7 +195,21 @@ HasNoMask rows =
 abbrev pub IsNothing : Option (Text × List Row) → Type 0
 IsNothing found = (asked_of found ≡ None) ⊎ ((p : Text × List Row) × (found ≡ Some p) × HasNoMask p.1)
 
--- The usage is told only where `clap` may refuse the words, or what it read of them asks for nothing.
+-- the last line of what is told of words that are wrong
+abbrev pub further : Text
+further = codes "For more information, try '--help'." ++ 10 ∷ []
+
+-- what is told of words that `clap` takes and that ask for nothing
+abbrev pub unasked_by : Text → Text
+unasked_by name =
+    if bytes_eq name (codes "serve") then codes "error: --sync wants --journal FILE" ++ 10 ∷ 10 ∷ further
+    else codes "error: --context takes 1 or 2" ++ 10 ∷ 10 ∷ further
+
+abbrev pub unasked_text : Option (Text × List Row) → Text
+unasked_text None = unasked_by []
+unasked_text (Some p) = unasked_by p.0
+
+-- The usage is told only where `clap` may refuse the words, or where what it read of them asks for nothing and the usage says so.
 abbrev pub RefusesBy : Kinds → Option (Text × List Row) → CommandFault → Type 0
-RefusesBy kinds found (refusal.Usage text) = MayRefuse kinds ⊎ IsNothing found
+RefusesBy kinds found (refusal.Usage text) = MayRefuse kinds ⊎ (IsNothing found × (string_bytes text ≡ unasked_text found))
 RefusesBy kinds found refusal.OutOfMemory = Unit {0}

@@ -1,9 +1,11 @@
 -- Promises: why no job was found.
-use Rattle.std.specs.Prelude.{◌≡◌, ◌≢◌, ◌⊎◌, ℕ, List, Option, Some, None, IsSome}
+use Rattle.std.specs.Prelude.{◌≡◌, ◌≢◌, ◌⊎◌, ℕ, List, Option, Some, None, IsSome, Result, Ok, IsErr, String, string_bytes}
+use Rattle.std.specs.Global.{Global}
+use Rattle.std.specs.declared.alloc.AllocError.{AllocError}
 use Rattle.clap.specs.Words.{Row, Text}
 use Rattle.clap.specs.declared.error.kind.ErrorKind.{ErrorKind}
 use Rattle.clap.specs.declared.error.kind.ErrorKind.TheVariants as kind
-use Rattle.command_line.specs.Asked.{HasNoMask, IsNothing, IsShown, asked, asked_by, asked_of, mask_in}
+use Rattle.command_line.specs.Asked.{Asked, HasNoMask, IsNothing, IsShown, asked, asked_by, asked_of, files_in, mask_in, unasked_text}
 use Rattle.command_line.specs.declared.job.Job.{Job}
 use Rattle.command_line.specs.declared.job.CommandFault.{CommandFault}
 use Rattle.command_line.specs.declared.job.CommandFault.TheVariants as refusal
@@ -12,6 +14,12 @@ use Rattle.command_line.specs.declared.job.CommandFault.TheVariants as refusal
 abbrev pub ReadsMask : List Row → Option ℕ → Type 0
 ReadsMask rows (Some n) = mask_in rows ≡ Some n
 ReadsMask rows None = (mask_in rows ≡ None) ⊎ HasNoMask rows
+
+-- two files were found, whatever they are asked for
+abbrev pub FindsFiles : Text → Text → List Row → Option (String Global × String Global) → Type 0
+FindsFiles first second rows (Some p) =
+    (ask : Text → Text → Asked) → files_in first second ask rows ≡ Some (ask (string_bytes p.0) (string_bytes p.1))
+FindsFiles first second rows None = (ask : Text → Text → Asked) → files_in first second ask rows ≡ None
 
 -- what was found is what a subcommand's values ask for
 abbrev pub Finds : Text → List Row → Option Job → Type 0
@@ -22,12 +30,13 @@ abbrev pub FindsIn : Option (Text × List Row) → Option Job → Type 0
 FindsIn found (Some job) = (asked_of found ≡ asked job) × IsSome (asked job)
 FindsIn found None = IsNothing found
 
--- a usage is told only where nothing is asked for
+-- a usage is told only where nothing is asked for, and says so
 abbrev pub IsUnasked : Option (Text × List Row) → CommandFault → Type 0
-IsUnasked found (refusal.Usage text) = IsNothing found
+IsUnasked found (refusal.Usage text) = IsNothing found × (string_bytes text ≡ unasked_text found)
 IsUnasked found refusal.OutOfMemory = Unit {0}
 
--- a usage is told of neither help nor the version nor want of memory
-abbrev pub IsRefusalOf : ErrorKind → CommandFault → Type 0
-IsRefusalOf k (refusal.Usage text) = (¬ IsShown k) × (k ≢ kind.OutOfMemory)
-IsRefusalOf k refusal.OutOfMemory = Unit {0}
+-- A usage is the text that was made of an error which is neither help nor the version nor want of memory. Want of memory is told
+-- where the error is that, or no text could be made.
+abbrev pub IsRefusalOf : ErrorKind → Result (String Global) AllocError → CommandFault → Type 0
+IsRefusalOf k made (refusal.Usage text) = (¬ IsShown k) × (k ≢ kind.OutOfMemory) × (made ≡ Ok text)
+IsRefusalOf k made refusal.OutOfMemory = (k ≡ kind.OutOfMemory) ⊎ IsErr made

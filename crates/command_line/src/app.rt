@@ -1,13 +1,37 @@
 //! The program's words, as they are described to `clap`.
 ghost use Rattle.std.specs.Prelude.{◌≡◌, false, IfOk, codes};
-ghost use Rattle.clap.specs.Words.{app_of, with_rule, new_app, rule_of};
+ghost use Rattle.clap.specs.Words.{app_of, rule_of, with_subcommand};
 ghost use Rattle.clap.specs.declared.builder.command.Command.TheViews.{out-Command};
-ghost use Rattle.command_line.specs.Asked.{context_rule, file_rule, flag_rule, journal_rule, mask_rule, of_file};
-ghost use Rattle.command_line.specs.Asked.{asm_app, dis_app, verify_app, play_app, audit_app, report_app, serve_app};
-ghost use Rattle.command_line.specs.Asked.{fc_app};
+ghost use Rattle.command_line.specs.Asked.{context_rule, file_rule, flag_rule, journal_rule, mask_rule};
+ghost use Rattle.command_line.specs.Asked.{fc_app, top_app};
+ghost use Rattle.command_line.specs.Described.{app_for, rule_for, with_words};
 
 use clap::{Arg, ArgAction, Command, value_parser};
 use std::alloc::{AllocError, Global};
+
+/// An argument of a subcommand.
+#[derive(Clone, Copy, Drop)]
+enum Argument {
+    /// A file that is wanted, by its name and what help says of it.
+    File(&'static str, &'static str),
+    /// --counters MASK.
+    Mask,
+    /// --context LAYOUT.
+    Context,
+    /// --journal FILE.
+    Journal,
+    /// A word that stands alone, with what help says of it.
+    Flag(&'static str, &'static str),
+}
+
+/// A subcommand: its name, what help says of it, an example, and its arguments.
+#[derive(Clone, Copy, Drop)]
+struct Word {
+    name: &'static str,
+    about: &'static str,
+    example: &'static str,
+    arguments: &'static [Argument],
+}
 
 /// A file that is wanted.
 fn file_arg<'a>(alloc: Global, name: &'a str, help: &'a str) -> Arg<'a>
@@ -64,23 +88,6 @@ fn flag_arg<'a>(alloc: Global, name: &'a str, help: &'a str) -> Arg<'a>
         .action(ArgAction::SetTrue)
 }
 
-/// A subcommand that wants a file.
-fn with_file<'a>(
-    alloc: Global,
-    name: &'a str,
-    about: &'a str,
-    example: &'a str,
-    file: &'a str,
-    help: &'a str,
-) -> Result<Command<'a>, AllocError>
-    ensures app { IfOk result (λ c. app_of c ≡ of_file name.entry.now file.entry.now) }
-    ensures local { IfOk result (λ c. (out-Command c).has_globals ≡ false) }
-{
-    let told = Command::new(alloc, name).about(about).after_help(example);
-    let command = told.arg(file_arg(alloc, file, help))?;
-    Ok(command)
-}
-
 const CONFIG: &str = "the site's configuration, as TOML";
 
 const SCRIPT: &str = "requests, events and loads, one a line";
@@ -89,136 +96,73 @@ const JOURNAL: &str = "what a play or a served site printed of its entries";
 
 const PROGRAM: &str = "the program's bytes, as hexadecimal digits";
 
-/// The subcommand that assembles.
-fn asm<'a>(alloc: Global) -> Result<Command<'a>, AllocError>
-    ensures app { IfOk result (λ c. app_of c ≡ asm_app) }
-    ensures local { IfOk result (λ c. (out-Command c).has_globals ≡ false) }
-{
-    with_file(
-        alloc,
-        "asm",
-        "Prints the units of a rule",
-        "Example: fc asm rule.bpf",
-        "file",
-        "the rule, as assembler text",
-    )
-}
-
-/// The subcommand that disassembles.
-fn dis<'a>(alloc: Global) -> Result<Command<'a>, AllocError>
-    ensures app { IfOk result (λ c. app_of c ≡ dis_app) }
-    ensures local { IfOk result (λ c. (out-Command c).has_globals ≡ false) }
-{
-    let some = with_file(
-        alloc,
-        "dis",
-        "Prints a program as text",
-        "Examples: fc dis rule.hex, fc dis --units rule.hex",
-        "file",
-        PROGRAM,
-    )?;
-    let units = flag_arg(alloc, "units", "print each unit's number before its line");
-    let command = some.arg(units)?;
-    Ok(command)
-}
-
-/// The subcommand that verifies.
-fn verify<'a>(alloc: Global) -> Result<Command<'a>, AllocError>
-    ensures app { IfOk result (λ c. app_of c ≡ verify_app) }
-    ensures local { IfOk result (λ c. (out-Command c).has_globals ≡ false) }
-{
-    let some = with_file(
-        alloc,
-        "verify",
-        "Tells whether a program file is accepted",
-        "Example: fc verify --counters 3 rule.hex",
-        "file",
-        PROGRAM,
-    )?;
-    let masked = some.arg(mask_arg(alloc))?;
-    let command = masked.arg(context_arg(alloc))?;
-    Ok(command)
-}
-
-/// The subcommand that plays.
-fn play<'a>(alloc: Global) -> Result<Command<'a>, AllocError>
-    ensures app { IfOk result (λ c. app_of c ≡ play_app) }
-    ensures local { IfOk result (λ c. (out-Command c).has_globals ≡ false) }
-{
-    let some = with_file(
-        alloc,
-        "play",
-        "Answers each line of a script",
-        "Example: fc play site.toml day.script",
-        "config",
-        CONFIG,
-    )?;
-    let command = some.arg(file_arg(alloc, "script", SCRIPT))?;
-    Ok(command)
-}
-
-/// The subcommand that audits.
-fn audit<'a>(alloc: Global) -> Result<Command<'a>, AllocError>
-    ensures app { IfOk result (λ c. app_of c ≡ audit_app) }
-    ensures local { IfOk result (λ c. (out-Command c).has_globals ≡ false) }
-{
-    let some = with_file(
-        alloc,
-        "audit",
-        "Tells whether a journal is a legal history",
-        "Example: fc audit site.toml day.journal",
-        "config",
-        CONFIG,
-    )?;
-    let journal = file_arg(
-        alloc,
-        "journal",
-        "the journal of a play, or of a served site",
-    );
-    let command = some.arg(journal)?;
-    Ok(command)
-}
-
-/// The subcommand that reports.
-fn report<'a>(alloc: Global) -> Result<Command<'a>, AllocError>
-    ensures app { IfOk result (λ c. app_of c ≡ report_app) }
-    ensures local { IfOk result (λ c. (out-Command c).has_globals ≡ false) }
-{
-    let some = with_file(
-        alloc,
-        "report",
-        "Makes a page of pictures and figures of a journal",
-        "Example: fc report site.toml day.journal > day.html",
-        "config",
-        CONFIG,
-    )?;
-    let journal = file_arg(alloc, "journal", JOURNAL);
-    let command = some.arg(journal)?;
-    Ok(command)
-}
-
-/// The subcommand that serves.
-fn serve<'a>(alloc: Global) -> Result<Command<'a>, AllocError>
-    ensures app { IfOk result (λ c. app_of c ≡ serve_app) }
-    ensures local { IfOk result (λ c. (out-Command c).has_globals ≡ false) }
-{
-    let some = with_file(
-        alloc,
-        "serve",
-        "Serves a site on 127.0.0.1, then prints its journal",
-        "Examples: fc serve site.toml > day.journal, fc serve --journal day.journal site.toml",
-        "config",
-        CONFIG,
-    )?;
-    let kept = some.arg(journal_arg(alloc))?;
-    let sync = flag_arg(
-        alloc,
-        "sync",
-        "with --journal: answer only what the system says is on the disk",
-    );
-    let command = kept.arg(sync)?;
-    Ok(command)
-}
+const WORDS: [Word; 7] = [
+    Word {
+        name: "asm",
+        about: "Prints the units of a rule",
+        example: "Example: fc asm rule.bpf",
+        arguments: &[Argument::File("file", "the rule, as assembler text")],
+    },
+    Word {
+        name: "dis",
+        about: "Prints a program as text",
+        example: "Examples: fc dis rule.hex, fc dis --units rule.hex",
+        arguments: &[
+            Argument::File("file", PROGRAM),
+            Argument::Flag("units", "print each unit's number before its line"),
+        ],
+    },
+    Word {
+        name: "verify",
+        about: "Tells whether a program file is accepted",
+        example: "Example: fc verify --counters 3 rule.hex",
+        arguments: &[
+            Argument::File("file", PROGRAM),
+            Argument::Mask,
+            Argument::Context,
+        ],
+    },
+    Word {
+        name: "play",
+        about: "Answers each line of a script",
+        example: "Example: fc play site.toml day.script",
+        arguments: &[
+            Argument::File("config", CONFIG),
+            Argument::File("script", SCRIPT),
+        ],
+    },
+    Word {
+        name: "audit",
+        about: "Tells whether a journal is a legal history",
+        example: "Example: fc audit site.toml day.journal",
+        arguments: &[
+            Argument::File("config", CONFIG),
+            Argument::File("journal", "the journal of a play, or of a served site"),
+        ],
+    },
+    Word {
+        name: "report",
+        about: "Makes a page of pictures and figures of a journal",
+        example: "Example: fc report site.toml day.journal > day.html",
+        arguments: &[
+            Argument::File("config", CONFIG),
+            Argument::File("journal", JOURNAL),
+        ],
+    },
+    Word {
+        name: "serve",
+        about: "Serves a site on 127.0.0.1, then prints its journal",
+        example: "Examples: fc serve site.toml > day.journal, fc serve --journal day.journal site.toml",
+        arguments: &[
+            Argument::File("config", CONFIG),
+            Argument::Journal,
+            Argument::Flag(
+                "sync",
+                "with --journal: answer only what the system says is on the disk",
+            ),
+        ],
+    },
+];
 
 const ABOUT: &str =
     "Keeps a petrol station's site, where small programs decide each release, preset and price.
@@ -230,20 +174,60 @@ Faults: A assembler text, C closing a site, F an entry that is not legal, H hexa
 K configuration, L line, N device, S refusal of the site, V program refused. docs/use/reference.md names each.
 Status: 0 done, 1 the input is refused, 2 the words are wrong, 3 a device failed or memory ran out.";
 
+/// An argument, as `clap` has it.
+fn argument_of<'a>(alloc: Global, argument: Argument) -> Arg<'a>
+    ensures rule { rule_of result ≡ rule_for argument }
+    ensures local { result.global ≡ false }
+{
+    match argument {
+        Argument::File(name, help) => file_arg(alloc, name, help),
+        Argument::Mask => mask_arg(alloc),
+        Argument::Context => context_arg(alloc),
+        Argument::Journal => journal_arg(alloc),
+        Argument::Flag(name, help) => flag_arg(alloc, name, help),
+    }
+}
+
+/// A subcommand, as `clap` has it.
+fn subcommand_of<'a>(alloc: Global, word: Word) -> Result<Command<'a>, AllocError>
+    ensures app { IfOk result (λ c. app_of c ≡ app_for word) }
+    ensures local { IfOk result (λ c. (out-Command c).has_globals ≡ false) }
+{
+    let mut command = Command::new(alloc, word.name)
+        .about(word.about)
+        .after_help(word.example);
+    for argument in word.arguments {
+        command = command.arg(argument_of(alloc, *argument))?;
+    }
+    Ok(command)
+}
+
+/// A command with this subcommand more.
+fn with_word<'a>(alloc: Global, some: Command<'a>, word: Word) -> Result<Command<'a>, AllocError>
+    ensures { IfOk result (λ c. app_of c ≡ with_subcommand (app_of some.entry) (app_for word).top) }
+{
+    let subcommand = subcommand_of(alloc, word)?;
+    let command = some.subcommand(subcommand)?;
+    Ok(command)
+}
+
+/// The command of a program with these subcommands.
+fn with_words<'a>(alloc: Global, words: &[Word]) -> Result<Command<'a>, AllocError>
+    ensures { IfOk result (λ c. app_of c ≡ with_words top_app words.now) }
+{
+    let mut command = Command::new(alloc, "fc")
+        .version("0.1.0")
+        .about(ABOUT)
+        .after_help(AFTER);
+    for word in words {
+        command = with_word(alloc, command, *word)?;
+    }
+    Ok(command)
+}
+
 /// The program's command.
 pub fn fc<'a>(alloc: Global) -> Result<Command<'a>, AllocError>
     ensures { IfOk result (λ c. app_of c ≡ fc_app) }
 {
-    let top = Command::new(alloc, "fc")
-        .version("0.1.0")
-        .about(ABOUT)
-        .after_help(AFTER);
-    let one = top.subcommand(asm(alloc)?)?;
-    let two = one.subcommand(dis(alloc)?)?;
-    let three = two.subcommand(verify(alloc)?)?;
-    let four = three.subcommand(play(alloc)?)?;
-    let five = four.subcommand(audit(alloc)?)?;
-    let six = five.subcommand(report(alloc)?)?;
-    let all = six.subcommand(serve(alloc)?)?;
-    Ok(all)
+    with_words(alloc, &WORDS)
 }

@@ -1,17 +1,16 @@
 //! Reading the words of a command line.
-ghost use Rattle.std.specs.Prelude.{◌≡◌, IsTrue, IsSome, None, false, [], IfOk, IfErr, OnOk, map, codes, option_map};
-ghost use Rattle.std.specs.Prelude.{string_bytes, ◌↔◌};
+ghost use Rattle.std.specs.Prelude.{◌≡◌, IsTrue, IsSome, None, false, [], IfOk, IfErr, IsOkAnd, OnOk};
+ghost use Rattle.std.specs.Prelude.{map, codes, option_map, string_bytes, ◌↔◌};
 ghost use Rattle.clap.specs.Words.{first_of, rows_of, found_of, subcommand_of, subcommand_rows_of, takes, fault_of};
-ghost use Rattle.clap.specs.Values.{kind_of};
 ghost use Rattle.command_line.specs.Asked.{fc_app, asked, asked_of, is_set, layout_in, layout_named, IsShown, MayShow};
-ghost use Rattle.command_line.specs.Asked.{RefusesBy};
-ghost use Rattle.command_line.specs.Refusing.{Finds, FindsIn, ReadsMask, IsUnasked, IsRefusalOf};
+ghost use Rattle.command_line.specs.Asked.{RefusesBy, unasked_by, unasked_text};
+ghost use Rattle.command_line.specs.Refusing.{Finds, FindsFiles, FindsIn, ReadsMask, IsUnasked, IsRefusalOf};
 
 use crate::app::fc;
 use crate::job::{CommandFault, Job};
 use bpf_model::context::Layout;
+use clap::ArgMatches;
 use clap::error::ErrorKind;
-use clap::{ArgMatches, Error};
 use std::alloc::{AllocError, Global};
 
 /// The text of a file's name, where there is one.
@@ -108,14 +107,29 @@ fn verify_of(alloc: Global, matches: &ArgMatches) -> Result<Option<Job>, AllocEr
     }
 }
 
+/// The texts of two files' names, where there are both.
+fn files_of(
+    alloc: Global,
+    matches: &ArgMatches,
+    first: &str,
+    second: &str,
+) -> Result<Option<(String, String)>, AllocError>
+    ensures { IfOk result (FindsFiles first.now second.now (rows_of (found_of matches.now))) }
+{
+    let Some(one) = file_of(alloc, matches, first)? else {
+        return Ok(None);
+    };
+    match file_of(alloc, matches, second)? {
+        Some(other) => Ok(Some((one, other))),
+        None => Ok(None),
+    }
+}
+
 fn play_of(alloc: Global, matches: &ArgMatches) -> Result<Option<Job>, AllocError>
     ensures { IfOk result (Finds (codes "play") (rows_of (found_of matches.now))) }
 {
-    let Some(config) = file_of(alloc, matches, "config")? else {
-        return Ok(None);
-    };
-    match file_of(alloc, matches, "script")? {
-        Some(script) => Ok(Some(Job::Play { config, script })),
+    match files_of(alloc, matches, "config", "script")? {
+        Some((config, script)) => Ok(Some(Job::Play { config, script })),
         None => Ok(None),
     }
 }
@@ -123,11 +137,8 @@ fn play_of(alloc: Global, matches: &ArgMatches) -> Result<Option<Job>, AllocErro
 fn audit_of(alloc: Global, matches: &ArgMatches) -> Result<Option<Job>, AllocError>
     ensures { IfOk result (Finds (codes "audit") (rows_of (found_of matches.now))) }
 {
-    let Some(config) = file_of(alloc, matches, "config")? else {
-        return Ok(None);
-    };
-    match file_of(alloc, matches, "journal")? {
-        Some(journal) => Ok(Some(Job::Audit { config, journal })),
+    match files_of(alloc, matches, "config", "journal")? {
+        Some((config, journal)) => Ok(Some(Job::Audit { config, journal })),
         None => Ok(None),
     }
 }
@@ -135,11 +146,8 @@ fn audit_of(alloc: Global, matches: &ArgMatches) -> Result<Option<Job>, AllocErr
 fn report_of(alloc: Global, matches: &ArgMatches) -> Result<Option<Job>, AllocError>
     ensures { IfOk result (Finds (codes "report") (rows_of (found_of matches.now))) }
 {
-    let Some(config) = file_of(alloc, matches, "config")? else {
-        return Ok(None);
-    };
-    match file_of(alloc, matches, "journal")? {
-        Some(journal) => Ok(Some(Job::Report { config, journal })),
+    match files_of(alloc, matches, "config", "journal")? {
+        Some((config, journal)) => Ok(Some(Job::Report { config, journal })),
         None => Ok(None),
     }
 }
@@ -205,11 +213,20 @@ const LAYOUTS: &str = "error: --context takes 1 or 2
 For more information, try '--help'.
 ";
 
+/// Why words of this subcommand, which `clap` takes, ask for nothing.
+fn unasked_by(name: &str) -> &'static str
+    ensures { result.now ≡ unasked_by name.now }
+{
+    if name == "serve" { UNKEPT } else { LAYOUTS }
+}
+
 /// Why words that `clap` takes ask for nothing.
-fn unasked(matches: &ArgMatches) -> &'static str {
+fn unasked(matches: &ArgMatches) -> &'static str
+    ensures { result.now ≡ unasked_text (subcommand_rows_of matches.now) }
+{
     match matches.subcommand() {
-        Some((name, _)) => { if name == "serve" { UNKEPT } else { LAYOUTS } }
-        None => LAYOUTS,
+        Some((name, _)) => unasked_by(name),
+        None => unasked_by(""),
     }
 }
 
@@ -225,28 +242,26 @@ fn found_job(alloc: Global, matches: &ArgMatches) -> Result<Job, CommandFault>
     }
 }
 
-/// Whether the error is help or the version, which the words ask for.
-fn is_asked_text(error: &Error) -> bool
-    ensures { IsTrue result ↔ IsShown (kind_of error.now) }
+/// Whether the kind is help or the version, which the words ask for.
+fn is_asked_text(kind: ErrorKind) -> bool
+    ensures { IsTrue result ↔ IsShown kind }
 {
-    matches!(
-        error.kind(),
-        ErrorKind::DisplayHelp | ErrorKind::DisplayVersion
-    )
+    matches!(kind, ErrorKind::DisplayHelp | ErrorKind::DisplayVersion)
 }
 
-/// What an error of the words is answered with: the text of help or of the version, or else the usage.
-fn told_of(alloc: Global, error: Error) -> Result<Job, CommandFault>
+/// What an error of the words is answered with, by its kind and the text that was made of it: help and the version are
+/// shown, and else the text is the usage.
+fn told_of(kind: ErrorKind, made: Result<String, AllocError>) -> Result<Job, CommandFault>
     ensures none { IfOk result (λ job. asked job ≡ None) }
-    ensures shown { OnOk result (IsShown (kind_of error)) }
-    ensures refused { IfErr result (IsRefusalOf (kind_of error)) }
+    ensures shown { OnOk result (IsShown kind) }
+    ensures text { IfOk result (λ job. IsOkAnd made (λ text. job ≡ Job.Show text)) }
+    ensures refused { IfErr result (IsRefusalOf kind made) }
 {
-    if error.kind() == ErrorKind::OutOfMemory {
-        return Err(CommandFault::OutOfMemory);
-    }
-    let is_asked = is_asked_text(&error);
-    let text = error.to_string(alloc)?;
-    if is_asked {
+    let text = made?;
+    let is_asked = is_asked_text(kind);
+    if kind == ErrorKind::OutOfMemory {
+        Err(CommandFault::OutOfMemory)
+    } else if is_asked {
         Ok(Job::Show(text))
     } else {
         Err(CommandFault::Usage(text))
@@ -268,6 +283,6 @@ pub fn command(alloc: Global, words: Vec<String>) -> Result<Job, CommandFault>
     let command = fc(alloc)?;
     match command.try_get_matches_from(words.as_slice()) {
         Ok(matches) => found_job(alloc, &matches),
-        Err(error) => told_of(alloc, error),
+        Err(error) => told_of(error.kind(), error.to_string(alloc)),
     }
 }

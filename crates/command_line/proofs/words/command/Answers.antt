@@ -1,11 +1,12 @@
 use Rattle.std.proofs.Common.{◌≡◌, ◌⊎◌, inl, inr, sym, subst, ◌∙◌, Bool, true, false, IfOk, IfErr, OnOk, IsSome, Option, None, Result, Ok, Err, List, []}
 use Rattle.std.proofs.Common.{String, Global, refl, map, string_bytes}
+use Rattle.std.specs.declared.alloc.AllocError.{AllocError}
 use Rattle.clap.specs.Words.{App, HasMatchesOf, Row, Text, app_of, is_simple, is_simple_and_free, fault_of, subcommand_of, subcommand_rows_of, takes, kind_of}
 use Rattle.clap.specs.Kinds.{IsAmong, Kinds}
 use Rattle.clap.specs.declared.parser.matches.ArgMatches.{ArgMatches}
 use Rattle.clap.specs.declared.error.kind.ErrorKind.{ErrorKind}
 use Rattle.clap.specs.declared.error.kind.ErrorKind.TheVariants as kind
-use Rattle.command_line.specs.Asked.{IsNothing, IsShown, MayShow, RefusesBy, fc_app, asked, asked_of}
+use Rattle.command_line.specs.Asked.{IsNothing, IsShown, MayShow, RefusesBy, fc_app, asked, asked_of, unasked_text}
 use Rattle.command_line.specs.Refusing.{IsRefusalOf, IsUnasked}
 use Rattle.command_line.specs.declared.job.Job.{Job}
 use Rattle.command_line.specs.declared.job.CommandFault.{CommandFault}
@@ -60,18 +61,26 @@ shown_has_memory : (k : ErrorKind) → IsShown k → k ≡ kind.OutOfMemory → 
 shown_has_memory k (inl h) m = let bad : kind.DisplayHelp ≡ kind.OutOfMemory = sym h ∙ m in cc
 shown_has_memory k (inr v) m = let bad : kind.DisplayVersion ≡ kind.OutOfMemory = sym v ∙ m in cc
 
+-- the kind of an error is among the faults of the words, or it is want of memory
+among_faults : (k seen : ErrorKind) → k ≡ seen → (old kinds : Kinds) → old ≡ kinds → (seen ≡ kind.OutOfMemory) ⊎ IsAmong seen old
+    → (k ≡ kind.OutOfMemory) ⊎ IsAmong k kinds
+among_faults k seen e old kinds same h =
+    subst (λ (ks : Kinds). (k ≡ kind.OutOfMemory) ⊎ IsAmong k ks) same
+    (subst (λ (x : ErrorKind). (x ≡ kind.OutOfMemory) ⊎ IsAmong x old) (sym e) h)
+
 may_show : (k : ErrorKind) (kinds : Kinds) → (k ≡ kind.OutOfMemory) ⊎ IsAmong k kinds → IsShown k → MayShow kinds
 may_show k kinds (inl m) s = absurd (shown_has_memory k s m)
 may_show k kinds (inr among) s = (k, among, s)
 
-may_refuse : (k : ErrorKind) (kinds : Kinds) (found : Option (Text × List Row)) → (k ≡ kind.OutOfMemory) ⊎ IsAmong k kinds → (f : CommandFault)
-    → IsRefusalOf k f → RefusesBy kinds found f
-may_refuse k kinds found (inl m) (Usage text) h = absurd (h.1 m)
-may_refuse k kinds found (inr among) (Usage text) h = inl (k, among, h.0, h.1)
-may_refuse k kinds found has OutOfMemory h = tt
+may_refuse : (k : ErrorKind) (made : Result (String Global) AllocError) (kinds : Kinds) (found : Option (Text × List Row))
+    → (k ≡ kind.OutOfMemory) ⊎ IsAmong k kinds → (f : CommandFault) → IsRefusalOf k made f → RefusesBy kinds found f
+may_refuse k made kinds found (inl m) (Usage text) h = absurd (h.1 m)
+may_refuse k made kinds found (inr among) (Usage text) h = inl (k, among, h.0, h.1)
+may_refuse k made kinds found has OutOfMemory h = tt
 
 nothing : (kinds : Kinds) (seen found : Option (Text × List Row)) → seen ≡ found → (f : CommandFault) → IsUnasked seen f → RefusesBy kinds found f
-nothing kinds seen found e (Usage text) h = inr (subst IsNothing e h)
+nothing kinds seen found e (Usage text) h =
+    inr (subst (λ (f : Option (Text × List Row)). IsNothing f × (string_bytes text ≡ unasked_text f)) e h)
 nothing kinds seen found e OutOfMemory h = tt
 
 pub returns-in-Ok-clause-asked : goal.returns-in-Ok-clause-asked
@@ -99,11 +108,12 @@ returns-in-Ok-clause-refused c =
 
 pub returns-clause-shown : goal.returns-clause-shown
 returns-clause-shown c =
-    more_on c.told_of.result (IsShown (kind_of c.in-Err.error)) (λ j. asked j ≡ None → takes fc_app (map (λ w. string_bytes w) c.args.words.items) ≡ false)
+    more_on c.told_of.result (IsShown c.kind.result) (λ j. asked j ≡ None → takes fc_app (map (λ w. string_bytes w) c.args.words.items) ≡ false)
     (λ j s none. false_unless (takes fc_app (map (λ w. string_bytes w) c.args.words.items))
-    (λ h. shown_has_memory (kind_of c.in-Err.error) s
-    (refused (app_of c.in_ok-command.command) c.in_ok-command.ensures c.as_slice.result.now c.args.words.items c.as_slice.ensures.value (kind_of c.in-Err.error)
-    c.in-Err.ensures.passes h)))
+    (λ h. shown_has_memory c.kind.result s
+    (c.kind.ensures
+    ∙ refused (app_of c.in_ok-command.command) c.in_ok-command.ensures c.as_slice.result.now c.args.words.items c.as_slice.ensures.value
+    (kind_of c.in-Err.error) c.in-Err.ensures.passes h)))
     c.told_of.ensures.shown
 
 pub returns-clause-helps : goal.returns-clause-helps
@@ -111,10 +121,11 @@ returns-clause-helps c =
     let a = app_of c.in_ok-command.command in
     let words = map (λ w. string_bytes w) c.args.words.items in
     let same = faults a c.in_ok-command.ensures c.as_slice.result.now c.args.words.items c.as_slice.ensures.value in
-    let k = kind_of c.in-Err.error in
+    let k = c.kind.result in
     more_on c.told_of.result (IsShown k) (λ j. asked j ≡ None → MayShow (fault_of fc_app words))
     (λ j s none. may_show k (fault_of fc_app words)
-    (subst (λ (ks : Kinds). (k ≡ kind.OutOfMemory) ⊎ IsAmong k ks) same (c.in-Err.ensures.kinds (simple_and_free a c.in_ok-command.ensures))) s)
+    (among_faults k (kind_of c.in-Err.error) c.kind.ensures (fault_of a (map (λ w. string_bytes w) c.as_slice.result.now)) (fault_of fc_app words) same
+    (c.in-Err.ensures.kinds (simple_and_free a c.in_ok-command.ensures))) s)
     c.told_of.ensures.shown
 
 pub returns-clause-refused : goal.returns-clause-refused
@@ -122,8 +133,9 @@ returns-clause-refused c =
     let a = app_of c.in_ok-command.command in
     let words = map (λ w. string_bytes w) c.args.words.items in
     let same = faults a c.in_ok-command.ensures c.as_slice.result.now c.args.words.items c.as_slice.ensures.value in
-    let k = kind_of c.in-Err.error in
-    more_err c.told_of.result (IsRefusalOf k) (RefusesBy (fault_of fc_app words) (subcommand_of fc_app words))
-    (λ e h. may_refuse k (fault_of fc_app words) (subcommand_of fc_app words)
-    (subst (λ (ks : Kinds). (k ≡ kind.OutOfMemory) ⊎ IsAmong k ks) same (c.in-Err.ensures.kinds (simple_and_free a c.in_ok-command.ensures))) e h)
+    let k = c.kind.result in
+    more_err c.told_of.result (IsRefusalOf k c.to_string.result) (RefusesBy (fault_of fc_app words) (subcommand_of fc_app words))
+    (λ e h. may_refuse k c.to_string.result (fault_of fc_app words) (subcommand_of fc_app words)
+    (among_faults k (kind_of c.in-Err.error) c.kind.ensures (fault_of a (map (λ w. string_bytes w) c.as_slice.result.now)) (fault_of fc_app words) same
+    (c.in-Err.ensures.kinds (simple_and_free a c.in_ok-command.ensures))) e h)
     c.told_of.ensures.refused

@@ -1,6 +1,0 @@
-use Rattle.std.proofs.Common.{ap₂, ◌∙◌}
-use Rattle.clap.specs.Words.{with_rule}
-use Rattle.command_line.proofs.app.play.Goals as goal
-
-pub returns-clause-app : goal.returns-clause-app
-returns-clause-app c = c.in_ok-command.ensures.shape c.file_arg.ensures.local ∙ ap₂ with_rule c.in_ok-some.ensures.app c.file_arg.ensures.rule

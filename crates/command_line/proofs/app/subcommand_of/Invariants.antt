@@ -1,0 +1,13 @@
+use Rattle.std.proofs.Common.{◌≡◌, false, drop}
+use Rattle.clap.specs.Words.{app_of, new_app}
+use Rattle.clap.specs.declared.builder.command.Command.TheViews.{out-Command}
+use Rattle.command_line.specs.Described.{with_rules}
+use Rattle.command_line.proofs.app.subcommand_of.Given as goal
+
+-- the command so far, with the arguments that are left, is the whole one
+abbrev pub invariant-loop-argument : goal.invariant-loop-argument
+invariant-loop-argument l =
+    record {
+      told : with_rules (app_of l.command) (drop l.argument-index l.argument-items) ≡ with_rules (new_app l.word.name.now) l.word.arguments.now;
+      local : (out-Command l.command).has_globals ≡ false;
+    }

@@ -1,0 +1,27 @@
+-- Promises: what a table of subcommands describes.
+use Rattle.std.specs.Prelude.{List, [], ◌∷◌}
+use Rattle.clap.specs.Words.{App, Rule, new_app, with_rule, with_subcommand}
+use Rattle.command_line.specs.Asked.{context_rule, file_rule, flag_rule, journal_rule, mask_rule}
+use Rattle.command_line.specs.declared.app.Argument.{Argument}
+use Rattle.command_line.specs.declared.app.Argument.TheVariants as argument
+use Rattle.command_line.specs.declared.app.Word.{Word}
+
+abbrev pub rule_for : Argument → Rule
+rule_for (argument.File name help) = file_rule name.now
+rule_for argument.Mask = mask_rule
+rule_for argument.Context = context_rule
+rule_for argument.Journal = journal_rule
+rule_for (argument.Flag name help) = flag_rule name.now
+
+-- a command with these arguments more
+abbrev pub with_rules : App → List Argument → App
+with_rules a [] = a
+with_rules a (x ∷ xs) = with_rules (with_rule a (rule_for x)) xs
+
+abbrev pub app_for : Word → App
+app_for word = with_rules (new_app word.name.now) word.arguments.now
+
+-- a command with these subcommands more
+abbrev pub with_words : App → List Word → App
+with_words a [] = a
+with_words a (word ∷ words) = with_words (with_subcommand a (app_for word).top) words
