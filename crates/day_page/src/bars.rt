@@ -1,277 +1,194 @@
-//! Pictures made of bars.
-use crate::figures::{Hundredths, Number, scaled};
-use crate::names::refusal_name;
-use day_report::Sum;
-use html_text::Escaped;
+//! Pictures made of bars and of columns.
+ghost use Rattle.std.specs.Prelude.{◌<◌};
+
+use crate::pictures::{COLUMNS_END, END, write_head, write_label, write_rect};
+use crate::tables::outcome_of;
+use crate::texts::{Text, scaled};
+use day_report::{FIRST_REFUSAL, Load, REFUSALS, Sum, Totals};
 use std::fmt;
 
-/// What a bar stands for.
-#[derive(Clone, Copy, Drop)]
-pub(crate) enum Name {
-    Point(usize),
-    Refusal(u32),
-}
-
-impl fmt::Display for Name {
-    fn fmt<W: fmt::Write>(&self, f: &mut fmt::Formatter<W>) -> fmt::Result {
-        match *self {
-            Name::Point(n) => write!(f, "Point {n}"),
-            Name::Refusal(n) => {
-                let words = Escaped(refusal_name(n));
-                write!(f, "S{n} {words}")
-            }
-        }
-    }
-}
-
-/// What a bar's length counts.
-#[derive(Clone, Copy, Drop)]
-pub(crate) enum Unit {
-    Cents,
-    Times,
-}
-
-/// A bar.
-#[derive(Clone, Copy, Drop)]
-pub(crate) struct Bar {
-    pub name: Name,
-    pub value: u128,
-}
-
-/// The head of a picture: its size, and its title and text for those who hear it.
-#[derive(Clone, Copy, Drop)]
-pub(crate) struct Head {
-    pub height: usize,
-    pub title: &'static str,
-    pub text: &'static str,
-}
-
-impl fmt::Display for Head {
-    fn fmt<W: fmt::Write>(&self, f: &mut fmt::Formatter<W>) -> fmt::Result {
-        let height = self.height;
-        let (title, text) = (Escaped(self.title), Escaped(self.text));
-        write!(
-            f,
-            "<div class=\"wide\"><svg viewBox=\"0 0 1000 {height}\" role=\"img\">"
-        )?;
-        writeln!(f, "<title>{title}</title><desc>{text}</desc>")
-    }
-}
-
-/// The end of a picture.
-pub(crate) const END: &str = "</svg></div>";
-
-/// Bars that lie one below another, each with its name before it and its value behind it.
-#[derive(Drop)]
-pub(crate) struct Bars<'a> {
-    pub title: &'static str,
-    pub text: &'static str,
-    pub unit: Unit,
-    /// Where the bars begin.
-    pub left: u32,
-    pub bars: &'a [Bar],
-}
+/// How far a bar lies below the one before it.
+const APART: usize = 28;
 
 /// The room behind the longest bar, for its value.
-const VALUE: u32 = 140;
+const VALUE: usize = 140;
 
-impl fmt::Display for Bars<'_> {
-    fn fmt<W: fmt::Write>(&self, f: &mut fmt::Formatter<W>) -> fmt::Result {
-        let head = Head {
-            height: self.bars.len().saturating_mul(28).saturating_add(4),
-            title: self.title,
-            text: self.text,
-        };
-        write!(f, "{head}")?;
-        let most = self.bars.iter().map(|bar| bar.value).max().unwrap_or(0);
-        let length = 1000u32.saturating_sub(self.left).saturating_sub(VALUE);
-        for (place, bar) in self.bars.iter().enumerate() {
-            let row = BarRow {
-                bar: *bar,
-                unit: self.unit,
-                left: self.left,
-                top: place.saturating_mul(28),
-                width: scaled(bar.value, most, length),
-            };
-            writeln!(f, "{row}")?;
-        }
-        writeln!(f, "{END}")
+/// Writes the bar at a place, with its name before it and its value behind it.
+fn write_bar<W: fmt::Write>(
+    f: &mut fmt::Formatter<W>,
+    place: usize,
+    left: usize,
+    width: usize,
+    name: Text,
+    value: Text,
+) -> fmt::Result {
+    let over = place.saturating_mul(APART);
+    let (top, foot) = (over.saturating_add(4), over.saturating_add(20));
+    let behind = left.saturating_add(width).saturating_add(8);
+    write_label(f, left.saturating_sub(10), foot, "end", name)?;
+    write_rect(f, "sold", left, top, width, 20)?;
+    f.write_str(" rx=\"3\"/>")?;
+    writeln!(f, "<text x=\"{behind}\" y=\"{foot}\">{value}</text>")
+}
+
+/// Where the bars of points begin.
+const POINTS: usize = 90;
+
+/// Writes a bar for each point.
+pub(crate) fn write_points<W: fmt::Write>(f: &mut fmt::Formatter<W>, sums: &[Sum]) -> fmt::Result {
+    write_head(
+        f,
+        sums.len().saturating_mul(APART).saturating_add(4),
+        "Sales by point",
+        "A bar for each point, as long as the money of its sales. The table below has the figures.",
+    )?;
+    let most = sums.iter().map(|sum| sum.cents).max().unwrap_or(0);
+    for (place, sum) in sums.iter().enumerate() {
+        let width = scaled(sum.cents, most, 1000 - POINTS - VALUE);
+        let name = Text::Point((place as u64).saturating_add(1));
+        write_bar(f, place, POINTS, width, name, Text::Hundredths(sum.cents))?;
     }
+    f.write_str(END)
 }
 
-/// One bar, where it stands.
-#[derive(Clone, Copy, Drop)]
-struct BarRow {
-    bar: Bar,
-    unit: Unit,
-    left: u32,
-    top: usize,
-    width: u32,
-}
+/// Where the bars of refusals begin, behind their names in words.
+const NUMBERS: usize = 440;
 
-impl fmt::Display for BarRow {
-    fn fmt<W: fmt::Write>(&self, f: &mut fmt::Formatter<W>) -> fmt::Result {
-        let (name, value, left, width) = (self.bar.name, self.bar.value, self.left, self.width);
-        let (top, foot) = (self.top.saturating_add(4), self.top.saturating_add(20));
-        let before = left.saturating_sub(10);
-        let behind = left.saturating_add(width).saturating_add(8);
-        write!(
-            f,
-            "<text x=\"{before}\" y=\"{foot}\" text-anchor=\"end\">{name}</text>"
-        )?;
-        write!(
-            f,
-            "<rect class=\"sold\" x=\"{left}\" y=\"{top}\" width=\"{width}\" height=\"20\" rx=\"3\"/>"
-        )?;
-        write!(f, "<text x=\"{behind}\" y=\"{foot}\">")?;
-        match self.unit {
-            Unit::Cents => {
-                let money = Hundredths(value);
-                write!(f, "{money}</text>")
-            }
-            Unit::Times => {
-                let times = Number(value);
-                write!(f, "{times}</text>")
-            }
+/// Writes a bar for each refusal that there was.
+pub(crate) fn write_refusals<W: fmt::Write>(
+    f: &mut fmt::Formatter<W>,
+    counts: &[usize],
+) -> fmt::Result {
+    let bars = counts.iter().filter(|count| **count > 0).count();
+    write_head(
+        f,
+        bars.saturating_mul(APART).saturating_add(4),
+        "Refusals by number",
+        "A bar for each number that was answered, as long as it was answered often. Its name in \
+            words stands before it.",
+    )?;
+    let most = counts.iter().copied().max().unwrap_or(0) as u128;
+    let mut bar = 0usize;
+    for place in 0..REFUSALS {
+        let count = counts.get(place as usize).copied().unwrap_or(0) as u128;
+        if count > 0 {
+            let width = scaled(count, most, 1000 - NUMBERS - VALUE);
+            let name = Text::Refusal(FIRST_REFUSAL + place);
+            write_bar(f, bar, NUMBERS, width, name, Text::Thousands(count))?;
+            bar = bar.saturating_add(1);
         }
     }
+    f.write_str(END)
 }
 
-/// What was sold in each hour of the day, as columns.
-#[derive(Drop)]
-pub(crate) struct Hours<'a> {
-    pub sums: &'a [Sum],
-}
-
-impl fmt::Display for Hours<'_> {
-    fn fmt<W: fmt::Write>(&self, f: &mut fmt::Formatter<W>) -> fmt::Result {
-        let head = Head {
-            height: 236,
-            title: "Sales by hour",
-            text: "A column for each hour of the day in UTC, as high as the money of the sales in it. The \
-                table below has the figures.",
-        };
-        write!(f, "{head}")?;
-        let most = self.sums.iter().map(|sum| sum.cents).max().unwrap_or(0);
-        for (hour, sum) in self.sums.iter().enumerate() {
-            let high = scaled(sum.cents, most, 190);
-            let left = hour.saturating_mul(41).saturating_add(8);
-            let (middle, top) = (left.saturating_add(17), 206u32.saturating_sub(high));
-            write!(
-                f,
-                "<rect class=\"sold\" x=\"{left}\" y=\"{top}\" width=\"34\" height=\"{high}\" rx=\"2\"/>"
-            )?;
-            writeln!(
-                f,
-                "<text x=\"{middle}\" y=\"226\" text-anchor=\"middle\">{hour}</text>"
-            )?;
-        }
-        writeln!(f, "<path class=\"axis\" d=\"M0 206.5h1000\"/>")?;
-        writeln!(f, "{END}")
+/// Writes what was sold in each hour of the day, as columns.
+pub(crate) fn write_hours<W: fmt::Write>(f: &mut fmt::Formatter<W>, sums: &[Sum]) -> fmt::Result {
+    write_head(
+        f,
+        236,
+        "Sales by hour",
+        "A column for each hour of the day in UTC, as high as the money of the sales in it. The \
+            table below has the figures.",
+    )?;
+    let most = sums.iter().map(|sum| sum.cents).max().unwrap_or(0);
+    for (hour, sum) in sums.iter().enumerate() {
+        write_hour(f, hour, scaled(sum.cents, most, 190))?;
     }
+    f.write_str(COLUMNS_END)
 }
 
-/// How many decisions the versions granted and denied, in the order of their loads: a stacked column for each, or for
-/// as many neighbours as make 1,000 columns.
-#[derive(Drop)]
-pub(crate) struct Verdicts<'a> {
-    /// What each version granted and denied, version 1 first.
-    pub counts: &'a [(u128, u128)],
+/// Writes the column of an hour, so many high.
+fn write_hour<W: fmt::Write>(f: &mut fmt::Formatter<W>, hour: usize, height: usize) -> fmt::Result {
+    let left = hour.saturating_mul(41).saturating_add(8);
+    let top = 206usize.saturating_sub(height);
+    write_rect(f, "sold", left, top, 34, height)?;
+    f.write_str(" rx=\"2\"/>")?;
+    let name = Text::Number(hour as u64);
+    write_label(f, left.saturating_add(17), 226, "middle", name)?;
+    f.write_str("\n")
 }
 
 /// The most columns of versions: each is two steps of a picture, which has 2,000.
 const COLUMNS: usize = 1000;
 
-impl fmt::Display for Verdicts<'_> {
-    fn fmt<W: fmt::Write>(&self, f: &mut fmt::Formatter<W>) -> fmt::Result {
-        let head = Head {
-            height: 226,
-            title: "Decisions by version",
-            text: "A column for each version in the order of their loads: below what it granted, above what \
-                it denied. The table below has the figures.",
-        };
-        write!(f, "{head}")?;
-        let together = (self.counts.len() / COLUMNS).saturating_add(1);
-        let columns = self.counts.len().div_ceil(together);
-        let most = self
-            .counts
-            .chunks(together)
-            .map(|chunk| sum_both(chunk))
-            .max()
-            .unwrap_or(0);
-        for (place, chunk) in self.counts.chunks(together).enumerate() {
-            let column = Column {
-                place,
-                columns,
-                low: scaled(sum_first(chunk), most, 190),
-                high: scaled(sum_second(chunk), most, 190),
-            };
-            write!(f, "{column}")?;
-        }
-        writeln!(f, "<path class=\"axis\" d=\"M0 206.5h1000\"/>")?;
-        writeln!(f, "{END}")
+/// Writes how many decisions the versions granted and denied, in the order of their loads: a stacked column for each,
+/// or for as many neighbours as make 1,000 columns.
+pub(crate) fn write_versions<W: fmt::Write>(
+    f: &mut fmt::Formatter<W>,
+    totals: &Totals,
+) -> fmt::Result {
+    write_head(
+        f,
+        226,
+        "Decisions by version",
+        "A column for each version in the order of their loads: below what it granted, above what \
+            it denied. The table below has the figures.",
+    )?;
+    let together = (totals.loads.len() / COLUMNS).saturating_add(1);
+    let columns = totals.loads.len().div_ceil(together);
+    let most = most_decided(totals, together);
+    for (place, chunk) in totals.loads.chunks(together).enumerate() {
+        let (granted, denied) = decided(totals, chunk);
+        let (low, high) = (scaled(granted, most, 190), scaled(denied, most, 190));
+        write_column(f, place, columns, low, high)?;
     }
+    f.write_str(COLUMNS_END)
 }
 
-/// A column of versions, of so many, with how high its two parts are.
-#[derive(Clone, Copy, Drop)]
-struct Column {
+/// The most that so many neighbours decided together.
+fn most_decided(totals: &Totals, together: usize) -> u128
+    requires { 0 < together }
+{
+    let mut most = 0u128;
+    for chunk in totals.loads.chunks(together) {
+        let (granted, denied) = decided(totals, chunk);
+        most = most.max(granted.saturating_add(denied));
+    }
+    most
+}
+
+/// What these versions granted and denied together.
+fn decided(totals: &Totals, loads: &[Load]) -> (u128, u128) {
+    let mut both = (0u128, 0u128);
+    for load in loads {
+        for outcomes in [&totals.releases, &totals.presets, &totals.price_requests] {
+            let (granted, denied) = outcome_of(outcomes, load.version);
+            both.0 = both.0.saturating_add(granted as u128);
+            both.1 = both.1.saturating_add(denied as u128);
+        }
+    }
+    both
+}
+
+/// Where a column of so many begins, and how wide it is.
+fn column_at(place: usize, columns: usize) -> (usize, usize) {
+    // A few columns stand side by side, and do not spread over the whole width.
+    let room = 1000usize.min(scaled(columns as u128, 12, 1000));
+    let left = scaled(place as u128, columns as u128, room);
+    let next = scaled((place as u128).saturating_add(1), columns as u128, room);
+    let gap = if columns < 150 { 3 } else { 0 };
+    let width = next.saturating_sub(left).saturating_sub(gap).max(1);
+    (left, width)
+}
+
+/// Writes a column of versions, of so many, whose two parts are so high.
+fn write_column<W: fmt::Write>(
+    f: &mut fmt::Formatter<W>,
     place: usize,
     columns: usize,
-    low: u32,
-    high: u32,
-}
-
-impl fmt::Display for Column {
-    fn fmt<W: fmt::Write>(&self, f: &mut fmt::Formatter<W>) -> fmt::Result {
-        // A few columns stand side by side, and do not spread over the whole width.
-        let room = 1000u32.min(scaled(self.columns as u128, 12, 1000));
-        let left = scaled(self.place as u128, self.columns as u128, room);
-        let next = scaled(
-            (self.place as u128).saturating_add(1),
-            self.columns as u128,
-            room,
-        );
-        let gap = if self.columns < 150 { 3 } else { 0 };
-        let width = next.saturating_sub(left).saturating_sub(gap).max(1);
-        let (low, high) = (self.low, self.high);
-        let top = 206u32.saturating_sub(low);
-        let over = top.saturating_sub(high);
-        write!(
-            f,
-            "<rect class=\"granted\" x=\"{left}\" y=\"{top}\" width=\"{width}\" height=\"{low}\"/>"
-        )?;
-        write!(
-            f,
-            "<rect class=\"denied\" x=\"{left}\" y=\"{over}\" width=\"{width}\" height=\"{high}\"/>"
-        )?;
-        if self.columns <= 24 {
-            let (middle, version) = (left.saturating_add(width / 2), self.place.saturating_add(1));
-            write!(
-                f,
-                "<text x=\"{middle}\" y=\"224\" text-anchor=\"middle\">{version}</text>"
-            )?;
-        }
-        writeln!(f)
+    low: usize,
+    high: usize,
+) -> fmt::Result {
+    let (left, width) = column_at(place, columns);
+    let top = 206usize.saturating_sub(low);
+    write_rect(f, "granted", left, top, width, low)?;
+    f.write_str("/>")?;
+    write_rect(f, "denied", left, top.saturating_sub(high), width, high)?;
+    f.write_str("/>")?;
+    if columns <= 24 {
+        let middle = left.saturating_add(width / 2);
+        let version = Text::Number((place as u64).saturating_add(1));
+        write_label(f, middle, 224, "middle", version)?;
     }
-}
-
-fn sum_first(counts: &[(u128, u128)]) -> u128 {
-    let mut sum = 0u128;
-    for (granted, _denied) in counts {
-        sum = sum.saturating_add(*granted);
-    }
-    sum
-}
-
-fn sum_second(counts: &[(u128, u128)]) -> u128 {
-    let mut sum = 0u128;
-    for (_granted, denied) in counts {
-        sum = sum.saturating_add(*denied);
-    }
-    sum
-}
-
-fn sum_both(counts: &[(u128, u128)]) -> u128 {
-    sum_first(counts).saturating_add(sum_second(counts))
+    f.write_str("\n")
 }

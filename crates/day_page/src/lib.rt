@@ -3,12 +3,13 @@
 
 mod bars;
 mod drawn;
-mod figures;
 mod names;
 mod page;
+mod pictures;
 mod prices;
 mod style;
 mod tables;
+mod texts;
 
 pub use html_text::Escaped;
 pub use page::Page;

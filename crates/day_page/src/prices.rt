@@ -1,26 +1,18 @@
 //! What the prices were through the day.
-use crate::bars::{END, Head};
-use crate::drawn::{LEFT, Scale, WIDTH};
-use crate::figures::{Thousandths, scaled};
+use crate::drawn::{LEFT, WIDTH, write_axis};
+use crate::pictures::{END, write_head, write_label};
+use crate::texts::{Text, scaled};
 use day_report::{Axis, PriceChange};
 use std::fmt;
 
 /// The places along a line where it may rise or fall: eight lines have 1,800 together.
-const PLACES: u32 = 225;
+const PLACES: usize = 225;
 
 /// How far apart they are.
-const APART: u32 = WIDTH / PLACES;
+const APART: usize = WIDTH / PLACES;
 
 /// How high the drawing is.
-const HIGH: u32 = 160;
-
-/// A line for each product that has a price.
-#[derive(Drop)]
-pub(crate) struct PriceLines<'a> {
-    pub opening: &'a [u32; 8],
-    pub changes: &'a [PriceChange],
-    pub axis: Axis,
-}
+const HIGH: usize = 160;
 
 /// The least and the greatest price that is drawn.
 #[derive(Clone, Copy, Drop)]
@@ -31,7 +23,7 @@ struct Range {
 
 impl Range {
     /// How far below the top a price is drawn.
-    fn depth(&self, price: u64) -> u32 {
+    fn depth(&self, price: u64) -> usize {
         let above = price.saturating_sub(self.least) as u128;
         let span = self.greatest.saturating_sub(self.least).max(1) as u128;
         (HIGH + 10).saturating_sub(scaled(above, span, HIGH))
@@ -54,134 +46,122 @@ fn range_of(opening: &[u32; 8], changes: &[PriceChange]) -> Range {
     Range { least, greatest }
 }
 
-impl fmt::Display for PriceLines<'_> {
-    fn fmt<W: fmt::Write>(&self, f: &mut fmt::Formatter<W>) -> fmt::Result {
-        let head = Head {
-            height: 208,
-            title: "Prices through the day",
-            text: "A line for each product that has a price, which steps where a new price was granted. The \
-                table below has the changes.",
-        };
-        write!(f, "{head}")?;
-        let range = range_of(self.opening, self.changes);
-        let (least, greatest) = (Thousandths(range.least), Thousandths(range.greatest));
-        write!(
-            f,
-            "<text x=\"80\" y=\"16\" text-anchor=\"end\">{greatest}</text>"
-        )?;
-        writeln!(
-            f,
-            "<text x=\"80\" y=\"174\" text-anchor=\"end\">{least}</text>"
-        )?;
-        for (place, opening) in self.opening.iter().enumerate() {
-            let line = PriceLine {
-                product: (place as u32).saturating_add(1),
-                opening: *opening as u64,
-                changes: self.changes,
-                axis: self.axis,
-                range,
-            };
-            write!(f, "{line}")?;
-        }
-        let scale = Scale {
-            axis: self.axis,
-            top: 180,
-        };
-        write!(f, "{scale}")?;
-        writeln!(f, "{END}")
+/// Writes a line for each product that has a price.
+pub(crate) fn write_lines<W: fmt::Write>(
+    f: &mut fmt::Formatter<W>,
+    opening: &[u32; 8],
+    changes: &[PriceChange],
+    axis: Axis,
+) -> fmt::Result {
+    write_head(
+        f,
+        208,
+        "Prices through the day",
+        "A line for each product that has a price, which steps where a new price was granted. The \
+            table below has the changes.",
+    )?;
+    let range = range_of(opening, changes);
+    write_range(f, range)?;
+    for (place, price) in opening.iter().enumerate() {
+        let product = (place as u32).saturating_add(1);
+        write_line(f, product, *price as u64, changes, axis, range)?;
     }
+    write_axis(f, axis, 180)?;
+    f.write_str(END)
 }
 
-/// The line of one product.
-#[derive(Clone, Copy, Drop)]
-struct PriceLine<'a> {
+/// Writes the prices beside the top and the foot of a drawing.
+fn write_range<W: fmt::Write>(f: &mut fmt::Formatter<W>, range: Range) -> fmt::Result {
+    write_label(f, 80, 16, "end", Text::Thousandths(range.greatest))?;
+    write_label(f, 80, 174, "end", Text::Thousandths(range.least))?;
+    f.write_str("\n")
+}
+
+/// Where a change stands.
+fn x_of(change: &PriceChange, axis: Axis) -> usize {
+    let place = match axis {
+        Axis::Entries(count) => scaled(change.number as u128, count as u128, PLACES),
+        Axis::Time(first, last) => {
+            let since = change.moment.saturating_sub(first);
+            scaled(since as u128, last.saturating_sub(first) as u128, PLACES)
+        }
+    };
+    LEFT + place * APART
+}
+
+/// Writes the line of one product.
+fn write_line<W: fmt::Write>(
+    f: &mut fmt::Formatter<W>,
     product: u32,
     opening: u64,
-    changes: &'a [PriceChange],
+    changes: &[PriceChange],
     axis: Axis,
     range: Range,
-}
-
-impl PriceLine<'_> {
-    /// Where a change stands.
-    fn x_of(&self, change: &PriceChange) -> u32 {
-        let place = match self.axis {
-            Axis::Entries(count) => scaled(change.number as u128, count as u128, PLACES),
-            Axis::Time(first, last) => {
-                let span = last.saturating_sub(first);
-                scaled(
-                    change.moment.saturating_sub(first) as u128,
-                    span as u128,
-                    PLACES,
-                )
-            }
-        };
-        LEFT + place * APART
-    }
-}
-
-impl fmt::Display for PriceLine<'_> {
-    fn fmt<W: fmt::Write>(&self, f: &mut fmt::Formatter<W>) -> fmt::Result {
-        let product = self.product;
-        let mut price = self.opening;
-        let mut x = LEFT;
-        let mut is_begun = false;
-        for change in self.changes {
-            if change.product == product {
-                let next = self.x_of(change);
-                if next != x && price > 0 {
-                    let y = self.range.depth(price);
-                    if is_begun {
-                        write!(f, "V{y}H{next}")?;
-                    } else {
-                        write!(f, "<path class=\"price p{product}\" d=\"M{x} {y}H{next}")?;
-                    }
-                    is_begun = true;
+) -> fmt::Result {
+    let mut price = opening;
+    let mut x = LEFT;
+    let mut is_begun = false;
+    for change in changes {
+        if change.product == product {
+            let next = x_of(change, axis);
+            if next != x && price > 0 {
+                let y = range.depth(price);
+                if is_begun {
+                    write!(f, "V{y}H{next}")?;
+                } else {
+                    write!(f, "<path class=\"price p{product}\" d=\"M{x} {y}H{next}")?;
                 }
-                x = next;
-                price = change.price;
+                is_begun = true;
             }
+            x = next;
+            price = change.price;
         }
-        if price == 0 {
-            return Ok(());
-        }
-        let (y, end) = (self.range.depth(price), LEFT + WIDTH);
-        if is_begun {
-            writeln!(f, "V{y}H{end}\"/>")
-        } else {
-            writeln!(f, "<path class=\"price p{product}\" d=\"M{x} {y}H{end}\"/>")
-        }
+    }
+    if price == 0 {
+        return Ok(());
+    }
+    let (y, end) = (range.depth(price), LEFT + WIDTH);
+    if is_begun {
+        writeln!(f, "V{y}H{end}\"/>")
+    } else {
+        writeln!(f, "<path class=\"price p{product}\" d=\"M{x} {y}H{end}\"/>")
     }
 }
 
-/// What the colours of the lines are: the products that have a price, with the first and the last.
-#[derive(Drop)]
-pub(crate) struct PriceLegend<'a> {
-    pub opening: &'a [u32; 8],
-    pub changes: &'a [PriceChange],
+/// Writes what the colours of the lines are: the products that have a price, with the first and the last.
+pub(crate) fn write_legend<W: fmt::Write>(
+    f: &mut fmt::Formatter<W>,
+    opening: &[u32; 8],
+    changes: &[PriceChange],
+) -> fmt::Result {
+    f.write_str("<ul class=\"legend\">\n")?;
+    for (place, price) in opening.iter().enumerate() {
+        let product = (place as u32).saturating_add(1);
+        let opening = *price as u64;
+        let last = last_price(changes, product, opening);
+        if opening > 0 || last > 0 {
+            write_product(f, product, opening, last)?;
+        }
+    }
+    f.write_str("</ul>\n")
 }
 
-impl fmt::Display for PriceLegend<'_> {
-    fn fmt<W: fmt::Write>(&self, f: &mut fmt::Formatter<W>) -> fmt::Result {
-        writeln!(f, "<ul class=\"legend\">")?;
-        for (place, opening) in self.opening.iter().enumerate() {
-            let product = (place as u32).saturating_add(1);
-            let last = last_price(self.changes, product, *opening as u64);
-            let (first, now) = (Thousandths(*opening as u64), Thousandths(last));
-            if *opening as u64 != last {
-                writeln!(
-                    f,
-                    "<li><i class=\"p{product}\">&#160;</i>product {product}: {first}, at the end {now}</li>"
-                )?;
-            } else if last > 0 {
-                writeln!(
-                    f,
-                    "<li><i class=\"p{product}\">&#160;</i>product {product}: {now}</li>"
-                )?;
-            }
-        }
-        writeln!(f, "</ul>")
+/// Writes what the colour of a product's line is.
+fn write_product<W: fmt::Write>(
+    f: &mut fmt::Formatter<W>,
+    product: u32,
+    opening: u64,
+    last: u64,
+) -> fmt::Result {
+    let (first, now) = (Text::Thousandths(opening), Text::Thousandths(last));
+    write!(
+        f,
+        "<li><i class=\"p{product}\">&#160;</i>product {product}: "
+    )?;
+    if opening != last {
+        write!(f, "{first}, at the end ")?;
     }
+    writeln!(f, "{now}</li>")
 }
 
 /// The price of a product after the changes.

@@ -1,8 +1,13 @@
-//! How a page looks.
+//! How a page begins, and how it looks.
 
-/// The style of a page. Its colours differ in lightness too, and for those who don't see red and green apart.
-pub(crate) const STYLE: &str =
-    ":root{--back:#fff;--text:#1d2733;--soft:#5b6875;--line:#d5dce3;--panel:#f5f7f9;\
+/// What stands before a page's body. The style's colours differ in lightness too, and for those who don't see red and
+/// green apart.
+pub(crate) const START: &str = "<!DOCTYPE html>
+<html lang=\"en\"><head><meta charset=\"utf-8\">
+<meta name=\"viewport\" content=\"width=device-width, initial-scale=1\">
+<title>The day in a picture</title>
+<style>\
+:root{--back:#fff;--text:#1d2733;--soft:#5b6875;--line:#d5dce3;--panel:#f5f7f9;\
 --sold:#0072b2;--granted:#0072b2;--denied:#e69f00;\
 --s1:#3d3d3d;--s2:#c3cad1;--s3:#9fb3c4;--s4:#e8c400;--s5:#8ccbf2;--s6:#4aa3df;--s7:#cc79a7;--s8:#0072b2;--s9:#d55e00;\
 --p1:#0072b2;--p2:#e69f00;--p3:#009e73;--p4:#cc79a7;--p5:#56b4e9;--p6:#d55e00;--p7:#8a7d00;--p8:#5b6875}\
@@ -54,4 +59,5 @@ background:var(--p6)}\
 padding-right:.55rem}}\
 @media print{main{max-width:none;padding:0}h2{break-after:avoid}.wide,tr,.figures li{break-inside:avoid}\
 .wide,.rows{overflow:visible;max-height:none}svg{min-width:0}*{print-color-adjust:exact;\
--webkit-print-color-adjust:exact}}";
+-webkit-print-color-adjust:exact}}</style></head><body><main>
+";
