@@ -1,5 +1,5 @@
 -- Definitions: what a fault of the assembler names of its text (this profile).
-use Rattle.std.specs.Prelude.{◌≡◌, ℕ, ◌-◌, nat_eq, Bool, true, List, [], ◌∷◌, Option, Some, None, slice_get, unwrap_or, ⊤}
+use Rattle.std.specs.Prelude.{◌≡◌, ℕ, ◌-◌, ◌&&◌, nat_eq, Bool, true, false, List, [], ◌∷◌, Option, Some, None, slice_get, unwrap_or, ⊤}
 use Rattle.std.specs.List.{starts_with, ends_with}
 use Rattle.bpf_asm.specs.declared.AsmFault.{AsmFault}
 use Rattle.bpf_asm.specs.declared.AsmFault.TheVariants as fault
@@ -8,7 +8,7 @@ use Rattle.bpf_asm.specs.declared.flaw.AsmFlaw.TheVariants.{ByteOrderMark, Carri
 use Rattle.bpf_asm.specs.declared.grammar.Statement.{Statement}
 use Rattle.bpf_asm.specs.declared.grammar.Line.TheVariants as line
 use Rattle.bpf_asm.specs.Lex.{Text}
-use Rattle.bpf_asm.specs.Program.{cut, row, row_of}
+use Rattle.bpf_asm.specs.Program.{Row, cut, row, row_of}
 
 -- a line by its number, which counts from 1
 abbrev pub line_at : Text → ℕ → Text
@@ -22,15 +22,25 @@ begins_with_mark text = starts_with nat_eq text (239 ∷ 187 ∷ 191 ∷ [])
 abbrev pub ends_with_return : Text → Bool
 ends_with_return text = ends_with nat_eq text (13 ∷ [])
 
--- The flaw explains the fault: it has the text of the line that the fault names, or the label that this line defines, or names in
--- a jump.
+-- the line is the first, and the mark stands before it
+abbrev pub is_marked : Text → ℕ → Bool
+is_marked text number = nat_eq number 1 && begins_with_mark text
+
+-- the line neither defines a label nor names one
+abbrev pub HasNoLabel : Option Row → Type 0
+HasNoLabel None = ⊤
+HasNoLabel (Some r) = r.says ≡ line.Empty
+
+-- The flaw explains the fault: it has the text of the line that the fault names, or the label that this line defines, or names in a jump. Of a line
+-- without a form it is the mark before it, else the CR at its end, and its text only where there is neither.
 abbrev pub Explains : Text → AsmFault → AsmFlaw → Type 0
-Explains text (fault.BadLine number) ByteOrderMark = (number ≡ 1) × (begins_with_mark text ≡ true)
-Explains text (fault.BadLine number) CarriageReturn = ends_with_return (line_at text number) ≡ true
-Explains text (fault.BadLine number) (NoForm words) = words.now ≡ line_at text number
+Explains text (fault.BadLine number) ByteOrderMark = is_marked text number ≡ true
+Explains text (fault.BadLine number) CarriageReturn = (is_marked text number ≡ false) × (ends_with_return (line_at text number) ≡ true)
+Explains text (fault.BadLine number) (NoForm words) =
+    (is_marked text number ≡ false) × (ends_with_return (line_at text number) ≡ false) × (words.now ≡ line_at text number)
 Explains text (fault.BadLabel number) (LabelAgain name) = row_of (line_at text number) ≡ Some (row line.Label name.now)
 Explains text (fault.BadLabel number) (LabelMissing name) = (s : Statement) × (row_of (line_at text number) ≡ Some (row (line.Statement s) name.now))
-Explains text (fault.BadLabel number) (NoForm words) = words.now ≡ line_at text number
+Explains text (fault.BadLabel number) (NoForm words) = HasNoLabel (row_of (line_at text number)) × (words.now ≡ line_at text number)
 Explains text (fault.OutOfRange number) (OutOfRange words) = words.now ≡ line_at text number
 Explains text fault.Length Length = ⊤
 Explains text fault flaw = ⊥

@@ -107,7 +107,7 @@ fn label_of<'a>(alloc: Global, text: &'a [u8], number: u64) -> Result<AsmFlaw<'a
     match row_of(alloc, line)? {
         Some((Line::Label, name)) => Ok(AsmFlaw::LabelAgain(name)),
         Some((Line::Statement(_), name)) => Ok(AsmFlaw::LabelMissing(name)),
-        _ => Ok(AsmFlaw::NoForm(line)),
+        Some((Line::Empty, _)) | None => Ok(AsmFlaw::NoForm(line)),
     }
 }
 

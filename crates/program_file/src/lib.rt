@@ -64,7 +64,9 @@ pub fn read_program(alloc: Global, text: &[u8]) -> Result<Vec<u8>, ProgramFileFa
     match hex::decode(alloc, digits.as_slice()) {
         Ok(bytes) => Ok(bytes),
         Err(FromHexError::OutOfMemory) => Err(ProgramFileFault::OutOfMemory),
-        Err(_) => Err(ProgramFileFault::BadDigits),
+        Err(FromHexError::InvalidHexCharacter { .. }) => Err(ProgramFileFault::BadDigits),
+        Err(FromHexError::OddLength) => Err(ProgramFileFault::BadDigits),
+        Err(FromHexError::InvalidStringLength) => Err(ProgramFileFault::BadDigits),
     }
 }
 
