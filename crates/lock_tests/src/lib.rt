@@ -1,4 +1,4 @@
-//! Tests of the site under its lock and of serving it: passes, gates, kept journals, workers and sockets.
+//! Tests of the site under its lock and of serving it: passes, gates, kept and synced journals, workers and sockets.
 //! They stand apart from those crates, so that the gate proves each of these once.
 #![tactic(auto)]
 
@@ -14,3 +14,5 @@ mod programs;
 mod served;
 #[cfg(test)]
 mod servers;
+#[cfg(test)]
+mod syncs;

@@ -39,13 +39,6 @@ impl Bytes {
         })
     }
 
-    pub fn into_vec(self) -> Vec<u8>
-        ensures { result.items ≡ self }
-    {
-        let Bytes { items } = self;
-        items
-    }
-
     pub fn is_same(&self, other: &Bytes) -> bool
         ensures { IsTrue result ↔ self.now ≡ other.now }
     {
