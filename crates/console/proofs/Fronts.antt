@@ -1,9 +1,12 @@
 -- Beginnings of texts, and sessions that answered nothing.
-use Rattle.std.proofs.Common.{◌≡◌, ℕ, List, [], ◌∷◌, ◌++◌, length, take, Option, None, Result, Ok, Err, OnErr, IfOk, inl, refl, sym, ◌∙◌, ap, subst}
+use Rattle.std.proofs.Common.{◌≡◌, ℕ, List, [], ◌∷◌, ◌++◌, length, take, Option, None, Result, Ok, Err, OnErr, IfOk, IfErr, inl, refl, sym, ◌∙◌, ap, subst}
+use Rattle.std.specs.Prelude.{⊤}
 use Rattle.std.specs.Io.KnownBytes.{Appends}
 use Rattle.decision_journal.specs.Writing.{AppendsFront}
 use Rattle.line_session.specs.declared.answering.Ended.{Ended}
-use Rattle.line_session.specs.Talk.{Breaks, Ends, drops_none}
+use Rattle.line_session.specs.declared.speaker.SpeakFault.{SpeakFault}
+use Rattle.line_session.specs.declared.speaker.SpeakFault.TheVariants as speech
+use Rattle.line_session.specs.Talk.{Breaks, Ends, FallsShort, drops_none}
 use Rattle.site_core.specs.Site.{SiteValue}
 use Rattle.console.specs.Play.{Plays, PlaysOut, PlayBreaks}
 use Rattle.line_session.proofs.Saying.{consumes_none, appends_none, is_line_empty}
@@ -47,3 +50,13 @@ pub broken_from : {T E : Type 0} (r : Result T E) (a b : SiteValue) (m : ℕ) (l
 broken_from (Ok x) a b m left i j o p same h = tt
 broken_from (Err e) a b m left i j o p same h =
     let P : SiteValue → Type 0 = λ s. Breaks Plays drops_none (0, s) (m, left) i j o p in record { moment = m; left = left; breaks = subst P same h }
+
+-- what is said to a line is written as far as the device takes it
+module _ {S O : Type 0} (out : O → Option (List ℕ)) (says : S → List ℕ → List ℕ → S → Type 0) (line text : List ℕ) (s s' : S) (o o' : O)
+    (said : says s line text s') where
+  pub falls_short : {T : Type 0} (r : Result T SpeakFault) → OnErr r ((k : ℕ) × Appends (out o) (out o') (take k text)) → IfErr r (λ e. e ≡ speech.Write)
+      → IfErr r (λ e. FallsShort says drops_none (λ _. ⊤) out e line s s' o o')
+  falls_short (Ok x) w is = tt
+  falls_short (Err speech.Write) w is = record { text = text; says_it = said; kept = w.0; written = w.1 }
+  falls_short (Err speech.OutOfMemory) w is = absurd (cc)
+  falls_short (Err speech.Journal) w is = absurd (cc)

@@ -1,5 +1,5 @@
 //! Plays scripts.
-ghost use Rattle.std.specs.Prelude.{◌≡◌, ◌≤◌, ◌-◌, ℕ, IfOk, OnErr, Err};
+ghost use Rattle.std.specs.Prelude.{◌≡◌, ◌≢◌, ◌≤◌, ◌-◌, ℕ, IfOk, OnErr, Err};
 ghost use Rattle.till_request.specs.Count.{RoseBy, one_if};
 ghost use Rattle.line_session.specs.Talk.{SpendsReads, is_read, is_write, session_reads};
 ghost use Rattle.site_core.specs.Site.{new_site};
@@ -33,6 +33,7 @@ pub fn play_within<I: LineIn, O: LineOut>(
     ensures spent { result ≡ Err SessionFault.ReadsSpent → left.new ≡ 0 }
     ensures counted { RoseBy (left.old - left.new) (I.reads input.old) (I.reads input.new) }
     ensures asked { RoseBy (left.old - left.new) (I.asked input.old) (I.asked input.new) }
+    ensures journal { result ≢ Err SessionFault.Journal }
 {
     let Ok(mut site) = Site::start(alloc, config) else {
         return Err(SessionFault::OutOfMemory);
@@ -61,6 +62,7 @@ pub fn play<I: LineIn, O: LineOut>(
     ensures write_fault { RoseBy (one_if (is_write result)) (O.failures output.old) (O.failures output.new) }
     ensures reads { SpendsReads session_reads result (I.reads input.old) (I.reads input.new) (I.asked input.old)
         (I.asked input.new) }
+    ensures journal { result ≢ Err SessionFault.Journal }
 {
     let mut left = READS;
     play_within(alloc, config, input, output, &mut left)

@@ -17,3 +17,6 @@ pub returns-clause-broken : goal.returns-clause-broken
 returns-clause-broken g c =
     broken_from c.talk_within.result c.in-Ok.site (new_site c.args.config) c.talk_within.new.clock c.talk_within.new.desk _ _ _ _ c.in-Ok.ensures
     c.talk_within.ensures.broken
+
+pub returns-clause-journal : goal.returns-clause-journal
+returns-clause-journal g c = λ e. (c.talk_within.ensures.journal e).2
