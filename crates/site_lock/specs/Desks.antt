@@ -7,10 +7,9 @@ use Rattle.till_request.specs.declared.act.Act.{Act}
 use Rattle.till_request.specs.declared.act.Act.TheVariants.{Till, Dispenser, Load}
 use Rattle.till_request.specs.declared.act.Reply.{Reply}
 use Rattle.till_request.specs.declared.act.Answer.{Answer}
-use Rattle.till_request.specs.declared.act.Answer.TheVariants.{Entered, JournalFull, OutOfMemory, Line, Program}
+use Rattle.till_request.specs.declared.act.Answer.TheVariants.{Entered, JournalFull, OutOfMemory, Line, Program, JournalFailed}
 use Rattle.site_core.specs.declared.events.Answered.{Answered}
 use Rattle.site_core.specs.declared.events.CallFault.TheVariants as fault
-use Rattle.till_request.specs.declared.act.LineFault.TheVariants as line
 use Rattle.site_lock.specs.declared.enter_fault.EnterFault.{EnterFault}
 use Rattle.site_lock.specs.declared.enter_fault.EnterFault.TheVariants as enter
 use Rattle.site_core.specs.Decide.{is_decided}
@@ -40,17 +39,14 @@ pub record DeskRefuses (before now : PassView) (act : Act) (number : ℕ) (unit 
   pub shown : shown_by refusal ≡ Some (number, unit, part)
   pub same : now ≡ before
 
--- after any answer without a number the pass is as before; where a journal may fail, what ends a session without a line stands for that
+-- after any answer without a number the pass is as before; that the journal failed is answered only where one may fail
 abbrev pub DeskAnswers : ConfigValue → Type 0 → PassView → PassView → Act → ℕ → Answer → Type 0
 DeskAnswers config may_fail before now act moment (Entered number reply) = DeskEnters config before now act moment number reply
 DeskAnswers config may_fail before now act moment JournalFull = now ≡ before
 DeskAnswers config may_fail before now act moment OutOfMemory = now ≡ before
-DeskAnswers config may_fail before now act moment (Line line.OutOfMemory) = (now ≡ before) × may_fail
-DeskAnswers config may_fail before now act moment (Line line.TooLong) = ⊥
-DeskAnswers config may_fail before now act moment (Line line.BadLine) = ⊥
-DeskAnswers config may_fail before now act moment (Line line.BadNumber) = ⊥
-DeskAnswers config may_fail before now act moment (Line line.CutLine) = ⊥
+DeskAnswers config may_fail before now act moment (Line fault) = ⊥
 DeskAnswers config may_fail before now act moment (Program number unit part) = DeskRefuses before now act number unit part
+DeskAnswers config may_fail before now act moment JournalFailed = (now ≡ before) × may_fail
 
 -- a till is answered a grant or S24 only where the gate was called, once or twice
 abbrev pub AsksGate : ℕ → ℕ → Answer → Act → Type 0
@@ -61,6 +57,7 @@ AsksGate before now JournalFull act = Unit {0}
 AsksGate before now OutOfMemory act = Unit {0}
 AsksGate before now (Line fault) act = Unit {0}
 AsksGate before now (Program number unit part) act = Unit {0}
+AsksGate before now JournalFailed act = Unit {0}
 
 -- what a till is answered is decided by the runs that the gate made
 abbrev pub DeskDecides : {G : Type 0} → (G → ReadyValue → G → Type 0) → ConfigValue → ℕ → ℕ → G → G → Answer → Act → Type 0
@@ -72,10 +69,11 @@ DeskDecides makes config pass moment before now JournalFull act = Unit {0}
 DeskDecides makes config pass moment before now OutOfMemory act = Unit {0}
 DeskDecides makes config pass moment before now (Line fault) act = Unit {0}
 DeskDecides makes config pass moment before now (Program number unit part) act = Unit {0}
+DeskDecides makes config pass moment before now JournalFailed act = Unit {0}
 
 -- a call's answer as a desk says it
 abbrev pub said_of : Result Answered EnterFault → Answer
 said_of (Ok a) = Entered a.number a.reply
 said_of (Err (enter.Call fault.JournalFull)) = JournalFull
 said_of (Err (enter.Call fault.OutOfMemory)) = OutOfMemory
-said_of (Err enter.Journal) = Line line.OutOfMemory
+said_of (Err enter.Journal) = JournalFailed

@@ -20,7 +20,7 @@ use reg_types::Refusal;
 use site_core::{Answered, CallFault, What, event_of};
 use std::alloc::Global;
 use std::sync::Wait;
-use till_request::{Act, Answer, LineFault};
+use till_request::{Act, Answer};
 
 /// Answers acts by a forecourt, with one pass; a gate runs the programs that decide. A load's bytes are verified before
 /// the lock is taken: a refused program is answered by its V line and is no event. Once the journal has failed each
@@ -132,7 +132,7 @@ fn said(called: Result<Answered, EnterFault>) -> Answer
         },
         Err(EnterFault::Call(CallFault::JournalFull)) => Answer::JournalFull,
         Err(EnterFault::Call(CallFault::OutOfMemory)) => Answer::OutOfMemory,
-        Err(EnterFault::Journal) => Answer::Line(LineFault::OutOfMemory),
+        Err(EnterFault::Journal) => Answer::JournalFailed,
     }
 }
 

@@ -5,9 +5,8 @@ use Rattle.till_request.specs.declared.act.Role.{Role}
 use Rattle.till_request.specs.declared.act.LineFault.{LineFault}
 use Rattle.till_request.specs.declared.act.Answer.{Answer}
 use Rattle.till_request.specs.declared.act.Answer.TheVariants as answer
-use Rattle.till_request.specs.declared.act.LineFault.TheVariants as line
 use Rattle.till_request.specs.Grammar.{line_read}
-use Rattle.line_session.specs.Session.{AnswersAct, desk_says, desk_drops}
+use Rattle.line_session.specs.Session.{AnswersAct, desk_says, desk_drops, desk_fails}
 use Rattle.line_session.specs.Talk.{SaysAll, DropsNext}
 use Rattle.line_session.specs.Serving.{Outcome, Sits, Visits, VisitsAll, Serves}
 use Rattle.site_core.specs.Limits.{ConfigValue}
@@ -20,12 +19,9 @@ module _ (config : ConfigValue) (may_fail : Type 0) where
   answer_keeps (answer.Entered number reply) p q act moment h = h.gains.id
   answer_keeps answer.JournalFull p q act moment h = ap (λ (x : PassView). x.id) h
   answer_keeps answer.OutOfMemory p q act moment h = ap (λ (x : PassView). x.id) h
-  answer_keeps (answer.Line line.OutOfMemory) p q act moment h = ap (λ (x : PassView). x.id) h.0
-  answer_keeps (answer.Line line.TooLong) p q act moment h = absurd h
-  answer_keeps (answer.Line line.BadLine) p q act moment h = absurd h
-  answer_keeps (answer.Line line.BadNumber) p q act moment h = absurd h
-  answer_keeps (answer.Line line.CutLine) p q act moment h = absurd h
+  answer_keeps (answer.Line fault) p q act moment h = absurd h
   answer_keeps (answer.Program number unit part) p q act moment h = ap (λ (x : PassView). x.id) h.same
+  answer_keeps answer.JournalFailed p q act moment h = ap (λ (x : PassView). x.id) h.0
 
   act_keeps : (act : Result Act LineFault) (c : ℕ) (p : PassView) (a : Answer) (d : ℕ) (q : PassView)
       → AnswersAct (pass_answers config may_fail) tells act c p a d q → q.id ≡ p.id
@@ -42,13 +38,13 @@ module _ (config : ConfigValue) (may_fail : Type 0) where
 
     drop_keeps : (s t : ℕ × PassView) (rest : List ℕ) → DropsNext (desk_drops (pass_answers config may_fail) tells role) s t rest → t.1.id ≡ s.1.id
     drop_keeps s t rest (inl same) = ap (λ (x : ℕ × PassView). x.1.id) same
-    drop_keeps s t rest (inr d) = answer_keeps (answer.Line line.OutOfMemory) s.1 t.1 d.3.0 d.3.1 d.3.4
+    drop_keeps s t rest (inr d) = answer_keeps d.3.2 s.1 t.1 d.3.0 d.3.1 d.3.6
 
     module _ {I O D : Type 0} (remaining : I → Option (List ℕ)) (reads read_failures : I → ℕ) (written : O → Option (List ℕ)) (write_failures : O → ℕ)
         (opens : D → I → O → D → Type 0) (fails : D → D → Type 0) where
       visit_keeps : (outcome : Outcome) (d : D) (s : ℕ × PassView) (e : D) (t : ℕ × PassView)
-          → Visits opens fails (Sits (desk_says (pass_answers config may_fail) tells role) (desk_drops (pass_answers config may_fail) tells role) remaining
-          reads read_failures written write_failures) outcome d s e t → t.1.id ≡ s.1.id
+          → Visits opens fails (Sits (desk_says (pass_answers config may_fail) tells role) (desk_drops (pass_answers config may_fail) tells role)
+          (desk_fails (pass_answers config may_fail) tells role) remaining reads read_failures written write_failures) outcome d s e t → t.1.id ≡ s.1.id
       visit_keeps None d s e t v = ap (λ (x : ℕ × PassView). x.1.id) v.1
       visit_keeps (Some (Ok ended)) d s e t v = let talks = v.3.said.talks in all_keep talks.lines s talks.texts t talks.said
       visit_keeps (Some (Err fault)) d s e t v = let breaks =
@@ -56,11 +52,11 @@ module _ (config : ConfigValue) (may_fail : Type 0) where
 
       visits_keep : (outcomes : List Outcome) (d : D) (s : ℕ × PassView) (e : D) (t : ℕ × PassView)
           → VisitsAll (Visits opens fails (Sits (desk_says (pass_answers config may_fail) tells role) (desk_drops (pass_answers config may_fail) tells role)
-          remaining reads read_failures written write_failures)) outcomes d s e t → t.1.id ≡ s.1.id
+          (desk_fails (pass_answers config may_fail) tells role) remaining reads read_failures written write_failures)) outcomes d s e t → t.1.id ≡ s.1.id
       visits_keep [] d s e t h = ap (λ (x : ℕ × PassView). x.1.id) h.1
       visits_keep (outcome ∷ outcomes) d s e t h = visits_keep outcomes h.0 h.1 e t h.3 ∙ visit_keeps outcome d s h.0 h.1 h.2
 
       pub serves_keep : (asked well : ℕ) (d : D) (s : ℕ × PassView) (e : D) (t : ℕ × PassView)
           → Serves (Visits opens fails (Sits (desk_says (pass_answers config may_fail) tells role) (desk_drops (pass_answers config may_fail) tells role)
-          remaining reads read_failures written write_failures)) asked well d s e t → t.1.id ≡ s.1.id
+          (desk_fails (pass_answers config may_fail) tells role) remaining reads read_failures written write_failures)) asked well d s e t → t.1.id ≡ s.1.id
       serves_keep asked well d s e t h = visits_keep h.outcomes d s e t h.each

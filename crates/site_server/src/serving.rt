@@ -1,6 +1,6 @@
 //! Serving a site.
 ghost use Rattle.std.specs.Prelude.{◌≡◌, ◌≢◌, ◌≤◌, ℕ, [], Err, IfErr, IfOk, Some, length, map, option_map, vec_capacity};
-ghost use Rattle.line_session.specs.Session.{desk_says, desk_drops};
+ghost use Rattle.line_session.specs.Session.{desk_says, desk_drops, desk_fails};
 ghost use Rattle.line_session.specs.Serving.{Serves, Sits, Visits};
 ghost use Rattle.site_server.specs.Crews.{passes_of};
 ghost use Rattle.site_server.specs.Ending.{Leaves, LeavesSince, Spoils, SpoilsSince, fault_of_close, from_site};
@@ -84,7 +84,8 @@ pub fn serve_pass<L: Yard, J: Journal, S: Doors, R: Wait + Clock>(
     ensures served { (moment : ℕ)
         × Serves (Visits S.opens S.fails
         (Sits (desk_says (pass_answers L.config J.may_fail) tells role)
-        (desk_drops (pass_answers L.config J.may_fail) tells role) S.In.remaining S.In.reads S.In.failures
+        (desk_drops (pass_answers L.config J.may_fail) tells role)
+        (desk_fails (pass_answers L.config J.may_fail) tells role) S.In.remaining S.In.reads S.In.failures
         S.Out.written S.Out.failures))
         connections result.1 doors.old (0, pass) doors.new (moment, result.0) }
     ensures worked { Worked L.config J.may_fail role connections result.1 pass result.0 }
