@@ -21,8 +21,15 @@ module _ (config : ConfigValue) (may_fail : Type 0) (role : Role) {I O D : Type 
   talked None d s e t v = v.1
   talked (Some (Ok ended)) d s e t v = let talks = v.3.said.talks in (talks.lines, talks.texts, t, talks.each, talks.said, inl refl, λ e. (v.3.journal e).2.4.1)
   talked (Some (Err fault)) d s e t v = let breaks =
-      v.3.broken in (breaks.lines, breaks.texts, breaks.answered, breaks.each, breaks.said, dropped breaks.answered t breaks.rest breaks.dropped,
-      λ e. (v.3.journal e).2.4.1)
+      v.3.broken in (
+        breaks.lines,
+        breaks.texts,
+        breaks.answered,
+        breaks.each,
+        breaks.said,
+        dropped breaks.answered t breaks.rest breaks.dropped,
+        λ e. (v.3.journal e).2.4.1,
+      )
 
   all_talked : (outcomes : List Outcome) (d : D) (s : ℕ × PassView) (e : D) (t : ℕ × PassView)
       → VisitsAll (Visits opens fails (Sits (desk_says (pass_answers config may_fail) tells role) (desk_drops (pass_answers config may_fail) tells role)
