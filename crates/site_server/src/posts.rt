@@ -1,5 +1,6 @@
 //! The posts of the workers.
-ghost use Rattle.std.specs.Prelude.{◌≡◌, ◌++◌, ◌∷◌, ◌+◌, ◌^◌, ◌<◌, ◌≤◌, [], IfOk, Some, length, map, vec_capacity, vec_len};
+ghost use Rattle.std.specs.Prelude.{◌≡◌, ◌++◌, ◌∷◌, ◌+◌, ◌^◌, ◌<◌, ◌≤◌, [], IfOk, Some, length, map};
+ghost use Rattle.std.specs.Prelude.{vec_capacity, vec_len};
 ghost use Rattle.std.specs.Arc.{arc_value};
 ghost use Rattle.site_server.specs.Crews.{port_of, role_of};
 ghost use Rattle.site_server.specs.Handing.{Manned, handed_in, waits, waits_at, well_at, well_in};

@@ -1,5 +1,6 @@
 //! Serving a site.
-ghost use Rattle.std.specs.Prelude.{◌≡◌, ◌≢◌, ◌≤◌, ℕ, [], Err, IfErr, IfOk, Some, length, map, option_map, vec_capacity};
+ghost use Rattle.std.specs.Prelude.{◌≡◌, ◌≢◌, ◌≤◌, ℕ, [], Err, IfErr, IfOk, Some, length, map};
+ghost use Rattle.std.specs.Prelude.{option_map, vec_capacity};
 ghost use Rattle.line_session.specs.Session.{desk_says, desk_drops, desk_fails};
 ghost use Rattle.line_session.specs.Serving.{Serves, Sits, Visits};
 ghost use Rattle.site_server.specs.Crews.{passes_of};

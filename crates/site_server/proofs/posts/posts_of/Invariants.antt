@@ -9,5 +9,7 @@ abbrev pub invariant-loop-pass : goal.invariant-loop-pass
 invariant-loop-pass g l = record {
   passes : map (λ p. waits p.waiting) l.posts.items ≡ map (λ p. Some p) l.yielded;
   ports : map (λ p. waits_at arc_value p.waiting) l.posts.items
-      ≡ map (λ p. Some (p, arc_value (port_of l.listeners.till l.listeners.dispenser l.listeners.owner (role_of l.crew.tills l.crew.dispensers p.id)))) l.yielded;
+      ≡ map
+      (λ p. Some (p, arc_value (port_of l.listeners.till l.listeners.dispenser l.listeners.owner (role_of l.crew.tills l.crew.dispensers p.id))))
+      l.yielded;
 }
