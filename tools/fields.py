@@ -1,6 +1,6 @@
 #!/usr/bin/env python3
 """Holds the documentation's table of the context's fields, and the header for rules in C, against the definition from
-which contexts are laid: each field's place, bytes and layouts, and the word for what stands there.
+which contexts are laid: each field's place, bytes and layouts, and the word for what it holds.
 
     fields.py     the last line is 'N passed, M failed', of fields and of the layouts' lengths
 """
@@ -13,7 +13,7 @@ DOCUMENT = "docs/use/writing-rules.md"
 FIELDS = "crates/site_core/specs/Context.antt"
 LENGTHS = "crates/bpf_model/specs/Layouts.antt"
 HEADER = "examples/c/forecourt.h"
-HEAD = "| at | bytes | layouts | what stands there |"
+HEAD = "| offset | bytes | layouts | field |"
 SIZES = {"Four": 4, "Eight": 8}
 # Which word of the table stands for a term of the definition.
 WORDS = {
