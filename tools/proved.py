@@ -1,6 +1,6 @@
 #!/usr/bin/env python3
 """Looks that what docs/code/PROVED.md names is in the sources: each call is a public function of its crate, each clause
-stands in that function's contract, and each must-fail edit is one of that crate.
+stands in that function's contract, and each must-fail edit is one of that crate, or of the crate before its slash.
 
     proved.py [DOCUMENT]     the last line is 'N passed, M failed', of table rows
 """
@@ -63,9 +63,12 @@ def faults_of(call, clauses, edits, contracts):
     faults = [f"{call} has no clause {clause}" for clause in clauses if clause not in contract]
     if not clauses:
         faults.append(f"{call}: no clause is named")
-    folder = os.path.join(HERE, "crates", crate, "must-fail")
-    missing = [edit for edit in edits if not os.path.exists(os.path.join(folder, f"{edit}.edit"))]
-    return faults + [f"{call}: crate {crate} has no edit {edit}" for edit in missing]
+    for edit in edits:
+        folder, _, name = edit.rpartition("/")
+        folder = folder or crate
+        if not os.path.exists(os.path.join(HERE, "crates", folder, "must-fail", f"{name}.edit")):
+            faults.append(f"{call}: crate {folder} has no edit {name}")
+    return faults
 
 
 def main():
