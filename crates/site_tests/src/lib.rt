@@ -1,10 +1,17 @@
-//! Tests of the site: drafts, runs of events, and words of its faults. They stand apart from the crate, so that the
-//! gate proves them while it tries the wrong edits of that crate.
+//! Tests of the site and of what it stands on, as far as no word of the program reaches it: drafts, runs of events,
+//! facts and jumps of programs, doors that fail, and words of faults. They stand apart from those crates, so that the
+//! gate proves each of these once and not once more with its tests.
 #![tactic(auto)]
 
 #[cfg(test)]
 mod drafts;
 #[cfg(test)]
+mod lines;
+#[cfg(test)]
+mod machine;
+#[cfg(test)]
 mod scripts;
+#[cfg(test)]
+mod sessions;
 #[cfg(test)]
 mod words;

@@ -1,8 +1,9 @@
 //! A site that events are entered into, with the replies that the site's rules name for them, and the calls of it that
 //! no word of the program reaches. What words show of it are tables of cases, as `cases/play/refusals_in_order.table`.
 
+use decision_journal::Entry;
 use fuelling_point::DispenserEvent;
-use reg_types::{Layout, verify};
+use reg_types::{Layout, Program, verify};
 use site_core::{Config, Event, Site, What};
 use std::alloc::{AllocError, Global};
 use std::process::Abort;
@@ -12,16 +13,19 @@ use till_request::{Reply, Request};
 
 const EXIT: [u8; 8] = [0x95, 0, 0, 0, 0, 0, 0, 0];
 
-/// R0 is the amount asked.
-pub(crate) const ASKED: [u8; 8] = [0x79, 0x10, 0x18, 0, 0, 0, 0, 0];
+/// A program that ends by EXIT, the counters that it declares, and its layout.
+#[derive(Clone, Copy)]
+pub(crate) struct Rule {
+    pub front: &'static [u8],
+    pub mask: u32,
+    pub layout: Layout,
+}
 
-/// R0 is 5,000.
-pub(crate) const FIVE_THOUSAND: [u8; 8] = [0xb7, 0, 0, 0, 0x88, 0x13, 0, 0];
-
-#[derive(Clone, Copy, Drop)]
+#[derive(Clone, Copy)]
 pub(crate) enum Does {
     Till(u32, Request),
     Disp(u32, DispenserEvent),
+    Load(u32, Rule),
 }
 
 /// Two tills, two points whose releases go to slot 0 and presets to slot 1, prices to slot 2.
@@ -38,77 +42,54 @@ pub(crate) fn start(alloc: Global) -> Result<Site, Fail> {
     Ok(Site::start(alloc, config)?)
 }
 
-fn enter(rt: &impl Abort, site: &mut Site, moment: u64, what: What, want: Reply) {
-    let event = Event {
+fn program(alloc: Global, rule: Rule) -> Option<Arc<Program>> {
+    let mut bytes = Vec::from_slice(alloc, rule.front).ok()?;
+    bytes.extend_from_slice(&EXIT).ok()?;
+    let program = verify(alloc, &bytes, rule.mask, rule.layout).ok()?;
+    Arc::new(alloc, program).ok()
+}
+
+fn event(alloc: Global, does: Does) -> Option<Event> {
+    let what = match does {
+        Does::Till(till, request) => What::Till { till, request },
+        Does::Disp(point, event) => What::Dispenser { point, event },
+        Does::Load(slot, rule) => What::Load {
+            slot,
+            program: program(alloc, rule)?,
+        },
+    };
+    Some(Event {
         pass: 1,
-        moment,
+        moment: 0,
         what,
-    };
-    let number = site.history().len();
-    let got = match site.apply(event) {
-        Ok(answered) => Some((answered.number as usize - 1, answered.reply)),
-        Err(_) => None,
-    };
-    assert_eq!(rt; got, Some((number, want)));
+    })
 }
 
-pub(crate) fn play(rt: &impl Abort, site: &mut Site, moment: u64, steps: &[(Does, Reply)]) {
+/// Enters events in turn, each of which is answered this.
+pub(crate) fn play(
+    rt: &impl Abort,
+    alloc: Global,
+    site: &mut Site,
+    steps: &[(Does, Reply)],
+) -> Result<(), Fail> {
     for (does, want) in steps {
-        let what = match *does {
-            Does::Till(till, request) => What::Till { till, request },
-            Does::Disp(point, event) => What::Dispenser { point, event },
-        };
-        enter(rt, site, moment, what, *want);
+        let number = site.history().len();
+        let answered = site.apply(event(alloc, *does).ok_or("no event")?)?;
+        assert!(rt; answered.number as usize == number.wrapping_add(1) && answered.reply == *want);
     }
-}
-
-/// Loads a program that ends by EXIT for the first layout.
-pub(crate) fn load(
-    rt: &impl Abort,
-    alloc: Global,
-    site: &mut Site,
-    slot: u32,
-    mask: u32,
-    front: &[u8],
-    want: Reply,
-) -> Result<(), Fail> {
-    load_for(rt, alloc, site, slot, mask, Layout::One, front, want)
-}
-
-pub(crate) fn load_for(
-    rt: &impl Abort,
-    alloc: Global,
-    site: &mut Site,
-    slot: u32,
-    mask: u32,
-    layout: Layout,
-    front: &[u8],
-    want: Reply,
-) -> Result<(), Fail> {
-    let mut bytes = Vec::from_slice(alloc, front)?;
-    bytes.extend_from_slice(&EXIT)?;
-    let program = verify(alloc, bytes.as_slice(), mask, layout)
-        .ok()
-        .ok_or("refused")?;
-    let program = Arc::new(alloc, program)?;
-    enter(rt, site, 0, What::Load { slot, program }, want);
     Ok(())
 }
 
 /// What is shown of an idle point without amounts.
-pub(crate) fn idle() -> Reply {
-    Reply::Point {
-        state: 3,
-        nozzle: 0,
-        amount: 0,
-        volume: 0,
-        limit: 0,
-        preset: 0,
-        unpaid: 0,
-    }
-}
-
-pub(crate) const OPEN: (Does, Reply) = (Does::Till(1, Request::OpenPoint(1)), Reply::Done);
+pub(crate) const IDLE: Reply = Reply::Point {
+    state: 3,
+    nozzle: 0,
+    amount: 0,
+    volume: 0,
+    limit: 0,
+    preset: 0,
+    unpaid: 0,
+};
 
 /// Point 1 is opened by pass 1, and shown by pass 2.
 fn two_events(alloc: Global) -> Result<Vec<Event>, AllocError> {
@@ -123,20 +104,21 @@ fn two_events(alloc: Global) -> Result<Vec<Event>, AllocError> {
     Ok(events)
 }
 
-/// The site after these events, and how many results there were.
-fn ran(alloc: Global) -> Result<(Site, usize), Fail> {
+/// How many results there are, and the second entry's number, pass, moment and reply.
+fn ran(alloc: Global) -> Result<(usize, Option<(u32, u32, u64, Reply)>), Fail> {
     let config = config(alloc)?.ok_or("no configuration")?;
     let (site, results) = Site::run(alloc, config, two_events(alloc)?)?;
-    Ok((site, results.len()))
+    Ok((results.len(), second(site.history())))
+}
+
+fn second(history: &[Entry]) -> Option<(u32, u32, u64, Reply)> {
+    let last = history.get(1)?;
+    Some((last.number, last.pass, last.moment, last.reply))
 }
 
 #[test]
 fn events_are_run_in_turn(rt: HostRuntime) -> Result<(), Fail> {
-    let (site, count) = ran(rt.alloc())?;
-    assert_eq!(rt; count, 2);
-    let last = site.history().get(1).ok_or("no entry")?;
-    let told = (last.number, last.pass, last.moment, last.reply);
-    assert!(rt; told == (2, 2, 7, idle()));
+    assert!(rt; ran(rt.alloc())? == (2, Some((2, 2, 7, IDLE))));
     Ok(())
 }
 
