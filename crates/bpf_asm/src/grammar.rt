@@ -1,6 +1,6 @@
 // The grammar: what the tokens of a line say.
 
-ghost use Rattle.std.specs.Prelude.{◌≡◌, option_map};
+ghost use Rattle.std.specs.Prelude.{◌≡◌, ◌∷◌, option_map};
 ghost use Rattle.bpf_asm.specs.Grammar as spec;
 
 use crate::token::Token;
@@ -410,40 +410,77 @@ fn no_fields() -> Fields
     fields_of(0, 0, exactly(0), exactly(0))
 }
 
+// Returns the instruction for the tokens after a register that stands first.
+fn changed(width: Width, dst: u8, tokens: &[Token]) -> Option<Statement>
+    ensures { result ≡ spec.statement (Token.Register width dst ∷ tokens.now) }
+{
+    match tokens {
+        [Token::Assign(Operator::Mov, _), rest @ ..] => assigned(width, dst, rest),
+        [Token::Assign(operator, offset), rest @ ..] => operand(
+            *operator, *offset, width, dst, rest,
+        ),
+        _ => None,
+    }
+}
+
+// Returns the instruction for the tokens after `if`.
+fn conditional(tokens: &[Token]) -> Option<Statement>
+    ensures { result ≡ spec.statement (Token.If ∷ tokens.now) }
+{
+    match tokens {
+        [
+            Token::Register(width, dst),
+            Token::Compare(condition),
+            rest @ ..,
+        ] => branch(*condition, *width, *dst, rest),
+        _ => None,
+    }
+}
+
+// Returns the instruction for the tokens after `call`.
+fn call(tokens: &[Token]) -> Option<Statement>
+    ensures { result ≡ spec.statement (Token.Call ∷ tokens.now) }
+{
+    match tokens {
+        [Token::Number(n)] => Some(plain(Form::Call, 0, 0, exactly(0), plus(*n))),
+        [Token::Minus, Token::Number(n)] => Some(plain(Form::Call, 0, 0, exactly(0), minus(*n))),
+        _ => None,
+    }
+}
+
+// Returns the instruction for the tokens after `exit`.
+fn exit(tokens: &[Token]) -> Option<Statement>
+    ensures { result ≡ spec.statement (Token.Exit ∷ tokens.now) }
+{
+    match tokens {
+        [] => Some(plain(Form::Exit, 0, 0, exactly(0), exactly(0))),
+        _ => None,
+    }
+}
+
+// Returns the instruction that begins with a token.
+fn begun(first: Token, rest: &[Token]) -> Option<Statement>
+    ensures { result ≡ spec.statement (first ∷ rest.now) }
+{
+    match first {
+        Token::Register(width, dst) => changed(width, dst, rest),
+        Token::Star => store(rest),
+        Token::Goto => jump_to(Form::Ja, no_fields(), rest),
+        Token::GotoLong => jump_to(Form::Ja32, no_fields(), rest),
+        Token::If => conditional(rest),
+        Token::Call => call(rest),
+        Token::Exit => exit(rest),
+        _ => None,
+    }
+}
+
 /// Returns the instruction that the tokens say, if they have the form of one.
 pub fn statement_of(tokens: &[Token]) -> Option<Statement>
     ensures { result ≡ spec.statement tokens.now }
 {
     match tokens {
-        [
-            Token::Register(width, dst),
-            Token::Assign(Operator::Mov, _),
-            rest @ ..,
-        ] => assigned(*width, *dst, rest),
-        [
-            Token::Register(width, dst),
-            Token::Assign(operator, offset),
-            rest @ ..,
-        ] => operand(*operator, *offset, *width, *dst, rest),
-        [Token::Star, rest @ ..] => store(rest),
-        [Token::Goto, rest @ ..] => jump_to(Form::Ja, no_fields(), rest),
-        [Token::GotoLong, rest @ ..] => jump_to(Form::Ja32, no_fields(), rest),
-        [
-            Token::If,
-            Token::Register(width, dst),
-            Token::Compare(condition),
-            rest @ ..,
-        ] => branch(*condition, *width, *dst, rest),
-        [Token::Call, Token::Number(n)] => Some(plain(Form::Call, 0, 0, exactly(0), plus(*n))),
-        [Token::Call, Token::Minus, Token::Number(n)] => Some(plain(
-            Form::Call,
-            0,
-            0,
-            exactly(0),
-            minus(*n),
-        )),
-        [Token::Exit] => Some(plain(Form::Exit, 0, 0, exactly(0), exactly(0))),
-        _ => None,
+        [first, rest @ ..] => begun(*first, rest),
+        [] => None,
     }
 }
 

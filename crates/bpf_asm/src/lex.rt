@@ -3,7 +3,7 @@
 ghost use Rattle.std.specs.Prelude.{◌≡◌, ◌≤◌, ◌<◌, ◌+◌, ◌-◌, ◌*◌, map, length, take, drop, slice_index, nat_eq, true};
 ghost use Rattle.std.specs.Prelude.{IsTrue, IfOk, OnOk, option_map};
 ghost use Rattle.std.specs.List.{prefix_len};
-ghost use Rattle.std.specs.Char.{digit_value, is_ascii_hexdigit};
+ghost use Rattle.std.specs.Char.{digit_value, is_ascii_digit, is_ascii_hexdigit};
 ghost use Rattle.std.specs.List.{list_all};
 ghost use Rattle.std.specs.Str.Parse.{digits_value};
 ghost use Rattle.bpf_asm.specs.Lex as spec;
@@ -57,22 +57,37 @@ fn begins_hex(text: &[u8]) -> bool
     2 < text.len() && text[0] == b'0' && text[1] == b'x' && text[2].is_ascii_hexdigit()
 }
 
+fn hex_len(text: &[u8]) -> usize
+    requires { 2 ≤ length text.now }
+    ensures value { result ≡ 2 + prefix_len is_ascii_hexdigit (drop 2 text.now) }
+    ensures within { result ≤ length text.now }
+{
+    let mut end = 2;
+    while end < text.len() && text[end].is_ascii_hexdigit() {
+        end += 1;
+    }
+    end
+}
+
+fn digits_len(text: &[u8]) -> usize
+    ensures value { result ≡ prefix_len is_ascii_digit text.now }
+    ensures within { result ≤ length text.now }
+{
+    let mut end = 0;
+    while end < text.len() && text[end].is_ascii_digit() {
+        end += 1;
+    }
+    end
+}
+
 fn number_len(text: &[u8]) -> usize
     ensures value { result ≡ spec.number_len text.now }
     ensures within { result ≤ length text.now }
 {
     if begins_hex(text) {
-        let mut end = 2;
-        while end < text.len() && text[end].is_ascii_hexdigit() {
-            end += 1;
-        }
-        end
+        hex_len(text)
     } else {
-        let mut end = 0;
-        while end < text.len() && text[end].is_ascii_digit() {
-            end += 1;
-        }
-        end
+        digits_len(text)
     }
 }
 
@@ -248,11 +263,5 @@ pub fn kind_of(text: &[u8]) -> Token
 pub fn kinds(alloc: Global, words: &[&[u8]]) -> Result<Vec<Token>, AllocError>
     ensures { IfOk result (λ v. v.items ≡ map spec.kind_of (map (λ t. t.now) words.now)) }
 {
-    let mut tokens = Vec::new(alloc);
-    let mut rest = words;
-    while let [word, after @ ..] = rest {
-        tokens.push(kind_of(*word))?;
-        rest = after;
-    }
-    Ok(tokens)
+    words.iter().map(|word| kind_of(*word)).collect(alloc)
 }

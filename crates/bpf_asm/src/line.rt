@@ -4,11 +4,13 @@ ghost use Rattle.std.specs.Prelude.{◌≡◌, ◌^◌, ◌≤◌, ◌<◌, ◌+
 ghost use Rattle.std.specs.Prelude.{None, nat_lt};
 ghost use Rattle.std.specs.List.{list_all};
 ghost use Rattle.bpf_asm.specs.Program as spec;
+ghost use Rattle.bpf_asm.specs.Grammar.{line_of as line_said};
 ghost use Rattle.bpf_asm.specs.Lex.{split};
 
 use crate::AsmFault;
 use crate::grammar::{Line, Statement, Target, Value, line_of};
 use crate::lex::{code_len, kinds, split};
+use crate::token::Token;
 use bpf_model::instruction::Form;
 use std::alloc::{AllocError, Global};
 
@@ -56,16 +58,30 @@ fn label_of<'a>(line: Line, words: &[&'a [u8]]) -> &'a [u8]
     }
 }
 
+// Returns what the tokens say, with the label that they define or name; `None` where they have no form.
+fn row_with<'a>(tokens: &[Token], words: &[&'a [u8]]) -> Option<(Line, &'a [u8])>
+    ensures { option_map (λ p. spec.row p.0 p.1.now) result
+        ≡ spec.row_with (line_said tokens.now) (map (λ t. t.now) words.now) }
+{
+    let says = line_of(tokens)?;
+    Some((says, label_of(says, words)))
+}
+
+// Returns what the words of a line say, with the label that it defines or names; `None` where they have no form.
+fn row_by<'a>(alloc: Global, words: &[&'a [u8]]) -> Result<Option<(Line, &'a [u8])>, AllocError>
+    ensures { IfOk result (λ found. option_map (λ p. spec.row p.0 p.1.now) found
+        ≡ spec.row_by (Some (map (λ t. t.now) words.now))) }
+{
+    let tokens = kinds(alloc, words)?;
+    Ok(row_with(tokens.as_slice(), words))
+}
+
 /// Returns what a line says, with the label that it defines or names; `None` where it has no form.
 pub fn row_of<'a>(alloc: Global, line: &'a [u8]) -> Result<Option<(Line, &'a [u8])>, AllocError>
     ensures { IfOk result (λ found. option_map (λ p. spec.row p.0 p.1.now) found ≡ spec.row_of line.now) }
 {
-    let Some(words) = words_of(alloc, line)? else {
-        return Ok(None);
-    };
-    let tokens = kinds(alloc, words.as_slice())?;
-    match line_of(tokens.as_slice()) {
-        Some(says) => Ok(Some((says, label_of(says, words.as_slice())))),
+    match words_of(alloc, line)? {
+        Some(words) => row_by(alloc, words.as_slice()),
         None => Ok(None),
     }
 }

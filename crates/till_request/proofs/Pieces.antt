@@ -1,14 +1,18 @@
 -- Lines that are taken out of a block piece by piece.
 use Rattle.std.proofs.Common.{◌≡◌, ◌≤◌, ◌<◌, ◌+◌, ◌-◌, ℕ, zero, suc, List, [], ◌∷◌, ◌++◌, Option, Some, None, MatchOption}
-use Rattle.std.proofs.Common.{refl, sym, ap, subst, ◌∙◌, arith, append_assoc, append-nil, length, length-append, length-take}
+use Rattle.std.proofs.Common.{false, refl, sym, ap, subst, ◌∙◌, arith, append_assoc, append-nil, length, length-append, length-take}
 use Rattle.std.proofs.Common.{length-take-le, take, take-append-drop, drop, drop-drop, slice_range, slice_set}
 use Rattle.std.proofs.lemmas.List.{drop_more, drop-take, take_all}
 use Rattle.std.proofs.lemmas.Bool.{eq-eqb, eqb-true}
+use Rattle.std.proofs.lemmas.Bool.Decides.{nat_tests}
 use Rattle.memchr.specs.Find.{IsFirstByte, Nowhere, Passes, is_byte}
-use Rattle.std.specs.Io.KnownBytes.{Consumes, Keeps, prepend_known}
-use Rattle.till_request.specs.Line.{HasNoLf, IsLine}
+use Rattle.std.specs.Prelude.{◌==◌, if◌then◌else◌}
+use Rattle.std.specs.Io.KnownBytes.{Consumes, IsAtEnd, Keeps, prepend_known}
+use Rattle.till_request.specs.Line.{HasNoLf, IsLine, Takes, TakesTooLong}
 use Rattle.till_request.specs.Blocks.{Belongs, EndsBehind, GivesHeld, LineGrows}
-use Rattle.till_request.specs.declared.block.Piece.TheVariants.{TooLong}
+use Rattle.till_request.specs.declared.block.Piece.TheVariants.{Ended, TooLong}
+use Rattle.till_request.specs.declared.line.NextLine.{NextLine}
+use Rattle.till_request.specs.declared.line.NextLine.TheVariants.{Cut, End}
 
 -- no LF stands before place n
 no_lf_before : (bytes : List ℕ) (n : ℕ) → n ≤ length bytes → Nowhere (Passes (is_byte 10) bytes) 0 n → HasNoLf (take n bytes)
@@ -88,6 +92,48 @@ pub all_taken : (a b ahead : Option (List ℕ)) (line there left : List ℕ) →
     → left ≡ [] → Consumes a (prepend_known left ahead) (line ++ there)
 all_taken a b ahead line there left h k e =
     piece_taken a b ahead line there left there h k (sym (append-nil there) ∙ ap (λ l. there ++ l) (sym e))
+
+-- what was taken of a line, where what is ahead was only moved
+pub still_taken : (a b c : Option (List ℕ)) (line : List ℕ) → Consumes a b line → Keeps b c → Consumes a c line
+still_taken None b c line h k = tt
+still_taken (Some ps) None c line h k = absurd h
+still_taken (Some ps) (Some qs) None line h k = absurd k
+still_taken (Some ps) (Some qs) (Some rs) line h k = h ∙ ap (λ t. line ++ t) (sym k)
+
+-- the last piece of a line was taken, with its LF
+pub line_taken : (a b ahead : Option (List ℕ)) (line there left grown : List ℕ) → Consumes a b line → Keeps b (prepend_known there ahead)
+    → LineGrows there line left grown Ended → Consumes a (prepend_known left ahead) (grown ++ 10 ∷ []) × IsLine grown
+line_taken a b ahead line there left grown h k g =
+    let place : line ++ (g.0 ++ 10 ∷ []) ≡ grown ++ 10 ∷ [] = sym (append_assoc line g.0 (10 ∷ [])) ∙ ap (λ t. t ++ 10 ∷ []) (sym g.2) in (
+      subst (λ l. Consumes a (prepend_known left ahead) l) place
+          (piece_taken a b ahead line there left (g.0 ++ 10 ∷ []) h k (g.1 ∙ sym (append_assoc g.0 (10 ∷ []) left))),
+      g.3,
+    )
+
+-- more than a line may have was taken
+pub too_long_taken : (a b ahead : Option (List ℕ)) (line there left grown : List ℕ) → Consumes a b line → Keeps b (prepend_known there ahead)
+    → LineGrows there line left grown TooLong → TakesTooLong a (prepend_known left ahead)
+too_long_taken a b ahead line there left grown h k g = (line ++ g.0, piece_taken a b ahead line there left g.0 h k g.1, g.2, g.3)
+
+at_end_too : (ahead : Option (List ℕ)) → IsAtEnd ahead → IsAtEnd (prepend_known [] ahead)
+at_end_too None h = h
+at_end_too (Some rest) h = h
+
+end_by : (a b ahead : Option (List ℕ)) (line : List ℕ) → Consumes a b line → IsLine line → Keeps b (prepend_known [] ahead) → IsAtEnd ahead
+    → Takes a (prepend_known [] ahead) (if length line == 0 then End else Cut)
+end_by a b ahead [] h l k z = (still_taken a b (prepend_known [] ahead) [] h k, at_end_too ahead z)
+end_by a b ahead (x ∷ xs) h l k z =
+    let some : (length (x ∷ xs) == 0) ≡ false = grind (arith, nat_tests) in
+    subst (λ e. Takes a (prepend_known [] ahead) (if e then End else Cut)) (sym some)
+    (x ∷ xs, still_taken a b (prepend_known [] ahead) (x ∷ xs) h k, l, omega arith, at_end_too ahead z)
+
+-- the input ended behind what was taken of a line
+pub end_taken : (a b ahead : Option (List ℕ)) (line there : List ℕ) (found : NextLine) → Consumes a b line → IsLine line
+    → Keeps b (prepend_known there ahead) → there ≡ [] → IsAtEnd ahead → found ≡ (if length line == 0 then End else Cut)
+    → Takes a (prepend_known there ahead) found
+end_taken a b ahead line there found h l k none z is =
+    subst (λ t. Takes a (prepend_known t ahead) found) (sym none)
+    (subst (λ f. Takes a (prepend_known [] ahead) f) (sym is) (end_by a b ahead line h l (subst (λ t. Keeps b (prepend_known t ahead)) none k) z))
 
 -- so many bytes at the front go into a line
 pub held_taken : (there line grown left : List ℕ) (room n count : ℕ) → IsLine line → room ≡ 8400 - length line → Belongs there room n → count ≤ n

@@ -1,12 +1,12 @@
 -- Words behind a text are joined by spaces.
-use Rattle.std.proofs.Common.{◌≡◌, ℕ, List, [], ◌∷◌, ◌++◌, codes, Option, Some, None, refl, ◌∙◌, append_assoc, map}
+use Rattle.std.proofs.Common.{◌≡◌, ◌≢◌, ℕ, List, [], ◌∷◌, ◌++◌, codes, Option, Some, None, MatchOption, Bor, refl, sym, ◌∙◌, append_assoc, map}
 use Rattle.std.specs.Fmt.{decimal}
 use Rattle.std.specs.List.{join_with_byte}
 use Rattle.std.specs.Option.{option_to_list}
 use Rattle.till_request.specs.declared.act.Answer.TheVariants.{Entered, Program}
 use Rattle.till_request.specs.declared.act.Reply.{Reply}
 use Rattle.till_request.specs.declared.act.Reply.TheVariants as replies
-use Rattle.till_request.specs.Answer.{answer_text, order_words, reply_words}
+use Rattle.till_request.specs.Answer.{answer_text, order_words, reply_text, reply_words}
 use Rattle.till_request.specs.Short.{with_words}
 
 words_joined : (text word : List ℕ) (words : List (List ℕ)) → with_words text (word ∷ words) ≡ text ++ 32 ∷ join_with_byte 32 (word ∷ words)
@@ -32,3 +32,21 @@ refused number None None = refl
 refused number None (Some part) = words_joined (codes "V" ++ decimal number) (decimal part) []
 refused number (Some unit) None = words_joined (codes "V" ++ decimal number) (decimal unit) []
 refused number (Some unit) (Some part) = words_joined (codes "V" ++ decimal number) (decimal unit) (decimal part ∷ [])
+
+-- a reply's words, a space before each
+replied : (reply : Reply) → with_words [] (reply_words reply) ≡ 32 ∷ reply_text reply
+replied replies.Done = words_joined [] (codes "done") []
+replied (replies.Granted amount version) = words_joined [] (codes "granted") (decimal amount ∷ codes "by" ∷ decimal version ∷ [])
+replied (replies.Version version) = words_joined [] (codes "version") (decimal version ∷ [])
+replied (replies.Order order) = words_joined [] (codes "order") (order_words order)
+replied (replies.Point state nozzle amount volume limit preset unpaid) =
+    words_joined [] (codes "point")
+    (decimal state ∷ decimal nozzle ∷ decimal amount ∷ decimal volume ∷ decimal limit ∷ decimal preset ∷ decimal unpaid ∷ [])
+replied (replies.Refused number None) = words_joined [] (codes "S" ++ decimal number) []
+replied (replies.Refused number (Some value)) = words_joined [] (codes "S" ++ decimal number) (decimal value ∷ [])
+
+-- what stands behind the first space of these words is the reply's text
+pub behind_space : (reply : Reply) (text : List ℕ) (found : Option (Bor (List ℕ))) → text ≡ with_words [] (reply_words reply)
+    → MatchOption found ((rest : List ℕ) → text ≢ 32 ∷ rest) (λ x. text ≡ 32 ∷ x.now) → MatchOption found ⊥ (λ x. x.now ≡ reply_text reply)
+behind_space reply text None e h = h (reply_text reply) (e ∙ replied reply)
+behind_space reply text (Some x) e h = let same : 32 ∷ x.now ≡ 32 ∷ reply_text reply = sym h ∙ e ∙ replied reply in cc

@@ -120,7 +120,7 @@ pub fn put_reply(text: &mut ShortText, reply: &Reply)
 }
 
 /// The word of a line's fault.
-fn fault_word(fault: LineFault) -> &'static str
+pub fn fault_word(fault: LineFault) -> &'static str
     ensures text { result.now ≡ fault_text fault }
     ensures short { length result.now ≤ 3 }
 {
@@ -168,7 +168,7 @@ fn put_entered(text: &mut ShortText, number: u32, reply: &Reply)
 }
 
 /// Puts an answer into an empty text.
-fn put_answer(text: &mut ShortText, answer: &Answer)
+pub fn put_answer(text: &mut ShortText, answer: &Answer)
     requires { text.old.bytes ≡ [] }
     ensures text { text.new.bytes ≡ answer_text answer.now }
     ensures short { length text.new.bytes ≤ 173 }
