@@ -178,19 +178,15 @@ fn based(tokens: &[Token]) -> Option<(u8, Value, &[Token])>
         [
             Token::Open,
             Token::Register(Width::Bits64, base),
-            Token::Plus,
+            sign,
             Token::Number(n),
             Token::Close,
             rest @ ..,
-        ] => Some((*base, plus(*n), rest)),
-        [
-            Token::Open,
-            Token::Register(Width::Bits64, base),
-            Token::Minus,
-            Token::Number(n),
-            Token::Close,
-            rest @ ..,
-        ] => Some((*base, minus(*n), rest)),
+        ] => match *sign {
+            Token::Plus => Some((*base, plus(*n), rest)),
+            Token::Minus => Some((*base, minus(*n), rest)),
+            _ => None,
+        },
         _ => None,
     }
 }
@@ -374,32 +370,72 @@ fn jump_to(form: Form, fields: Fields, tokens: &[Token]) -> Option<Statement>
     Some(Statement::Jump(form, fields, target))
 }
 
-// Returns the instruction for the tokens after `if r1 CMP`.
-fn branch(condition: Condition, width: Width, dst: u8, tokens: &[Token]) -> Option<Statement>
-    ensures { result ≡ spec.branch condition width dst tokens.now }
+// Returns the instruction for the tokens after `if r1 CMP r2`.
+fn register_branch(
+    condition: Condition,
+    width: Width,
+    dst: u8,
+    other: Width,
+    src: u8,
+    tokens: &[Token],
+) -> Option<Statement>
+    ensures { result ≡ spec.branch condition width dst (Token.Register other src ∷ tokens.now) }
 {
-    match tokens {
-        [Token::Register(other, src), Token::Goto, rest @ ..] => {
-            if is_same(width, *other) {
-                jump_to(
-                    Form::Branch(condition, width, Source::Register),
-                    fields_of(dst, *src, exactly(0), exactly(0)),
-                    rest,
-                )
-            } else {
-                None
-            }
-        }
-        [Token::Number(n), Token::Goto, rest @ ..] => jump_to(
-            Form::Branch(condition, width, Source::Immediate),
-            fields_of(dst, 0, exactly(0), plus(*n)),
+    let (first, rest) = tokens.split_first()?;
+    match *first {
+        Token::Goto if is_same(width, other) => jump_to(
+            Form::Branch(condition, width, Source::Register),
+            fields_of(dst, src, exactly(0), exactly(0)),
             rest,
         ),
-        [Token::Minus, Token::Number(n), Token::Goto, rest @ ..] => jump_to(
+        _ => None,
+    }
+}
+
+// Returns the instruction for the tokens after `if r1 CMP N`.
+fn number_branch(
+    condition: Condition,
+    width: Width,
+    dst: u8,
+    n: Option<u64>,
+    tokens: &[Token],
+) -> Option<Statement>
+    ensures { result ≡ spec.branch condition width dst (Token.Number n ∷ tokens.now) }
+{
+    let (first, rest) = tokens.split_first()?;
+    match *first {
+        Token::Goto => jump_to(
+            Form::Branch(condition, width, Source::Immediate),
+            fields_of(dst, 0, exactly(0), plus(n)),
+            rest,
+        ),
+        _ => None,
+    }
+}
+
+// Returns the instruction for the tokens after `if r1 CMP -`.
+fn minus_branch(condition: Condition, width: Width, dst: u8, tokens: &[Token]) -> Option<Statement>
+    ensures { result ≡ spec.branch condition width dst (Token.Minus ∷ tokens.now) }
+{
+    match tokens {
+        [Token::Number(n), Token::Goto, rest @ ..] => jump_to(
             Form::Branch(condition, width, Source::Immediate),
             fields_of(dst, 0, exactly(0), minus(*n)),
             rest,
         ),
+        _ => None,
+    }
+}
+
+// Returns the instruction for the tokens after `if r1 CMP`.
+fn branch(condition: Condition, width: Width, dst: u8, tokens: &[Token]) -> Option<Statement>
+    ensures { result ≡ spec.branch condition width dst tokens.now }
+{
+    let (first, rest) = tokens.split_first()?;
+    match *first {
+        Token::Register(other, src) => register_branch(condition, width, dst, other, src, rest),
+        Token::Number(n) => number_branch(condition, width, dst, n, rest),
+        Token::Minus => minus_branch(condition, width, dst, rest),
         _ => None,
     }
 }
@@ -414,11 +450,10 @@ fn no_fields() -> Fields
 fn changed(width: Width, dst: u8, tokens: &[Token]) -> Option<Statement>
     ensures { result ≡ spec.statement (Token.Register width dst ∷ tokens.now) }
 {
-    match tokens {
-        [Token::Assign(Operator::Mov, _), rest @ ..] => assigned(width, dst, rest),
-        [Token::Assign(operator, offset), rest @ ..] => operand(
-            *operator, *offset, width, dst, rest,
-        ),
+    let (first, rest) = tokens.split_first()?;
+    match *first {
+        Token::Assign(Operator::Mov, _) => assigned(width, dst, rest),
+        Token::Assign(operator, offset) => operand(operator, offset, width, dst, rest),
         _ => None,
     }
 }
@@ -458,11 +493,12 @@ fn exit(tokens: &[Token]) -> Option<Statement>
     }
 }
 
-// Returns the instruction that begins with a token.
-fn begun(first: Token, rest: &[Token]) -> Option<Statement>
-    ensures { result ≡ spec.statement (first ∷ rest.now) }
+/// Returns the instruction that the tokens say, if they have the form of one.
+pub fn statement_of(tokens: &[Token]) -> Option<Statement>
+    ensures { result ≡ spec.statement tokens.now }
 {
-    match first {
+    let (first, rest) = tokens.split_first()?;
+    match *first {
         Token::Register(width, dst) => changed(width, dst, rest),
         Token::Star => store(rest),
         Token::Goto => jump_to(Form::Ja, no_fields(), rest),
@@ -471,16 +507,6 @@ fn begun(first: Token, rest: &[Token]) -> Option<Statement>
         Token::Call => call(rest),
         Token::Exit => exit(rest),
         _ => None,
-    }
-}
-
-/// Returns the instruction that the tokens say, if they have the form of one.
-pub fn statement_of(tokens: &[Token]) -> Option<Statement>
-    ensures { result ≡ spec.statement tokens.now }
-{
-    match tokens {
-        [first, rest @ ..] => begun(*first, rest),
-        [] => None,
     }
 }
 

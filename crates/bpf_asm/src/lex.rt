@@ -263,5 +263,11 @@ pub fn kind_of(text: &[u8]) -> Token
 pub fn kinds(alloc: Global, words: &[&[u8]]) -> Result<Vec<Token>, AllocError>
     ensures { IfOk result (λ v. v.items ≡ map spec.kind_of (map (λ t. t.now) words.now)) }
 {
-    words.iter().map(|word| kind_of(*word)).collect(alloc)
+    let mut tokens = Vec::new(alloc);
+    let mut rest = words;
+    while let [word, after @ ..] = rest {
+        tokens.push(kind_of(*word))?;
+        rest = after;
+    }
+    Ok(tokens)
 }
