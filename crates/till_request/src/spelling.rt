@@ -1,6 +1,7 @@
 //! Acts written as lines.
-ghost use Rattle.std.specs.Prelude.{◌≡◌, IfOk, string_bytes};
-ghost use Rattle.till_request.specs.Spelling.{ReadsBack, spelling, event_words, spelled_words};
+ghost use Rattle.std.specs.Prelude.{◌≡◌, ◌∷◌, IfOk, decimal, map, string_bytes};
+ghost use Rattle.std.specs.Option.{option_to_list};
+ghost use Rattle.till_request.specs.Spelling.{ReadsBack, spelling, event_words, request_words, spelled_words};
 
 use crate::act::{Act, Request};
 use bpf_model::context::Layout;
@@ -13,6 +14,26 @@ pub fn spelling_is_read()
     ensures { ReadsBack }
 {}
 
+/// A request's verb, and its one or two numbers.
+fn words_of(request: Request) -> (&'static str, u32, Option<u64>)
+    ensures { request_words request ≡ result.0.now ∷ decimal result.1 ∷ map decimal (option_to_list result.2) }
+{
+    match request {
+        Request::Release(point, amount) => ("release", point, Some(amount)),
+        Request::Preset(point, amount) => ("preset", point, Some(amount)),
+        Request::Price(product, price) => ("price", product, Some(price)),
+        Request::OpenPoint(point) => ("open", point, None),
+        Request::ClosePoint(point) => ("close", point, None),
+        Request::Show(point) => ("show", point, None),
+        Request::Suspend(point) => ("suspend", point, None),
+        Request::Resume(point) => ("resume", point, None),
+        Request::Stop(point) => ("stop", point, None),
+        Request::Lock(point, number) => ("lock", point, Some(u64::from(number))),
+        Request::Unlock(point, number) => ("unlock", point, Some(u64::from(number))),
+        Request::Clear(point, number) => ("clear", point, Some(u64::from(number))),
+    }
+}
+
 impl fmt::Display for Request {
     ghost use Rattle.std.specs.Prelude.{Some};
     ghost use Rattle.till_request.specs.Spelling.{request_text};
@@ -20,19 +41,9 @@ impl fmt::Display for Request {
     ghost output = { λ r. Some (request_text r) };
 
     fn fmt<W: fmt::Write>(&self, f: &mut fmt::Formatter<W>) -> fmt::Result {
-        match self {
-            Request::Release(point, amount) => write!(f, "release {point} {amount}"),
-            Request::Preset(point, amount) => write!(f, "preset {point} {amount}"),
-            Request::Price(product, price) => write!(f, "price {product} {price}"),
-            Request::OpenPoint(point) => write!(f, "open {point}"),
-            Request::ClosePoint(point) => write!(f, "close {point}"),
-            Request::Show(point) => write!(f, "show {point}"),
-            Request::Suspend(point) => write!(f, "suspend {point}"),
-            Request::Resume(point) => write!(f, "resume {point}"),
-            Request::Stop(point) => write!(f, "stop {point}"),
-            Request::Lock(point, number) => write!(f, "lock {point} {number}"),
-            Request::Unlock(point, number) => write!(f, "unlock {point} {number}"),
-            Request::Clear(point, number) => write!(f, "clear {point} {number}"),
+        match words_of(*self) {
+            (verb, first, None) => write!(f, "{verb} {first}"),
+            (verb, first, Some(second)) => write!(f, "{verb} {first} {second}"),
         }
     }
 }
