@@ -9,7 +9,7 @@ use Rattle.memchr.specs.Find.{IsFirstByte, Nowhere, Passes, is_byte}
 use Rattle.std.specs.Prelude.{◌==◌, if◌then◌else◌}
 use Rattle.std.specs.Io.KnownBytes.{Consumes, IsAtEnd, Keeps, prepend_known}
 use Rattle.till_request.specs.Line.{HasNoLf, IsLine, Takes, TakesTooLong}
-use Rattle.till_request.specs.Blocks.{Belongs, EndsBehind, GivesHeld, LineGrows}
+use Rattle.till_request.specs.Blocks.{Belongs, EndsBehind, GivesHeld, LineGrows, LosesPart}
 use Rattle.till_request.specs.declared.block.Piece.TheVariants.{Ended, TooLong}
 use Rattle.till_request.specs.declared.line.NextLine.{NextLine}
 use Rattle.till_request.specs.declared.line.NextLine.TheVariants.{Cut, End}
@@ -77,6 +77,29 @@ pub ends_nowhere : (there line : List ℕ) (room : ℕ) → IsLine line → room
 ends_nowhere there line room l e h o =
     beyond there line room l e (omega (arith, o))
     (no_lf_less (length there) (room + 1) there (omega (arith, o)) (subst (λ l. HasNoLf l) (sym (take_all (length there) there (omega arith))) h))
+
+-- a front without LF, for which there is room, was taken and lost
+pub part_lost : (there line left : List ℕ) (count : ℕ) → IsLine line → HasNoLf (take count there) → count ≤ length there
+    → count ≤ 8400 - length line → 0 < count → left ≡ drop count there → LosesPart there line left
+part_lost there line left count l h long room some rest = (
+  take count there,
+  sym (ap (λ r. take count there ++ r) rest ∙ take-append-drop count there),
+  (no_lf_both line (take count there) l.0 h, omega (arith, length-append line (take count there), length-take-le count there long, l.1, room)),
+  omega (arith, length-take-le count there long, some),
+)
+
+-- the front up to the LF, for which there is room, was taken with the LF
+pub line_ended : (there line left grown : List ℕ) (count : ℕ) → IsLine line → EndsBehind count there → count ≤ 8400 - length line
+    → grown ≡ line ++ take count there → left ≡ drop 1 (drop count there) → LineGrows there line left grown Ended
+line_ended there line left grown count l h room is rest =
+    let long : length (take count there) ≡ count = length-take-le count there (omega (arith, h.0)) in
+    let whole : IsLine (line ++ take count there) =
+    (no_lf_both line (take count there) l.0 h.1, omega (arith, length-append line (take count there), long, l.1, room)) in (
+      take count there,
+      h.2 ∙ ap (λ r. take count there ++ 10 ∷ r) (sym (rest ∙ drop-drop 1 count there)),
+      is,
+      subst (λ w. IsLine w) (sym is) whole,
+    )
 
 -- what was taken of a line once a piece of what is there was taken too
 pub piece_taken : (a b ahead : Option (List ℕ)) (line there left piece : List ℕ) → Consumes a b line → Keeps b (prepend_known there ahead)

@@ -1,7 +1,7 @@
 -- What is taken piece by piece.
-use Rattle.std.proofs.Common.{◌≡◌, ◌≢◌, ℕ, List, [], ◌∷◌, ◌++◌, Some, None, Option, Result, Ok, Err, OnErr, sym, ◌∙◌, ap, subst, append_assoc}
-use Rattle.std.specs.Io.KnownBytes.{Consumes, Appends}
-use Rattle.till_request.specs.Line.{GoesOn, HasNoLf, IsLine, TakesPart}
+use Rattle.std.proofs.Common.{◌≡◌, ◌≢◌, ℕ, List, [], ◌∷◌, ◌++◌, Some, None, Option, Result, Ok, Err, OnErr, sym, ◌∙◌, ap, subst, append_assoc, append-nil, MatchOption, IfOk}
+use Rattle.std.specs.Io.KnownBytes.{Consumes, Appends, IsAtEnd}
+use Rattle.till_request.specs.Line.{GoesOn, GoesPart, HasNoLf, IsLine, TakesHeld, TakesPart}
 
 pub consumes_more : (a b c : Option (List ℕ)) (xs ys : List ℕ) → Consumes a b xs → Consumes b c ys → Consumes a c (xs ++ ys)
 consumes_more None b c xs ys h k = tt
@@ -37,3 +37,19 @@ pub byte_behind : (a b c : Option (List ℕ)) (line grown : List ℕ) (byte : �
 byte_behind a b c line grown byte h on =
     let place : line ++ (on.0 ++ byte ∷ []) ≡ grown ++ byte ∷ [] = sym (append_assoc line on.0 (byte ∷ [])) ∙ ap (λ t. t ++ byte ∷ []) (sym on.2) in
     subst (Consumes a c) place (consumes_more a b c line (on.0 ++ byte ∷ []) h on.1)
+
+nothing_more : (a b c : Option (List ℕ)) (xs : List ℕ) → Consumes a b xs → Consumes b c [] → Consumes a c xs
+nothing_more a b c xs h k = subst (Consumes a c) (append-nil xs) (consumes_more a b c xs [] h k)
+
+-- what was held of a line was taken, and then a byte was asked for
+pub goes_on : {E : Type 0} (a b c : Option (List ℕ)) (line grown : List ℕ) (r : Result (Option ℕ) E) → TakesHeld a b line grown
+    → IfOk r (λ found. MatchOption found (Consumes b c [] × IsAtEnd c) (λ byte. Consumes b c (byte ∷ []))) → IfOk r (GoesOn a c line grown)
+goes_on a b c line grown (Err e) h k = tt
+goes_on a b c line grown (Ok None) h k = ((h.0, nothing_more a b c h.0 h.1 k.0, h.2, h.3), k.1)
+goes_on a b c line grown (Ok (Some byte)) h k = (h.0, consumes_more a b c h.0 (byte ∷ []) h.1 k, h.2, h.3)
+
+-- the same, where the device failed
+pub goes_part : {T E : Type 0} (a b c : Option (List ℕ)) (line grown : List ℕ) (r : Result T E) → TakesHeld a b line grown
+    → OnErr r (Consumes b c []) → OnErr r (GoesPart a c line)
+goes_part a b c line grown (Ok x) h k = tt
+goes_part a b c line grown (Err e) h k = (h.0, nothing_more a b c h.0 h.1 k, subst (λ l. IsLine l) h.2 h.3)
