@@ -1,6 +1,6 @@
 //! The program's words, as they are described to `clap`.
 ghost use Rattle.std.specs.Prelude.{◌≡◌, false, IfOk, codes};
-ghost use Rattle.clap.specs.Words.{app_of, rule_of, with_subcommand};
+ghost use Rattle.clap.specs.Words.{app_of, new_app, rule_of, with_subcommand};
 ghost use Rattle.clap.specs.declared.builder.command.Command.TheViews.{out-Command};
 ghost use Rattle.command_line.specs.Asked.{context_rule, file_rule, flag_rule, journal_rule, mask_rule};
 ghost use Rattle.command_line.specs.Asked.{fc_app, top_app};
@@ -188,14 +188,22 @@ fn argument_of<'a>(alloc: Global, argument: Argument) -> Arg<'a>
     }
 }
 
+/// A subcommand, before it has arguments.
+fn described<'a>(alloc: Global, word: Word) -> Command<'a>
+    ensures app { app_of result ≡ new_app word.name.now }
+    ensures local { (out-Command result).has_globals ≡ false }
+{
+    Command::new(alloc, word.name)
+        .about(word.about)
+        .after_help(word.example)
+}
+
 /// A subcommand, as `clap` has it.
 fn subcommand_of<'a>(alloc: Global, word: Word) -> Result<Command<'a>, AllocError>
     ensures app { IfOk result (λ c. app_of c ≡ app_for word) }
     ensures local { IfOk result (λ c. (out-Command c).has_globals ≡ false) }
 {
-    let mut command = Command::new(alloc, word.name)
-        .about(word.about)
-        .after_help(word.example);
+    let mut command = described(alloc, word);
     for argument in word.arguments {
         command = command.arg(argument_of(alloc, *argument))?;
     }
@@ -207,18 +215,24 @@ fn with_word<'a>(alloc: Global, some: Command<'a>, word: Word) -> Result<Command
     ensures { IfOk result (λ c. app_of c ≡ with_subcommand (app_of some.entry) (app_for word).top) }
 {
     let subcommand = subcommand_of(alloc, word)?;
-    let command = some.subcommand(subcommand)?;
-    Ok(command)
+    some.subcommand(subcommand)
+}
+
+/// The command of the program, before it has subcommands.
+fn top_command<'a>(alloc: Global) -> Command<'a>
+    ensures { app_of result ≡ top_app }
+{
+    Command::new(alloc, "fc")
+        .version("0.1.0")
+        .about(ABOUT)
+        .after_help(AFTER)
 }
 
 /// The command of a program with these subcommands.
 fn with_words<'a>(alloc: Global, words: &[Word]) -> Result<Command<'a>, AllocError>
     ensures { IfOk result (λ c. app_of c ≡ with_words top_app words.now) }
 {
-    let mut command = Command::new(alloc, "fc")
-        .version("0.1.0")
-        .about(ABOUT)
-        .after_help(AFTER);
+    let mut command = top_command(alloc);
     for word in words {
         command = with_word(alloc, command, *word)?;
     }

@@ -1,8 +1,17 @@
-use Rattle.std.proofs.Common.{ap, ◌∙◌}
-use Rattle.clap.specs.Words.{App, app_of, with_subcommand}
+use Rattle.std.proofs.Common.{ap, ◌∙◌, ◌≡◌, IfOk, Result, Ok, Err, false}
+use Rattle.clap.specs.Words.{AddsSubcommand, App, app_of, with_subcommand}
+use Rattle.clap.specs.declared.builder.command.Command.{Command}
+use Rattle.clap.specs.declared.builder.command.Command.TheViews.{out-Command}
+use Rattle.command_line.specs.Described.{app_for}
 use Rattle.command_line.proofs.app.with_word.Goals as goal
+
+-- what holds of a result that is a command
+added : (old sub : Command) (a : App) → app_of sub ≡ a → (out-Command sub).has_globals ≡ false → {E : Type 0} (r : Result Command E)
+    → IfOk r (AddsSubcommand old sub) → IfOk r (λ c. app_of c ≡ with_subcommand (app_of old) a.top)
+added old sub a e local (Ok c) h = h.shape local ∙ ap (λ (a : App). with_subcommand (app_of old) a.top) e
+added old sub a e local (Err f) h = h
 
 pub returns : goal.returns
 returns c =
-    c.in_ok-command.ensures.shape c.in_ok-subcommand.ensures.local
-    ∙ ap (λ (a : App). with_subcommand (app_of c.args.some) a.top) c.in_ok-subcommand.ensures.app
+    added c.args.some c.in_ok-subcommand.subcommand (app_for c.args.word) c.in_ok-subcommand.ensures.app c.in_ok-subcommand.ensures.local
+    c.subcommand.result c.subcommand.ensures

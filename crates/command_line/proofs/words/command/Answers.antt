@@ -6,7 +6,7 @@ use Rattle.clap.specs.Kinds.{IsAmong, Kinds}
 use Rattle.clap.specs.declared.parser.matches.ArgMatches.{ArgMatches}
 use Rattle.clap.specs.declared.error.kind.ErrorKind.{ErrorKind}
 use Rattle.clap.specs.declared.error.kind.ErrorKind.TheVariants as kind
-use Rattle.command_line.specs.Asked.{IsNothing, IsShown, MayShow, RefusesBy, fc_app, asked, asked_of, unasked_text}
+use Rattle.command_line.specs.Asked.{Asked, IsNothing, IsShown, MayShow, RefusesBy, fc_app, asked, asked_of, unasked_text}
 use Rattle.command_line.specs.Refusing.{IsRefusalOf, IsUnasked}
 use Rattle.command_line.specs.declared.job.Job.{Job}
 use Rattle.command_line.specs.declared.job.CommandFault.{CommandFault}
@@ -56,6 +56,10 @@ refused a e lent words same k h t =
     h (subst (λ (b : App). takes b (map (λ w. string_bytes w) lent) ≡ true) (sym e)
     (subst (λ (ws : List (String Global)). takes fc_app (map (λ w. string_bytes w) ws) ≡ true) (sym same) t))
 
+-- what asks for something doesn't ask for nothing
+no_job : (j : Job) (P : Type 0) → IsSome (asked j) → asked j ≡ None → P
+no_job j P some none = let bad : false ≡ true = subst (λ (o : Option Asked). IsSome o) none some in absurd (cc)
+
 -- help and the version are no want of memory
 shown_has_memory : (k : ErrorKind) → IsShown k → k ≡ kind.OutOfMemory → ⊥
 shown_has_memory k (inl h) m = let bad : kind.DisplayHelp ≡ kind.OutOfMemory = sym h ∙ m in cc
@@ -98,6 +102,18 @@ returns-in-Ok-clause-faultless c =
     more c.found_job.result (λ j. IsSome (asked j)) (λ j. IsSome (asked j) → fault_of fc_app (map (λ w. string_bytes w) c.args.words.items) ≡ [])
     (λ j h some. sym same ∙ c.in-Ok.ensures.kinds (simple_and_free a c.in_ok-command.ensures)) c.found_job.ensures.some
 
+pub returns-in-Ok-clause-shown : goal.returns-in-Ok-clause-shown
+returns-in-Ok-clause-shown c =
+    let words = map (λ w. string_bytes w) c.args.words.items in
+    more c.found_job.result (λ j. IsSome (asked j)) (λ j. asked j ≡ None → takes fc_app words ≡ false)
+    (λ j. no_job j (takes fc_app words ≡ false)) c.found_job.ensures.some
+
+pub returns-in-Ok-clause-helps : goal.returns-in-Ok-clause-helps
+returns-in-Ok-clause-helps c =
+    let words = map (λ w. string_bytes w) c.args.words.items in
+    more c.found_job.result (λ j. IsSome (asked j)) (λ j. asked j ≡ None → MayShow (fault_of fc_app words))
+    (λ j. no_job j (MayShow (fault_of fc_app words))) c.found_job.ensures.some
+
 pub returns-in-Ok-clause-refused : goal.returns-in-Ok-clause-refused
 returns-in-Ok-clause-refused c =
     let rows = found (app_of c.in_ok-command.command) c.in_ok-command.ensures c.as_slice.result.now c.args.words.items c.as_slice.ensures.value c.in-Ok.matches
@@ -105,6 +121,18 @@ returns-in-Ok-clause-refused c =
     let words = map (λ w. string_bytes w) c.args.words.items in
     more_err c.found_job.result (IsUnasked (subcommand_rows_of c.in-Ok.matches)) (RefusesBy (fault_of fc_app words) (subcommand_of fc_app words))
     (λ e h. nothing (fault_of fc_app words) (subcommand_rows_of c.in-Ok.matches) (subcommand_of fc_app words) rows e h) c.found_job.ensures.none
+
+pub returns-clause-asked : goal.returns-clause-asked
+returns-clause-asked c =
+    let found = asked_of (subcommand_of fc_app (map (λ w. string_bytes w) c.args.words.items)) in
+    more c.told_of.result (λ j. asked j ≡ None) (λ j. IsSome (asked j) → found ≡ asked j)
+    (λ j none some. no_job j (found ≡ asked j) some none) c.told_of.ensures.none
+
+pub returns-clause-faultless : goal.returns-clause-faultless
+returns-clause-faultless c =
+    let faults = fault_of fc_app (map (λ w. string_bytes w) c.args.words.items) in
+    more c.told_of.result (λ j. asked j ≡ None) (λ j. IsSome (asked j) → faults ≡ [])
+    (λ j none some. no_job j (faults ≡ []) some none) c.told_of.ensures.none
 
 pub returns-clause-shown : goal.returns-clause-shown
 returns-clause-shown c =

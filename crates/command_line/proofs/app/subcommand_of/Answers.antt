@@ -1,0 +1,22 @@
+use Rattle.std.proofs.Common.{◌≡◌, ◌<◌, ◌+◌, ◌∙◌, ℕ, List, ap, sym, drop, get_or, length}
+use Rattle.std.proofs.lemmas.List.{drop_more}
+use Rattle.clap.specs.Words.{App, Rule, app_of, rule_of, with_rule}
+use Rattle.command_line.specs.Described.{rule_for, with_rules}
+use Rattle.command_line.specs.declared.app.Argument.{Argument}
+use Rattle.command_line.proofs.app.subcommand_of.Goals as goal
+
+-- the next argument moves from those that are left to the command
+moved : (a b : App) (args : List Argument) (i : ℕ) (x : Argument) (r : Rule) → i < length args → r ≡ rule_for (get_or args i x) → b ≡ with_rule a r
+    → with_rules b (drop (i + 1) args) ≡ with_rules a (drop i args)
+moved a b args i x r lt e f =
+    ap (λ (x : App). with_rules x (drop (i + 1) args)) (f ∙ ap (with_rule a) e) ∙ sym (ap (with_rules a) (drop_more args i x lt))
+
+pub loop-argument-preserved : goal.loop-argument-preserved
+loop-argument-preserved c = record {
+  told =
+      moved (app_of c.loop-argument.command) (app_of c.in_ok-command.command) c.args.word.arguments.now c.loop-argument.argument-index _
+      (rule_of c.argument_of.result) c.loop-argument-test.true c.argument_of.ensures.rule
+      (c.in_ok-command.ensures.shape c.argument_of.ensures.local)
+      ∙ c.loop-argument.invariant.told;
+  local = c.in_ok-command.ensures.globals ∙ (rw c.loop-argument.invariant.local c.argument_of.ensures.local);
+}
