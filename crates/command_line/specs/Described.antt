@@ -1,10 +1,14 @@
 -- Promises: what a table of subcommands describes.
-use Rattle.std.specs.Prelude.{List, [], ◌∷◌}
-use Rattle.clap.specs.Words.{App, Rule, new_app, with_rule, with_subcommand}
+use Rattle.std.specs.Prelude.{List, [], ◌∷◌, Some}
+use Rattle.clap.specs.Words.{App, Rule, Text, new_app, new_rule, with_rule, with_subcommand}
 use Rattle.command_line.specs.Asked.{context_rule, file_rule, flag_rule, journal_rule, mask_rule}
 use Rattle.command_line.specs.declared.app.Argument.{Argument}
 use Rattle.command_line.specs.declared.app.Argument.TheVariants as argument
 use Rattle.command_line.specs.declared.app.Word.{Word}
+
+-- --NAME VALUE
+abbrev pub option_rule : Text → Rule
+option_rule name = record (new_rule name) { long = Some name; value_names = 1 }
 
 abbrev pub rule_for : Argument → Rule
 rule_for (argument.File name help) = file_rule name.now

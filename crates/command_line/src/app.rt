@@ -4,7 +4,7 @@ ghost use Rattle.clap.specs.Words.{app_of, new_app, rule_of, with_subcommand};
 ghost use Rattle.clap.specs.declared.builder.command.Command.TheViews.{out-Command};
 ghost use Rattle.command_line.specs.Asked.{context_rule, file_rule, flag_rule, journal_rule, mask_rule};
 ghost use Rattle.command_line.specs.Asked.{fc_app, top_app};
-ghost use Rattle.command_line.specs.Described.{app_for, rule_for, with_words};
+ghost use Rattle.command_line.specs.Described.{app_for, option_rule, rule_for, with_words};
 
 use clap::{Arg, ArgAction, Command, value_parser};
 use std::alloc::{AllocError, Global};
@@ -41,15 +41,24 @@ fn file_arg<'a>(alloc: Global, name: &'a str, help: &'a str) -> Arg<'a>
     Arg::new(alloc, name).help(help).required(true)
 }
 
+/// A word --NAME that is followed by a value.
+fn option_arg<'a>(alloc: Global, name: &'a str, value: &'a str, help: &'a str) -> Arg<'a>
+    ensures rule { rule_of result ≡ option_rule name.entry.now }
+    ensures local { result.global ≡ false }
+{
+    Arg::new(alloc, name)
+        .long(name)
+        .value_name(value)
+        .help(help)
+}
+
 /// The counters that a program declares.
 fn mask_arg<'a>(alloc: Global) -> Arg<'a>
     ensures rule { rule_of result ≡ mask_rule }
     ensures local { result.global ≡ false }
 {
-    Arg::new(alloc, "counters")
-        .long("counters")
-        .value_name("MASK")
-        .help("the declared counters: bit c of this number for counter c")
+    let help = "the declared counters: bit c of this number for counter c";
+    option_arg(alloc, "counters", "MASK", help)
         .default_value("0")
         .value_parser(value_parser!(u32))
 }
@@ -59,11 +68,8 @@ fn context_arg<'a>(alloc: Global) -> Arg<'a>
     ensures rule { rule_of result ≡ context_rule }
     ensures local { result.global ≡ false }
 {
-    Arg::new(alloc, "context")
-        .long("context")
-        .value_name("LAYOUT")
-        .help("the layout of the context: 1 as load gives it, 2 as load2 does")
-        .default_value("1")
+    let help = "the layout of the context: 1 as load gives it, 2 as load2 does";
+    option_arg(alloc, "context", "LAYOUT", help).default_value("1")
 }
 
 /// The file in which a served site keeps its journal.
@@ -71,10 +77,8 @@ fn journal_arg<'a>(alloc: Global) -> Arg<'a>
     ensures rule { rule_of result ≡ journal_rule }
     ensures local { result.global ≡ false }
 {
-    Arg::new(alloc, "journal")
-        .long("journal")
-        .value_name("FILE")
-        .help("keep the journal in this file as it happens, and go on from what it holds")
+    let help = "keep the journal in this file as it happens, and go on from what it holds";
+    option_arg(alloc, "journal", "FILE", help)
 }
 
 /// A word that stands alone.
