@@ -1,6 +1,6 @@
 -- What is told of a journal.
-use Rattle.std.proofs.Common.{◌≡◌, ◌≢◌, ℕ, List, [], ◌++◌, Option, Some, None, Result, Ok, Err, sym, ap, ◌∙◌, subst, inl, inr}
-use Rattle.std.specs.Prelude.{IfErr, IfOk}
+use Rattle.std.proofs.Common.{◌≡◌, ◌≢◌, ◌⊎◌, Bool, ℕ, List, [], ◌++◌, Option, Some, None, Result, Ok, Err, sym, ap, ◌∙◌, subst, inl, inr}
+use Rattle.std.specs.Prelude.{IfErr, IfOk, OnOk}
 use Rattle.std.specs.List.{AllByRecursion}
 use Rattle.std.specs.Io.KnownBytes.{Consumes, IsAtEnd}
 use Rattle.std.proofs.lemmas.List.{append-nil}
@@ -8,7 +8,8 @@ use Rattle.decision_journal.specs.declared.entries.Entry.{Entry}
 use Rattle.decision_journal.specs.declared.fault.JournalFault.{JournalFault}
 use Rattle.decision_journal.specs.declared.fault.JournalFault.TheVariants as journal
 use Rattle.decision_journal.specs.Text.{journal_text}
-use Rattle.decision_journal.specs.Journal.{IsWritten, IsWant, ReadsAll, ReadsFault}
+use Rattle.decision_journal.specs.Journal.{FailsOrRunsOut, IsWritten, IsWant, ReadsAll, ReadsFault, is_device, journal_reads}
+use Rattle.till_request.specs.Count.{RoseBy, one_if}
 use Rattle.decision_journal.specs.Taking.{TakesAll}
 use Rattle.decision_journal.proofs.WholeLines.{one_journal}
 use Rattle.decision_journal.proofs.ReadAgain.{fault_again, fit}
@@ -84,7 +85,7 @@ no-journal : (config : ConfigValue) (text : List ℕ) (new : Option (List ℕ)) 
 no-journal config text new fault r wants j = wants (fault_again j.entries new fault j.written (subst (λ t. ReadsFault (Some t) new fault) j.text_is r))
 
 pub fault-told : {E : Type 0} → (config : ConfigValue) (text : List ℕ) (new : Option (List ℕ)) (fault : JournalFault) (r : Result Told E)
-    → ReadsFault (Some text) new fault → (IsWant fault → ⊥) → IfOk r (λ told. IsSaid told (journal_fault_text fault) 1) → IfOk r (JournalTells config text)
+    → ReadsFault (Some text) new fault → OnOk r (IsWant fault → ⊥) → IfOk r (λ told. IsSaid told (journal_fault_text fault) 1) → IfOk r (JournalTells config text)
 fault-told config text new fault (Ok told) reads wants said =
     inr (record {
       none = no-journal config text new fault reads wants;
@@ -100,3 +101,8 @@ bad-entry line (inr h) = cc
 pub cut : IsWant journal.Cut → ⊥
 cut (inl h) = cc
 cut (inr h) = cc
+
+-- what fails for the device as another result does
+pub fails-so : {T U : Type 0} (r : Result T JournalFault) (s : Result U JournalFault) (a b c d : ℕ) → is_device s ≡ is_device r
+    → FailsOrRunsOut r a b c d → FailsOrRunsOut s a b c d
+fails-so r s a b c d e = subst (λ (f : Bool). RoseBy (one_if f) a b ⊎ (RoseBy 0 a b × RoseBy journal_reads c d)) (sym e)

@@ -1,5 +1,5 @@
 //! What is said of assembler texts, and of programs that are read back.
-ghost use Rattle.std.specs.Prelude.{◌≡◌, ◌≢◌, ◌⊎◌, ℕ, List, IfOk, OnOk};
+ghost use Rattle.std.specs.Prelude.{◌≡◌, ◌≢◌, ◌⊎◌, ℕ, List, IfOk, OnOk, string_bytes};
 ghost use Rattle.bpf_decode.specs.Faults.{IsRefusedFor};
 ghost use Rattle.bpf_decode.specs.Encoded.{encoded};
 ghost use Rattle.bpf_asm.specs.Text.{canon};
@@ -27,17 +27,24 @@ fn told_units(alloc: Global, code: &Code) -> Result<Told, AllocError>
 }
 
 /// The line of a fault of the assembler; none of want of memory.
+fn asm_fault_line(alloc: Global, fault: AsmFault) -> Result<String, AllocError>
+    ensures line { IfOk result (λ line. string_bytes line ≡ asm_fault_text fault) }
+    ensures fault { OnOk result (fault ≢ AsmFault.OutOfMemory) }
+{
+    match fault {
+        AsmFault::BadLine(line) => format!(in alloc; "A1 {line}\n"),
+        AsmFault::BadLabel(line) => format!(in alloc; "A2 {line}\n"),
+        AsmFault::OutOfRange(line) => format!(in alloc; "A3 {line}\n"),
+        AsmFault::Length => format!(in alloc; "A4\n"),
+        AsmFault::OutOfMemory => Err(AllocError),
+    }
+}
+
 fn told_asm_fault(alloc: Global, fault: AsmFault) -> Result<Told, AllocError>
     ensures said { IfOk result (λ told. IsSaid told (asm_fault_text fault) 1) }
     ensures fault { OnOk result (fault ≢ AsmFault.OutOfMemory) }
 {
-    let text = match fault {
-        AsmFault::BadLine(line) => format!(in alloc; "A1 {line}\n")?,
-        AsmFault::BadLabel(line) => format!(in alloc; "A2 {line}\n")?,
-        AsmFault::OutOfRange(line) => format!(in alloc; "A3 {line}\n")?,
-        AsmFault::Length => format!(in alloc; "A4\n")?,
-        AsmFault::OutOfMemory => return Err(AllocError),
-    };
+    let text = asm_fault_line(alloc, fault)?;
     Ok(Told {
         text,
         status: REFUSED,
