@@ -1,11 +1,11 @@
 //! Why a journal is refused, in words.
 ghost use Rattle.std.specs.Prelude.{◌≡◌, ◌≢◌, ◌↔◌, ℕ, List, length, Some, None, IfErr, IfOk, IfSome, IsNone, OnOk};
-ghost use Rattle.std.specs.Prelude.{MatchOption};
-ghost use Rattle.decision_journal.specs.Journal.{FailsOrRunsOut, IsWant, SpendsBlocks};
+ghost use Rattle.std.specs.Prelude.{Err, MatchOption};
+ghost use Rattle.decision_journal.specs.Journal.{FailsOrRunsOut, IsWant, SpendsBlocks, is_device};
 ghost use Rattle.site_core.specs.Audit.{ShowsFault};
 ghost use Rattle.site_core.specs.Histories.{IsHistory, IsJournal, load_refusal};
 ghost use Rattle.job_texts.specs.JournalFlaws.{AnsweredAfter, IsRejected, IsEntryFlaw, IsLoadFlaw, TellsFault, IsPlaceOf};
-ghost use Rattle.job_texts.specs.JournalFlaws.{ShowsFlawAt, IsJournalFlaw};
+ghost use Rattle.job_texts.specs.JournalFlaws.{ShowsFlawAt, IsJournalFlaw, line_in};
 
 use crate::differing::{Difference, first_difference};
 use crate::reasons::{RefusedProgram, explain_refusal};
@@ -177,6 +177,22 @@ pub fn entries_flaw(
     }
 }
 
+/// The line that a text's fault names, and what is told of it; a fault of the device or of memory is the error.
+fn text_flaw(fault: JournalFault) -> Result<(Option<u32>, JournalFlaw), JournalFault>
+    ensures line { IfOk result (λ p. p.0 ≡ line_in fault) }
+    ensures flaw { IfOk result (λ p. p.1 ≡ JournalFlaw.Text fault) }
+    ensures text { OnOk result (¬ IsWant fault) }
+    ensures want { IfErr result IsWant }
+    ensures device { is_device result ≡ is_device {T = Unit {0}} (Err fault) }
+{
+    match fault {
+        JournalFault::BadEntry(line) => Ok((Some(line), JournalFlaw::Text(fault))),
+        JournalFault::Cut => Ok((None, JournalFlaw::Text(fault))),
+        JournalFault::Device => Err(JournalFault::Device),
+        JournalFault::OutOfMemory => Err(JournalFault::OutOfMemory),
+    }
+}
+
 /// Why the journal that a device gives is none of a site of this configuration, with the line at fault, if one is;
 /// none where it is one.
 ///
@@ -201,12 +217,6 @@ pub fn journal_flaw<I: LineIn>(
             Ok(None) => Ok(None),
             Err(_) => Err(JournalFault::OutOfMemory),
         },
-        Err(JournalFault::BadEntry(line)) => {
-            let fault = JournalFault::BadEntry(line);
-            Ok(Some((Some(line), JournalFlaw::Text(fault))))
-        }
-        Err(JournalFault::Cut) => Ok(Some((None, JournalFlaw::Text(JournalFault::Cut)))),
-        Err(JournalFault::Device) => Err(JournalFault::Device),
-        Err(JournalFault::OutOfMemory) => Err(JournalFault::OutOfMemory),
+        Err(fault) => Ok(Some(text_flaw(fault)?)),
     }
 }
