@@ -119,6 +119,14 @@ fn by_number(alloc: Global, numbers: &[u32]) -> Result<Vec<usize>, AllocError>
     Ok(counts)
 }
 
+/// Returns how often each of S20 to S34 was the reply.
+fn refused_in(alloc: Global, entries: &[Entry]) -> Result<Vec<usize>, AllocError>
+    ensures { IfOk result (λ counts. CountsRefusals counts.items (filter_map refusal_of entries.now)) }
+{
+    let numbers = refusals(alloc, entries)?;
+    by_number(alloc, &numbers)
+}
+
 /// Returns the outcomes of one part of the decisions, for each version below `versions`.
 fn outcomes(
     alloc: Global,
@@ -250,6 +258,84 @@ fn verdicts_of(
     })
 }
 
+/// What the sales of a history come to, and how the points stand at its end.
+#[derive(Drop)]
+struct Takings {
+    sold: Sum,
+    sums: Sums,
+    points: Vec<Point>,
+    unpaid: Vec<Unpaid>,
+    unpaid_cents: u128,
+}
+
+fn takings_of(alloc: Global, points: usize, entries: &[Entry]) -> Result<Takings, AllocError>
+    requires few { length entries.now ≤ ENTRIES }
+    requires points { points ≤ MOST_POINTS }
+    ensures sold { IfOk result (λ t. IsSum t.sold part.All (sales (closed_points points) entries.now)) }
+    ensures by_point { IfOk result
+        (λ t. SumsUp part_of_point points t.sums.points.items (sales (closed_points points) entries.now)) }
+    ensures by_till { IfOk result
+        (λ t. SumsUp part_of_till TILLS t.sums.tills.items (sales (closed_points points) entries.now)) }
+    ensures by_hour { IfOk result
+        (λ t. SumsUp part_of_hour HOURS t.sums.hours.items (sales (closed_points points) entries.now)) }
+    ensures points { IfOk result (λ t. t.points.items ≡ stand (closed_points points) entries.now) }
+    ensures unpaid { IfOk result (λ t. t.unpaid.items ≡ unpaid_of (stand (closed_points points) entries.now)) }
+    ensures unpaid_cents { IfOk result
+        (λ t. t.unpaid_cents
+        ≡ sum_by (λ (u : Unpaid). u.amount) (unpaid_of (stand (closed_points points) entries.now))) }
+{
+    let found = find_sales(alloc, points, entries)?;
+    let sums = sums_of(alloc, &found.sales, points)?;
+    let unpaid = unpaid_of(alloc, &found.points)?;
+    Ok(Takings {
+        sold: sum_of(&found.sales, Part::All),
+        sums,
+        points: found.points,
+        unpaid_cents: cents_of(&unpaid),
+        unpaid,
+    })
+}
+
+/// The loads of a history, and what the rules decided.
+#[derive(Drop)]
+struct Decided {
+    loads: Vec<Load>,
+    granted: usize,
+    denied: usize,
+    verdicts: Verdicts,
+}
+
+fn decided_in(alloc: Global, entries: &[Entry]) -> Result<Decided, AllocError>
+    requires { length entries.now ≤ ENTRIES }
+    ensures loads { IfOk result (λ d. d.loads.items ≡ loads 0 entries.now) }
+    ensures granted { IfOk result
+        (λ d. d.granted ≡ count_by (λ (d : Decision). d.is_granted) (filter_map decision_of entries.now)) }
+    ensures denied { IfOk result
+        (λ d. d.denied ≡ count_by (λ (d : Decision). not d.is_granted) (filter_map decision_of entries.now)) }
+    ensures releases { IfOk result
+        (λ d. HasOutcomes deciding.Releases (versions_of entries.now) (filter_map decision_of entries.now)
+        d.verdicts.releases) }
+    ensures presets { IfOk result
+        (λ d. HasOutcomes deciding.Presets (versions_of entries.now) (filter_map decision_of entries.now)
+        d.verdicts.presets) }
+    ensures prices { IfOk result
+        (λ d. HasOutcomes deciding.Prices (versions_of entries.now) (filter_map decision_of entries.now)
+        d.verdicts.prices) }
+    ensures tills { IfOk result
+        (λ d. DecidedByTills TILLS (versions_of entries.now) (filter_map decision_of entries.now)
+        d.verdicts.tills.items) }
+{
+    let loads = loads(alloc, entries)?;
+    let decisions = decisions(alloc, entries)?;
+    let verdicts = verdicts_of(alloc, &decisions, loads.len() + 1)?;
+    Ok(Decided {
+        loads,
+        granted: granted_in(&decisions),
+        denied: denied_in(&decisions),
+        verdicts,
+    })
+}
+
 /// Adds up the history of a site that has this many points. The error is that memory ran out.
 pub fn add_up(alloc: Global, points: usize, entries: &[Entry]) -> Result<Totals, AllocError>
     requires few { length entries.now ≤ ENTRIES }
@@ -284,31 +370,27 @@ pub fn add_up(alloc: Global, points: usize, entries: &[Entry]) -> Result<Totals,
         (λ t. HasOutcomes deciding.Prices (versions_of entries.now) (filter_map decision_of entries.now)
         t.price_requests) }
 {
-    let found = find_sales(alloc, points, entries)?;
-    let sums = sums_of(alloc, &found.sales, points)?;
-    let refused = by_number(alloc, &refusals(alloc, entries)?)?;
-    let loads = loads(alloc, entries)?;
-    let decisions = decisions(alloc, entries)?;
-    let verdicts = verdicts_of(alloc, &decisions, loads.len() + 1)?;
     let prices = price_changes(alloc, entries)?;
-    let unpaid = unpaid_of(alloc, &found.points)?;
+    let refused = refused_in(alloc, entries)?;
+    let takings = takings_of(alloc, points, entries)?;
+    let decided = decided_in(alloc, entries)?;
     Ok(Totals {
         entries: entries.len(),
-        sold: sum_of(&found.sales, Part::All),
-        by_point: sums.points,
-        by_till: sums.tills,
-        by_hour: sums.hours,
-        points: found.points,
+        sold: takings.sold,
+        by_point: takings.sums.points,
+        by_till: takings.sums.tills,
+        by_hour: takings.sums.hours,
+        points: takings.points,
         refused,
-        releases: verdicts.releases,
-        presets: verdicts.presets,
-        price_requests: verdicts.prices,
+        loads: decided.loads,
         prices,
-        granted: granted_in(&decisions),
-        denied: denied_in(&decisions),
-        tills: verdicts.tills,
-        unpaid_cents: cents_of(&unpaid),
-        unpaid,
-        loads,
+        unpaid: takings.unpaid,
+        unpaid_cents: takings.unpaid_cents,
+        granted: decided.granted,
+        denied: decided.denied,
+        releases: decided.verdicts.releases,
+        presets: decided.verdicts.presets,
+        price_requests: decided.verdicts.prices,
+        tills: decided.verdicts.tills,
     })
 }
