@@ -1,5 +1,5 @@
--- Where one step of reading fails, reading fails as a whole.
-use Rattle.std.proofs.Common.{◌≡◌, ℕ, ℤ, List, [], ◌∷◌, ◌++◌, Result, Ok, Err, refl, sym}
+-- Where one step of reading fails, reading fails as a whole; where one is read, the rest is left.
+use Rattle.std.proofs.Common.{◌≡◌, ℕ, ℤ, List, [], ◌∷◌, ◌++◌, Result, Ok, Err, refl, sym, ap, append_assoc, ◌∙◌}
 use Rattle.site_config.specs.declared.fault.ConfigFault.{ConfigFault}
 use Rattle.site_config.specs.declared.fault.ConfigFault.TheVariants.{K1, K2, K3, OutOfMemory}
 use Rattle.site_config.specs.Document.{◌>>=◌, Fails, with_front}
@@ -17,3 +17,18 @@ pub fails_front : (f : ConfigFault) (front : List ℕ) (low high : ℕ) (zs : Li
 fails_front f front low high zs z rest whole read split e =
     rw (sym read, split) (fails_on f (all_ranged low high (z ∷ rest))
     (λ xs. Ok (front ++ xs)) (fails_on f (ranged low high z) (λ n. all_ranged low high rest >>= (λ ns. Ok (n ∷ ns))) e))
+
+pushed : (front : List ℕ) (n : ℕ) (rest : Result (List ℕ) ConfigFault)
+    → with_front (front ++ n ∷ []) rest ≡ with_front front (rest >>= (λ ns. Ok (n ∷ ns)))
+pushed front n (Ok ns) = ap Ok (append_assoc front (n ∷ []) ns)
+pushed front n (Err e) = refl
+
+-- Where the first number of the rest is read, it moves to those that were read.
+pub read_front : (front : List ℕ) (low high : ℕ) (zs : List ℤ) (z : ℤ) (rest : List ℤ) (n : ℕ) (whole : Result (List ℕ) ConfigFault)
+    → with_front front (all_ranged low high zs) ≡ whole → zs ≡ z ∷ rest → ranged low high z ≡ Ok n
+    → with_front (front ++ n ∷ []) (all_ranged low high rest) ≡ whole
+read_front front low high zs z rest n whole read split e =
+    pushed front n (all_ranged low high rest)
+    ∙ ap (λ (r : Result ℕ ConfigFault). with_front front (r >>= (λ m. all_ranged low high rest >>= (λ ns. Ok (m ∷ ns))))) (sym e)
+    ∙ ap (λ xs. with_front front (all_ranged low high xs)) (sym split)
+    ∙ read
