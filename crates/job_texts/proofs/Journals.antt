@@ -6,7 +6,6 @@ use Rattle.std.specs.Io.KnownBytes.{Consumes, IsAtEnd}
 use Rattle.std.proofs.lemmas.List.{append-nil}
 use Rattle.decision_journal.specs.declared.entries.Entry.{Entry}
 use Rattle.decision_journal.specs.declared.fault.JournalFault.{JournalFault}
-use Rattle.decision_journal.specs.declared.fault.JournalFault.TheVariants as journal
 use Rattle.decision_journal.specs.Text.{journal_text}
 use Rattle.decision_journal.specs.Journal.{FailsOrRunsOut, IsWritten, IsWant, ReadsAll, ReadsFault, is_device, journal_reads}
 use Rattle.till_request.specs.Count.{RoseBy, one_if}
@@ -93,14 +92,6 @@ fault-told config text new fault (Ok told) reads wants said =
       of = inr (record { new = new; fault = fault; reads = reads; no_want = wants; said = said });
     })
 fault-told config text new fault (Err e) reads wants said = tt
-
-pub bad-entry : (line : ℕ) → IsWant (journal.BadEntry line) → ⊥
-bad-entry line (inl h) = cc
-bad-entry line (inr h) = cc
-
-pub cut : IsWant journal.Cut → ⊥
-cut (inl h) = cc
-cut (inr h) = cc
 
 -- what fails for the device as another result does
 pub fails-so : {T U : Type 0} (r : Result T JournalFault) (s : Result U JournalFault) (a b c d : ℕ) → is_device s ≡ is_device r
