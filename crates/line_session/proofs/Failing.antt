@@ -1,5 +1,5 @@
 -- A fault that a session hands on.
-use Rattle.std.proofs.Common.{◌≡◌, Result, Ok, Err, refl, sym, ◌∙◌, ap}
+use Rattle.std.proofs.Common.{◌≡◌, Result, Ok, Err, IfErr, refl, sym, ◌∙◌, ap, subst}
 use Rattle.std.specs.Result.{IsErr, IsErrAnd}
 use Rattle.line_session.specs.declared.speaker.SpeakFault.{SpeakFault}
 use Rattle.line_session.specs.declared.speaker.SpeakFault.TheVariants as speech
@@ -24,3 +24,8 @@ pub handed : {T U : Type 0} (r : Result T SessionFault) (f : SessionFault) → I
     → ◌≡◌ {A = Result U SessionFault} (Err f) (Err session.Journal)
 handed (Ok x) f h e = absurd (cc)
 handed (Err fault) f h e = ap Err (sym h.1 ∙ the_fault fault session.Journal e)
+
+-- what is true of the fault that was handed on is true of the answer
+pub if_handed : {T : Type 0} (r : Result T SessionFault) (f : SessionFault) → IsErr r × IsErrAnd r (λ e. e ≡ f) → (P : SessionFault → Type 0) → P f → IfErr r P
+if_handed (Ok x) f h P p = tt
+if_handed (Err fault) f h P p = subst P (sym h.1) p

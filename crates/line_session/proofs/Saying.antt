@@ -11,7 +11,10 @@ use Rattle.till_request.specs.declared.act.Answer.TheVariants.{Line}
 use Rattle.till_request.specs.Answer.{answer_line}
 use Rattle.line_session.specs.declared.speaker.SpeakFault.{SpeakFault}
 use Rattle.line_session.specs.declared.speaker.SpeakFault.TheVariants as speech
-use Rattle.line_session.specs.Talk.{FallsShort, Half, Dropped, with_lf, Said, SaysAll, Talks, IsCut, IsUpToLine, Breaks}
+use Rattle.line_session.specs.declared.answering.SessionFault.{SessionFault}
+use Rattle.line_session.specs.declared.answering.SessionFault.TheVariants as session
+use Rattle.line_session.specs.Faults.{fault_of_speech}
+use Rattle.line_session.specs.Talk.{FallsShort, Half, Dropped, with_lf, Said, SaysAll, Talks, IsCut, IsUpToLine, Breaks, Stops}
 
 pub is_line_empty : IsLine []
 is_line_empty = (tt, omega arith)
@@ -79,17 +82,17 @@ module _ {C D : Type 0} (says : C × D → List ℕ → List ℕ → C × D → 
       begins = refl;
     }
 
-    breaks_dropped : {O : Type 0} (out : O → Option (List ℕ)) (s m s' : C × D) (i j k o : Option (List ℕ)) (p q : O) (count : ℕ) (l : List ℕ)
-        → Talks says s m i j o (out p) count [] [] → IsLine l → Consumes j k (l ++ 10 ∷ []) → Dropped drops l m s' p q
-        → Breaks says drops s s' i k o (out q)
-    breaks_dropped out s m s' i j k o p q count l t whole taken a = rw a.output record {
+    -- the line that stands next was taken, and was dropped
+    dropped_next : (s m s' : C × D) (i j k o p : Option (List ℕ)) (count : ℕ) (l : List ℕ)
+        → Talks says s m i j o p count [] [] → IsLine l → Consumes j k (l ++ 10 ∷ []) → drops m l s' → Breaks says drops s s' i k o p
+    dropped_next s m s' i j k o p count l t whole taken d = record {
       lines = t.lines;
       texts = t.texts;
       each = t.each;
       answered = m;
       said = t.said;
       rest = l ++ 10 ∷ [];
-      dropped = inr (l, whole, refl, a.drops_it);
+      dropped = inr (l, whole, refl, d);
       taken = consumes_more i j k (flat_map with_lf t.lines) (with_lf l) (rw append-nil at t.taken) taken;
       cut = None;
       is_cut = inr (l, whole, refl);
@@ -98,6 +101,11 @@ module _ {C D : Type 0} (says : C × D → List ℕ → List ℕ → C × D → 
       written = rw append-nil at t.written;
       begins = refl;
     }
+
+    breaks_dropped : {O : Type 0} (out : O → Option (List ℕ)) (s m s' : C × D) (i j k o : Option (List ℕ)) (p q : O) (count : ℕ) (l : List ℕ)
+        → Talks says s m i j o (out p) count [] [] → IsLine l → Consumes j k (l ++ 10 ∷ []) → Dropped drops l m s' p q
+        → Breaks says drops s s' i k o (out q)
+    breaks_dropped out s m s' i j k o p q count l t whole taken a = rw a.output (dropped_next s m s' i j k o (out p) count l t whole taken a.drops_it)
 
     breaks_half : (s m s' : C × D) (i j k o p q : Option (List ℕ)) (count : ℕ) (l : List ℕ)
         → Talks says s m i j o p count [] [] → IsLine l → Consumes j k (l ++ 10 ∷ []) → Half says l m s' p q
@@ -149,3 +157,34 @@ module _ {C D : Type 0} (says : C × D → List ℕ → List ℕ → C × D → 
       written = appends_more o p q (flat_map same t.texts) (take kept (answer_line (Line fault))) (rw append-nil at t.written) w;
       begins = rw append_assoc (ap (λ x. flat_map same t.texts ++ x) (sym (take-append-drop kept (answer_line (Line fault)))));
     }
+
+    -- no write failed
+    pub stops_here : (takes : List ℕ → Type 0) (fault : SessionFault) (s m : C × D) (i j o p : Option (List ℕ)) (count : ℕ) (k : Option (List ℕ))
+        (more : List ℕ) → Talks says s m i j o p count [] [] → Consumes j k more → IsLine more → Stops says drops takes fault s m i k o p
+    unfolding breaks_here
+    stops_here takes fault s m i j o p count k more t taken line =
+        (breaks_here s m i j o p count k more t taken (inl line), refl, refl, λ e. inl (refl, line))
+
+    stops_silent : (takes : List ℕ → Type 0) (fault : SessionFault) (s m : C × D) (i j k o p : Option (List ℕ)) (count : ℕ) (l : List ℕ)
+        → Talks says s m i j o p count [] [] → IsLine l → Consumes j k (l ++ 10 ∷ []) → takes l → Stops says drops takes fault s m i k o p
+    unfolding breaks_here
+    stops_silent takes fault s m i j k o p count l t whole taken h =
+        (breaks_here s m i j o p count k (l ++ 10 ∷ []) t taken (inr (l, whole, refl)), refl, refl, λ e. inr (l, whole, refl, inl (refl, h)))
+
+    stops_dropped : (takes : List ℕ → Type 0) (fault : SessionFault) (s m s' : C × D) (i j k o p : Option (List ℕ)) (count : ℕ) (l : List ℕ)
+        → Talks says s m i j o p count [] [] → IsLine l → Consumes j k (l ++ 10 ∷ []) → drops m l s' → Stops says drops takes fault s s' i k o p
+    unfolding dropped_next
+    stops_dropped takes fault s m s' i j k o p count l t whole taken d =
+        (dropped_next s m s' i j k o p count l t whole taken d, refl, refl, λ e. inr (l, whole, refl, inr d))
+
+    pub stops_line : {O : Type 0} (out : O → Option (List ℕ)) (s m s' : C × D) (i j k o : Option (List ℕ)) (p q : O) (count : ℕ) (l : List ℕ)
+        → Talks says s m i j o (out p) count [] [] → IsLine l → Consumes j k (l ++ 10 ∷ [])
+        → (takes : List ℕ → Type 0) (fault : SpeakFault) → FallsShort says drops takes out fault l m s' p q → ¬ (fault_of_speech fault ≡ session.Write)
+        → Stops says drops takes (fault_of_speech fault) s s' i k o (out q)
+    stops_line out s m s' i j k o p q count l t whole taken takes speech.Write a other = absurd (other refl)
+    stops_line out s m s' i j k o p q count l t whole taken takes speech.OutOfMemory (inl a) other =
+        rw (a.state, a.output) (stops_silent takes session.OutOfMemory s m i j k o (out p) count l t whole taken a.takes_it)
+    stops_line out s m s' i j k o p q count l t whole taken takes speech.OutOfMemory (inr a) other =
+        rw a.output (stops_dropped takes session.OutOfMemory s m s' i j k o (out p) count l t whole taken a.drops_it)
+    stops_line out s m s' i j k o p q count l t whole taken takes speech.Journal a other =
+        rw a.output (stops_dropped takes session.Journal s m s' i j k o (out p) count l t whole taken a.drops_it)

@@ -147,6 +147,19 @@ pub record Breaks {S : Type 0} (says : S → List ℕ → List ℕ → S → Typ
   pub written : Appends out_old out_new front
   pub begins : all_texts texts ++ cut_line cut ≡ front ++ after
 
+-- what wanted memory: the line that stands next, as it was read; or its answer, for a line that takes memory; or the line was dropped
+abbrev pub WantsNext : {S : Type 0} → (S → List ℕ → S → Type 0) → (List ℕ → Type 0) → S → S → List ℕ → Type 0
+WantsNext drops takes s s' rest = ((s' ≡ s) × IsLine rest)
+    ⊎ ((line : List ℕ) × IsLine line × (rest ≡ with_lf line) × (((s' ≡ s) × takes line) ⊎ drops s line s'))
+
+-- It broke off though no write failed: the whole answers to the lines so far are out, and a cut is not answered. If that was for want of
+-- memory, then something wanted memory.
+abbrev pub Stops : {S : Type 0} → (S → List ℕ → List ℕ → S → Type 0) → (S → List ℕ → S → Type 0) → (List ℕ → Type 0) → SessionFault → S → S
+    → Option (List ℕ) → Option (List ℕ) → Option (List ℕ) → Option (List ℕ) → Type 0
+Stops says drops takes fault s s' in_old in_new out_old out_new =
+    (b : Breaks says drops s s' in_old in_new out_old out_new) × (b.cut ≡ None) × (b.after ≡ [])
+    × (fault ≡ session.OutOfMemory → WantsNext drops takes b.answered s' b.rest)
+
 -- the device failed in a read, or in a write
 abbrev pub is_read : {T : Type 0} → Result T SessionFault → Bool
 is_read (Ok x) = false

@@ -1,9 +1,9 @@
 //! The loop over the lines of an input.
-ghost use Rattle.std.specs.Prelude.{◌≡◌, ◌⊎◌, ◌+◌, ◌-◌, ◌<◌, ◌≤◌, ℕ, List, take, IfOk, IfErr, OnErr, OnOk, Err};
+ghost use Rattle.std.specs.Prelude.{◌≡◌, ◌≢◌, ◌⊎◌, ◌+◌, ◌-◌, ◌<◌, ◌≤◌, ℕ, List, take, IfOk, IfErr, OnErr, OnOk, Err};
 ghost use Rattle.std.specs.Io.KnownBytes.{Appends};
 ghost use Rattle.till_request.specs.Count.{RoseBy, one_if};
 ghost use Rattle.till_request.specs.Answer.{answer_line};
-ghost use Rattle.line_session.specs.Talk.{Ends, Breaks, FailsAt, SpendsReads, is_read, is_write, session_reads};
+ghost use Rattle.line_session.specs.Talk.{Ends, Breaks, FailsAt, SpendsReads, Stops, is_read, is_write, session_reads};
 
 use crate::speaker::{SpeakFault, Speaker};
 use std::alloc::Global;
@@ -90,7 +90,8 @@ fn write_cut<O: LineOut>(
 
 /// Answers the lines of an input in order, within so many reads.
 ///
-/// A line that is too long or cut is answered by its fault, and is the last.
+/// A line that is too long or cut is answered by its fault, and is the last. Only a failed write leaves an answer in
+/// part, or ends a session behind an answered cut.
 pub fn talk_within<I: LineIn, O: LineOut, C, D, S: Speaker<C, D>>(
     alloc: Global,
     input: &mut I,
@@ -114,6 +115,10 @@ pub fn talk_within<I: LineIn, O: LineOut, C, D, S: Speaker<C, D>>(
     ensures counted { RoseBy (left.old - left.new) (I.reads input.old) (I.reads input.new) }
     ensures asked { RoseBy (left.old - left.new) (I.asked input.old) (I.asked input.new) }
     ensures journal { result ≡ Err SessionFault.Journal → FailsAt (S.fails speaker.now) (clock.new, desk.new) }
+    ensures stopped { IfErr result (λ fault. fault ≢ SessionFault.Write
+        → Stops (S.says speaker.now) (S.drops speaker.now) (S.takes speaker.now) fault (clock.old, desk.old)
+        (clock.new, desk.new) (I.remaining input.old) (I.remaining input.new) (O.written output.old)
+        (O.written output.new)) }
 {
     let mut line = Vec::new(alloc);
     let mut count = 0u64;
@@ -165,6 +170,10 @@ pub fn talk<I: LineIn, O: LineOut, C, D, S: Speaker<C, D>>(
     ensures reads { SpendsReads session_reads result (I.reads input.old) (I.reads input.new) (I.asked input.old)
         (I.asked input.new) }
     ensures journal { result ≡ Err SessionFault.Journal → FailsAt (S.fails speaker.now) (clock.new, desk.new) }
+    ensures stopped { IfErr result (λ fault. fault ≢ SessionFault.Write
+        → Stops (S.says speaker.now) (S.drops speaker.now) (S.takes speaker.now) fault (clock.old, desk.old)
+        (clock.new, desk.new) (I.remaining input.old) (I.remaining input.new) (O.written output.old)
+        (O.written output.new)) }
 {
     let mut left = READS;
     talk_within(alloc, input, output, speaker, clock, desk, &mut left)

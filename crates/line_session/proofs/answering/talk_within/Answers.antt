@@ -2,8 +2,8 @@ use Rattle.std.proofs.Common.{arith, rules, inl}
 use Rattle.till_request.proofs.Taken.{on_err_always}
 use Rattle.till_request.proofs.Counts.{rose_more, rose_left}
 use Rattle.till_request.specs.declared.act.LineFault.TheVariants.{TooLong, CutLine}
-use Rattle.line_session.proofs.Failing.{spoke}
-use Rattle.line_session.proofs.Saying.{talks_none, talks_more, breaks_here, breaks_line, breaks_cut}
+use Rattle.line_session.proofs.Failing.{spoke, if_handed}
+use Rattle.line_session.proofs.Saying.{talks_none, talks_more, breaks_here, breaks_line, breaks_cut, stops_here, stops_line}
 use Rattle.line_session.proofs.answering.talk_within.Goals as goal
 
 pub turns-init : goal.turns-init
@@ -63,3 +63,16 @@ returns-in_err-speak-in-Line-clause-journal g c = λ e. (
   c.in_err-speak-in-Line.ensures.journal
       (spoke c.from_residual-in_err-speak-in-Line.result c.in_err-speak-in-Line.field-0.0 c.from_residual-in_err-speak-in-Line.ensures e),
 )
+
+pub returns-in_err-find_line-clause-stopped : goal.returns-in_err-find_line-clause-stopped
+returns-in_err-find_line-clause-stopped g c =
+    if_handed _ _ c.from_residual.ensures _
+    (λ _. stops_here _ _ _ _ _ _ _ _ _ _ c.turns.count _ c.in_err-find_line.ensures.given.0 c.turns.invariant.talks c.in_err-find_line.ensures.given.1
+    c.in_err-find_line.ensures.given.2)
+
+pub returns-in_err-speak-in-Line-clause-stopped : goal.returns-in_err-speak-in-Line-clause-stopped
+returns-in_err-speak-in-Line-clause-stopped g c =
+    let t = rw c.in-Line.is at c.in_ok-find_line.ensures.taken in
+    if_handed _ _ c.from_residual-in_err-speak-in-Line.ensures _
+    (stops_line _ _ g.O.LineOut.written _ _ _ _ _ _ _ _ _ c.turns.count c.find_line.new.line.items c.turns.invariant.talks t.1 t.0 _ _
+    (rw c.deref.ensures.value at c.in_err-speak-in-Line.ensures.err))
