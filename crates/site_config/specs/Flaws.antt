@@ -1,5 +1,5 @@
 -- Definitions: the fault number of each flaw of a configuration, and the position that it reports (this profile).
-use Rattle.std.specs.Prelude.{◌≡◌, ℕ, List, Bool, Option, Some, None, Result, Ok, Err}
+use Rattle.std.specs.Prelude.{◌≡◌, ℕ, ◌≤◌, List, length, Bool, Option, Some, None, Result, Ok, Err}
 use Rattle.site_config.specs.declared.fault.ConfigFault.{ConfigFault}
 use Rattle.site_config.specs.declared.fault.ConfigFault.TheVariants as fault
 use Rattle.site_config.specs.declared.flaw.ConfigFlaw.{ConfigFlaw}
@@ -7,7 +7,9 @@ use Rattle.site_config.specs.declared.flaw.ConfigFlaw.TheVariants.{NotUtf8, NotT
 use Rattle.site_config.specs.declared.flaw.ConfigFlaw.TheVariants.{SamePort, OutOfMemory}
 use Rattle.site_config.specs.declared.flaw.Section.{Section}
 use Rattle.site_config.specs.declared.flaw.Section.TheVariants.{Top, Point, Counter, Serve}
+use Rattle.std.specs.Str.Lossy.{utf8_valid_len}
 use Rattle.site_config.specs.Document.{Fails}
+use Rattle.site_config.specs.Positions.{position_at}
 use Rattle.site_config.specs.Typed.{is_top_key, is_point_key, is_counter_key, is_serve_key}
 
 abbrev pub fault_of : ConfigFlaw → ConfigFault
@@ -27,6 +29,12 @@ abbrev pub position_of : ConfigFlaw → Option (ℕ × ℕ)
 position_of (NotUtf8 line column) = Some (line, column)
 position_of (NotToml line column message) = Some (line, column)
 position_of flaw = None
+
+-- The position of a flaw in a text: where the text stops being UTF-8; where it is no TOML, that of some place in it, or behind it.
+abbrev pub StandsAt : List ℕ → ConfigFlaw → Type 0
+StandsAt bytes (NotUtf8 line column) = (line, column) ≡ position_at bytes (utf8_valid_len bytes)
+StandsAt bytes (NotToml line column message) = (index : ℕ) × (index ≤ length bytes) × ((line, column) ≡ position_at bytes index)
+StandsAt bytes flaw = Unit {0}
 
 -- What a function returned, seen through `view`, is what reading gives, unless memory ran out. A flaw that was returned has the number of the
 -- fault that reading gives.

@@ -1,9 +1,9 @@
 //! Checks the ranges, lengths, counts and conditions of a configuration (K3), and makes the settings.
-ghost use Rattle.std.specs.Prelude.{◌≡◌, ◌≤◌, ◌-◌, ◌++◌, length, replicate, IfOk, All};
+ghost use Rattle.std.specs.Prelude.{◌≡◌, ◌≤◌, ◌-◌, ◌++◌, length, replicate, IfErr, IfOk, All, Err};
 ghost use Rattle.toml.specs.View.{table_view};
 ghost use Rattle.site_core.specs.Limits.{IsCounter};
-ghost use Rattle.site_config.specs.Document.{Gives};
-ghost use Rattle.site_config.specs.Flaws.{Finds};
+ghost use Rattle.site_config.specs.Document.{Gives, document_of};
+ghost use Rattle.site_config.specs.Flaws.{Finds, StandsAt};
 ghost use Rattle.site_config.specs.Typed.{seen};
 ghost use Rattle.site_config.specs.Ranges.{ranged, all_ranged, point_of, counter_of, each_of, prices_of, points_of};
 ghost use Rattle.site_config.specs.Ranges.{counters_of, serve_of, serve_from, told_of, told, config_of};
@@ -255,7 +255,8 @@ fn make_settings(alloc: Global, raw: &Raw) -> Result<Settings, ConfigFlaw>
 /// condition (K3).
 #[tactic(auto, unfolding(crate::specs::Ranges::config_of))]
 pub fn read_settings(alloc: Global, bytes: &[u8]) -> Result<Settings, ConfigFlaw>
-    ensures { Finds told result (config_of bytes.now) }
+    ensures found { Finds told result (config_of bytes.now) }
+    ensures position { document_of bytes.now ≡ Err ConfigFault.K1 → IfErr result (StandsAt bytes.now) }
 {
     let document = read_document(alloc, bytes)?;
     let raw = read_typed(alloc, &document)?;

@@ -9,11 +9,11 @@ false_unless : (b : Bool) → (b ≡ true → ⊥) → b ≡ false
 false_unless true n = absurd (n refl)
 false_unless false n = refl
 
-pub returns-in-Ok-table_from_str : goal.returns-in-Ok-table_from_str
+pub returns-in-Ok-table_from_str-clause-found : goal.returns-in-Ok-table_from_str-clause-found
 unfolding document_of
-returns-in-Ok-table_from_str c =
+returns-in-Ok-table_from_str-clause-found c =
     rw (is_utf8-from_IsUtf8 c.args.bytes.now c.in-Ok.ensures.cases.1) (ap (or_fault K1) (rw c.in-Ok.ensures.cases.0 at c.in-Ok-table_from_str.ensures.ok))
 
-pub returns-in-Err : goal.returns-in-Err
+pub returns-in-Err-clause-found : goal.returns-in-Err-clause-found
 unfolding document_of
-returns-in-Err c = rw (false_unless (is_utf8 c.args.bytes.now) (λ h. c.in-Err.ensures.cases.0 (IsUtf8-from_is_utf8 c.args.bytes.now h)))
+returns-in-Err-clause-found c = rw (false_unless (is_utf8 c.args.bytes.now) (λ h. c.in-Err.ensures.cases.0 (IsUtf8-from_is_utf8 c.args.bytes.now h)))
