@@ -1,14 +1,15 @@
 -- Beginnings of texts, and sessions that answered nothing.
 use Rattle.std.proofs.Common.{◌≡◌, ℕ, List, [], ◌∷◌, ◌++◌, length, take, Option, None, Result, Ok, Err, OnErr, IfOk, IfErr, inl, refl, sym, ◌∙◌, ap, subst}
-use Rattle.std.specs.Prelude.{⊤}
 use Rattle.std.specs.Io.KnownBytes.{Appends}
 use Rattle.decision_journal.specs.Writing.{AppendsFront}
 use Rattle.line_session.specs.declared.answering.Ended.{Ended}
+use Rattle.line_session.specs.declared.answering.SessionFault.{SessionFault}
+use Rattle.line_session.specs.declared.answering.SessionFault.TheVariants as session
 use Rattle.line_session.specs.declared.speaker.SpeakFault.{SpeakFault}
 use Rattle.line_session.specs.declared.speaker.SpeakFault.TheVariants as speech
-use Rattle.line_session.specs.Talk.{Breaks, Ends, FallsShort, drops_none}
+use Rattle.line_session.specs.Talk.{Breaks, Ends, FallsShort, Stops, drops_none}
 use Rattle.site_core.specs.Site.{SiteValue}
-use Rattle.console.specs.Play.{Plays, PlaysOut, PlayBreaks}
+use Rattle.console.specs.Play.{Plays, PlaysOut, PlayBreaks, PlayStops, TakesMemory}
 use Rattle.line_session.proofs.Saying.{consumes_none, appends_none, is_line_empty}
 
 take_front : (ws rest : List ℕ) → take (length ws) (ws ++ rest) ≡ ws
@@ -51,11 +52,24 @@ broken_from (Ok x) a b m left i j o p same h = tt
 broken_from (Err e) a b m left i j o p same h =
     let P : SiteValue → Type 0 = λ s. Breaks Plays drops_none (0, s) (m, left) i j o p in record { moment = m; left = left; breaks = subst P same h }
 
+pub stops_none : {S : Type 0} (says : S → List ℕ → List ℕ → S → Type 0) (drops : S → List ℕ → S → Type 0) (takes : List ℕ → Type 0) (fault : SessionFault)
+    (s : S) (i o : Option (List ℕ)) → Stops says drops takes fault s s i i o o
+unfolding breaks_none
+stops_none says drops takes fault s i o = (breaks_none says drops s i o, refl, refl, λ e. inl (refl, is_line_empty))
+
+pub stopped_from : {T : Type 0} (r : Result T SessionFault) (a b : SiteValue) (m : ℕ) (left : SiteValue) (i j o p : Option (List ℕ)) → a ≡ b
+    → IfErr r (λ e. ¬ (e ≡ session.Write) → Stops Plays drops_none TakesMemory e (0, a) (m, left) i j o p)
+    → IfErr r (λ e. ¬ (e ≡ session.Write) → PlayStops e b i j o p)
+stopped_from (Ok x) a b m left i j o p same h = tt
+stopped_from (Err e) a b m left i j o p same h =
+    let P : SiteValue → Type 0 = λ s. Stops Plays drops_none TakesMemory e (0, s) (m, left) i j o p in
+    λ other. record { moment = m; left = left; stops = subst P same (h other) }
+
 -- what is said to a line is written as far as the device takes it
 module _ {S O : Type 0} (out : O → Option (List ℕ)) (says : S → List ℕ → List ℕ → S → Type 0) (line text : List ℕ) (s s' : S) (o o' : O)
-    (said : says s line text s') where
+    (said : says s line text s') (takes : List ℕ → Type 0) where
   pub falls_short : {T : Type 0} (r : Result T SpeakFault) → OnErr r ((k : ℕ) × Appends (out o) (out o') (take k text)) → IfErr r (λ e. e ≡ speech.Write)
-      → IfErr r (λ e. FallsShort says drops_none (λ _. ⊤) out e line s s' o o')
+      → IfErr r (λ e. FallsShort says drops_none takes out e line s s' o o')
   falls_short (Ok x) w is = tt
   falls_short (Err speech.Write) w is = record { text = text; says_it = said; kept = w.0; written = w.1 }
   falls_short (Err speech.OutOfMemory) w is = absurd (cc)

@@ -2,7 +2,7 @@
 -- lines before it left. An act is an event of pass 1 at that moment. The bytes of a load are verified first: a refused program
 -- is answered with its V line and is no event. Where memory runs out the answer is `S31`, where the journal is full it is `S29`,
 -- and both leave the site unchanged.
-use Rattle.std.specs.Prelude.{◌≡◌, ◌≢◌, ℕ, List, [], ◌∷◌, ◌++◌, length, codes, Option, Some, None, Result, Ok, Err}
+use Rattle.std.specs.Prelude.{◌≡◌, ◌≢◌, ◌⊎◌, ⊤, ℕ, List, [], ◌∷◌, ◌++◌, length, codes, Option, Some, None, Result, Ok, Err}
 use Rattle.std.specs.Fmt.{decimal}
 use Rattle.std.specs.List.{join_with_byte}
 use Rattle.bpf_model.specs.Program.{ProgramText, IsGood, as_loaded}
@@ -15,12 +15,15 @@ use Rattle.till_request.specs.declared.act.Answer.{Answer}
 use Rattle.till_request.specs.declared.act.Answer.TheVariants as answers
 use Rattle.till_request.specs.declared.act.LineFault.{LineFault}
 use Rattle.till_request.specs.declared.act.LineFault.TheVariants as faults
+use Rattle.till_request.specs.declared.act.Role.TheVariants.{All}
 use Rattle.till_request.specs.Answer.{answer_line}
+use Rattle.till_request.specs.Grammar.{IsLoad, words}
 use Rattle.decision_journal.specs.Text.{journal_text}
 use Rattle.site_core.specs.Site.{SiteValue, Enters}
 use Rattle.site_core.specs.State.{counter_of}
 use Rattle.site_core.specs.Histories.{IsJournal}
-use Rattle.line_session.specs.Talk.{Ends, Breaks, drops_none}
+use Rattle.line_session.specs.declared.answering.SessionFault.{SessionFault}
+use Rattle.line_session.specs.Talk.{Ends, Breaks, Stops, drops_none}
 use Rattle.line_session.specs.Cut.{NoWantTold, EndAlike}
 use Rattle.console.specs.declared.script.ScriptLine.{ScriptLine}
 use Rattle.console.specs.declared.script.ScriptLine.TheVariants as lines
@@ -30,7 +33,7 @@ use Rattle.console.specs.Script.{line_of}
 abbrev pub EventAnswered : SiteValue → ℕ → Act → Answer → SiteValue → Type 0
 EventAnswered old moment act (answers.Entered number reply) new = (length old.history ≢ 1048576) × Enters old 1 moment act number reply new
 EventAnswered old moment act answers.JournalFull new = (length old.history ≡ 1048576) × (new ≡ old)
-EventAnswered old moment act answers.OutOfMemory new = new ≡ old
+EventAnswered old moment act answers.OutOfMemory new = (length old.history ≢ 1048576) × (new ≡ old)
 EventAnswered old moment act (answers.Line fault) new = ⊥
 EventAnswered old moment act (answers.Program number unit part) new = ⊥
 EventAnswered old moment act answers.JournalFailed new = ⊥
@@ -94,6 +97,18 @@ LineSaid (Ok lines.Journal) s text s' = (text ≡ journal_text s.1.history) × I
 abbrev pub Plays : ℕ × SiteValue → List ℕ → List ℕ → ℕ × SiteValue → Type 0
 Plays s line text s' = LineSaid (line_of line) s text s'
 
+-- The line is one that only scripts have.
+abbrev pub IsOwn : Result ScriptLine LineFault → Type 0
+IsOwn (Ok (lines.Moment n)) = ⊤
+IsOwn (Ok (lines.Counter c)) = ⊤
+IsOwn (Ok lines.Journal) = ⊤
+IsOwn (Ok (lines.Act act)) = ⊥
+IsOwn (Err fault) = ⊥
+
+-- The lines that take memory before anything changes: a load, for its bytes, and a script's own lines, for their answers.
+abbrev pub TakesMemory : List ℕ → Type 0
+TakesMemory line = IsLoad All (words line) ⊎ IsOwn (line_of line)
+
 -- A script was answered from moment 0 on, and left some moment and site.
 pub record PlaysOut (site : SiteValue) (in_old in_new out_old out_new : Option (List ℕ)) (count : ℕ) (cut : Option LineFault) : Type 0 where
   pub moment : ℕ
@@ -105,6 +120,13 @@ pub record PlayBreaks (site : SiteValue) (in_old in_new out_old out_new : Option
   pub moment : ℕ
   pub left : SiteValue
   pub breaks : Breaks Plays drops_none (0, site) (moment, left) in_old in_new out_old out_new
+
+-- The play broke off though no write failed: the whole answers to the lines so far are out. If that was for want of memory, then the site could not
+-- start, a line could not be read, or the line that stands next takes memory.
+pub record PlayStops (fault : SessionFault) (site : SiteValue) (in_old in_new out_old out_new : Option (List ℕ)) : Type 0 where
+  pub moment : ℕ
+  pub left : SiteValue
+  pub stops : Stops Plays drops_none TakesMemory fault (0, site) (moment, left) in_old in_new out_old out_new
 
 -- Two plays of the same bytes from the same site, which both end and both add to the same output, wrote the same and left the same moment and site,
 -- if neither ran out of memory at a line.

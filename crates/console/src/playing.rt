@@ -1,9 +1,9 @@
 //! Plays scripts.
-ghost use Rattle.std.specs.Prelude.{◌≡◌, ◌≢◌, ◌≤◌, ◌-◌, ℕ, IfOk, OnErr, Err};
+ghost use Rattle.std.specs.Prelude.{◌≡◌, ◌≢◌, ◌≤◌, ◌-◌, ℕ, IfOk, IfErr, OnErr, Err};
 ghost use Rattle.till_request.specs.Count.{RoseBy, one_if};
 ghost use Rattle.line_session.specs.Talk.{SpendsReads, is_read, is_write, session_reads};
 ghost use Rattle.site_core.specs.Site.{new_site};
-ghost use Rattle.console.specs.Play.{PlaysOut, PlayBreaks, PlaysAlike};
+ghost use Rattle.console.specs.Play.{PlaysOut, PlayBreaks, PlayStops, PlaysAlike};
 
 use crate::player::Player;
 use line_session::{Ended, READS, SessionFault, talk_within};
@@ -34,6 +34,9 @@ pub fn play_within<I: LineIn, O: LineOut>(
     ensures counted { RoseBy (left.old - left.new) (I.reads input.old) (I.reads input.new) }
     ensures asked { RoseBy (left.old - left.new) (I.asked input.old) (I.asked input.new) }
     ensures journal { result ≢ Err SessionFault.Journal }
+    ensures stopped { IfErr result (λ fault. fault ≢ SessionFault.Write
+        → PlayStops fault (new_site config) (I.remaining input.old) (I.remaining input.new) (O.written output.old)
+        (O.written output.new)) }
 {
     let Ok(mut site) = Site::start(alloc, config) else {
         return Err(SessionFault::OutOfMemory);
@@ -63,6 +66,9 @@ pub fn play<I: LineIn, O: LineOut>(
     ensures reads { SpendsReads session_reads result (I.reads input.old) (I.reads input.new) (I.asked input.old)
         (I.asked input.new) }
     ensures journal { result ≢ Err SessionFault.Journal }
+    ensures stopped { IfErr result (λ fault. fault ≢ SessionFault.Write
+        → PlayStops fault (new_site config) (I.remaining input.old) (I.remaining input.new) (O.written output.old)
+        (O.written output.new)) }
 {
     let mut left = READS;
     play_within(alloc, config, input, output, &mut left)

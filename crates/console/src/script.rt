@@ -1,7 +1,8 @@
 //! Reads the lines of a script: the lines of all roles, and those that only scripts have.
-ghost use Rattle.std.specs.Prelude.{◌≡◌, map};
+ghost use Rattle.std.specs.Prelude.{◌≡◌, Err, map};
 ghost use Rattle.std.specs.Str.{bytes_eq};
 ghost use Rattle.till_request.specs.Gives.{Gives};
+ghost use Rattle.till_request.specs.Grammar.{IsLoad, words as words_of};
 ghost use Rattle.console.specs.Script.{act_line, line_alone, line_with_value, line_of_words, line_of, is_named};
 
 use std::alloc::Global;
@@ -30,14 +31,16 @@ fn is_pair(word: &[u8], name: &[u8], value: &[u8]) -> bool
 
 /// Reads these words as an act of any role.
 fn read_act(alloc: Global, words: &[&[u8]]) -> Result<ScriptLine, LineFault>
-    ensures { Gives result (act_line (map (λ w. w.now) words.now)) }
+    ensures given { Gives result (act_line (map (λ w. w.now) words.now)) }
+    ensures memory { result ≡ Err LineFault.OutOfMemory → IsLoad Role.All (map (λ w. w.now) words.now) }
 {
     Ok(ScriptLine::Act(parse_words(alloc, Role::All, words)?))
 }
 
 /// Reads a line of one word.
 fn read_alone(alloc: Global, word: &[u8], words: &[&[u8]]) -> Result<ScriptLine, LineFault>
-    ensures { Gives result (line_alone word.now (map (λ w. w.now) words.now)) }
+    ensures given { Gives result (line_alone word.now (map (λ w. w.now) words.now)) }
+    ensures memory { result ≡ Err LineFault.OutOfMemory → IsLoad Role.All (map (λ w. w.now) words.now) }
 {
     if word == b"journal".as_slice() {
         Ok(ScriptLine::Journal)
@@ -53,7 +56,8 @@ fn read_with_value(
     value: &[u8],
     words: &[&[u8]],
 ) -> Result<ScriptLine, LineFault>
-    ensures { Gives result (line_with_value word.now value.now (map (λ w. w.now) words.now)) }
+    ensures given { Gives result (line_with_value word.now value.now (map (λ w. w.now) words.now)) }
+    ensures memory { result ≡ Err LineFault.OutOfMemory → IsLoad Role.All (map (λ w. w.now) words.now) }
 {
     if is_pair(word, b"moment", value) {
         let moment = number_u64(value)?;
@@ -68,7 +72,8 @@ fn read_with_value(
 
 /// Reads the words of a line.
 fn read_words(alloc: Global, words: &[&[u8]]) -> Result<ScriptLine, LineFault>
-    ensures { Gives result (line_of_words (map (λ w. w.now) words.now)) }
+    ensures given { Gives result (line_of_words (map (λ w. w.now) words.now)) }
+    ensures memory { result ≡ Err LineFault.OutOfMemory → IsLoad Role.All (map (λ w. w.now) words.now) }
 {
     match words {
         [word] => read_alone(alloc, word, words),
@@ -78,9 +83,10 @@ fn read_words(alloc: Global, words: &[&[u8]]) -> Result<ScriptLine, LineFault>
 }
 
 /// Reads what a line of a script asks. The line comes without its LF. The error is L2 where the words are none of the
-/// known forms, or else L3 where a value can't be read, or that memory ran out.
+/// known forms, or else L3 where a value can't be read, or that memory ran out for the bytes of a load.
 pub fn parse_script_line(alloc: Global, line: &[u8]) -> Result<ScriptLine, LineFault>
-    ensures { Gives result (line_of line.now) }
+    ensures given { Gives result (line_of line.now) }
+    ensures memory { result ≡ Err LineFault.OutOfMemory → IsLoad Role.All (words_of line.now) }
 {
     match few_parts::<LINE_WORDS>(line, b' ') {
         Some(words) => read_words(alloc, words.as_slice()),

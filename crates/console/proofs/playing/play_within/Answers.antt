@@ -1,7 +1,7 @@
 use Rattle.site_core.specs.Site.{new_site}
 use Rattle.line_session.specs.Talk.{drops_none}
-use Rattle.console.specs.Play.{Plays}
-use Rattle.console.proofs.Fronts.{breaks_none, said_from, broken_from}
+use Rattle.console.specs.Play.{Plays, TakesMemory}
+use Rattle.console.proofs.Fronts.{breaks_none, stops_none, said_from, broken_from, stopped_from}
 use Rattle.console.proofs.playing.play_within.Goals as goal
 
 pub returns-in_default-clause-broken : goal.returns-in_default-clause-broken
@@ -20,3 +20,12 @@ returns-clause-broken g c =
 
 pub returns-clause-journal : goal.returns-clause-journal
 returns-clause-journal g c = λ e. (c.talk_within.ensures.journal e).2
+
+pub returns-in_default-clause-stopped : goal.returns-in_default-clause-stopped
+returns-in_default-clause-stopped g c =
+    λ _. record { moment = 0; left = new_site c.args.config; stops = stops_none Plays drops_none TakesMemory _ (0, new_site c.args.config) _ _ }
+
+pub returns-clause-stopped : goal.returns-clause-stopped
+returns-clause-stopped g c =
+    stopped_from c.talk_within.result c.in-Ok.site (new_site c.args.config) c.talk_within.new.clock c.talk_within.new.desk _ _ _ _ c.in-Ok.ensures
+    c.talk_within.ensures.stopped
