@@ -3,12 +3,12 @@
 //! device's.
 ghost use Rattle.std.specs.Prelude.{◌≡◌, [], None};
 
-use crate::sites::{DELIVERY, STATION, journal_of};
+use crate::sites::{ANSWERS, DELIVERY, JOURNAL, STATION};
 use console::{audit_journal, read_config};
 use decision_journal::{Entry, JournalFault, read_entries, write_entries};
 use line_session::{Clock, Doors, Ended, SessionFault, session, worker};
 use site_core::Config;
-use site_lock::{Forecourt, PassDesk, Straight, Yard};
+use site_lock::{Forecourt, Pass, PassDesk, Straight, Yard};
 use std::alloc::Global;
 use std::marker::Brand;
 use std::sync::Wait;
@@ -16,11 +16,6 @@ use std::sync::ledger::Blank;
 use std::test::Fail;
 use till_request::devices::{MemoryIn, MemoryOut};
 use till_request::{DeviceFault, Role};
-
-/// What the delivery is answered.
-const ANSWERS: &str =
-    "1 version 1\n2 done\n3 done\n4 granted 8000 by 1\n5 order authorise 8000\n6 done\n7 done\n8 done\n9 done\n\
-        10 S27\n11 S27\n12 done\n13 S28\n14 point 3 0 0 0 0 0 0\n";
 
 /// Tells 0.
 #[derive(Drop)]
@@ -36,11 +31,11 @@ impl Clock for Still {
 
 /// What a session left: how it ended, how many reads and writes failed, how many entries the closed site has, how many
 /// lines are out, and whether what is out is a beginning of the answers.
-#[derive(Clone, Copy, Debug, PartialEq, Eq, Drop)]
+#[derive(Clone, Copy, PartialEq, Drop)]
 struct Seen {
     ended: Result<Ended, SessionFault>,
     failed: (u64, u64),
-    entries: usize,
+    entries: Option<usize>,
     lines: usize,
     is_front: bool,
 }
@@ -52,7 +47,7 @@ const WHOLE: Seen = Seen {
         cut: None,
     }),
     failed: (0, 0),
-    entries: 14,
+    entries: Some(14),
     lines: 14,
     is_front: true,
 };
@@ -66,6 +61,14 @@ fn lines_in(bytes: &[u8]) -> usize {
         }
     }
     lines
+}
+
+/// How many entries the site has that is closed with these passes; none where it isn't closed.
+fn entries_of<L: Yard, R: Wait>(rt: &R, yard: Forecourt<L>, passes: Vec<Pass<L>>) -> Option<usize> {
+    match yard.close(rt, passes) {
+        Ok(closed) => Some(closed.site.history().len()),
+        Err(_) => None,
+    }
 }
 
 /// A session over these devices at a new site.
@@ -96,11 +99,10 @@ fn sat<L: Yard, R: Wait>(
         &mut desk,
     );
     passes.push(desk.into_pass())?;
-    let closed = yard.close(rt, passes).ok().ok_or("a closed site")?;
     Ok(Seen {
         ended,
         failed: (input.failures, output.failures),
-        entries: closed.site.history().len(),
+        entries: entries_of(rt, yard, passes),
         lines: lines_in(&output.bytes),
         is_front: ANSWERS.as_bytes().starts_with(&output.bytes),
     })
@@ -160,7 +162,7 @@ fn failed(ended: SessionFault, entries: usize, lines: usize) -> Seen {
     Seen {
         ended: Err(ended),
         failed,
-        entries,
+        entries: Some(entries),
         lines,
         is_front: true,
     }
@@ -197,14 +199,6 @@ fn unlike_after_writes<R: Wait>(rt: &R, alloc: Global) -> Result<Option<u64>, Fa
         }
     }
     Ok(Some(100))
-}
-
-#[test]
-fn fails_at_each_call(rt: HostRuntime) -> Result<(), Fail> {
-    let alloc = rt.alloc();
-    assert_eq!(rt; unlike_after_reads(&rt, alloc)?, None);
-    assert_eq!(rt; unlike_after_writes(&rt, alloc)?, None);
-    Ok(())
 }
 
 /// A door at the delivery, of which so many reads and writes are good, and then one at another line.
@@ -254,7 +248,7 @@ fn worked<L: Yard, R: Wait>(
     blank: Blank,
     config: Config,
     mut doors: TwoDoors,
-) -> Result<(u64, usize), Fail>
+) -> Result<(u64, Option<usize>), Fail>
     requires name { blank.name ≡ L.name }
     requires parts { blank.parts ≡ L.parts }
     requires config { config ≡ L.config }
@@ -267,8 +261,7 @@ fn worked<L: Yard, R: Wait>(
     let mut desk = PassDesk::new(rt, alloc, &yard, pass, Straight { calls: 0 });
     let well = worker(alloc, Role::All, &mut doors, &mut clock, &mut desk, 2);
     passes.push(desk.into_pass())?;
-    let closed = yard.close(rt, passes).ok().ok_or("a closed site")?;
-    Ok((well, closed.site.history().len()))
+    Ok((well, entries_of(rt, yard, passes)))
 }
 
 fn worked_of<R: Wait>(
@@ -276,7 +269,7 @@ fn worked_of<R: Wait>(
     alloc: Global,
     config: Config,
     doors: TwoDoors,
-) -> Result<(u64, usize), Fail> {
+) -> Result<(u64, Option<usize>), Fail> {
     worked::<Brand, R>(rt, alloc, Blank::new(1), config, doors)
 }
 
@@ -286,7 +279,7 @@ fn worked_after<R: Wait>(
     alloc: Global,
     good_reads: Option<u64>,
     good_writes: Option<u64>,
-) -> Result<(u64, usize), Fail> {
+) -> Result<(u64, Option<usize>), Fail> {
     let doors = TwoDoors {
         alloc,
         good_reads,
@@ -303,7 +296,11 @@ fn a_worker_goes_on_after_each_failed_read(rt: HostRuntime) -> Result<(), Fail> 
     for upto in 0..=DELIVERY.len() {
         let lines = lines_in(DELIVERY.as_bytes().get(..upto).ok_or("a front")?);
         let worked = worked_after(&rt, rt.alloc(), Some(good), None)?;
-        assert_eq!(rt; worked, (1, lines.wrapping_add(1)), "after {good} reads");
+        assert_eq!(rt;
+            worked,
+            (1, Some(lines.wrapping_add(1))),
+            "after {good} reads"
+        );
         good = good.wrapping_add(1);
     }
     Ok(())
@@ -315,21 +312,21 @@ fn a_worker_goes_on_after_each_failed_write(rt: HostRuntime) -> Result<(), Fail>
     for good in 0..14u64 {
         entries = entries.wrapping_add(1);
         let worked = worked_after(&rt, rt.alloc(), None, Some(good))?;
-        assert_eq!(rt; worked, (1, entries), "after {good} writes");
+        assert_eq!(rt; worked, (1, Some(entries)), "after {good} writes");
     }
     Ok(())
 }
 
 /// The journal at a device that gives 50 bytes a read, of which so many are good.
-fn cut_journal(alloc: Global, journal: &[u8], good: u64) -> Result<MemoryIn, Fail> {
-    let bytes = Vec::from_slice(alloc, journal)?;
+fn cut_journal(alloc: Global, good: u64) -> Result<MemoryIn, Fail> {
+    let bytes = Vec::from_slice(alloc, JOURNAL.as_bytes())?;
     let mut input = MemoryIn::new(bytes, Vec::new(alloc), Some(good));
     input.each = 50;
     Ok(input)
 }
 
 /// What a journal's reader and its audit came to over such a device.
-#[derive(Clone, Copy, Debug, PartialEq, Eq, Drop)]
+#[derive(Clone, Copy, PartialEq, Drop)]
 struct Read {
     entries: Result<usize, JournalFault>,
     is_legal: Result<bool, JournalFault>,
@@ -338,10 +335,10 @@ struct Read {
     asked: u64,
 }
 
-fn read_after(alloc: Global, journal: &[u8], good: u64) -> Result<Read, Fail> {
-    let mut input = cut_journal(alloc, journal, good)?;
+fn read_after(alloc: Global, good: u64) -> Result<Read, Fail> {
+    let mut input = cut_journal(alloc, good)?;
     let entries = read_entries(alloc, &mut input).map(|entries| entries.len());
-    let mut again = cut_journal(alloc, journal, good)?;
+    let mut again = cut_journal(alloc, good)?;
     let told = audit_journal(alloc, station(alloc)?, &mut again);
     Ok(Read {
         entries,
@@ -352,76 +349,106 @@ fn read_after(alloc: Global, journal: &[u8], good: u64) -> Result<Read, Fail> {
     })
 }
 
-#[test]
-fn a_journal_fails_at_each_read(rt: HostRuntime) -> Result<(), Fail> {
-    let alloc = rt.alloc();
-    let journal = journal_of(alloc).ok_or("a journal")?;
+/// What is read in so many reads, the last of which failed.
+fn failed_read(reads: u64) -> Read {
+    Read {
+        entries: Err(JournalFault::Device),
+        is_legal: Err(JournalFault::Device),
+        failures: (1, 1),
+        reads,
+        asked: reads.wrapping_mul(4096),
+    }
+}
+
+/// What is read where none of so many reads failed.
+fn whole_read(reads: u64) -> Read {
+    Read {
+        entries: Ok(14),
+        is_legal: Ok(true),
+        failures: (0, 0),
+        reads,
+        asked: reads.wrapping_mul(4096),
+    }
+}
+
+/// After how many good reads of a journal a failure leaves anything else; the journal takes more than 10.
+fn unlike_after_journal_reads(alloc: Global) -> Result<Option<u64>, Fail> {
     for good in 0..100u64 {
-        let read = read_after(alloc, journal.as_bytes(), good)?;
-        let is_whole = read.entries == Ok(14);
-        let want = Read {
-            entries: if is_whole {
-                Ok(14)
-            } else {
-                Err(JournalFault::Device)
-            },
-            is_legal: if is_whole {
-                Ok(true)
-            } else {
-                Err(JournalFault::Device)
-            },
-            failures: if is_whole { (0, 0) } else { (1, 1) },
-            reads: if is_whole {
-                read.reads
-            } else {
-                good.wrapping_add(1)
-            },
-            asked: read.reads.wrapping_mul(4096),
-        };
-        assert_eq!(rt; read, want, "after {good} reads");
-        if is_whole {
-            assert!(rt; good > 10);
-            return Ok(());
+        let read = read_after(alloc, good)?;
+        if good > 10 && read == whole_read(read.reads) {
+            return Ok(None);
+        }
+        if read != failed_read(good.wrapping_add(1)) {
+            return Ok(Some(good));
         }
     }
-    assert!(rt; false, "no journal was read");
-    Ok(())
+    Ok(Some(100))
 }
 
-/// Writes entries to a device that takes 30 bytes a write, of which so many are good: the fault, how many writes
-/// failed, how many bytes it took, and whether they are a beginning of the journal.
-fn written_after(
-    alloc: Global,
-    entries: &[Entry],
-    journal: &[u8],
-    good: u64,
-) -> (Result<(), JournalFault>, u64, usize, bool) {
+/// What came of writing entries: the fault, how many writes failed, and whether what is out is a beginning of the
+/// journal, and all of it.
+#[derive(Clone, Copy, PartialEq, Drop)]
+struct Written {
+    told: Result<(), JournalFault>,
+    failures: u64,
+    is_front: bool,
+    is_all: bool,
+}
+
+/// Writes entries to a device that takes 30 bytes a write, of which so many are good.
+fn written_after(alloc: Global, entries: &[Entry], good: u64) -> Written {
     let mut output = answers(alloc, 30, Some(good));
-    let written = write_entries(alloc, entries, &mut output);
-    let is_front = journal.starts_with(&output.bytes);
-    (written, output.failures, output.bytes.len(), is_front)
+    let told = write_entries(alloc, entries, &mut output);
+    Written {
+        told,
+        failures: output.failures,
+        is_front: JOURNAL.as_bytes().starts_with(&output.bytes),
+        is_all: output.bytes.len() == JOURNAL.len(),
+    }
 }
 
-#[test]
-fn a_journal_fails_at_each_write(rt: HostRuntime) -> Result<(), Fail> {
-    let alloc = rt.alloc();
-    let journal = journal_of(alloc).ok_or("a journal")?;
-    let mut input = cut_journal(alloc, journal.as_bytes(), 1000)?;
+const WHOLE_JOURNAL: Written = Written {
+    told: Ok(()),
+    failures: 0,
+    is_front: true,
+    is_all: true,
+};
+
+const FRONT_OF_A_JOURNAL: Written = Written {
+    told: Err(JournalFault::Device),
+    failures: 1,
+    is_front: true,
+    is_all: false,
+};
+
+/// The same of writes of a journal, which takes more than 14.
+fn unlike_after_journal_writes(alloc: Global) -> Result<Option<u64>, Fail> {
+    let mut input = cut_journal(alloc, 1000)?;
     let entries = read_entries(alloc, &mut input).ok().ok_or("entries")?;
     for good in 0..200u64 {
-        let (written, failures, len, is_front) = written_after(
-            alloc,
-            &entries,
-            journal.as_bytes(),
-            good,
-        );
-        assert!(rt; is_front, "after {good} writes");
-        if written.is_ok() {
-            assert!(rt; good > 14 && failures == 0 && len == journal.len());
-            return Ok(());
+        let written = written_after(alloc, &entries, good);
+        if good > 14 && written == WHOLE_JOURNAL {
+            return Ok(None);
         }
-        assert_eq!(rt; (written, failures), (Err(JournalFault::Device), 1));
+        if written != FRONT_OF_A_JOURNAL {
+            return Ok(Some(good));
+        }
     }
-    assert!(rt; false, "no journal was written");
+    Ok(Some(200))
+}
+
+/// After how many good reads and writes of a session, and of a journal, something else is left.
+fn first_unlike<R: Wait>(rt: &R, alloc: Global) -> Result<[Option<u64>; 4], Fail> {
+    let reads = unlike_after_reads(rt, alloc)?;
+    let writes = unlike_after_writes(rt, alloc)?;
+    let journal_reads = unlike_after_journal_reads(alloc)?;
+    let journal_writes = unlike_after_journal_writes(alloc)?;
+    Ok([reads, writes, journal_reads, journal_writes])
+}
+
+// A session and a journal, at each read and each write.
+#[test]
+fn fails_at_each_call(rt: HostRuntime) -> Result<(), Fail> {
+    assert_eq!(rt; first_unlike(&rt, rt.alloc())?, [None; 4]);
     Ok(())
 }

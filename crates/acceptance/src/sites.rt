@@ -1,7 +1,4 @@
 //! A site, a delivery that is paid there, and its journal.
-use console::{play, read_config};
-use std::alloc::Global;
-use till_request::devices::{MemoryIn, MemoryOut};
 
 /// Two tills; two points whose releases go to slot 0 and presets to slot 1; prices in slot 2; counter 0 of at most 2.
 pub const STATION: &str =
@@ -14,27 +11,17 @@ pub const DELIVERY: &str =
         disp 1 started\ndisp 1 flow 2500 1390\ndisp 1 down\ntill 1 lock 1 1\ntill 2 lock 1 1\ntill 2 clear 1 1\n\
         till 1 clear 1 1\ntill 1 clear 1 1\ntill 1 show 1\n";
 
-/// What a play of a script on the site writes, where the play ends well.
-fn answers(alloc: Global, script: &str) -> Option<Vec<u8>> {
-    let settings = read_config(alloc, STATION.as_bytes()).ok()?;
-    let bytes = Vec::from_slice(alloc, script.as_bytes()).ok()?;
-    let mut input = MemoryIn::new(bytes, Vec::new(alloc), None);
-    let mut output = MemoryOut::new(alloc, Vec::new(alloc), None);
-    let ended = play(alloc, settings.config, &mut input, &mut output).ok()?;
-    if ended.cut.is_some() {
-        return None;
-    }
-    Some(output.bytes)
-}
+/// What the delivery is answered.
+pub const ANSWERS: &str =
+    "1 version 1\n2 done\n3 done\n4 granted 8000 by 1\n5 order authorise 8000\n6 done\n7 done\n8 done\n9 done\n\
+        10 S27\n11 S27\n12 done\n13 S28\n14 point 3 0 0 0 0 0 0\n";
 
 /// The journal of the delivery.
-pub fn journal_of(alloc: Global) -> Option<String> {
-    let script = format!(in alloc; "{DELIVERY}journal\n").ok()?;
-    let text = String::from_utf8(answers(alloc, script.as_str())?).ok()?;
-    let mut journal = String::new(alloc);
-    for line in text.as_str().lines().skip(14) {
-        journal.push_str(line).ok()?;
-        journal.push_str("\n").ok()?;
-    }
-    Some(journal)
-}
+pub const JOURNAL: &str =
+    "1 1 0 load 0 0 79101800000000009500000000000000 = version 1\n2 1 0 till 1 open 1 = done\n\
+        3 1 0 disp 1 up 1 = done\n4 1 0 till 1 release 1 8000 = granted 8000 by 1 ; 0 1 8000 \
+        010000000100000001000000040000000100000001000000401f0000000000000000000000000000070700000000000000000000000\
+        000000000000000000000 -\n5 1 0 disp 1 order = order authorise 8000\n6 1 0 disp 1 started = done\n\
+        7 1 0 disp 1 flow 2500 1390 = done\n8 1 0 disp 1 down = done\n9 1 0 till 1 lock 1 1 = done\n\
+        10 1 0 till 2 lock 1 1 = S27\n11 1 0 till 2 clear 1 1 = S27\n12 1 0 till 1 clear 1 1 = done\n\
+        13 1 0 till 1 clear 1 1 = S28\n14 1 0 till 1 show 1 = point 3 0 0 0 0 0 0\n";

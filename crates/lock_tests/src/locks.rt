@@ -10,6 +10,7 @@ use site_lock::{
 };
 use std::alloc::Global;
 use std::marker::Brand;
+use std::process::Abort;
 use std::sync::ledger::Blank;
 use std::sync::{Arc, Wait};
 use std::test::Fail;
@@ -53,7 +54,7 @@ fn rising(receipts: &[Receipt]) -> Option<usize> {
 }
 
 /// What two threads of 1,000 requests each leave.
-#[derive(Clone, Copy, Debug, PartialEq, Eq, Drop)]
+#[derive(Clone, Copy, PartialEq, Drop)]
 struct Left {
     first: Option<usize>,
     second: Option<usize>,
@@ -147,12 +148,15 @@ fn two_of<R: Threads + Wait + Sync>(rt: &R, alloc: Global, config: Config) -> Re
 fn two_threads_of_a_thousand(rt: HostRuntime) -> Result<(), Fail> {
     let config = config(rt.alloc()).ok_or("a configuration")?;
     let left = two_of(&rt, rt.alloc(), config)?;
-    assert_eq!(rt; left.first, Some(1000));
-    assert_eq!(rt; left.second, Some(1000));
-    assert_eq!(rt; left.refused, Some(CloseRefusal::PassMissing));
-    assert_eq!(rt; left.handed_back, 1);
-    assert_eq!(rt; left.halted, 2000);
-    assert_eq!(rt; left.entries, Some(2000));
+    let all = Left {
+        first: Some(1000),
+        second: Some(1000),
+        refused: Some(CloseRefusal::PassMissing),
+        handed_back: 1,
+        halted: 2000,
+        entries: Some(2000),
+    };
+    assert!(rt; left == all);
     Ok(())
 }
 
@@ -210,13 +214,27 @@ fn desk<L: Yard, R: Wait>(
     }
 }
 
+/// Sees that a script at a desk is answered so, with as many receipts and entries.
+fn expect_at_desk<R: Wait + Abort>(
+    rt: &R,
+    alloc: Global,
+    script: &str,
+    answers: &str,
+    count: usize,
+) -> Result<(), Fail> {
+    let config = config(alloc).ok_or("a configuration")?;
+    let script = Vec::from_slice(alloc, script.as_bytes())?;
+    let (text, gained, entries) = desk_of(rt, alloc, config, script)?;
+    assert!(rt; text.as_slice() == answers.as_bytes() && gained == count && entries == Some(count));
+    Ok(())
+}
+
 fn desk_of<R: Wait>(
     rt: &R,
     alloc: Global,
     config: Config,
-    script: &str,
+    script: Vec<u8>,
 ) -> Result<(Vec<u8>, usize, Option<usize>), Fail> {
-    let script = Vec::from_slice(alloc, script.as_bytes())?;
     desk::<Brand, R>(rt, alloc, Blank::new(1), config, script)
 }
 
@@ -232,23 +250,13 @@ const SALE_ANSWERS: &str =
 
 #[test]
 fn a_sale_at_a_desk(rt: HostRuntime) -> Result<(), Fail> {
-    let config = config(rt.alloc()).ok_or("a configuration")?;
-    let (text, gained, entries) = desk_of(&rt, rt.alloc(), config, SALE)?;
-    assert_eq!(rt; text.as_slice(), SALE_ANSWERS.as_bytes());
-    assert_eq!(rt; gained, 14);
-    assert_eq!(rt; entries, Some(14));
-    Ok(())
+    expect_at_desk(&rt, rt.alloc(), SALE, SALE_ANSWERS, 14)
 }
 
 #[test]
 fn a_refused_load_has_no_receipt(rt: HostRuntime) -> Result<(), Fail> {
-    let config = config(rt.alloc()).ok_or("a configuration")?;
     let script = "load 0 0 9500000000000000\nload 0 0 950\ntill 3 open 1\n";
-    let (text, gained, entries) = desk_of(&rt, rt.alloc(), config, script)?;
-    assert_eq!(rt; text.as_slice(), "V11 0 0\nL3\n1 S21\n".as_bytes());
-    assert_eq!(rt; gained, 1);
-    assert_eq!(rt; entries, Some(1));
-    Ok(())
+    expect_at_desk(&rt, rt.alloc(), script, "V11 0 0\nL3\n1 S21\n", 1)
 }
 
 /// Loads a program into a slot that isn't there: the entry's number, and the reply.
@@ -289,7 +297,7 @@ fn shown<L: Yard, R: Wait>(
 }
 
 /// What direct calls answer.
-#[derive(Clone, Copy, Debug, PartialEq, Eq, Drop)]
+#[derive(Clone, Copy, PartialEq, Drop)]
 struct Called {
     loaded: Option<(u32, Reply)>,
     reported: Option<(u32, Reply)>,
@@ -337,8 +345,6 @@ fn calls_of<R: Wait>(rt: &R, alloc: Global, config: Config) -> Result<Called, Fa
 fn calls_are_answered(rt: HostRuntime) -> Result<(), Fail> {
     let config = config(rt.alloc()).ok_or("a configuration")?;
     let called = calls_of(&rt, rt.alloc(), config)?;
-    assert_eq!(rt; called.loaded, Some((1, Reply::Refused(32, None))));
-    assert_eq!(rt; called.reported, Some((2, Reply::Done)));
     let shown = Reply::Point {
         state: 2,
         nozzle: 3,
@@ -348,8 +354,13 @@ fn calls_are_answered(rt: HostRuntime) -> Result<(), Fail> {
         preset: 0,
         unpaid: 0,
     };
-    assert_eq!(rt; called.asked, Some((3, shown)));
-    assert_eq!(rt; called.are_all, (false, true));
-    assert_eq!(rt; called.fault, Some((2, 1)));
+    let all = Called {
+        loaded: Some((1, Reply::Refused(32, None))),
+        reported: Some((2, Reply::Done)),
+        asked: Some((3, shown)),
+        are_all: (false, true),
+        fault: Some((2, 1)),
+    };
+    assert!(rt; called == all);
     Ok(())
 }

@@ -1,4 +1,4 @@
-//! Verifying many programs gives what verifying each gives.
+//! Verifying many programs gives what verifying each gives, in order.
 ghost use Rattle.std.specs.Prelude.{◌<◌, ◌≤◌};
 
 use reg_types::{Layout, Program, Refusal, verify};
@@ -7,206 +7,97 @@ use std::alloc::{AllocError, Global};
 use std::test::Fail;
 use std::thread::Threads;
 
+type Item = (Vec<u8>, u32, Layout);
+
+/// The number of a refusal, its unit and its register or argument; none for a program.
 type Shown = Option<(u32, Option<u32>, Option<u32>)>;
 
 const EXIT: u64 = 0x9500_0000_0000_0000;
 
-/// A program of these units, each as the number whose hexadecimal digits are the unit's bytes in order.
-fn program(alloc: Global, units: &[u64]) -> Result<(Vec<u8>, u32, Layout), AllocError> {
+const GRANTS: &[u64] = &[0x7910_1800_0000_0000, EXIT];
+
+/// It reads behind the first layout's context, and within the second's.
+const BEHIND: &[u64] = &[0x7910_4000_0000_0000, EXIT];
+
+/// Programs, each unit as the number whose hexadecimal digits are its bytes in order, the layout they are verified for,
+/// and what is shown of them.
+const ROWS: [(&[u64], Layout, Shown); 10] = [
+    (GRANTS, Layout::One, None),
+    (&[], Layout::One, Some((1, None, None))),
+    (
+        &[0x1800_0000_0000_0000],
+        Layout::One,
+        Some((5, Some(0), None)),
+    ),
+    (BEHIND, Layout::One, Some((13, Some(0), None))),
+    (BEHIND, Layout::Two, None),
+    (&[EXIT], Layout::One, Some((11, Some(0), Some(0)))),
+    (&[0xb700_0000_ffff_ffff, EXIT], Layout::One, None),
+    (
+        &[0x620a_f8ff_0700_0000, 0x79a0_f8ff_0000_0000, EXIT],
+        Layout::One,
+        Some((14, Some(1), None)),
+    ),
+    (
+        &[0x0500_ffff_0000_0000, EXIT],
+        Layout::One,
+        Some((6, Some(0), None)),
+    ),
+    (GRANTS, Layout::Two, None),
+];
+
+fn item(alloc: Global, units: &[u64], layout: Layout) -> Result<Item, AllocError> {
     let mut bytes = Vec::new(alloc);
     for unit in units {
         bytes.extend_from_slice(&unit.to_be_bytes())?;
     }
-    Ok((bytes, 0, Layout::One))
+    Ok((bytes, 0, layout))
 }
 
-/// So many moves, and EXIT.
-fn moves(alloc: Global, count: u32) -> Result<(Vec<u8>, u32, Layout), AllocError> {
-    let mut bytes = Vec::new(alloc);
-    for _ in 0..count {
-        bytes.extend_from_slice(&0xb700_0000_0100_0000u64.to_be_bytes())?;
-    }
-    bytes.extend_from_slice(&EXIT.to_be_bytes())?;
-    Ok((bytes, 0, Layout::One))
-}
-
-fn accepted(alloc: Global) -> Result<Vec<(Vec<u8>, u32, Layout)>, AllocError> {
+fn items(alloc: Global) -> Result<Vec<Item>, AllocError> {
     let mut items = Vec::new(alloc);
-    items.push(program(alloc, &[0x7910_1800_0000_0000, EXIT])?)?;
-    items.push(moves(alloc, 511)?)?;
-    items.push(program(alloc, &[0xb700_0000_ffff_ffff, EXIT])?)?;
-    items.push(program(alloc, &[0xb400_0000_ffff_ffff, EXIT])?)?;
-    items.push(program(alloc, &[0x620a_f8ff_0700_0000, 0x61a0_f8ff_0000_0000, EXIT])?)?;
-    items.push(program(alloc, &[0x7910_3800_0000_0000, EXIT])?)?;
-    items.push(program(
-        alloc,
-        &[
-            0x1800_0000_0000_0000,
-            0x0000_0000_0000_0080,
-            0x3700_0100_ffff_ffff,
-            EXIT,
-        ],
-    )?)?;
-    items.push(program(alloc, &[0xb700_0000_0500_0000, 0x3700_0000_0000_0000, EXIT])?)?;
-    items.push(program(alloc, &[0xb700_0000_0500_0000, 0x9700_0000_0000_0000, EXIT])?)?;
-    items.push(program(
-        alloc,
-        &[
-            0x1800_0000_0500_0000,
-            0x0000_0000_ffff_ffff,
-            0x9400_0000_0000_0000,
-            EXIT,
-        ],
-    )?)?;
-    Ok(items)
-}
-
-/// One unit too many, and divisions whose operands have a sign.
-fn further(alloc: Global) -> Result<Vec<(Vec<u8>, u32, Layout)>, AllocError> {
-    let mut items = Vec::new(alloc);
-    items.push(moves(alloc, 512)?)?;
-    items.push(program(alloc, &[0xb700_0000_f3ff_ffff, 0x9700_0100_0300_0000, EXIT])?)?;
-    items.push(program(
-        alloc,
-        &[
-            0x1800_0000_0500_0000,
-            0x0000_0000_ffff_ffff,
-            0x9700_0000_0000_0000,
-            EXIT,
-        ],
-    )?)?;
-    Ok(items)
-}
-
-fn refused(alloc: Global) -> Result<Vec<(Vec<u8>, u32, Layout)>, AllocError> {
-    let mut items = Vec::new(alloc);
-    items.push(program(alloc, &[])?)?;
-    items.push((vec![in alloc; 0; 12]?, 0, Layout::One))?;
-    items.push(program(alloc, &[0x1800_0000_0000_0000])?)?;
-    items.push(program(alloc, &[EXIT])?)?;
-    items.push(program(alloc, &[0x9500_0000_0100_0000])?)?;
-    items.push(program(
-        alloc,
-        &[
-            0x6112_0c00_0000_0000,
-            0x1502_0100_0400_0000,
-            0xb700_0000_0100_0000,
-            EXIT,
-        ],
-    )?)?;
-    items.push(program(alloc, &[0x620a_f8ff_0700_0000, 0x79a0_f8ff_0000_0000, EXIT])?)?;
-    items.push(program(alloc, &[0x7910_3900_0000_0000, EXIT])?)?;
-    items.push(program(
-        alloc,
-        &[0x0500_0100_0000_0000, 0x1800_0000_0000_0000, 0, EXIT],
-    )?)?;
-    items.push(program(alloc, &[0x0500_ffff_0000_0000, EXIT])?)?;
-    items.push(program(alloc, &[0xbf1a_0000_0000_0000, EXIT])?)?;
-    Ok(items)
-}
-
-/// Programs that read at 56, 64 and 73 of their contexts, for one layout after the other.
-fn of_both_layouts(alloc: Global) -> Result<Vec<(Vec<u8>, u32, Layout)>, AllocError> {
-    let mut items = Vec::new(alloc);
-    for layout in [Layout::One, Layout::Two] {
-        for load in [
-            0x7910_3800_0000_0000,
-            0x7910_4000_0000_0000,
-            0x7910_4900_0000_0000,
-        ] {
-            let (bytes, mask, _) = program(alloc, &[load, EXIT])?;
-            items.push((bytes, mask, layout))?;
-        }
+    for (units, layout, _) in ROWS {
+        items.push(item(alloc, units, layout)?)?;
     }
     Ok(items)
 }
 
-/// What a refusal shows; nothing for a program.
-fn shown(answer: &Result<Program, Refusal>) -> Option<Shown> {
+fn shown(answer: &Result<Program, Refusal>) -> Shown {
     match answer {
         Ok(_) => None,
-        Err(refusal) => Some(refusal.shown()),
+        Err(refusal) => refusal.shown(),
     }
 }
 
-/// What is shown of each item, by so many workers; nothing where an answer isn't what `verify` gives for its item.
-fn all_shown<R: Threads + Sync>(
-    rt: &R,
-    alloc: Global,
-    items: &[(Vec<u8>, u32, Layout)],
-    workers: u32,
-) -> Result<Vec<Option<Shown>>, Fail>
-    requires { (0 < workers) × (workers ≤ 16) }
-{
-    let answers = verify_all(rt, alloc, items, workers)?;
-    let mut all = Vec::new(alloc);
-    for (item, answer) in items.iter().zip(answers.iter()) {
+/// How many of these answers are what is shown of their rows, and what `verify` gives.
+fn as_shown(alloc: Global, items: &[Item], answers: &[Result<Program, Refusal>]) -> u32 {
+    let mut count = 0u32;
+    for ((item, answer), row) in items.iter().zip(answers.iter()).zip(ROWS.iter()) {
         let alone = verify(alloc, item.0.as_slice(), item.1, item.2);
-        let told = shown(answer);
-        if told == shown(&alone) {
-            all.push(told)?;
+        if shown(answer) == row.2 && shown(&alone) == row.2 {
+            count = count.wrapping_add(1);
         }
     }
-    Ok(all)
+    count
+}
+
+/// The same of the answers by so many workers.
+fn answered<R: Threads + Sync>(rt: &R, alloc: Global, items: &[Item], workers: u32) -> u32
+    requires { (0 < workers) × (workers ≤ 16) }
+{
+    match verify_all(rt, alloc, items, workers) {
+        Ok(answers) => as_shown(alloc, items, &answers),
+        Err(_) => 0,
+    }
 }
 
 #[test]
-fn accepted_programs_are_in_order(rt: HostRuntime) -> Result<(), Fail> {
-    let items = accepted(rt.alloc())?;
-    let one = all_shown(&rt, rt.alloc(), items.as_slice(), 1)?;
-    let two = all_shown(&rt, rt.alloc(), items.as_slice(), 2)?;
-    let many = all_shown(&rt, rt.alloc(), items.as_slice(), 16)?;
-    assert!(rt; one.as_slice() == [None; 10].as_slice());
-    assert!(rt; two.as_slice() == [None; 10].as_slice());
-    assert!(rt; many.as_slice() == [None; 10].as_slice());
-    Ok(())
-}
-
-#[test]
-fn refusals_are_in_order(rt: HostRuntime) -> Result<(), Fail> {
-    let items = refused(rt.alloc())?;
-    let wanted = [
-        Some(Some((1, None, None))),
-        Some(Some((1, None, None))),
-        Some(Some((5, Some(0), None))),
-        Some(Some((11, Some(0), Some(0)))),
-        Some(Some((3, Some(0), None))),
-        Some(Some((11, Some(3), Some(0)))),
-        Some(Some((14, Some(1), None))),
-        Some(Some((13, Some(0), None))),
-        Some(Some((8, Some(0), None))),
-        Some(Some((6, Some(0), None))),
-        Some(Some((10, Some(0), None))),
-    ];
-    let one = all_shown(&rt, rt.alloc(), items.as_slice(), 1)?;
-    let two = all_shown(&rt, rt.alloc(), items.as_slice(), 2)?;
-    let many = all_shown(&rt, rt.alloc(), items.as_slice(), 16)?;
-    assert!(rt; one.as_slice() == wanted.as_slice());
-    assert!(rt; two.as_slice() == wanted.as_slice());
-    assert!(rt; many.as_slice() == wanted.as_slice());
-    Ok(())
-}
-
-#[test]
-fn further_programs_are_in_order(rt: HostRuntime) -> Result<(), Fail> {
-    let items = further(rt.alloc())?;
-    let wanted = [Some(Some((1, None, None))), None, None];
-    let one = all_shown(&rt, rt.alloc(), items.as_slice(), 1)?;
-    let two = all_shown(&rt, rt.alloc(), items.as_slice(), 2)?;
-    let many = all_shown(&rt, rt.alloc(), items.as_slice(), 16)?;
-    assert!(rt; one.as_slice() == wanted.as_slice());
-    assert!(rt; two.as_slice() == wanted.as_slice());
-    assert!(rt; many.as_slice() == wanted.as_slice());
-    Ok(())
-}
-
-#[test]
-fn each_is_verified_for_its_layout(rt: HostRuntime) -> Result<(), Fail> {
-    let items = of_both_layouts(rt.alloc())?;
-    let past_the_end = Some(Some((13, Some(0), None)));
-    let wanted = [None, past_the_end, past_the_end, None, None, past_the_end];
-    let all = all_shown(&rt, rt.alloc(), items.as_slice(), 3)?;
-    assert!(rt; all.as_slice() == wanted.as_slice());
+fn many_programs_are_answered_in_order(rt: HostRuntime) -> Result<(), Fail> {
+    let items = items(rt.alloc())?;
+    let one = answered(&rt, rt.alloc(), &items, 1);
+    let two = answered(&rt, rt.alloc(), &items, 2);
+    let many = answered(&rt, rt.alloc(), &items, 16);
+    assert_eq!(rt; (one, two, many), (10, 10, 10));
     Ok(())
 }
 

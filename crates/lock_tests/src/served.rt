@@ -1,5 +1,5 @@
 //! Serving over loopback with a journal that is synced before answers leave.
-use crate::servers::{Addresses, Peer, Silent, addresses_of, config};
+use crate::servers::{Addresses, Peer, Silent, opened};
 use site_core::Site;
 use site_server::{
     CountedOut, Crew, GroupSync, LineJournal, Listeners, MemoryDisk, ServeFault, Shared,
@@ -44,21 +44,6 @@ struct Day {
     synced: u64,
 }
 
-/// A new site, its ports, and where they are.
-fn opened<R: Net<Listener = TcpListener, Stream = TcpStream>>(
-    rt: &R,
-    alloc: Global,
-) -> Result<(Site, Listeners, Addresses), Fail> {
-    let site = Site::start(alloc, config(alloc).ok_or("a configuration")?)?;
-    match Listeners::open(rt, alloc, 0, 0, 0) {
-        Ok(listeners) => {
-            let at = addresses_of(&listeners)?;
-            Ok((site, listeners, at))
-        }
-        Err(_) => Err(Fail::from("a port")),
-    }
-}
-
 /// Serves one connection of each kind with a journal in memory: the journal, or why there is none.
 fn serve<R: Net<Listener = TcpListener, Stream = TcpStream> + Threads + Wait + Clock + Sync>(
     rt: &R,
@@ -86,8 +71,8 @@ fn serve_day<R: Net<Listener = TcpListener, Stream = TcpStream> + Threads + Wait
     alloc: Global,
     good: u64,
 ) -> Result<Day, Fail> {
-    let (site, listeners, at) = opened(rt, alloc)?;
     let crew = Crew::new(1, 1).ok_or("a crew")?;
+    let (site, listeners, at) = opened(rt, alloc)?;
     let group = GroupSync::new(MemoryDisk::new(good));
     let yard = &group;
     let (journal, heard) = join(
@@ -103,30 +88,28 @@ fn serve_day<R: Net<Listener = TcpListener, Stream = TcpStream> + Threads + Wait
     })
 }
 
+/// Whether the journal ends with the order, and all of it was synced.
+fn is_synced_whole(day: &Day) -> bool {
+    match &day.journal {
+        Ok(journal) => day.synced == journal.len() as u64
+            && journal.ends_with(b"\n4 2 0 disp 1 order = order authorise 8000\n"),
+        Err(_) => false,
+    }
+}
+
+// Each peer waits for its answer before the next one asks.
 #[test]
 fn each_answer_has_its_sync(rt: HostRuntime) -> Result<(), Fail> {
     let day = serve_day(&rt, rt.alloc(), 9)?;
-    assert_eq!(rt;
-        day.heard.as_str(),
-        "1 version 1\n2 done\n3 granted 8000 by 1\n4 order authorise 8000\n"
-    );
-    // Each peer waits for its answer before the next one asks.
-    assert_eq!(rt; day.calls, 4);
-    match &day.journal {
-        Ok(journal) => {
-            assert_eq!(rt; day.synced, journal.len() as u64);
-            assert!(rt; journal.ends_with(b"\n4 2 0 disp 1 order = order authorise 8000\n"));
-        }
-        Err(_) => assert!(rt; false),
-    }
+    let heard = "1 version 1\n2 done\n3 granted 8000 by 1\n4 order authorise 8000\n";
+    assert!(rt; day.heard.as_str() == heard && day.calls == 4 && is_synced_whole(&day));
     Ok(())
 }
 
 #[test]
 fn a_failed_sync_ends_the_site(rt: HostRuntime) -> Result<(), Fail> {
     let day = serve_day(&rt, rt.alloc(), 2)?;
-    assert_eq!(rt; day.heard.as_str(), "1 version 1\n2 done\n");
-    assert_eq!(rt; day.calls, 3);
-    assert!(rt; day.journal == Err(ServeFault::Journal));
+    let is_told = day.journal == Err(ServeFault::Journal);
+    assert!(rt; day.heard.as_str() == "1 version 1\n2 done\n" && day.calls == 3 && is_told);
     Ok(())
 }

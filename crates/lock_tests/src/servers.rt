@@ -6,11 +6,12 @@ use site_server::{
     Breach, CloseRefusal, Crew, Limiter, ListenFault, Listeners, Notices, ServeFault, Served,
     SessionFault, TcpDoors, serve_site,
 };
-use std::alloc::{AllocError, Global};
+use std::alloc::Global;
 use std::fmt::Display;
 use std::io;
 use std::io::{BufRead, BufReader, Write};
 use std::net::{Net, SocketAddr, TcpListener, TcpStream};
+use std::process::Abort;
 use std::sync::Wait;
 use std::test::Fail;
 use std::thread::{Threads, join};
@@ -19,7 +20,7 @@ use till_request::devices::MemoryOut;
 use till_request::{LineFault, Role};
 
 /// One till, and one point whose releases go to slot 0 and presets to slot 1.
-pub fn config(alloc: Global) -> Option<Config> {
+fn config(alloc: Global) -> Option<Config> {
     let points = vec![in alloc; (0, 1)].ok()?;
     Config::new(1, 2, [1799, 1849, 0, 0, 0, 0, 0, 0], points, [(0, 0); 32])
 }
@@ -73,12 +74,28 @@ pub struct Addresses {
     pub owner: SocketAddr,
 }
 
-pub fn addresses_of(listeners: &Listeners) -> io::Result<Addresses> {
+fn addresses_of(listeners: &Listeners) -> io::Result<Addresses> {
     Ok(Addresses {
         till: listeners.till.local_addr()?,
         dispenser: listeners.dispenser.local_addr()?,
         owner: listeners.owner.local_addr()?,
     })
+}
+
+/// A new site, its ports, and where they are.
+pub fn opened<R: Net<Listener = TcpListener, Stream = TcpStream>>(
+    rt: &R,
+    alloc: Global,
+) -> Result<(Site, Listeners, Addresses), Fail> {
+    let config = config(alloc).ok_or("a configuration")?;
+    match Listeners::open(rt, alloc, 0, 0, 0) {
+        Ok(listeners) => {
+            let at = addresses_of(&listeners)?;
+            let site = Site::start(alloc, config)?;
+            Ok((site, listeners, at))
+        }
+        Err(_) => Err(Fail::from("a port")),
+    }
 }
 
 /// The owner loads a program, a till opens a point and asks for a release, and the dispenser takes its order.
@@ -100,11 +117,11 @@ fn in_turn<R: Net<Listener = TcpListener, Stream = TcpStream>>(
     Ok(heard)
 }
 
-/// The journal of a site.
-fn journal_of(alloc: Global, site: &Site) -> Option<Vec<u8>> {
+/// Whether the journal of a site ends with this text.
+fn journal_ends(alloc: Global, site: &Site, text: &[u8]) -> bool {
     let mut output = MemoryOut::new(alloc, Vec::new(alloc), None);
-    write_entries(alloc, site.history(), &mut output).ok()?;
-    Some(output.bytes)
+    let written = write_entries(alloc, site.history(), &mut output);
+    written.is_ok() && output.bytes.ends_with(text)
 }
 
 /// Serves one connection of each kind, beside what the peers do, and answers what these heard and the site that was
@@ -113,14 +130,8 @@ fn one_of_each<R: Net<Listener = TcpListener, Stream = TcpStream> + Threads + Wa
     rt: &R,
     alloc: Global,
 ) -> Result<(Served, String), Fail> {
-    let site = Site::start(alloc, config(alloc).ok_or("a configuration")?)?;
-    let opened = Listeners::open(rt, alloc, 0, 0, 0);
-    let listeners = match opened {
-        Ok(listeners) => listeners,
-        Err(_) => return Err(Fail::from("a port")),
-    };
-    let at = addresses_of(&listeners)?;
     let crew = Crew::new(1, 1).ok_or("a crew")?;
+    let (site, listeners, at) = opened(rt, alloc)?;
     let (served, heard) = join(
         rt,
         || serve_site(rt, alloc, site, crew, listeners, &Silent, 1),
@@ -135,17 +146,10 @@ fn one_of_each<R: Net<Listener = TcpListener, Stream = TcpStream> + Threads + Wa
 #[test]
 fn serve_on_loopback(rt: HostRuntime) -> Result<(), Fail> {
     let (served, heard) = one_of_each(&rt, rt.alloc())?;
-    assert_eq!(rt;
-        heard.as_str(),
-        "1 version 1\n2 done\n3 granted 8000 by 1\n4 order authorise 8000\n"
-    );
-    assert_eq!(rt; served.well, 3);
-    match journal_of(rt.alloc(), &served.site) {
-        Some(journal) => assert!(rt;
-            journal.ends_with(b"\n4 2 0 disp 1 order = order authorise 8000\n")
-        ),
-        None => assert!(rt; false),
-    }
+    let wanted = "1 version 1\n2 done\n3 granted 8000 by 1\n4 order authorise 8000\n";
+    let last = b"\n4 2 0 disp 1 order = order authorise 8000\n";
+    let is_last = journal_ends(rt.alloc(), &served.site, last);
+    assert!(rt; heard.as_str() == wanted && served.well == 3 && is_last);
     Ok(())
 }
 
@@ -175,43 +179,66 @@ fn answers_leave_without_a_delay(rt: HostRuntime) -> Result<(), Fail> {
 #[test]
 fn ten_lines_a_second_are_told(rt: HostRuntime) {
     let mut limiter = Limiter::new();
-    for _ in 0..10 {
-        assert_eq!(rt; limiter.admit(7), Some(0));
+    for turn in 0..14 {
+        let (second, told) = match turn {
+            0..=9 => (7, Some(0)),
+            10 | 11 => (7, None),
+            12 => (8, Some(2)),
+            _ => (8, Some(0)),
+        };
+        assert_eq!(rt; limiter.admit(second), told);
     }
-    assert_eq!(rt; limiter.admit(7), None);
-    assert_eq!(rt; limiter.admit(7), None);
-    assert_eq!(rt; limiter.admit(8), Some(2));
-    assert_eq!(rt; limiter.admit(8), Some(0));
 }
 
-/// What is said of a fault.
-fn words_of<D: Display>(alloc: Global, fault: &D) -> Result<String, AllocError> {
-    format!(in alloc; "{fault}")
+/// Sees that each fault is told in these words.
+fn expect_words<D: Display>(
+    rt: &impl Abort,
+    alloc: Global,
+    rows: &[(D, &str)],
+) -> Result<(), Fail> {
+    for (fault, words) in rows {
+        let told = format!(in alloc; "{fault}")?;
+        assert_eq!(rt; told.as_str(), *words);
+    }
+    Ok(())
 }
 
 #[test]
-fn faults_in_words(rt: HostRuntime) -> Result<(), Fail> {
-    let alloc = rt.alloc();
-    let missing = ServeFault::NotClosed(CloseRefusal::PassMissing);
-    let differs = ServeFault::NotClosed(CloseRefusal::NotInHistory(3, 12));
-    let spent = Breach::Session(SessionFault::ReadsSpent);
-    let long = Breach::Line(LineFault::TooLong);
-    assert_eq!(rt;
-        words_of(alloc, &missing)?.as_str(),
-        "the passes handed in aren't all of the site's, each once"
-    );
-    assert_eq!(rt;
-        words_of(alloc, &differs)?.as_str(),
-        "entry 12 of the history isn't what pass 3 was answered"
-    );
-    assert_eq!(rt;
-        words_of(alloc, &ServeFault::Journal)?.as_str(),
-        "a write to the journal failed: the site took no further event"
-    );
-    assert_eq!(rt; words_of(alloc, &spent)?.as_str(), "the reads ran out");
-    assert_eq!(rt;
-        words_of(alloc, &long)?.as_str(),
-        "ended by a line of more than 8,400 bytes"
-    );
-    Ok(())
+fn faults_of_a_served_site_in_words(rt: HostRuntime) -> Result<(), Fail> {
+    expect_words(
+        &rt,
+        rt.alloc(),
+        &[
+            (
+                ServeFault::NotClosed(CloseRefusal::PassMissing),
+                "the passes handed in aren't all of the site's, each once",
+            ),
+            (
+                ServeFault::NotClosed(CloseRefusal::NotInHistory(3, 12)),
+                "entry 12 of the history isn't what pass 3 was answered",
+            ),
+            (
+                ServeFault::Journal,
+                "a write to the journal failed: the site took no further event",
+            ),
+        ],
+    )
+}
+
+#[test]
+fn breaches_in_words(rt: HostRuntime) -> Result<(), Fail> {
+    expect_words(
+        &rt,
+        rt.alloc(),
+        &[
+            (
+                Breach::Session(SessionFault::ReadsSpent),
+                "the reads ran out",
+            ),
+            (
+                Breach::Line(LineFault::TooLong),
+                "ended by a line of more than 8,400 bytes",
+            ),
+        ],
+    )
 }

@@ -15,7 +15,7 @@ use std::alloc::Global;
 use std::test::Fail;
 
 /// The calls that are tried.
-#[derive(Clone, Copy, Debug)]
+#[derive(Clone, Copy)]
 enum Call {
     Decode,
     Encode,
@@ -97,77 +97,73 @@ fn refused(alloc: Global, call: Call) -> Option<u32> {
     None
 }
 
+/// The place of the first of these calls that isn't refused at all, or not answered in the end.
+fn unrefused(alloc: Global, calls: &[Call]) -> Option<usize> {
+    for (place, call) in calls.iter().enumerate() {
+        match refused(alloc, *call) {
+            Some(times) if times > 0 => {}
+            _ => return Some(place),
+        }
+    }
+    None
+}
+
 #[test]
-fn each_growth_refused_to_a_program(rt: HostRuntime) -> Result<(), Fail> {
-    for call in [
+fn each_growth_refused_to_a_program(rt: HostRuntime) {
+    let calls = [
         Call::Decode,
         Call::Encode,
         Call::Assemble,
         Call::Disassemble,
         Call::Verify,
         Call::Install,
-    ] {
-        let refused = refused(rt.alloc(), call).ok_or("another answer")?;
-        assert!(rt; refused > 0, "{call:?}");
-    }
+    ];
+    assert_eq!(rt; unrefused(rt.alloc(), &calls), None);
     assert!(rt; checks_flow(rt.alloc(), 0) == Some(true));
-    Ok(())
 }
 
 #[test]
-fn each_growth_refused_to_a_line(rt: HostRuntime) -> Result<(), Fail> {
-    for call in [Call::ParseLine, Call::ReadLine, Call::HoldLine] {
-        let refused = refused(rt.alloc(), call).ok_or("another answer")?;
-        assert!(rt; refused > 0, "{call:?}");
-    }
+fn each_growth_refused_to_a_line(rt: HostRuntime) {
+    let calls = [Call::ParseLine, Call::ReadLine, Call::HoldLine];
+    assert_eq!(rt; unrefused(rt.alloc(), &calls), None);
     assert!(rt; writes_answer(rt.alloc(), 0) == Some(true));
-    Ok(())
 }
 
 #[test]
-fn each_growth_refused_to_a_journal(rt: HostRuntime) -> Result<(), Fail> {
-    for call in [
+fn each_growth_refused_to_a_journal(rt: HostRuntime) {
+    let calls = [
         Call::WriteEntries,
         Call::ReadEntries,
         Call::AuditJournal,
         Call::TakeLineJournal,
-    ] {
-        let refused = refused(rt.alloc(), call).ok_or("another answer")?;
-        assert!(rt; refused > 0, "{call:?}");
-    }
-    Ok(())
+    ];
+    assert_eq!(rt; unrefused(rt.alloc(), &calls), None);
 }
 
 #[test]
-fn each_growth_refused_to_a_file(rt: HostRuntime) -> Result<(), Fail> {
-    for call in [
+fn each_growth_refused_to_a_file(rt: HostRuntime) {
+    let calls = [
         Call::ReadConfig,
         Call::ReadHead,
         Call::TellUnits,
         Call::TellText,
-    ] {
-        let refused = refused(rt.alloc(), call).ok_or("another answer")?;
-        assert!(rt; refused > 0, "{call:?}");
-    }
-    Ok(())
+    ];
+    assert_eq!(rt; unrefused(rt.alloc(), &calls), None);
 }
 
 #[test]
-fn each_growth_refused_to_words(rt: HostRuntime) -> Result<(), Fail> {
-    for call in [
+fn each_growth_refused_to_words(rt: HostRuntime) {
+    let calls = [
         Call::CommandOfJob,
         Call::CommandOfHelp,
         Call::CommandOfUsage,
-    ] {
-        let refused = refused(rt.alloc(), call).ok_or("another answer")?;
-        assert!(rt; refused > 0, "{call:?}");
-    }
-    Ok(())
+    ];
+    assert_eq!(rt; unrefused(rt.alloc(), &calls), None);
 }
 
 #[test]
-fn each_growth_refused_to_a_site(rt: HostRuntime) -> Result<(), Fail> {
-    for call in [
+fn each_growth_refused_to_a_site(rt: HostRuntime) {
+    let calls = [
         Call::CopyConfig,
         Call::MakeEvent,
         Call::Start,
@@ -176,54 +172,57 @@ fn each_growth_refused_to_a_site(rt: HostRuntime) -> Result<(), Fail> {
         Call::ApplyLoad,
         Call::ApplyFifthLoad,
         Call::Commit,
-    ] {
-        let refused = refused(rt.alloc(), call).ok_or("another answer")?;
-        assert!(rt; refused > 0, "{call:?}");
+    ];
+    assert_eq!(rt; unrefused(rt.alloc(), &calls), None);
+}
+
+/// How often a run of events that is entered whole in the end left a site without entries, and one with four.
+fn runs_in_part(alloc: Global) -> Option<(u32, u32)> {
+    let _few = leave_few(alloc)?;
+    let (mut none, mut four) = (0u32, 0u32);
+    for turn in 0..TURNS {
+        match runs(alloc, room_of(turn)) {
+            Some(0) => none = none.wrapping_add(1),
+            Some(4) => four = four.wrapping_add(1),
+            Some(5) => return Some((none, four)),
+            _ => return None,
+        }
     }
-    Ok(())
+    None
 }
 
 // Where the results had room and no entry had, a site without entries; then one with four, since a list begins with
 // room for four.
 #[test]
 fn each_growth_refused_in_a_run_of_events(rt: HostRuntime) -> Result<(), Fail> {
-    let _few = leave_few(rt.alloc()).ok_or("memory")?;
-    let (mut none, mut four) = (0u32, 0u32);
+    let (none, four) = runs_in_part(rt.alloc()).ok_or("another answer")?;
+    assert!(rt;
+        none > 0 && four > 0,
+        "{none} without entries, {four} with four"
+    );
+    Ok(())
+}
+
+/// How often both commits around a replaced rule are refused, with one entry more before them, until they are answered.
+fn commits_refused(alloc: Global) -> Option<u32> {
+    let _few = leave_few(alloc)?;
+    let mut refused = 0u32;
     for turn in 0..TURNS {
-        match runs(rt.alloc(), room_of(turn)).ok_or("another answer")? {
-            0 => none = none.wrapping_add(1),
-            4 => four = four.wrapping_add(1),
-            entered => {
-                assert!(rt;
-                    entered == 5 && none > 0 && four > 0,
-                    "{none} without entries, {four} with four, {entered}"
-                );
-                return Ok(());
-            }
+        match replaces(alloc, 1, room_of(turn)) {
+            Some((false, false)) => refused = refused.wrapping_add(1),
+            Some((true, true)) => return Some(refused),
+            _ => return None,
         }
     }
-    assert!(rt; false, "no run was entered whole");
-    Ok(())
+    None
 }
 
 // A rule is replaced while a run on it is made. The load is refused memory for its bytes. The two commits need none;
 // with one entry more before them, at which the history's list has to grow, both are refused.
 #[test]
 fn each_growth_refused_while_a_rule_is_replaced(rt: HostRuntime) -> Result<(), Fail> {
-    let alloc = rt.alloc();
-    let loads = refused(alloc, Call::LoadBeforeCommit).ok_or("another answer")?;
-    assert!(rt; loads > 0 && replaces(alloc, 0, 0) == Some((true, true)));
-    let _few = leave_few(alloc).ok_or("memory")?;
-    let mut wanted = 0u32;
-    for turn in 0..TURNS {
-        match replaces(alloc, 1, room_of(turn)).ok_or("another answer")? {
-            (false, false) => wanted = wanted.wrapping_add(1),
-            both => {
-                assert!(rt; both == (true, true) && wanted > 0, "{wanted} refused");
-                return Ok(());
-            }
-        }
-    }
-    assert!(rt; false, "no run was entered");
+    assert_eq!(rt; unrefused(rt.alloc(), &[Call::LoadBeforeCommit]), None);
+    assert!(rt; replaces(rt.alloc(), 0, 0) == Some((true, true)));
+    assert!(rt; commits_refused(rt.alloc()).ok_or("another answer")? > 0);
     Ok(())
 }

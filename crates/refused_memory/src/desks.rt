@@ -4,8 +4,9 @@ ghost use Rattle.std.specs.Prelude.{◌≡◌, [], None};
 
 use crate::hoarding::{TURNS, leave_few, room_of};
 use crate::narrow::Narrow;
-use crate::plays::{DELIVERY, first_lines, with_want, without};
+use crate::plays::{Became, DELIVERY, Outcome, Wanted, what_became, with_want, without};
 use crate::texts::{output, station};
+use crate::yards::entries_of;
 use line_session::{Clock, SessionFault, session};
 use site_core::Config;
 use site_lock::{Forecourt, PassDesk, Straight, Yard};
@@ -15,7 +16,7 @@ use std::sync::Wait;
 use std::sync::ledger::Blank;
 use std::test::Fail;
 use till_request::Role;
-use till_request::devices::MemoryIn;
+use till_request::devices::{MemoryIn, MemoryOut};
 
 /// Tells 0.
 #[derive(Drop)]
@@ -31,11 +32,9 @@ impl Clock for Still {
 
 /// How a session ended, what it wrote, and how many entries the closed site has.
 #[derive(Drop)]
-struct Outcome {
-    text: Vec<u8>,
-    is_want: bool,
-    is_done: bool,
-    entries: usize,
+struct Seen {
+    outcome: Outcome,
+    entries: Option<usize>,
 }
 
 /// A session at a new forecourt, whose line of this number finds so much memory.
@@ -45,7 +44,8 @@ fn seat<L: Yard, R: Wait>(
     blank: Blank,
     config: Config,
     mut input: Narrow,
-) -> Result<Outcome, Fail>
+    mut output: MemoryOut,
+) -> Result<Seen, Fail>
     requires name { blank.name ≡ L.name }
     requires parts { blank.parts ≡ L.parts }
     requires config { config ≡ L.config }
@@ -54,7 +54,6 @@ fn seat<L: Yard, R: Wait>(
 {
     let (yard, mut passes) = Forecourt::<L>::start(alloc, config, 1, blank)?;
     let pass = passes.pop().ok_or("a pass")?;
-    let mut output = output(alloc, 65_536).ok_or("an output")?;
     let mut clock = Still;
     let mut desk = PassDesk::new(rt, alloc, &yard, pass, Straight { calls: 0 });
     let ended = session(
@@ -67,17 +66,24 @@ fn seat<L: Yard, R: Wait>(
     );
     drop(input);
     passes.push(desk.into_pass())?;
-    let closed = yard.close(rt, passes).ok().ok_or("a closed site")?;
-    Ok(Outcome {
-        text: output.bytes,
-        is_want: ended == Err(SessionFault::OutOfMemory),
-        is_done: ended.is_ok(),
-        entries: closed.site.history().len(),
+    Ok(Seen {
+        outcome: Outcome {
+            text: output.bytes,
+            is_want: ended == Err(SessionFault::OutOfMemory),
+            is_done: ended.is_ok(),
+        },
+        entries: entries_of(rt, yard, passes),
     })
 }
 
-fn seat_of<R: Wait>(rt: &R, alloc: Global, config: Config, input: Narrow) -> Result<Outcome, Fail> {
-    seat::<Brand, R>(rt, alloc, Blank::new(1), config, input)
+fn seat_of<R: Wait>(
+    rt: &R,
+    alloc: Global,
+    config: Config,
+    input: Narrow,
+    output: MemoryOut,
+) -> Result<Seen, Fail> {
+    seat::<Brand, R>(rt, alloc, Blank::new(1), config, input, output)
 }
 
 fn seated<R: Wait>(
@@ -86,46 +92,70 @@ fn seated<R: Wait>(
     script: &[u8],
     line: usize,
     size: usize,
-) -> Result<Outcome, Fail> {
+) -> Result<Seen, Fail> {
     let config = station(alloc).ok_or("a configuration")?;
     let input = MemoryIn::new(Vec::from_slice(alloc, script)?, Vec::new(alloc), None);
-    seat_of(rt, alloc, config, Narrow::new(alloc, input, line, size))
+    let input = Narrow::new(alloc, input, line, size);
+    let output = output(alloc, 65_536).ok_or("an output")?;
+    seat_of(rt, alloc, config, input, output)
 }
 
-/// Something where it holds.
-fn holds(it: bool) -> Option<()> {
-    if it { Some(()) } else { None }
-}
-
-/// How often a line was answered `S31` and how often its session ended for want of memory, in rooms that grow until
-/// nothing is refused; 0 where nothing ended unhindered.
-fn refused_at<R: Wait>(rt: &R, alloc: Global, line: usize) -> Result<(u32, u32), Fail> {
+/// What a session writes unhindered, and without its line of this number, which is answered `S31`.
+fn wanted_of<R: Wait>(rt: &R, alloc: Global, line: usize) -> Result<Wanted, Fail> {
     let script = DELIVERY.as_bytes();
-    let unhindered = seated(rt, alloc, script, script.len(), 0)?.text;
+    let whole = seated(rt, alloc, script, script.len(), 0)?.outcome.text;
     let less = without(alloc, script, line).ok_or("a script")?;
-    let changed_nothing = seated(rt, alloc, &less, script.len(), 0)?.text;
+    let changed_nothing = seated(rt, alloc, &less, script.len(), 0)?.outcome.text;
     let told = with_want(alloc, &changed_nothing, line).ok_or("answers")?;
-    let _few = leave_few(alloc).ok_or("memory")?;
-    let (mut wanted, mut ended) = (0u32, 0u32);
+    Ok(Wanted { whole, told })
+}
+
+/// What became of the line; none where something else was written or entered.
+fn became_of(seen: &Seen, wanted: &Wanted, line: usize) -> Option<Became> {
+    let became = what_became(&seen.outcome, wanted, line)?;
+    let is_so = match became {
+        Became::Answered => seen.entries == Some(14),
+        Became::Refused => seen.entries == Some(13),
+        Became::Ended => {
+            seen.entries == Some(line) || seen.entries == Some(line.wrapping_add(1))
+        }
+    };
+    is_so.then_some(became)
+}
+
+fn became_in<R: Wait>(
+    rt: &R,
+    alloc: Global,
+    line: usize,
+    size: usize,
+    wanted: &Wanted,
+) -> Result<Became, Fail> {
+    let seen = seated(rt, alloc, DELIVERY.as_bytes(), line, size)?;
+    Ok(became_of(&seen, wanted, line).ok_or("another answer or history")?)
+}
+
+/// How often a line was answered `S31` and how often its session ended, in rooms that grow until nothing is refused.
+fn count_refusals<R: Wait>(
+    rt: &R,
+    alloc: Global,
+    line: usize,
+    wanted: &Wanted,
+) -> Result<(u32, u32), Fail> {
+    let (mut refused, mut ended) = (0u32, 0u32);
     for turn in 0..TURNS {
-        let found = seated(rt, alloc, script, line, room_of(turn))?;
-        if found.is_want {
-            ended = ended.wrapping_add(1);
-            let is_front = found.text.as_slice() == first_lines(&unhindered, line);
-            holds(is_front).ok_or("another end")?;
-            holds(found.entries == line || found.entries == line.wrapping_add(1)).ok_or(
-                "another history",
-            )?;
-        } else if found.is_done && found.text.as_slice() == unhindered.as_slice() {
-            return Ok((wanted, ended));
-        } else if found.is_done && found.text.as_slice() == told.as_slice() {
-            wanted = wanted.wrapping_add(1);
-            holds(found.entries == 13).ok_or("another history")?;
-        } else {
-            holds(false).ok_or("another answer")?;
+        match became_in(rt, alloc, line, room_of(turn), wanted)? {
+            Became::Answered => return Ok((refused, ended)),
+            Became::Refused => refused = refused.wrapping_add(1),
+            Became::Ended => ended = ended.wrapping_add(1),
         }
     }
-    Ok((0, 0))
+    Err(Fail::from("nothing ended unhindered"))
+}
+
+fn refused_at<R: Wait>(rt: &R, alloc: Global, line: usize) -> Result<(u32, u32), Fail> {
+    let wanted = wanted_of(rt, alloc, line)?;
+    let _few = leave_few(alloc).ok_or("memory")?;
+    count_refusals(rt, alloc, line, &wanted)
 }
 
 /// Each of these lines in turn: of how many the act was refused, and of how many the line or its answer.

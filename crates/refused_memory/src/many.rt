@@ -14,15 +14,10 @@ const EXIT: [u8; 8] = [0x95, 0, 0, 0, 0, 0, 0, 0];
 
 fn items(alloc: Global) -> Option<Vec<(Vec<u8>, u32, Layout)>> {
     let mut items = Vec::new(alloc);
-    items
-        .push((Vec::from_slice(alloc, &RULE).ok()?, 0, Layout::One))
-        .ok()?;
-    items
-        .push((Vec::from_slice(alloc, &EXIT).ok()?, 0, Layout::One))
-        .ok()?;
-    items
-        .push((Vec::from_slice(alloc, &RULE).ok()?, 0, Layout::One))
-        .ok()?;
+    for bytes in [RULE.as_slice(), EXIT.as_slice(), RULE.as_slice()] {
+        let item = (Vec::from_slice(alloc, bytes).ok()?, 0, Layout::One);
+        items.push(item).ok()?;
+    }
     Some(items)
 }
 

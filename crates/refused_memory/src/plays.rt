@@ -34,10 +34,10 @@ pub const DELIVERY: &str =
 
 /// How a play ended, and what it wrote.
 #[derive(Drop)]
-struct Outcome {
-    text: Vec<u8>,
-    is_want: bool,
-    is_done: bool,
+pub struct Outcome {
+    pub text: Vec<u8>,
+    pub is_want: bool,
+    pub is_done: bool,
 }
 
 /// A play whose line of this number finds so much memory.
@@ -53,6 +53,37 @@ fn played(alloc: Global, site: &str, script: &[u8], line: usize, size: usize) ->
         is_want: ended == Err(SessionFault::OutOfMemory),
         is_done: ended.is_ok(),
     })
+}
+
+/// What is written where nothing is refused, and where one line is answered `S31`.
+#[derive(Drop)]
+pub struct Wanted {
+    pub whole: Vec<u8>,
+    pub told: Vec<u8>,
+}
+
+/// What became of a line that found too little memory.
+#[derive(Clone, Copy)]
+pub enum Became {
+    Answered,
+    Refused,
+    /// All ended for want of memory behind the answers of the lines before it.
+    Ended,
+}
+
+/// What became of a line of this number; none where something else was written.
+pub fn what_became(found: &Outcome, wanted: &Wanted, line: usize) -> Option<Became> {
+    let text = found.text.as_slice();
+    if found.is_want {
+        return (text == first_lines(&wanted.whole, line)).then_some(Became::Ended);
+    }
+    if !found.is_done {
+        return None;
+    }
+    if text == wanted.whole.as_slice() {
+        return Some(Became::Answered);
+    }
+    (text == wanted.told.as_slice()).then_some(Became::Refused)
 }
 
 /// The first lines of a text, so many.
@@ -87,34 +118,51 @@ pub fn with_want(alloc: Global, text: &[u8], line: usize) -> Option<Vec<u8>> {
     Some(all)
 }
 
-/// How often a line was answered `S31` and how often its play ended for want of memory, in rooms that grow until
-/// nothing is refused. None where a refusal left another answer, or nothing ended unhindered.
-fn refused_at(alloc: Global, site: &str, script: &str, line: usize) -> Option<(u32, u32)> {
-    let lines = script.len();
-    let unhindered = played(alloc, site, script.as_bytes(), lines, 0)?.text;
+/// What a play writes unhindered, and what it writes without its line of this number, which is answered `S31`.
+fn wanted_of(alloc: Global, site: &str, script: &str, line: usize) -> Option<Wanted> {
+    let whole = played(alloc, site, script.as_bytes(), script.len(), 0)?.text;
     let less = without(alloc, script.as_bytes(), line)?;
-    let changed_nothing = played(alloc, site, &less, lines, 0)?.text;
+    let changed_nothing = played(alloc, site, &less, script.len(), 0)?.text;
     let told = with_want(alloc, &changed_nothing, line)?;
-    let _few = leave_few(alloc)?;
-    let (mut wanted, mut ended) = (0u32, 0u32);
+    Some(Wanted { whole, told })
+}
+
+fn became_in(
+    alloc: Global,
+    site: &str,
+    script: &str,
+    line: usize,
+    size: usize,
+    wanted: &Wanted,
+) -> Option<Became> {
+    let found = played(alloc, site, script.as_bytes(), line, size)?;
+    what_became(&found, wanted, line)
+}
+
+/// How often a line was answered `S31` and how often its play ended, in rooms that grow until nothing is refused.
+fn count_refusals(
+    alloc: Global,
+    site: &str,
+    script: &str,
+    line: usize,
+    wanted: &Wanted,
+) -> Option<(u32, u32)> {
+    let (mut refused, mut ended) = (0u32, 0u32);
     for turn in 0..TURNS {
-        let found = played(alloc, site, script.as_bytes(), line, room_of(turn))?;
-        if found.is_want {
-            ended = ended.wrapping_add(1);
-            if found.text.as_slice() != first_lines(&unhindered, line) {
-                return None;
-            }
-        } else if !found.is_done {
-            return None;
-        } else if found.text.as_slice() == unhindered.as_slice() {
-            return Some((wanted, ended));
-        } else if found.text.as_slice() == told.as_slice() {
-            wanted = wanted.wrapping_add(1);
-        } else {
-            return None;
+        match became_in(alloc, site, script, line, room_of(turn), wanted)? {
+            Became::Answered => return Some((refused, ended)),
+            Became::Refused => refused = refused.wrapping_add(1),
+            Became::Ended => ended = ended.wrapping_add(1),
         }
     }
     None
+}
+
+/// The same. None where a refusal left another answer, or nothing ended unhindered.
+fn refused_at(alloc: Global, site: &str, script: &str, line: usize) -> Option<(u32, u32)> {
+    let wanted = wanted_of(alloc, site, script, line)?;
+    let _few = leave_few(alloc)?;
+    count_refusals(alloc, site, script, line, &wanted)
 }
 
 /// Each line in turn: of how many the act was refused, and of how many the line: of the first, whose room serves the
@@ -138,18 +186,15 @@ fn refused_in(alloc: Global, site: &str, script: &str, lines: usize) -> Option<(
 // and granted when it is sent again.
 #[test]
 fn a_refused_release_is_sent_again(rt: HostRuntime) -> Result<(), Fail> {
-    let alloc = rt.alloc();
-    let less = without(alloc, SENT_AGAIN.as_bytes(), 4).ok_or("a script")?;
-    let granted = played(alloc, KIOSK, &less, SENT_AGAIN.len(), 0).ok_or("a play")?;
-    let told = with_want(alloc, &granted.text, 4).ok_or("answers")?;
+    let wanted = wanted_of(rt.alloc(), KIOSK, SENT_AGAIN, 4).ok_or("answers")?;
     assert_eq!(rt;
-        told.as_slice(),
+        wanted.told.as_slice(),
         "1 point 2 0 0 0 0 0 0\n2 point 2 0 0 0 0 0 0\n3 version 1\n4 done\nS31\n5 granted 8000 by 1\n".as_bytes()
     );
-    let (wanted, ended) = refused_at(alloc, KIOSK, SENT_AGAIN, 4).ok_or("another answer")?;
+    let (refused, ended) = refused_at(rt.alloc(), KIOSK, SENT_AGAIN, 4).ok_or("another answer")?;
     assert!(rt;
-        wanted > 0 && ended == 0,
-        "{wanted} answers S31, {ended} ends"
+        refused > 0 && ended == 0,
+        "{refused} answers S31, {ended} ends"
     );
     Ok(())
 }

@@ -132,11 +132,13 @@ pub fn applies_fifth_load(alloc: Global, size: usize) -> Option<bool> {
 /// A load, an opening and a release, with two lines before them.
 fn day(alloc: Global) -> Option<Vec<Event>> {
     let mut events = Vec::new(alloc);
-    events.push(event(till(Request::Show(1)))).ok()?;
-    events.push(event(till(Request::Show(1)))).ok()?;
+    for request in [Request::Show(1), Request::Show(1)] {
+        events.push(event(till(request))).ok()?;
+    }
     events.push(load(alloc, &RULE)?).ok()?;
-    events.push(event(till(Request::OpenPoint(1)))).ok()?;
-    events.push(event(till(Request::Release(1, 8000)))).ok()?;
+    for request in [Request::OpenPoint(1), Request::Release(1, 8000)] {
+        events.push(event(till(request))).ok()?;
+    }
     Some(events)
 }
 

@@ -7,6 +7,7 @@ use crate::hoarding::{TURNS, leave_few, room_of};
 use crate::narrow::Narrow;
 use crate::plays::DELIVERY;
 use crate::texts::{device, output, station};
+use crate::yards::entries_of;
 use line_session::{Doors, worker};
 use site_core::Config;
 use site_lock::{Forecourt, PassDesk, Straight, Yard};
@@ -74,8 +75,7 @@ fn worked<L: Yard, R: Wait>(
     let mut desk = PassDesk::new(rt, alloc, &yard, pass, Straight { calls: 0 });
     let well = worker(alloc, Role::All, &mut doors, &mut clock, &mut desk, 2);
     passes.push(desk.into_pass())?;
-    let closed = yard.close(rt, passes).ok().ok_or("a closed site")?;
-    Ok((well, closed.site.history().len()))
+    Ok((well, entries_of(rt, yard, passes).ok_or("a closed site")?))
 }
 
 fn worked_of<R: Wait>(
@@ -87,10 +87,14 @@ fn worked_of<R: Wait>(
     worked::<Brand, R>(rt, alloc, Blank::new(1), config, doors)
 }
 
-/// How often the connection ended for want of memory, and how often one line alone was refused, in rooms that grow
-/// until nothing is.
 fn refused_at<R: Wait>(rt: &R, alloc: Global, line: usize) -> Result<(u32, u32), Fail> {
     let _few = leave_few(alloc).ok_or("memory")?;
+    count_refusals(rt, alloc, line)
+}
+
+/// How often the connection ended for want of memory, and how often one line alone was refused, in rooms that grow
+/// until nothing is.
+fn count_refusals<R: Wait>(rt: &R, alloc: Global, line: usize) -> Result<(u32, u32), Fail> {
     let (mut ended, mut wanted) = (0u32, 0u32);
     for turn in 0..TURNS {
         let doors = TwoDoors {

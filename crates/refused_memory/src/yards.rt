@@ -15,8 +15,20 @@ use std::sync::ledger::Blank;
 use std::test::Fail;
 use till_request::Request;
 
+/// How many entries the site has that is closed with these passes; none where it isn't closed.
+pub fn entries_of<L: Yard, R: Wait>(
+    rt: &R,
+    yard: Forecourt<L>,
+    passes: Vec<Pass<L>>,
+) -> Option<usize> {
+    match yard.close(rt, passes) {
+        Ok(closed) => Some(closed.site.history().len()),
+        Err(_) => None,
+    }
+}
+
 /// The calls that are tried.
-#[derive(Clone, Copy, Debug)]
+#[derive(Clone, Copy)]
 enum Call {
     /// A release, as the fifth receipt and the fifth entry.
     Request,
@@ -93,8 +105,7 @@ fn refused_after<L: Yard, R: Wait>(
         again?;
     }
     passes.push(pass)?;
-    let closed = yard.close(rt, passes).ok().ok_or("a closed site")?;
-    if closed.site.history().len() != before.wrapping_add(1) {
+    if entries_of(rt, yard, passes) != Some(before.wrapping_add(1)) {
         return Err(Fail::from("another history"));
     }
     Ok(is_refused.then_some(calls))
@@ -128,10 +139,10 @@ fn start_in<L: Yard, R: Wait>(
     let started = Forecourt::<L>::start(alloc, config, 1, blank);
     drop(taken);
     match started {
-        Ok((yard, passes)) => {
-            let closed = yard.close(rt, passes).ok().ok_or("a closed site")?;
-            Ok(closed.site.history().is_empty())
-        }
+        Ok((yard, passes)) => match entries_of(rt, yard, passes) {
+            Some(0) => Ok(true),
+            _ => Err(Fail::from("no closed site")),
+        },
         Err(_) => Ok(false),
     }
 }
@@ -140,25 +151,28 @@ fn start_of<R: Wait>(rt: &R, alloc: Global, config: Config, size: usize) -> Resu
     start_in::<Brand, R>(rt, alloc, Blank::new(1), config, size)
 }
 
-#[test]
-fn each_growth_refused_to_a_forecourt(rt: HostRuntime) -> Result<(), Fail> {
-    let _few = leave_few(rt.alloc()).ok_or("memory")?;
+/// How often no forecourt starts, in rooms that grow until one does.
+fn starts_refused<R: Wait>(rt: &R, alloc: Global) -> Result<u32, Fail> {
     let mut refused = 0u32;
     for turn in 0..TURNS {
-        let config = station(rt.alloc()).ok_or("a configuration")?;
-        if start_of(&rt, rt.alloc(), config, room_of(turn))? {
-            assert!(rt; refused > 0);
-            return Ok(());
+        let config = station(alloc).ok_or("a configuration")?;
+        if start_of(rt, alloc, config, room_of(turn))? {
+            return Ok(refused);
         }
         refused = refused.wrapping_add(1);
     }
-    assert!(rt; false, "no forecourt started");
+    Err(Fail::from("no forecourt"))
+}
+
+#[test]
+fn each_growth_refused_to_a_forecourt(rt: HostRuntime) -> Result<(), Fail> {
+    let _few = leave_few(rt.alloc()).ok_or("memory")?;
+    assert!(rt; starts_refused(&rt, rt.alloc())? > 0);
     Ok(())
 }
 
 /// How often a call was refused before its gate was called and after it, in rooms that grow until it is answered.
-fn refused<R: Wait>(rt: &R, alloc: Global, call: Call) -> Result<(u32, u32), Fail> {
-    let _few = leave_few(alloc).ok_or("memory")?;
+fn count_refusals<R: Wait>(rt: &R, alloc: Global, call: Call) -> Result<(u32, u32), Fail> {
     let (mut before, mut after) = (0u32, 0u32);
     for turn in 0..TURNS {
         let config = station(alloc).ok_or("a configuration")?;
@@ -171,17 +185,24 @@ fn refused<R: Wait>(rt: &R, alloc: Global, call: Call) -> Result<(u32, u32), Fai
     Err(Fail::from("no answer"))
 }
 
+fn refused<R: Wait>(rt: &R, alloc: Global, call: Call) -> Result<(u32, u32), Fail> {
+    let _few = leave_few(alloc).ok_or("memory")?;
+    count_refusals(rt, alloc, call)
+}
+
 // A request is refused its receipt before its program is run, and its entry after that.
 #[test]
 fn each_growth_refused_to_a_pass(rt: HostRuntime) -> Result<(), Fail> {
-    let (before, after) = refused(&rt, rt.alloc(), Call::Request)?;
-    assert!(rt;
-        before > 0 && after > 0,
-        "{before} before the run, {after} after it"
-    );
-    for call in [Call::Dispenser, Call::Load] {
+    for (call, has_gate) in [
+        (Call::Request, true),
+        (Call::Dispenser, false),
+        (Call::Load, false),
+    ] {
         let (before, after) = refused(&rt, rt.alloc(), call)?;
-        assert!(rt; before > 0 && after == 0, "{call:?}");
+        assert!(rt;
+            before > 0 && (after > 0) == has_gate,
+            "{before} before the run, {after} after it"
+        );
     }
     Ok(())
 }
