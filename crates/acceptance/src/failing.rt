@@ -8,7 +8,7 @@ use console::{audit_journal, read_config};
 use decision_journal::{Entry, JournalFault, read_entries, write_entries};
 use line_session::{Clock, Doors, Ended, SessionFault, session, worker};
 use site_core::Config;
-use site_lock::{Forecourt, Pass, PassDesk, Straight, Yard};
+use site_lock::{Forecourt, Pass, PassDesk, SiteLedger, Straight};
 use std::alloc::Global;
 use std::marker::Brand;
 use std::sync::Wait;
@@ -64,15 +64,19 @@ fn lines_in(bytes: &[u8]) -> usize {
 }
 
 /// How many entries the site has that is closed with these passes; none where it isn't closed.
-fn entries_of<L: Yard, R: Wait>(rt: &R, yard: Forecourt<L>, passes: Vec<Pass<L>>) -> Option<usize> {
-    match yard.close(rt, passes) {
+fn entries_of<L: SiteLedger, R: Wait>(
+    rt: &R,
+    forecourt: Forecourt<L>,
+    passes: Vec<Pass<L>>,
+) -> Option<usize> {
+    match forecourt.close(rt, passes) {
         Ok(closed) => Some(closed.site.history().len()),
         Err(_) => None,
     }
 }
 
 /// A session over these devices at a new site.
-fn sat<L: Yard, R: Wait>(
+fn sat<L: SiteLedger, R: Wait>(
     rt: &R,
     alloc: Global,
     blank: Blank,
@@ -86,10 +90,10 @@ fn sat<L: Yard, R: Wait>(
     requires new { (L.base ≡ []) × (L.taken ≡ None) }
     requires one { blank.parts ≡ 1 }
 {
-    let (yard, mut passes) = Forecourt::<L>::start(alloc, config, 1, blank)?;
+    let (forecourt, mut passes) = Forecourt::<L>::start(alloc, config, 1, blank)?;
     let pass = passes.pop().ok_or("a pass")?;
     let mut clock = Still;
-    let mut desk = PassDesk::new(rt, alloc, &yard, pass, Straight { calls: 0 });
+    let mut desk = PassDesk::new(rt, alloc, &forecourt, pass, Straight { calls: 0 });
     let ended = session(
         alloc,
         Role::All,
@@ -102,7 +106,7 @@ fn sat<L: Yard, R: Wait>(
     Ok(Seen {
         ended,
         failed: (input.failures, output.failures),
-        entries: entries_of(rt, yard, passes),
+        entries: entries_of(rt, forecourt, passes),
         lines: lines_in(&output.bytes),
         is_front: ANSWERS.as_bytes().starts_with(&output.bytes),
     })
@@ -242,7 +246,7 @@ impl Doors for TwoDoors {
 }
 
 /// How many of two connections at these doors ended well, and how many entries the closed site has.
-fn worked<L: Yard, R: Wait>(
+fn worked<L: SiteLedger, R: Wait>(
     rt: &R,
     alloc: Global,
     blank: Blank,
@@ -255,13 +259,13 @@ fn worked<L: Yard, R: Wait>(
     requires new { (L.base ≡ []) × (L.taken ≡ None) }
     requires one { blank.parts ≡ 1 }
 {
-    let (yard, mut passes) = Forecourt::<L>::start(alloc, config, 1, blank)?;
+    let (forecourt, mut passes) = Forecourt::<L>::start(alloc, config, 1, blank)?;
     let pass = passes.pop().ok_or("a pass")?;
     let mut clock = Still;
-    let mut desk = PassDesk::new(rt, alloc, &yard, pass, Straight { calls: 0 });
-    let well = worker(alloc, Role::All, &mut doors, &mut clock, &mut desk, 2);
+    let mut desk = PassDesk::new(rt, alloc, &forecourt, pass, Straight { calls: 0 });
+    let clean = worker(alloc, Role::All, &mut doors, &mut clock, &mut desk, 2);
     passes.push(desk.into_pass())?;
-    Ok((well, entries_of(rt, yard, passes)))
+    Ok((clean, entries_of(rt, forecourt, passes)))
 }
 
 fn worked_of<R: Wait>(

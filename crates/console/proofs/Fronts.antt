@@ -5,9 +5,9 @@ use Rattle.decision_journal.specs.Writing.{AppendsFront}
 use Rattle.line_session.specs.declared.answering.Ended.{Ended}
 use Rattle.line_session.specs.declared.answering.SessionFault.{SessionFault}
 use Rattle.line_session.specs.declared.answering.SessionFault.TheVariants as session
-use Rattle.line_session.specs.declared.speaker.SpeakFault.{SpeakFault}
-use Rattle.line_session.specs.declared.speaker.SpeakFault.TheVariants as speech
-use Rattle.line_session.specs.Talk.{Breaks, Ends, FallsShort, Stops, drops_none}
+use Rattle.line_session.specs.declared.line_handler.HandlerError.{HandlerError}
+use Rattle.line_session.specs.declared.line_handler.HandlerError.TheVariants as error
+use Rattle.line_session.specs.Answering.{Breaks, Ends, FallsShort, Stops, drops_none}
 use Rattle.site_core.specs.Site.{SiteValue}
 use Rattle.console.specs.Play.{Plays, PlaysOut, PlayBreaks, PlayStops, TakesMemory}
 use Rattle.line_session.proofs.Saying.{consumes_none, appends_none, is_line_empty}
@@ -68,9 +68,9 @@ stopped_from (Err e) a b m left i j o p same h =
 -- what is said to a line is written as far as the device takes it
 module _ {S O : Type 0} (out : O → Option (List ℕ)) (says : S → List ℕ → List ℕ → S → Type 0) (line text : List ℕ) (s s' : S) (o o' : O)
     (said : says s line text s') (takes : List ℕ → Type 0) where
-  pub falls_short : {T : Type 0} (r : Result T SpeakFault) → OnErr r ((k : ℕ) × Appends (out o) (out o') (take k text)) → IfErr r (λ e. e ≡ speech.Write)
+  pub falls_short : {T : Type 0} (r : Result T HandlerError) → OnErr r ((k : ℕ) × Appends (out o) (out o') (take k text)) → IfErr r (λ e. e ≡ error.Write)
       → IfErr r (λ e. FallsShort says drops_none takes out e line s s' o o')
   falls_short (Ok x) w is = tt
-  falls_short (Err speech.Write) w is = record { text = text; says_it = said; kept = w.0; written = w.1 }
-  falls_short (Err speech.OutOfMemory) w is = absurd (cc)
-  falls_short (Err speech.Journal) w is = absurd (cc)
+  falls_short (Err error.Write) w is = record { text = text; says_it = said; kept = w.0; written = w.1 }
+  falls_short (Err error.OutOfMemory) w is = absurd (cc)
+  falls_short (Err error.Journal) w is = absurd (cc)

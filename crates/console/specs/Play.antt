@@ -23,7 +23,7 @@ use Rattle.site_core.specs.Site.{SiteValue, Enters}
 use Rattle.site_core.specs.State.{counter_of}
 use Rattle.site_core.specs.Histories.{IsJournal}
 use Rattle.line_session.specs.declared.answering.SessionFault.{SessionFault}
-use Rattle.line_session.specs.Talk.{Ends, Breaks, Stops, drops_none}
+use Rattle.line_session.specs.Answering.{Ends, Breaks, Stops, drops_none}
 use Rattle.line_session.specs.Cut.{NoWantTold, EndAlike}
 use Rattle.console.specs.declared.script.ScriptLine.{ScriptLine}
 use Rattle.console.specs.declared.script.ScriptLine.TheVariants as lines
@@ -135,5 +135,5 @@ PlaysAlike =
     (site : SiteValue) (bytes out out_t out_u : List ℕ) (in_t in_u : Option (List ℕ)) (count_t count_u : ℕ) (cut_t cut_u : Option LineFault)
     → (one : PlaysOut site (Some bytes) in_t (Some out) (Some out_t) count_t cut_t)
     → (other : PlaysOut site (Some bytes) in_u (Some out) (Some out_u) count_u cut_u)
-    → NoWantTold one.ends.talks.texts → NoWantTold other.ends.talks.texts
+    → NoWantTold one.ends.answering.texts → NoWantTold other.ends.answering.texts
     → EndAlike {S = ℕ × SiteValue} (one.moment, one.left) (other.moment, other.left) out_t out_u count_t count_u cut_t cut_u

@@ -1,12 +1,12 @@
 //! Plays scripts.
 ghost use Rattle.std.specs.Prelude.{◌≡◌, ◌≢◌, ◌≤◌, ◌-◌, ℕ, IfOk, IfErr, OnErr, Err};
 ghost use Rattle.till_request.specs.Count.{RoseBy, one_if};
-ghost use Rattle.line_session.specs.Talk.{SpendsReads, is_read, is_write, session_reads};
+ghost use Rattle.line_session.specs.Answering.{SpendsReads, is_read, is_write, session_reads};
 ghost use Rattle.site_core.specs.Site.{new_site};
 ghost use Rattle.console.specs.Play.{PlaysOut, PlayBreaks, PlayStops, PlaysAlike};
 
 use crate::player::Player;
-use line_session::{Ended, READS, SessionFault, talk_within};
+use line_session::{Ended, READS, SessionFault, answer_lines_within};
 use site_core::{Config, Site};
 use std::alloc::Global;
 use till_request::{LineIn, LineOut};
@@ -42,7 +42,7 @@ pub fn play_within<I: LineIn, O: LineOut>(
         return Err(SessionFault::OutOfMemory);
     };
     let mut moment = 0;
-    talk_within(alloc, input, output, &Player, &mut moment, &mut site, left)
+    answer_lines_within(alloc, input, output, &Player, &mut moment, &mut site, left)
 }
 
 /// Answers a script line by line, as a session with a new site of the configuration that starts at moment 0 and makes

@@ -1,5 +1,5 @@
 //! What an operator reads on standard error while a site is served.
-use site_server::{Breach, Limiter, Notices, SessionFault};
+use site_server::{Limiter, Notices, SessionFailure, SessionFault};
 use std::io;
 use std::sync::{Mutex, Wait};
 use std::time::{Clock, SystemTime, UNIX_EPOCH};
@@ -22,17 +22,18 @@ fn name_of(role: Role) -> &'static str {
 }
 
 /// The number of what ended a session, with a blank before it.
-fn code_of(breach: Breach) -> &'static str {
-    match breach {
-        Breach::Line(LineFault::TooLong) => " (L1)",
-        Breach::Line(LineFault::CutLine) => " (L4)",
+fn code_of(failure: SessionFailure) -> &'static str {
+    match failure {
+        SessionFailure::Line(LineFault::TooLong) => " (L1)",
+        SessionFailure::Line(LineFault::CutLine) => " (L4)",
         // A session goes on behind these.
-        Breach::Line(LineFault::BadLine | LineFault::BadNumber | LineFault::OutOfMemory) => "",
-        Breach::Session(SessionFault::Read) => " (N1)",
-        Breach::Session(SessionFault::Write) => " (N2)",
-        Breach::Session(SessionFault::ReadsSpent) => " (N3)",
-        Breach::Session(SessionFault::OutOfMemory) => "",
-        Breach::Session(SessionFault::Journal) => "",
+        SessionFailure::Line(LineFault::BadLine | LineFault::BadNumber | LineFault::OutOfMemory) =>
+            "",
+        SessionFailure::Session(SessionFault::Read) => " (N1)",
+        SessionFailure::Session(SessionFault::Write) => " (N2)",
+        SessionFailure::Session(SessionFault::ReadsSpent) => " (N3)",
+        SessionFailure::Session(SessionFault::OutOfMemory) => "",
+        SessionFailure::Session(SessionFault::Journal) => "",
     }
 }
 
@@ -72,17 +73,17 @@ impl<'a, H: Wait + Clock> Operator<'a, H> {
 }
 
 impl<H: Wait + Clock> Notices for Operator<'_, H> {
-    fn no_door(&self, role: Role, pass: u32, error: &io::Error) {
+    fn accept_failed(&self, role: Role, pass: u32, error: &io::Error) {
         if self.is_admitted() {
             let who = name_of(role);
             let _ = eprintln!(self.rt; "fc: pass {pass}: no connection for {who}: {error}");
         }
     }
 
-    fn breach(&self, role: Role, pass: u32, breach: Breach) {
+    fn session_failed(&self, role: Role, pass: u32, failure: SessionFailure) {
         if self.is_admitted() {
-            let (who, code) = (name_of(role), code_of(breach));
-            let _ = eprintln!(self.rt; "fc: pass {pass}: the session of {who}: {breach}{code}");
+            let (who, code) = (name_of(role), code_of(failure));
+            let _ = eprintln!(self.rt; "fc: pass {pass}: the session of {who}: {failure}{code}");
         }
     }
 }

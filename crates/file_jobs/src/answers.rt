@@ -27,7 +27,7 @@ impl<'a> Answers<'a> {
     }
 
     /// Lets all leave that wait, where none failed to leave before.
-    fn let_go(&self) -> io::Result<()> {
+    fn flush(&self) -> io::Result<()> {
         match self.waiting.try_borrow_mut() {
             Ok(mut waiting) => match waiting.flush() {
                 Ok(()) => Ok(()),
@@ -53,7 +53,7 @@ impl<'a> Answers<'a> {
 
     /// How a play ended, once its last answers have left.
     pub fn end(&self, ended: Result<Ended, SessionFault>) -> Result<Ended, SessionFault> {
-        match (ended, self.let_go()) {
+        match (ended, self.flush()) {
             (Ok(_), Err(_)) => Err(SessionFault::Write),
             (ended, _) => ended,
         }
@@ -80,7 +80,7 @@ impl Write for Outgoing<'_, '_> {
     }
 
     fn flush(&mut self) -> io::Result<()> {
-        self.answers.let_go()
+        self.answers.flush()
     }
 }
 
@@ -96,7 +96,7 @@ pub struct Incoming<'a, 'b> {
 impl Read for Incoming<'_, '_> {
     fn read(&mut self, buf: &mut [u8]) -> io::Result<usize> {
         // Where answers can't leave, no more is asked; the play's end tells why.
-        if self.answers.let_go().is_err() {
+        if self.answers.flush().is_err() {
             return Ok(0);
         }
         let count = self.source.read(buf)?;

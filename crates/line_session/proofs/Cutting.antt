@@ -12,7 +12,7 @@ use Rattle.till_request.specs.declared.act.Answer.TheVariants.{OutOfMemory}
 use Rattle.till_request.specs.Grammar.{line_read}
 use Rattle.till_request.specs.Answer.{answer_line}
 use Rattle.line_session.specs.Session.{AnswersAct, desk_says}
-use Rattle.line_session.specs.Talk.{with_lf, all_lines, all_texts, SaysAll, IsCut, cut_line, cut_count}
+use Rattle.line_session.specs.Answering.{with_lf, all_lines, all_texts, SaysAll, IsCut, cut_line, cut_count}
 use Rattle.line_session.specs.Cut.{NoWantTold, IsDetermined, CutsAlike, TellsOne, AnswersOne}
 
 -- bytes without LF don't go past one
@@ -125,17 +125,17 @@ module _ {S : Type 0} (says : S → List ℕ → List ℕ → S → Type 0) (det
       (ap₂ (λ x y. x ∷ y) e.0 u.0, u.1)
 
   pub cuts_alike : CutsAlike says
-  cuts_alike s t u bytes out out_t out_u None in_u count_t count_u cut_t cut_u one other w v = absurd one.talks.taken
-  cuts_alike s t u bytes out out_t out_u (Some rest) None count_t count_u cut_t cut_u one other w v = absurd other.talks.taken
+  cuts_alike s t u bytes out out_t out_u None in_u count_t count_u cut_t cut_u one other w v = absurd one.answering.taken
+  cuts_alike s t u bytes out out_t out_u (Some rest) None count_t count_u cut_t cut_u one other w v = absurd other.answering.taken
   cuts_alike s t u bytes out out_t out_u (Some rest) (Some more) count_t count_u cut_t cut_u one other w v =
-      let lines = lines_alike one.talks.lines other.talks.lines cut_t cut_u one.rest other.rest rest more one.talks.each other.talks.each one.is_cut
-      other.is_cut (sym one.talks.taken ∙ other.talks.taken) in
-      let said : SaysAll says one.talks.lines s other.talks.texts u =
-      subst (λ (ls : List (List ℕ)). SaysAll says ls s other.talks.texts u) (sym lines.0) other.talks.said in
-      let texts = texts_alike one.talks.lines s one.talks.texts other.talks.texts t u one.talks.said said w v in record {
+      let lines = lines_alike one.answering.lines other.answering.lines cut_t cut_u one.rest other.rest rest more one.answering.each other.answering.each one.is_cut
+      other.is_cut (sym one.answering.taken ∙ other.answering.taken) in
+      let said : SaysAll says one.answering.lines s other.answering.texts u =
+      subst (λ (ls : List (List ℕ)). SaysAll says ls s other.answering.texts u) (sym lines.0) other.answering.said in
+      let texts = texts_alike one.answering.lines s one.answering.texts other.answering.texts t u one.answering.said said w v in record {
         state = texts.1;
-        written = one.talks.written ∙ ap₂ (λ ts c. out ++ (all_texts ts ++ cut_line c)) texts.0 lines.1 ∙ sym other.talks.written;
-        count = one.counted ∙ ap₂ (λ a b. a + b) (one.talks.counted ∙ ap length texts.0 ∙ sym other.talks.counted) (ap cut_count lines.1) ∙ sym other.counted;
+        written = one.answering.written ∙ ap₂ (λ ts c. out ++ (all_texts ts ++ cut_line c)) texts.0 lines.1 ∙ sym other.answering.written;
+        count = one.counted ∙ ap₂ (λ a b. a + b) (one.answering.counted ∙ ap length texts.0 ∙ sym other.answering.counted) (ap cut_count lines.1) ∙ sym other.counted;
         cut = lines.1;
       }
 

@@ -9,10 +9,10 @@ use Rattle.till_request.specs.declared.act.Answer.TheVariants.{Line, JournalFail
 use Rattle.till_request.specs.Gives.{Fails}
 use Rattle.till_request.specs.Grammar.{line_read}
 use Rattle.till_request.specs.Answer.{answer_line}
-use Rattle.line_session.specs.declared.speaker.SpeakFault.{SpeakFault}
-use Rattle.line_session.specs.declared.speaker.SpeakFault.TheVariants as speech
+use Rattle.line_session.specs.declared.line_handler.HandlerError.{HandlerError}
+use Rattle.line_session.specs.declared.line_handler.HandlerError.TheVariants as error
 use Rattle.line_session.specs.Session.{AnswersAct, Writes, StaysUnsaid, SpeaksAt, desk_says, desk_drops, desk_fails, desk_takes, ends_unsaid}
-use Rattle.line_session.specs.Talk.{FallsShort, Said}
+use Rattle.line_session.specs.Answering.{FallsShort, Said}
 
 true_is_not_false : true ≡ false → ⊥
 true_is_not_false e = absurd (cc)
@@ -45,19 +45,19 @@ module _ {C D O : Type 0} (step : D → Act → ℕ → Answer → D → Type 0)
     fault_said (Ok x) w = record { text = answer_line (Line fault); says_it = told w.has_line; written = w.written }
     fault_said (Err e) w = tt
 
-    pub fault_broke : {T : Type 0} (r : Result T SpeakFault) → IfErr r (λ e. StaysUnsaid written e (Line fault) o o')
+    pub fault_broke : {T : Type 0} (r : Result T HandlerError) → IfErr r (λ e. StaysUnsaid written e (Line fault) o o')
         → IfErr r (λ e. FallsShort (desk_says step tick role) (desk_drops step tick role) (desk_takes role) written e line (c, d) (c, d) o o')
     fault_broke (Ok x) w = tt
-    fault_broke (Err speech.Write) w = record { text = answer_line (Line fault); says_it = told w.has_line; kept = w.kept; written = w.written }
-    fault_broke (Err speech.OutOfMemory) w = inl record { takes_it = takes (line_fault fault OutOfMemory w.0); state = refl; output = w.1 }
-    fault_broke (Err speech.Journal) w = absurd (no_fault fault w.0)
+    fault_broke (Err error.Write) w = record { text = answer_line (Line fault); says_it = told w.has_line; kept = w.kept; written = w.written }
+    fault_broke (Err error.OutOfMemory) w = inl record { takes_it = takes (line_fault fault OutOfMemory w.0); state = refl; output = w.1 }
+    fault_broke (Err error.Journal) w = absurd (no_fault fault w.0)
 
-    pub fault_journal : {T : Type 0} (r : Result T SpeakFault) → IfErr r (λ e. StaysUnsaid written e (Line fault) o o') → r ≡ Err speech.Journal
+    pub fault_journal : {T : Type 0} (r : Result T HandlerError) → IfErr r (λ e. StaysUnsaid written e (Line fault) o o') → r ≡ Err error.Journal
         → desk_fails step tick role (c, d) line (c, d)
     fault_journal (Ok x) w e = absurd (cc)
-    fault_journal (Err speech.Write) w e = absurd (cc)
-    fault_journal (Err speech.OutOfMemory) w e = absurd (cc)
-    fault_journal (Err speech.Journal) w e = absurd (no_fault fault w.0)
+    fault_journal (Err error.Write) w e = absurd (cc)
+    fault_journal (Err error.OutOfMemory) w e = absurd (cc)
+    fault_journal (Err error.Journal) w e = absurd (no_fault fault w.0)
 
   -- a line whose act the desk answered
   module _ (act : Act) (moment : ℕ) (answer : Answer) (c c' : C) (d d' : D) (o o' : O) (reads : line_read role line ≡ Ok act) (ticks : tick c moment c')
@@ -72,18 +72,18 @@ module _ {C D O : Type 0} (step : D → Act → ℕ → Answer → D → Type 0)
     act_said (Ok x) w = record { text = answer_line answer; says_it = answered w.has_line; written = w.written }
     act_said (Err e) w = tt
 
-    pub act_broke : {T : Type 0} (r : Result T SpeakFault) → IfErr r (λ e. StaysUnsaid written e answer o o')
+    pub act_broke : {T : Type 0} (r : Result T HandlerError) → IfErr r (λ e. StaysUnsaid written e answer o o')
         → IfErr r (λ e. FallsShort (desk_says step tick role) (desk_drops step tick role) (desk_takes role) written e line (c, d) (c', d') o o')
     act_broke (Ok x) w = tt
-    act_broke (Err speech.Write) w = record { text = answer_line answer; says_it = answered w.has_line; kept = w.kept; written = w.written }
-    act_broke (Err speech.OutOfMemory) w =
+    act_broke (Err error.Write) w = record { text = answer_line answer; says_it = answered w.has_line; kept = w.kept; written = w.written }
+    act_broke (Err error.OutOfMemory) w =
         inr record { drops_it = (act, moment, answer, ap ends_unsaid w.0, reads, ticks, steps); output = w.1 }
-    act_broke (Err speech.Journal) w = record { drops_it = (act, moment, answer, ap ends_unsaid w.0, reads, ticks, steps); output = w.1 }
+    act_broke (Err error.Journal) w = record { drops_it = (act, moment, answer, ap ends_unsaid w.0, reads, ticks, steps); output = w.1 }
 
-    pub act_journal : {T : Type 0} (r : Result T SpeakFault) → IfErr r (λ e. StaysUnsaid written e answer o o') → r ≡ Err speech.Journal
+    pub act_journal : {T : Type 0} (r : Result T HandlerError) → IfErr r (λ e. StaysUnsaid written e answer o o') → r ≡ Err error.Journal
         → desk_fails step tick role (c, d) line (c', d')
     act_journal (Ok x) w e = absurd (cc)
-    act_journal (Err speech.Write) w e = absurd (cc)
-    act_journal (Err speech.OutOfMemory) w e = absurd (cc)
-    act_journal (Err speech.Journal) w e =
+    act_journal (Err error.Write) w e = absurd (cc)
+    act_journal (Err error.OutOfMemory) w e = absurd (cc)
+    act_journal (Err error.Journal) w e =
         let P : Answer → Type 0 = λ a. step d act moment a d' in (act, moment, reads, ticks, subst P w.0 steps)

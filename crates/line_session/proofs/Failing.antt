@@ -1,22 +1,22 @@
 -- A fault that a session hands on.
 use Rattle.std.proofs.Common.{◌≡◌, Result, Ok, Err, IfErr, refl, sym, ◌∙◌, ap, subst}
 use Rattle.std.specs.Result.{IsErr, IsErrAnd}
-use Rattle.line_session.specs.declared.speaker.SpeakFault.{SpeakFault}
-use Rattle.line_session.specs.declared.speaker.SpeakFault.TheVariants as speech
+use Rattle.line_session.specs.declared.line_handler.HandlerError.{HandlerError}
+use Rattle.line_session.specs.declared.line_handler.HandlerError.TheVariants as error
 use Rattle.line_session.specs.declared.answering.SessionFault.{SessionFault}
 use Rattle.line_session.specs.declared.answering.SessionFault.TheVariants as session
-use Rattle.line_session.specs.Faults.{fault_of_speech}
+use Rattle.line_session.specs.Faults.{fault_of_handler}
 
 the_fault : {T : Type 0} (e f : SessionFault) → ◌≡◌ {A = Result T SessionFault} (Err e) (Err f) → e ≡ f
 the_fault e f h = cc
 
-spoken : (f : SpeakFault) → fault_of_speech f ≡ session.Journal → f ≡ speech.Journal
-spoken speech.Write e = absurd (cc)
-spoken speech.OutOfMemory e = absurd (cc)
-spoken speech.Journal e = refl
+spoken : (f : HandlerError) → fault_of_handler f ≡ session.Journal → f ≡ error.Journal
+spoken error.Write e = absurd (cc)
+spoken error.OutOfMemory e = absurd (cc)
+spoken error.Journal e = refl
 
-pub spoke : {T U : Type 0} (r : Result T SessionFault) (f : SpeakFault) → IsErr r × IsErrAnd r (λ e. e ≡ fault_of_speech f) → r ≡ Err session.Journal
-    → ◌≡◌ {A = Result U SpeakFault} (Err f) (Err speech.Journal)
+pub spoke : {T U : Type 0} (r : Result T SessionFault) (f : HandlerError) → IsErr r × IsErrAnd r (λ e. e ≡ fault_of_handler f) → r ≡ Err session.Journal
+    → ◌≡◌ {A = Result U HandlerError} (Err f) (Err error.Journal)
 spoke (Ok x) f h e = absurd (cc)
 spoke (Err fault) f h e = ap Err (spoken f (sym h.1 ∙ the_fault fault session.Journal e))
 

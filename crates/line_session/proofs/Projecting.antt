@@ -9,7 +9,7 @@ use Rattle.till_request.specs.Grammar.{line_read}
 use Rattle.line_session.specs.declared.answering.Ended.{Ended}
 use Rattle.line_session.specs.declared.answering.SessionFault.{SessionFault}
 use Rattle.line_session.specs.Session.{AnswersAct, desk_says, desk_drops, desk_fails}
-use Rattle.line_session.specs.Talk.{SaysAll, Talks, Ends, DropsNext, Breaks, FailsAt}
+use Rattle.line_session.specs.Answering.{SaysAll, AnswersLines, Ends, DropsNext, Breaks, FailsAt}
 use Rattle.line_session.specs.Serving.{Outcome, Sits, Visits, VisitsAll, Serves}
 
 module _ {S T : Type 0} (f : S → T) (says : S → List ℕ → List ℕ → S → Type 0) (drops fails : S → List ℕ → S → Type 0)
@@ -23,8 +23,8 @@ module _ {S T : Type 0} (f : S → T) (says : S → List ℕ → List ℕ → S 
   all_seen [] s (text ∷ texts) s' h = absurd h
   all_seen (line ∷ lines) s [] s' h = absurd h
 
-  talks_seen : (s s' : S) (i j o p : Option (List ℕ)) (count : ℕ) (rest more : List ℕ) → Talks says s s' i j o p count rest more
-      → Talks seen (f s) (f s') i j o p count rest more
+  talks_seen : (s s' : S) (i j o p : Option (List ℕ)) (count : ℕ) (rest more : List ℕ) → AnswersLines says s s' i j o p count rest more
+      → AnswersLines seen (f s) (f s') i j o p count rest more
   talks_seen s s' i j o p count rest more t = record {
     lines = t.lines;
     texts = t.texts;
@@ -40,7 +40,7 @@ module _ {S T : Type 0} (f : S → T) (says : S → List ℕ → List ℕ → S 
   ends_seen s s' i j o p count cut e = record {
     answered = e.answered;
     rest = e.rest;
-    talks = talks_seen s s' i j o p e.answered e.rest _ e.talks;
+    answering = talks_seen s s' i j o p e.answered e.rest _ e.answering;
     is_cut = e.is_cut;
     counted = e.counted;
   }
@@ -114,10 +114,10 @@ module _ {S T : Type 0} (f : S → T) (says : S → List ℕ → List ℕ → S 
       all_visits_seen [] d s d' s' h = (h.0, ap f h.1)
       all_visits_seen (outcome ∷ outcomes) d s d' s' h = (h.0, f h.1, visits_seen outcome d s h.0 h.1 h.2, all_visits_seen outcomes h.0 h.1 d' s' h.3)
 
-      pub serves_seen : (asked well : ℕ) (d : D) (s : S) (d' : D) (s' : S)
-          → Serves (Visits opens stays (Sits says drops fails remaining reads read_failures written write_failures)) asked well d s d' s'
-          → Serves (Visits opens stays (Sits seen lost failed remaining reads read_failures written write_failures)) asked well d (f s) d' (f s')
-      serves_seen asked well d s d' s' h = record {
+      pub serves_seen : (asked clean : ℕ) (d : D) (s : S) (d' : D) (s' : S)
+          → Serves (Visits opens stays (Sits says drops fails remaining reads read_failures written write_failures)) asked clean d s d' s'
+          → Serves (Visits opens stays (Sits seen lost failed remaining reads read_failures written write_failures)) asked clean d (f s) d' (f s')
+      serves_seen asked clean d s d' s' h = record {
         outcomes = h.outcomes;
         each = all_visits_seen h.outcomes d s d' s' h.each;
         all_asked = h.all_asked;

@@ -9,12 +9,12 @@ use Rattle.till_request.specs.declared.act.LineFault.{LineFault}
 use Rattle.till_request.specs.Line.{IsLine}
 use Rattle.till_request.specs.declared.act.Answer.TheVariants.{Line}
 use Rattle.till_request.specs.Answer.{answer_line}
-use Rattle.line_session.specs.declared.speaker.SpeakFault.{SpeakFault}
-use Rattle.line_session.specs.declared.speaker.SpeakFault.TheVariants as speech
+use Rattle.line_session.specs.declared.line_handler.HandlerError.{HandlerError}
+use Rattle.line_session.specs.declared.line_handler.HandlerError.TheVariants as error
 use Rattle.line_session.specs.declared.answering.SessionFault.{SessionFault}
 use Rattle.line_session.specs.declared.answering.SessionFault.TheVariants as session
-use Rattle.line_session.specs.Faults.{fault_of_speech}
-use Rattle.line_session.specs.Talk.{FallsShort, Half, Dropped, with_lf, Said, SaysAll, Talks, IsCut, IsUpToLine, Breaks, Stops}
+use Rattle.line_session.specs.Faults.{fault_of_handler}
+use Rattle.line_session.specs.Answering.{FallsShort, Half, Dropped, with_lf, Said, SaysAll, AnswersLines, IsCut, IsUpToLine, Breaks, Stops}
 
 pub is_line_empty : IsLine []
 is_line_empty = (tt, omega arith)
@@ -46,12 +46,12 @@ module _ {C D : Type 0} (says : C × D → List ℕ → List ℕ → C × D → 
   says_more (x ∷ ls) l s [] text m s' h k = absurd h
   says_more (x ∷ ls) l s (b ∷ texts) text m s' h k = (h.0, h.1, says_more ls l h.0 texts text m s' h.2 k)
 
-  pub talks_none : (s : C × D) (i o : Option (List ℕ)) → Talks says s s i i o o 0 [] []
+  pub talks_none : (s : C × D) (i o : Option (List ℕ)) → AnswersLines says s s i i o o 0 [] []
   talks_none s i o = record { lines = []; texts = []; each = tt; said = refl; taken = consumes_none i; written = appends_none o; counted = refl }
 
   pub talks_more : (s m s' : C × D) (i j k o p q : Option (List ℕ)) (count : ℕ) (l : List ℕ)
-      → Talks says s m i j o p count [] [] → IsLine l → Consumes j k (l ++ 10 ∷ []) → Said says l m s' p q
-      → Talks says s s' i k o q (count + 1) [] []
+      → AnswersLines says s m i j o p count [] [] → IsLine l → Consumes j k (l ++ 10 ∷ []) → Said says l m s' p q
+      → AnswersLines says s s' i k o q (count + 1) [] []
   talks_more s m s' i j k o p q count l t whole taken a = record {
     lines = t.lines ++ l ∷ [];
     texts = t.texts ++ a.text ∷ [];
@@ -64,7 +64,7 @@ module _ {C D : Type 0} (says : C × D → List ℕ → List ℕ → C × D → 
 
   module _ (drops : C × D → List ℕ → C × D → Type 0) where
     pub breaks_here : (s m : C × D) (i j o p : Option (List ℕ)) (count : ℕ) (k : Option (List ℕ)) (more : List ℕ)
-        → Talks says s m i j o p count [] [] → Consumes j k more → IsUpToLine more → Breaks says drops s m i k o p
+        → AnswersLines says s m i j o p count [] [] → Consumes j k more → IsUpToLine more → Breaks says drops s m i k o p
     breaks_here s m i j o p count k more t taken is = record {
       lines = t.lines;
       texts = t.texts;
@@ -84,7 +84,7 @@ module _ {C D : Type 0} (says : C × D → List ℕ → List ℕ → C × D → 
 
     -- the line that stands next was taken, and was dropped
     dropped_next : (s m s' : C × D) (i j k o p : Option (List ℕ)) (count : ℕ) (l : List ℕ)
-        → Talks says s m i j o p count [] [] → IsLine l → Consumes j k (l ++ 10 ∷ []) → drops m l s' → Breaks says drops s s' i k o p
+        → AnswersLines says s m i j o p count [] [] → IsLine l → Consumes j k (l ++ 10 ∷ []) → drops m l s' → Breaks says drops s s' i k o p
     dropped_next s m s' i j k o p count l t whole taken d = record {
       lines = t.lines;
       texts = t.texts;
@@ -103,12 +103,12 @@ module _ {C D : Type 0} (says : C × D → List ℕ → List ℕ → C × D → 
     }
 
     breaks_dropped : {O : Type 0} (out : O → Option (List ℕ)) (s m s' : C × D) (i j k o : Option (List ℕ)) (p q : O) (count : ℕ) (l : List ℕ)
-        → Talks says s m i j o (out p) count [] [] → IsLine l → Consumes j k (l ++ 10 ∷ []) → Dropped drops l m s' p q
+        → AnswersLines says s m i j o (out p) count [] [] → IsLine l → Consumes j k (l ++ 10 ∷ []) → Dropped drops l m s' p q
         → Breaks says drops s s' i k o (out q)
     breaks_dropped out s m s' i j k o p q count l t whole taken a = rw a.output (dropped_next s m s' i j k o (out p) count l t whole taken a.drops_it)
 
     breaks_half : (s m s' : C × D) (i j k o p q : Option (List ℕ)) (count : ℕ) (l : List ℕ)
-        → Talks says s m i j o p count [] [] → IsLine l → Consumes j k (l ++ 10 ∷ []) → Half says l m s' p q
+        → AnswersLines says s m i j o p count [] [] → IsLine l → Consumes j k (l ++ 10 ∷ []) → Half says l m s' p q
         → Breaks says drops s s' i k o q
     breaks_half s m s' i j k o p q count l t whole taken a = record {
       lines = t.lines ++ l ∷ [];
@@ -129,17 +129,17 @@ module _ {C D : Type 0} (says : C × D → List ℕ → List ℕ → C × D → 
 
     pub breaks_line : {O : Type 0} (out : O → Option (List ℕ)) (s m s' : C × D) (i j k : Option (List ℕ)) (o : Option (List ℕ)) (p q : O)
         (count : ℕ) (l : List ℕ)
-        → Talks says s m i j o (out p) count [] [] → IsLine l → Consumes j k (l ++ 10 ∷ [])
-        → (takes : List ℕ → Type 0) (fault : SpeakFault) → FallsShort says drops takes out fault l m s' p q
+        → AnswersLines says s m i j o (out p) count [] [] → IsLine l → Consumes j k (l ++ 10 ∷ [])
+        → (takes : List ℕ → Type 0) (fault : HandlerError) → FallsShort says drops takes out fault l m s' p q
         → Breaks says drops s s' i k o (out q)
-    breaks_line out s m s' i j k o p q count l t whole taken takes speech.OutOfMemory (inl a) =
+    breaks_line out s m s' i j k o p q count l t whole taken takes error.OutOfMemory (inl a) =
         rw (a.state, a.output) (breaks_here s m i j o (out p) count k (l ++ 10 ∷ []) t taken (inr (l, whole, refl)))
-    breaks_line out s m s' i j k o p q count l t whole taken takes speech.OutOfMemory (inr a) = breaks_dropped out s m s' i j k o p q count l t whole taken a
-    breaks_line out s m s' i j k o p q count l t whole taken takes speech.Journal a = breaks_dropped out s m s' i j k o p q count l t whole taken a
-    breaks_line out s m s' i j k o p q count l t whole taken takes speech.Write a = breaks_half s m s' i j k o (out p) (out q) count l t whole taken a
+    breaks_line out s m s' i j k o p q count l t whole taken takes error.OutOfMemory (inr a) = breaks_dropped out s m s' i j k o p q count l t whole taken a
+    breaks_line out s m s' i j k o p q count l t whole taken takes error.Journal a = breaks_dropped out s m s' i j k o p q count l t whole taken a
+    breaks_line out s m s' i j k o p q count l t whole taken takes error.Write a = breaks_half s m s' i j k o (out p) (out q) count l t whole taken a
 
     pub breaks_cut : (s m : C × D) (i j k o p q : Option (List ℕ)) (count : ℕ) (more : List ℕ) (fault : LineFault) (kept : ℕ)
-        → Talks says s m i j o p count [] [] → Consumes j k more → IsCut (Some fault) k more → Appends p q (take kept (answer_line (Line fault)))
+        → AnswersLines says s m i j o p count [] [] → Consumes j k more → IsCut (Some fault) k more → Appends p q (take kept (answer_line (Line fault)))
         → Breaks says drops s m i k o q
     breaks_cut s m i j k o p q count more fault kept t taken is w = record {
       lines = t.lines;
@@ -160,31 +160,31 @@ module _ {C D : Type 0} (says : C × D → List ℕ → List ℕ → C × D → 
 
     -- no write failed
     pub stops_here : (takes : List ℕ → Type 0) (fault : SessionFault) (s m : C × D) (i j o p : Option (List ℕ)) (count : ℕ) (k : Option (List ℕ))
-        (more : List ℕ) → Talks says s m i j o p count [] [] → Consumes j k more → IsLine more → Stops says drops takes fault s m i k o p
+        (more : List ℕ) → AnswersLines says s m i j o p count [] [] → Consumes j k more → IsLine more → Stops says drops takes fault s m i k o p
     unfolding breaks_here
     stops_here takes fault s m i j o p count k more t taken line =
         (breaks_here s m i j o p count k more t taken (inl line), refl, refl, λ e. inl (refl, line))
 
     stops_silent : (takes : List ℕ → Type 0) (fault : SessionFault) (s m : C × D) (i j k o p : Option (List ℕ)) (count : ℕ) (l : List ℕ)
-        → Talks says s m i j o p count [] [] → IsLine l → Consumes j k (l ++ 10 ∷ []) → takes l → Stops says drops takes fault s m i k o p
+        → AnswersLines says s m i j o p count [] [] → IsLine l → Consumes j k (l ++ 10 ∷ []) → takes l → Stops says drops takes fault s m i k o p
     unfolding breaks_here
     stops_silent takes fault s m i j k o p count l t whole taken h =
         (breaks_here s m i j o p count k (l ++ 10 ∷ []) t taken (inr (l, whole, refl)), refl, refl, λ e. inr (l, whole, refl, inl (refl, h)))
 
     stops_dropped : (takes : List ℕ → Type 0) (fault : SessionFault) (s m s' : C × D) (i j k o p : Option (List ℕ)) (count : ℕ) (l : List ℕ)
-        → Talks says s m i j o p count [] [] → IsLine l → Consumes j k (l ++ 10 ∷ []) → drops m l s' → Stops says drops takes fault s s' i k o p
+        → AnswersLines says s m i j o p count [] [] → IsLine l → Consumes j k (l ++ 10 ∷ []) → drops m l s' → Stops says drops takes fault s s' i k o p
     unfolding dropped_next
     stops_dropped takes fault s m s' i j k o p count l t whole taken d =
         (dropped_next s m s' i j k o p count l t whole taken d, refl, refl, λ e. inr (l, whole, refl, inr d))
 
     pub stops_line : {O : Type 0} (out : O → Option (List ℕ)) (s m s' : C × D) (i j k o : Option (List ℕ)) (p q : O) (count : ℕ) (l : List ℕ)
-        → Talks says s m i j o (out p) count [] [] → IsLine l → Consumes j k (l ++ 10 ∷ [])
-        → (takes : List ℕ → Type 0) (fault : SpeakFault) → FallsShort says drops takes out fault l m s' p q → ¬ (fault_of_speech fault ≡ session.Write)
-        → Stops says drops takes (fault_of_speech fault) s s' i k o (out q)
-    stops_line out s m s' i j k o p q count l t whole taken takes speech.Write a other = absurd (other refl)
-    stops_line out s m s' i j k o p q count l t whole taken takes speech.OutOfMemory (inl a) other =
+        → AnswersLines says s m i j o (out p) count [] [] → IsLine l → Consumes j k (l ++ 10 ∷ [])
+        → (takes : List ℕ → Type 0) (fault : HandlerError) → FallsShort says drops takes out fault l m s' p q → ¬ (fault_of_handler fault ≡ session.Write)
+        → Stops says drops takes (fault_of_handler fault) s s' i k o (out q)
+    stops_line out s m s' i j k o p q count l t whole taken takes error.Write a other = absurd (other refl)
+    stops_line out s m s' i j k o p q count l t whole taken takes error.OutOfMemory (inl a) other =
         rw (a.state, a.output) (stops_silent takes session.OutOfMemory s m i j k o (out p) count l t whole taken a.takes_it)
-    stops_line out s m s' i j k o p q count l t whole taken takes speech.OutOfMemory (inr a) other =
+    stops_line out s m s' i j k o p q count l t whole taken takes error.OutOfMemory (inr a) other =
         rw a.output (stops_dropped takes session.OutOfMemory s m s' i j k o (out p) count l t whole taken a.drops_it)
-    stops_line out s m s' i j k o p q count l t whole taken takes speech.Journal a other =
+    stops_line out s m s' i j k o p q count l t whole taken takes error.Journal a other =
         rw a.output (stops_dropped takes session.Journal s m s' i j k o (out p) count l t whole taken a.drops_it)

@@ -15,9 +15,9 @@ module _ {D S : Type 0} (visits : Outcome → D → S → D → S → Type 0) wh
   pub serves_none : (d : D) (s : S) → Serves visits 0 0 d s d s
   serves_none d s = record { outcomes = []; each = (refl, refl); all_asked = refl; counted = refl }
 
-  pub serves_more : (asked well one : ℕ) (d : D) (s : S) (m : D) (t : S) (d' : D) (s' : S) (outcome : Outcome)
-      → Serves visits asked well d s m t → visits outcome m t d' s' → one ≡ one_good outcome → Serves visits (asked + 1) (well + one) d s d' s'
-  serves_more asked well one d s m t d' s' outcome h k is = record {
+  pub serves_more : (asked clean one : ℕ) (d : D) (s : S) (m : D) (t : S) (d' : D) (s' : S) (outcome : Outcome)
+      → Serves visits asked clean d s m t → visits outcome m t d' s' → one ≡ one_good outcome → Serves visits (asked + 1) (clean + one) d s d' s'
+  serves_more asked clean one d s m t d' s' outcome h k is = record {
     outcomes = h.outcomes ++ outcome ∷ [];
     each = visits_more h.outcomes outcome d s m t d' s' h.each k;
     all_asked = omega (arith, length-append h.outcomes (outcome ∷ []), h.all_asked);

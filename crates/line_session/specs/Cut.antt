@@ -7,7 +7,7 @@ use Rattle.till_request.specs.declared.act.LineFault.{LineFault}
 use Rattle.till_request.specs.declared.act.Answer.{Answer}
 use Rattle.till_request.specs.declared.act.Answer.TheVariants.{OutOfMemory}
 use Rattle.till_request.specs.Answer.{answer_line}
-use Rattle.line_session.specs.Talk.{Ends}
+use Rattle.line_session.specs.Answering.{Ends}
 
 -- the text tells that memory was refused to the line
 abbrev pub IsWantTold : List ℕ → Type 0
@@ -35,7 +35,7 @@ CutsAlike {S} says =
     (s t u : S) (bytes out out_t out_u : List ℕ) (in_t in_u : Option (List ℕ)) (count_t count_u : ℕ) (cut_t cut_u : Option LineFault)
     → (one : Ends says s t (Some bytes) in_t (Some out) (Some out_t) count_t cut_t)
     → (other : Ends says s u (Some bytes) in_u (Some out) (Some out_u) count_u cut_u)
-    → NoWantTold one.talks.texts → NoWantTold other.talks.texts
+    → NoWantTold one.answering.texts → NoWantTold other.answering.texts
     → EndAlike t u out_t out_u count_t count_u cut_t cut_u
 
 -- a clock that tells one moment from one state

@@ -1,6 +1,6 @@
 pub mod Cut
 pub mod Faults
-pub mod Holding
+pub mod Buffering
 pub mod Serving
 pub mod Session
-pub mod Talk
+pub mod Answering

@@ -5,7 +5,7 @@ use Rattle.till_request.specs.Count.{RoseBy, one_if}
 use Rattle.line_session.specs.declared.answering.Ended.{Ended}
 use Rattle.line_session.specs.declared.answering.SessionFault.{SessionFault}
 use Rattle.line_session.specs.declared.answering.SessionFault.TheVariants.{Journal, ReadsSpent}
-use Rattle.line_session.specs.Talk.{Ends, Breaks, FailsAt, is_read, is_write, session_reads}
+use Rattle.line_session.specs.Answering.{Ends, Breaks, FailsAt, is_read, is_write, session_reads}
 
 -- how a connection went: None, the door did not open; else what its session answered
 abbrev pub Outcome : Type 0
@@ -51,8 +51,8 @@ VisitsAll visits [] d s d' s' = (d' ≡ d) × (s' ≡ s)
 VisitsAll {D} {S} visits (outcome ∷ outcomes) d s d' s' = (m : D) × (t : S) × visits outcome d s m t × VisitsAll visits outcomes m t d' s'
 
 -- so many connections, and so many of them good
-pub record Serves {D S : Type 0} (visits : Outcome → D → S → D → S → Type 0) (asked well : ℕ) (d : D) (s : S) (d' : D) (s' : S) : Type 0 where
+pub record Serves {D S : Type 0} (visits : Outcome → D → S → D → S → Type 0) (asked clean : ℕ) (d : D) (s : S) (d' : D) (s' : S) : Type 0 where
   pub outcomes : List Outcome
   pub each : VisitsAll visits outcomes d s d' s'
   pub all_asked : length outcomes ≡ asked
-  pub counted : well ≡ good outcomes
+  pub counted : clean ≡ good outcomes

@@ -11,8 +11,8 @@ use Rattle.till_request.specs.declared.act.Answer.{Answer}
 use Rattle.till_request.specs.declared.act.Answer.TheVariants.{Line, JournalFailed}
 use Rattle.till_request.specs.Grammar.{IsLoad, line_read, words}
 use Rattle.till_request.specs.Answer.{answer_line}
-use Rattle.line_session.specs.declared.speaker.SpeakFault.{SpeakFault}
-use Rattle.line_session.specs.declared.speaker.SpeakFault.TheVariants as speech
+use Rattle.line_session.specs.declared.line_handler.HandlerError.{HandlerError}
+use Rattle.line_session.specs.declared.line_handler.HandlerError.TheVariants as error
 
 -- What is answered to an act: what the desk may answer at the moment that the clock may tell. A fault is answered as it is.
 abbrev pub AnswersAct : {C D : Type 0} → (D → Act → ℕ → Answer → D → Type 0) → (C → ℕ → C → Type 0) → Result Act LineFault → C → D → Answer → C → D → Type 0
@@ -37,16 +37,16 @@ pub record WritesFront {O : Type 0} (took : O → Option (List ℕ)) (answer : A
   pub written : Appends (took o) (took o') (take kept (answer_line answer))
 
 -- why an answer has no line
-abbrev pub IsUnsaid : SpeakFault → Answer → Type 0
-IsUnsaid speech.Write answer = ⊥
-IsUnsaid speech.OutOfMemory answer = answer ≡ Line fault.OutOfMemory
-IsUnsaid speech.Journal answer = answer ≡ JournalFailed
+abbrev pub IsUnsaid : HandlerError → Answer → Type 0
+IsUnsaid error.Write answer = ⊥
+IsUnsaid error.OutOfMemory answer = answer ≡ Line fault.OutOfMemory
+IsUnsaid error.Journal answer = answer ≡ JournalFailed
 
 -- why an answer isn't out: the device failed, and a front of its line is; or it has no line, and nothing is written
-abbrev pub StaysUnsaid : {O : Type 0} → (O → Option (List ℕ)) → SpeakFault → Answer → O → O → Type 0
-StaysUnsaid took speech.Write answer o o' = WritesFront took answer o o'
-StaysUnsaid took speech.OutOfMemory answer o o' = IsUnsaid speech.OutOfMemory answer × (o' ≡ o)
-StaysUnsaid took speech.Journal answer o o' = IsUnsaid speech.Journal answer × (o' ≡ o)
+abbrev pub StaysUnsaid : {O : Type 0} → (O → Option (List ℕ)) → HandlerError → Answer → O → O → Type 0
+StaysUnsaid took error.Write answer o o' = WritesFront took answer o o'
+StaysUnsaid took error.OutOfMemory answer o o' = IsUnsaid error.OutOfMemory answer × (o' ≡ o)
+StaysUnsaid took error.Journal answer o o' = IsUnsaid error.Journal answer × (o' ≡ o)
 
 -- the text is the line of such an answer
 pub record SpeaksAt {C D : Type 0} (step : D → Act → ℕ → Answer → D → Type 0) (tick : C → ℕ → C → Type 0) (role : Role) (line text : List ℕ) (c : C) (d : D)

@@ -3,9 +3,9 @@ ghost use Rattle.std.specs.Prelude.{◌≡◌, ◌≢◌, ◌⊎◌, ◌+◌, �
 ghost use Rattle.std.specs.Io.KnownBytes.{Appends};
 ghost use Rattle.till_request.specs.Count.{RoseBy, one_if};
 ghost use Rattle.till_request.specs.Answer.{answer_line};
-ghost use Rattle.line_session.specs.Talk.{Ends, Breaks, FailsAt, SpendsReads, Stops, is_read, is_write, session_reads};
+ghost use Rattle.line_session.specs.Answering.{Ends, Breaks, FailsAt, SpendsReads, Stops, is_read, is_write, session_reads};
 
-use crate::speaker::{SpeakFault, Speaker};
+use crate::line_handler::{HandlerError, LineHandler};
 use std::alloc::Global;
 use thiserror::Error;
 use till_request::{
@@ -55,16 +55,16 @@ impl From<InputFault> for SessionFault {
     }
 }
 
-impl From<SpeakFault> for SessionFault {
-    ghost use Rattle.line_session.specs.Faults.{fault_of_speech};
+impl From<HandlerError> for SessionFault {
+    ghost use Rattle.line_session.specs.Faults.{fault_of_handler};
 
-    ghost from_gives = { λ f e. e ≡ fault_of_speech f };
+    ghost from_gives = { λ f e. e ≡ fault_of_handler f };
 
-    fn from(fault: SpeakFault) -> Self {
+    fn from(fault: HandlerError) -> Self {
         match fault {
-            SpeakFault::Write => SessionFault::Write,
-            SpeakFault::OutOfMemory => SessionFault::OutOfMemory,
-            SpeakFault::Journal => SessionFault::Journal,
+            HandlerError::Write => SessionFault::Write,
+            HandlerError::OutOfMemory => SessionFault::OutOfMemory,
+            HandlerError::Journal => SessionFault::Journal,
         }
     }
 }
@@ -92,21 +92,21 @@ fn write_cut<O: LineOut>(
 ///
 /// A line that is too long or cut is answered by its fault, and is the last. Only a failed write leaves an answer in
 /// part, or ends a session behind an answered cut.
-pub fn talk_within<I: LineIn, O: LineOut, C, D, S: Speaker<C, D>>(
+pub fn answer_lines_within<I: LineIn, O: LineOut, C, D, S: LineHandler<C, D>>(
     alloc: Global,
     input: &mut I,
     output: &mut O,
-    speaker: &S,
+    handler: &S,
     clock: &mut C,
     desk: &mut D,
     left: &mut u32,
 ) -> Result<Ended, SessionFault>
     requires { left.old ≤ READS }
-    ensures said { IfOk result (λ ended. Ends (S.says speaker.now) (clock.old, desk.old) (clock.new, desk.new)
+    ensures said { IfOk result (λ ended. Ends (S.says handler.now) (clock.old, desk.old) (clock.new, desk.new)
         (I.remaining input.old) (I.remaining input.new) (O.written output.old) (O.written output.new)
         ended.lines ended.cut) }
     ensures broken { OnErr result
-        (Breaks (S.says speaker.now) (S.drops speaker.now) (clock.old, desk.old) (clock.new, desk.new)
+        (Breaks (S.says handler.now) (S.drops handler.now) (clock.old, desk.old) (clock.new, desk.new)
         (I.remaining input.old) (I.remaining input.new) (O.written output.old) (O.written output.new)) }
     ensures read_fault { RoseBy (one_if (is_read result)) (I.failures input.old) (I.failures input.new) }
     ensures write_fault { RoseBy (one_if (is_write result)) (O.failures output.old) (O.failures output.new) }
@@ -114,9 +114,9 @@ pub fn talk_within<I: LineIn, O: LineOut, C, D, S: Speaker<C, D>>(
     ensures spent { result ≡ Err SessionFault.ReadsSpent → left.new ≡ 0 }
     ensures counted { RoseBy (left.old - left.new) (I.reads input.old) (I.reads input.new) }
     ensures asked { RoseBy (left.old - left.new) (I.asked input.old) (I.asked input.new) }
-    ensures journal { result ≡ Err SessionFault.Journal → FailsAt (S.fails speaker.now) (clock.new, desk.new) }
+    ensures journal { result ≡ Err SessionFault.Journal → FailsAt (S.fails handler.now) (clock.new, desk.new) }
     ensures stopped { IfErr result (λ fault. fault ≢ SessionFault.Write
-        → Stops (S.says speaker.now) (S.drops speaker.now) (S.takes speaker.now) fault (clock.old, desk.old)
+        → Stops (S.says handler.now) (S.drops handler.now) (S.takes handler.now) fault (clock.old, desk.old)
         (clock.new, desk.new) (I.remaining input.old) (I.remaining input.new) (O.written output.old)
         (O.written output.new)) }
 {
@@ -124,7 +124,7 @@ pub fn talk_within<I: LineIn, O: LineOut, C, D, S: Speaker<C, D>>(
     let mut count = 0u64;
     'turns: loop {
         match find_line(input, &mut line, left)? {
-            Found::Line => speaker.speak(alloc, &line, clock, desk, output)?,
+            Found::Line => handler.handle_line(alloc, &line, clock, desk, output)?,
             Found::End => {
                 return Ok(Ended {
                     lines: count,
@@ -150,31 +150,31 @@ pub fn talk_within<I: LineIn, O: LineOut, C, D, S: Speaker<C, D>>(
     }
 }
 
-/// Answers the lines of an input in order, as `talk_within`, within the reads of one session.
-pub fn talk<I: LineIn, O: LineOut, C, D, S: Speaker<C, D>>(
+/// Answers the lines of an input in order, as `answer_lines_within`, within the reads of one session.
+pub fn answer_lines<I: LineIn, O: LineOut, C, D, S: LineHandler<C, D>>(
     alloc: Global,
     input: &mut I,
     output: &mut O,
-    speaker: &S,
+    handler: &S,
     clock: &mut C,
     desk: &mut D,
 ) -> Result<Ended, SessionFault>
-    ensures said { IfOk result (λ ended. Ends (S.says speaker.now) (clock.old, desk.old) (clock.new, desk.new)
+    ensures said { IfOk result (λ ended. Ends (S.says handler.now) (clock.old, desk.old) (clock.new, desk.new)
         (I.remaining input.old) (I.remaining input.new) (O.written output.old) (O.written output.new)
         ended.lines ended.cut) }
     ensures broken { OnErr result
-        (Breaks (S.says speaker.now) (S.drops speaker.now) (clock.old, desk.old) (clock.new, desk.new)
+        (Breaks (S.says handler.now) (S.drops handler.now) (clock.old, desk.old) (clock.new, desk.new)
         (I.remaining input.old) (I.remaining input.new) (O.written output.old) (O.written output.new)) }
     ensures read_fault { RoseBy (one_if (is_read result)) (I.failures input.old) (I.failures input.new) }
     ensures write_fault { RoseBy (one_if (is_write result)) (O.failures output.old) (O.failures output.new) }
     ensures reads { SpendsReads session_reads result (I.reads input.old) (I.reads input.new) (I.asked input.old)
         (I.asked input.new) }
-    ensures journal { result ≡ Err SessionFault.Journal → FailsAt (S.fails speaker.now) (clock.new, desk.new) }
+    ensures journal { result ≡ Err SessionFault.Journal → FailsAt (S.fails handler.now) (clock.new, desk.new) }
     ensures stopped { IfErr result (λ fault. fault ≢ SessionFault.Write
-        → Stops (S.says speaker.now) (S.drops speaker.now) (S.takes speaker.now) fault (clock.old, desk.old)
+        → Stops (S.says handler.now) (S.drops handler.now) (S.takes handler.now) fault (clock.old, desk.old)
         (clock.new, desk.new) (I.remaining input.old) (I.remaining input.new) (O.written output.old)
         (O.written output.new)) }
 {
     let mut left = READS;
-    talk_within(alloc, input, output, speaker, clock, desk, &mut left)
+    answer_lines_within(alloc, input, output, handler, clock, desk, &mut left)
 }

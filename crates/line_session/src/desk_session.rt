@@ -1,12 +1,12 @@
 //! Sessions at a desk.
 ghost use Rattle.std.specs.Prelude.{◌≡◌, ◌≢◌, ◌≤◌, ℕ, IfOk, IfErr, OnErr, Err};
 ghost use Rattle.till_request.specs.Count.{RoseBy, one_if};
-ghost use Rattle.line_session.specs.Talk.{Ends, Breaks, FailsAt, SpendsReads, Stops, is_read, is_write, session_reads};
+ghost use Rattle.line_session.specs.Answering.{Ends, Breaks, FailsAt, SpendsReads, Stops, is_read, is_write, session_reads};
 ghost use Rattle.line_session.specs.Session.{desk_says, desk_drops, desk_fails, desk_takes};
 
-use crate::answering::{Ended, READS, SessionFault, talk};
-use crate::at_desk::AtDesk;
+use crate::answering::{Ended, READS, SessionFault, answer_lines};
 use crate::desk::{Clock, Desk};
+use crate::desk_handler::DeskHandler;
 use std::alloc::Global;
 use till_request::{LineIn, LineOut, Role};
 
@@ -39,5 +39,5 @@ pub fn session<I: LineIn, O: LineOut, C: Clock, D: Desk>(
         (clock.old, desk.old) (clock.new, desk.new) (I.remaining input.old) (I.remaining input.new)
         (O.written output.old) (O.written output.new)) }
 {
-    talk(alloc, input, output, &AtDesk { role }, clock, desk)
+    answer_lines(alloc, input, output, &DeskHandler { role }, clock, desk)
 }

@@ -23,7 +23,7 @@ pub trait Doors {
 
     /// Whether a further line is there already, so that its answer may be written with the one before. It is free not
     /// to know.
-    fn has_line(&self, _input: &Self::In) -> bool {
+    fn has_buffered_line(&self, _input: &Self::In) -> bool {
         false
     }
 

@@ -1,22 +1,22 @@
 //! Sessions: lines in, answers out, one for each line in order.
 #![tactic(auto)]
 
-mod ahead;
 mod answering;
-mod at_desk;
 mod cut;
 mod desk;
+mod desk_handler;
 mod desk_session;
 mod doors;
+mod line_handler;
+mod pipelined;
 mod serving;
-mod speaker;
 
-pub use ahead::session_ahead;
-pub use answering::{Ended, READS, SessionFault, talk, talk_within};
-pub use at_desk::AtDesk;
+pub use answering::{Ended, READS, SessionFault, answer_lines, answer_lines_within};
 pub use cut::{law_of_the_cut, law_of_the_cut_at_desks};
 pub use desk::{Clock, Desk};
+pub use desk_handler::DeskHandler;
 pub use desk_session::session;
 pub use doors::Doors;
+pub use line_handler::{HandlerError, LineHandler};
+pub use pipelined::pipelined_session;
 pub use serving::worker;
-pub use speaker::{SpeakFault, Speaker};

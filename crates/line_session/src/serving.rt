@@ -3,15 +3,15 @@ ghost use Rattle.std.specs.Prelude.{◌≡◌, ◌≤◌};
 ghost use Rattle.line_session.specs.Session.{desk_says, desk_drops, desk_fails};
 ghost use Rattle.line_session.specs.Serving.{Serves, Sits, Visits, one_good};
 
-use crate::ahead::session_ahead;
 use crate::answering::{Ended, SessionFault};
 use crate::desk::{Clock, Desk};
 use crate::doors::Doors;
+use crate::pipelined::pipelined_session;
 use std::alloc::Global;
 use till_request::{DeviceFault, Role};
 
 /// Opens a door and runs a session at it. `None`: the door did not open.
-fn attend<S: Doors, C: Clock, D: Desk>(
+fn serve_connection<S: Doors, C: Clock, D: Desk>(
     alloc: Global,
     role: Role,
     doors: &mut S,
@@ -25,7 +25,15 @@ fn attend<S: Doors, C: Clock, D: Desk>(
 {
     match doors.next() {
         Ok((mut input, mut output)) => {
-            let outcome = session_ahead(alloc, role, doors, &mut input, &mut output, clock, desk);
+            let outcome = pipelined_session(
+                alloc,
+                role,
+                doors,
+                &mut input,
+                &mut output,
+                clock,
+                desk,
+            );
             doors.ended(&outcome);
             Some(outcome)
         }
@@ -62,9 +70,9 @@ pub fn worker<S: Doors, C: Clock, D: Desk>(
         S.In.remaining S.In.reads S.In.failures S.Out.written S.Out.failures))
         connections result doors.old (clock.old, desk.old) doors.new (clock.new, desk.new) }
 {
-    let mut well = 0;
+    let mut clean = 0;
     for _ in 0..connections {
-        well += one_if_good(attend(alloc, role, doors, clock, desk));
+        clean += one_if_good(serve_connection(alloc, role, doors, clock, desk));
     }
-    well
+    clean
 }

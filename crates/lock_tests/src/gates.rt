@@ -4,7 +4,7 @@ ghost use Rattle.std.specs.Prelude.{◌≡◌, [], None};
 use crate::locks::config;
 use reg_types::{Layout, verify};
 use site_core::{Answered, Config, Draft, Ready};
-use site_lock::{Forecourt, Gate, Pass, Straight, Yard};
+use site_lock::{Forecourt, Gate, Pass, SiteLedger, Straight};
 use std::alloc::Global;
 use std::marker::Brand;
 use std::sync::atomic::{AtomicBool, Ordering};
@@ -21,53 +21,53 @@ const ASKED: [u8; 16] = [0x79, 0x10, 0x18, 0, 0, 0, 0, 0, 0x95, 0, 0, 0, 0, 0, 0
 const FIVE_THOUSAND: [u8; 16] = [0xb7, 0, 0, 0, 0x88, 0x13, 0, 0, 0x95, 0, 0, 0, 0, 0, 0, 0];
 
 /// Loads a program into slot 0: the entry's number.
-fn load<L: Yard, R: Wait>(
+fn load<L: SiteLedger, R: Wait>(
     rt: &R,
     alloc: Global,
-    yard: &Forecourt<L>,
+    forecourt: &Forecourt<L>,
     pass: &mut Pass<L>,
     program: &[u8; 16],
 ) -> Option<u32> {
     let program = verify(alloc, program.as_slice(), 0, Layout::One).ok()?;
     let program = Arc::new(alloc, program).ok()?;
-    let answered = yard.load(rt, pass, 0, program).ok()?;
+    let answered = forecourt.load(rt, pass, 0, program).ok()?;
     Some(answered.number)
 }
 
 /// Opens a point for till 1: the entry's number.
-fn open<L: Yard, R: Wait>(
+fn open<L: SiteLedger, R: Wait>(
     rt: &R,
-    yard: &Forecourt<L>,
+    forecourt: &Forecourt<L>,
     pass: &mut Pass<L>,
     point: u32,
 ) -> Option<u32> {
     let mut gate = Straight { calls: 0 };
-    let answered = yard
+    let answered = forecourt
         .request(rt, pass, &mut gate, 1, 0, Request::OpenPoint(point))
         .ok()?;
     Some(answered.number)
 }
 
 /// Loads a program into slot 0 and opens point 1 for till 1: the entry's number.
-fn prepare<L: Yard, R: Wait>(
+fn prepare<L: SiteLedger, R: Wait>(
     rt: &R,
     alloc: Global,
-    yard: &Forecourt<L>,
+    forecourt: &Forecourt<L>,
     pass: &mut Pass<L>,
     program: &[u8; 16],
 ) -> Option<u32> {
-    load(rt, alloc, yard, pass, program)?;
-    open(rt, yard, pass, 1)
+    load(rt, alloc, forecourt, pass, program)?;
+    open(rt, forecourt, pass, 1)
 }
 
 /// Asks for a release at point 1: the entry's number, and the reply.
-fn release<L: Yard, R: Wait, G: Gate>(
+fn release<L: SiteLedger, R: Wait, G: Gate>(
     rt: &R,
-    yard: &Forecourt<L>,
+    forecourt: &Forecourt<L>,
     pass: &mut Pass<L>,
     gate: &mut G,
 ) -> Option<(u32, Reply)> {
-    let answered = yard
+    let answered = forecourt
         .request(rt, pass, gate, 1, 0, Request::Release(1, 8000))
         .ok()?;
     Some((answered.number, answered.reply))
@@ -83,7 +83,7 @@ struct Told {
 }
 
 /// A release and a show, where nothing comes between.
-fn alone<L: Yard, R: Wait>(
+fn alone<L: SiteLedger, R: Wait>(
     rt: &R,
     alloc: Global,
     blank: Blank,
@@ -95,13 +95,13 @@ fn alone<L: Yard, R: Wait>(
     requires new { (L.base ≡ []) × (L.taken ≡ None) }
     requires one { blank.parts ≡ 1 }
 {
-    let (yard, mut passes) = Forecourt::<L>::start(alloc, config, 1, blank)?;
+    let (forecourt, mut passes) = Forecourt::<L>::start(alloc, config, 1, blank)?;
     let mut pass = passes.pop().ok_or("a pass")?;
-    prepare(rt, alloc, &yard, &mut pass, &ASKED).ok_or("an open point")?;
+    prepare(rt, alloc, &forecourt, &mut pass, &ASKED).ok_or("an open point")?;
     let mut gate = Straight { calls: 0 };
-    let first = release(rt, &yard, &mut pass, &mut gate);
+    let first = release(rt, &forecourt, &mut pass, &mut gate);
     let first_calls = gate.calls;
-    let second = release(rt, &yard, &mut pass, &mut gate);
+    let second = release(rt, &forecourt, &mut pass, &mut gate);
     Ok(Told {
         first,
         first_calls,
@@ -131,16 +131,16 @@ fn a_gate_is_called_once_where_nothing_comes_between(rt: HostRuntime) -> Result<
 
 /// Loads a program by a pass of its own before it runs a draft.
 #[derive(Drop)]
-struct Loading<'a, L: Yard, R: Wait> {
+struct Loading<'a, L: SiteLedger, R: Wait> {
     rt: &'a R,
     alloc: Global,
-    yard: &'a Forecourt<L>,
+    forecourt: &'a Forecourt<L>,
     pass: Pass<L>,
     calls: u64,
     failed: bool,
 }
 
-impl<L: Yard, R: Wait> Gate for Loading<'_, L, R> {
+impl<L: SiteLedger, R: Wait> Gate for Loading<'_, L, R> {
     ghost use Rattle.till_request.specs.Count.{RoseBy};
 
     ghost calls = { λ s. s.calls };
@@ -152,12 +152,12 @@ impl<L: Yard, R: Wait> Gate for Loading<'_, L, R> {
         let Loading {
             rt,
             alloc,
-            yard,
+            forecourt,
             pass,
             failed,
             ..
         } = self;
-        if load(*rt, *alloc, yard, pass, &ASKED).is_none() {
+        if load(*rt, *alloc, forecourt, pass, &ASKED).is_none() {
             *failed = true;
         }
         draft.run()
@@ -166,7 +166,7 @@ impl<L: Yard, R: Wait> Gate for Loading<'_, L, R> {
 
 /// A release, with another version each time before its program is run: the entry's number with the reply, the gate's
 /// calls, and whether a load failed.
-fn overtaken<L: Yard, R: Wait>(
+fn overtaken<L: SiteLedger, R: Wait>(
     rt: &R,
     alloc: Global,
     blank: Blank,
@@ -178,19 +178,19 @@ fn overtaken<L: Yard, R: Wait>(
     requires new { (L.base ≡ []) × (L.taken ≡ None) }
     requires two { blank.parts ≡ 2 }
 {
-    let (yard, mut passes) = Forecourt::<L>::start(alloc, config, 2, blank)?;
+    let (forecourt, mut passes) = Forecourt::<L>::start(alloc, config, 2, blank)?;
     let second = passes.pop().ok_or("a pass")?;
     let mut first = passes.pop().ok_or("a pass")?;
-    prepare(rt, alloc, &yard, &mut first, &FIVE_THOUSAND).ok_or("an open point")?;
+    prepare(rt, alloc, &forecourt, &mut first, &FIVE_THOUSAND).ok_or("an open point")?;
     let mut gate = Loading {
         rt,
         alloc,
-        yard: &yard,
+        forecourt: &forecourt,
         pass: second,
         calls: 0,
         failed: false,
     };
-    let released = release(rt, &yard, &mut first, &mut gate);
+    let released = release(rt, &forecourt, &mut first, &mut gate);
     Ok((released, gate.calls, gate.failed))
 }
 
@@ -246,9 +246,9 @@ impl Gate for Holding<'_> {
 }
 
 /// Till 1 asks, and is held; how it was answered, and whether it was let go in time.
-fn held_call<L: Yard, R: Wait>(
+fn held_call<L: SiteLedger, R: Wait>(
     rt: &R,
-    yard: &Forecourt<L>,
+    forecourt: &Forecourt<L>,
     pass: &mut Pass<L>,
     held: &AtomicBool,
     go: &AtomicBool,
@@ -259,40 +259,40 @@ fn held_call<L: Yard, R: Wait>(
         calls: 0,
         in_time: false,
     };
-    let answered = yard.request(rt, pass, &mut gate, 1, 0, Request::Release(1, 8000));
+    let answered = forecourt.request(rt, pass, &mut gate, 1, 0, Request::Release(1, 8000));
     (answered.ok(), gate.in_time)
 }
 
 /// Till 2 asks once till 1 is held, and then lets it go.
-fn other_call<L: Yard, R: Wait>(
+fn other_call<L: SiteLedger, R: Wait>(
     rt: &R,
-    yard: &Forecourt<L>,
+    forecourt: &Forecourt<L>,
     pass: &mut Pass<L>,
     held: &AtomicBool,
     go: &AtomicBool,
 ) -> (Option<Answered>, bool) {
     let in_time = wait_for(held);
     let mut gate = Straight { calls: 0 };
-    let answered = yard.request(rt, pass, &mut gate, 2, 0, Request::Release(2, 8000));
+    let answered = forecourt.request(rt, pass, &mut gate, 2, 0, Request::Release(2, 8000));
     go.store(true, Ordering::SeqCst);
     (answered.ok(), in_time)
 }
 
 /// Loads a program that grants what is asked, and opens both points for till 1: the last entry's number.
-fn prepare_both<L: Yard, R: Wait>(
+fn prepare_both<L: SiteLedger, R: Wait>(
     rt: &R,
     alloc: Global,
-    yard: &Forecourt<L>,
+    forecourt: &Forecourt<L>,
     pass: &mut Pass<L>,
 ) -> Option<u32> {
-    prepare(rt, alloc, yard, pass, &ASKED)?;
-    open(rt, yard, pass, 2)
+    prepare(rt, alloc, forecourt, pass, &ASKED)?;
+    open(rt, forecourt, pass, 2)
 }
 
 /// What both tills are answered, if none waited for too long.
-fn beside<L: Yard + Send + Sync, R: Threads + Wait + Sync>(
+fn beside<L: SiteLedger + Send + Sync, R: Threads + Wait + Sync>(
     rt: &R,
-    yard: &Forecourt<L>,
+    forecourt: &Forecourt<L>,
     first: &mut Pass<L>,
     second: &mut Pass<L>,
 ) -> Option<[(u32, Reply); 2]> {
@@ -300,8 +300,8 @@ fn beside<L: Yard + Send + Sync, R: Threads + Wait + Sync>(
     let (held, go) = (&held, &go);
     let ((one, in_time), (two, soon)) = join(
         rt,
-        || held_call(rt, yard, first, held, go),
-        || other_call(rt, yard, second, held, go),
+        || held_call(rt, forecourt, first, held, go),
+        || other_call(rt, forecourt, second, held, go),
     );
     if !in_time || !soon {
         return None;
@@ -311,7 +311,7 @@ fn beside<L: Yard + Send + Sync, R: Threads + Wait + Sync>(
 }
 
 /// The same, of a new forecourt.
-fn both<L: Yard + Send + Sync, R: Threads + Wait + Sync>(
+fn both<L: SiteLedger + Send + Sync, R: Threads + Wait + Sync>(
     rt: &R,
     alloc: Global,
     blank: Blank,
@@ -323,11 +323,11 @@ fn both<L: Yard + Send + Sync, R: Threads + Wait + Sync>(
     requires new { (L.base ≡ []) × (L.taken ≡ None) }
     requires two { blank.parts ≡ 2 }
 {
-    let (yard, mut passes) = Forecourt::<L>::start(alloc, config, 2, blank)?;
+    let (forecourt, mut passes) = Forecourt::<L>::start(alloc, config, 2, blank)?;
     let mut second = passes.pop().ok_or("a pass")?;
     let mut first = passes.pop().ok_or("a pass")?;
-    prepare_both(rt, alloc, &yard, &mut first).ok_or("two open points")?;
-    Ok(beside(rt, &yard, &mut first, &mut second))
+    prepare_both(rt, alloc, &forecourt, &mut first).ok_or("two open points")?;
+    Ok(beside(rt, &forecourt, &mut first, &mut second))
 }
 
 fn both_of<R: Threads + Wait + Sync>(

@@ -5,7 +5,7 @@ use fuelling_point::DispenserEvent;
 use reg_types::{Layout, verify};
 use site_core::{CallFault, Config};
 use site_lock::{
-    Clock, CloseRefusal, Forecourt, Pass, PassDesk, Receipt, Straight, Yard, are_all, fault,
+    Clock, CloseRefusal, Forecourt, Pass, PassDesk, Receipt, SiteLedger, Straight, are_all, fault,
     session,
 };
 use std::alloc::Global;
@@ -28,15 +28,15 @@ pub fn config(alloc: Global) -> Option<Config> {
 }
 
 /// Asks so often for what point 1 shows.
-fn shows<L: Yard, R: Wait>(
+fn shows<L: SiteLedger, R: Wait>(
     rt: &R,
-    yard: &Forecourt<L>,
+    forecourt: &Forecourt<L>,
     mut pass: Pass<L>,
     calls: u32,
 ) -> Result<Pass<L>, CallFault> {
     let mut gate = Straight { calls: 0 };
     for _ in 0..calls {
-        yard.request(rt, &mut pass, &mut gate, 1, 0, Request::Show(1))?;
+        forecourt.request(rt, &mut pass, &mut gate, 1, 0, Request::Show(1))?;
     }
     Ok(pass)
 }
@@ -65,24 +65,24 @@ struct Left {
 }
 
 /// The passes of two threads that ask 1,000 times each.
-fn shows_beside<L: Yard + Send + Sync, R: Threads + Wait + Sync>(
+fn shows_beside<L: SiteLedger + Send + Sync, R: Threads + Wait + Sync>(
     rt: &R,
-    yard: &Forecourt<L>,
+    forecourt: &Forecourt<L>,
     first: Pass<L>,
     second: Pass<L>,
 ) -> Option<(Pass<L>, Pass<L>)> {
     let (first, second) = join(
         rt,
-        move || shows(rt, yard, first, 1000),
-        move || shows(rt, yard, second, 1000),
+        move || shows(rt, forecourt, first, 1000),
+        move || shows(rt, forecourt, second, 1000),
     );
     Some((first.ok()?, second.ok()?))
 }
 
 /// What is left where the forecourt is closed without the second pass, and then with both.
-fn close_twice<L: Yard, R: Wait>(
+fn close_twice<L: SiteLedger, R: Wait>(
     rt: &R,
-    yard: Forecourt<L>,
+    forecourt: Forecourt<L>,
     mut passes: Vec<Pass<L>>,
     first: Pass<L>,
     second: Pass<L>,
@@ -96,7 +96,7 @@ fn close_twice<L: Yard, R: Wait>(
         entries: None,
     };
     passes.push(first)?;
-    let Err(kept) = yard.close(rt, passes) else {
+    let Err(kept) = forecourt.close(rt, passes) else {
         return Ok(left);
     };
     left.refused = Some(kept.why);
@@ -107,21 +107,21 @@ fn close_twice<L: Yard, R: Wait>(
 }
 
 /// How many entries a forecourt has that is closed with this pass too.
-fn close_whole<L: Yard, R: Wait>(
+fn close_whole<L: SiteLedger, R: Wait>(
     rt: &R,
-    yard: Forecourt<L>,
+    forecourt: Forecourt<L>,
     mut passes: Vec<Pass<L>>,
     last: Pass<L>,
 ) -> Result<Option<usize>, Fail> {
     passes.push(last)?;
-    Ok(match yard.close(rt, passes) {
+    Ok(match forecourt.close(rt, passes) {
         Ok(closed) => Some(closed.site.history().len()),
         Err(_) => None,
     })
 }
 
 /// Two threads with a pass each ask 1,000 times; the forecourt is closed without the second pass, and then with both.
-fn two<L: Yard + Send + Sync, R: Threads + Wait + Sync>(
+fn two<L: SiteLedger + Send + Sync, R: Threads + Wait + Sync>(
     rt: &R,
     alloc: Global,
     blank: Blank,
@@ -133,11 +133,11 @@ fn two<L: Yard + Send + Sync, R: Threads + Wait + Sync>(
     requires new { (L.base ≡ []) × (L.taken ≡ None) }
     requires two { blank.parts ≡ 2 }
 {
-    let (yard, mut passes) = Forecourt::<L>::start(alloc, config, 2, blank)?;
+    let (forecourt, mut passes) = Forecourt::<L>::start(alloc, config, 2, blank)?;
     let second = passes.pop().ok_or("a pass")?;
     let first = passes.pop().ok_or("a pass")?;
-    let (first, second) = shows_beside(rt, &yard, first, second).ok_or("a call")?;
-    close_twice(rt, yard, passes, first, second)
+    let (first, second) = shows_beside(rt, &forecourt, first, second).ok_or("a call")?;
+    close_twice(rt, forecourt, passes, first, second)
 }
 
 fn two_of<R: Threads + Wait + Sync>(rt: &R, alloc: Global, config: Config) -> Result<Left, Fail> {
@@ -174,7 +174,7 @@ impl Clock for Still {
 
 /// A session of all lines at a desk: what it writes, the receipts that the pass gained, and the entries of the site
 /// that is closed then.
-fn desk<L: Yard, R: Wait>(
+fn desk<L: SiteLedger, R: Wait>(
     rt: &R,
     alloc: Global,
     blank: Blank,
@@ -187,12 +187,12 @@ fn desk<L: Yard, R: Wait>(
     requires new { (L.base ≡ []) × (L.taken ≡ None) }
     requires one { blank.parts ≡ 1 }
 {
-    let (yard, mut passes) = Forecourt::<L>::start(alloc, config, 1, blank)?;
+    let (forecourt, mut passes) = Forecourt::<L>::start(alloc, config, 1, blank)?;
     let pass = passes.pop().ok_or("a pass")?;
     let mut input = MemoryIn::new(script, Vec::new(alloc), None);
     let mut output = MemoryOut::new(alloc, Vec::new(alloc), None);
     let mut clock = Still;
-    let mut desk = PassDesk::new(rt, alloc, &yard, pass, Straight { calls: 0 });
+    let mut desk = PassDesk::new(rt, alloc, &forecourt, pass, Straight { calls: 0 });
     let ended = session(
         alloc,
         Role::All,
@@ -204,7 +204,7 @@ fn desk<L: Yard, R: Wait>(
     let pass = desk.into_pass();
     let gained = pass.receipts().len();
     passes.push(pass)?;
-    let entries = match yard.close(rt, passes) {
+    let entries = match forecourt.close(rt, passes) {
         Ok(closed) => Some(closed.site.history().len()),
         Err(_) => None,
     };
@@ -260,37 +260,39 @@ fn a_refused_load_has_no_receipt(rt: HostRuntime) -> Result<(), Fail> {
 }
 
 /// Loads a program into a slot that isn't there: the entry's number, and the reply.
-fn loaded<L: Yard, R: Wait>(
+fn loaded<L: SiteLedger, R: Wait>(
     rt: &R,
     alloc: Global,
-    yard: &Forecourt<L>,
+    forecourt: &Forecourt<L>,
     pass: &mut Pass<L>,
 ) -> Option<(u32, Reply)> {
     let asked = [0x79u8, 0x10, 0x18, 0, 0, 0, 0, 0, 0x95, 0, 0, 0, 0, 0, 0, 0];
     let program = verify(alloc, asked.as_slice(), 0, Layout::One).ok()?;
     let program = Arc::new(alloc, program).ok()?;
-    let answered = yard.load(rt, pass, 16, program).ok()?;
+    let answered = forecourt.load(rt, pass, 16, program).ok()?;
     Some((answered.number, answered.reply))
 }
 
 /// Lifts nozzle 3 of point 2.
-fn reported<L: Yard, R: Wait>(
+fn reported<L: SiteLedger, R: Wait>(
     rt: &R,
-    yard: &Forecourt<L>,
+    forecourt: &Forecourt<L>,
     pass: &mut Pass<L>,
 ) -> Option<(u32, Reply)> {
-    let answered = yard.dispenser(rt, pass, 2, DispenserEvent::Up(3)).ok()?;
+    let answered = forecourt
+        .dispenser(rt, pass, 2, DispenserEvent::Up(3))
+        .ok()?;
     Some((answered.number, answered.reply))
 }
 
 /// Asks what point 2 shows.
-fn shown<L: Yard, R: Wait>(
+fn shown<L: SiteLedger, R: Wait>(
     rt: &R,
-    yard: &Forecourt<L>,
+    forecourt: &Forecourt<L>,
     pass: &mut Pass<L>,
 ) -> Option<(u32, Reply)> {
     let mut gate = Straight { calls: 0 };
-    let answered = yard
+    let answered = forecourt
         .request(rt, pass, &mut gate, 1, 7, Request::Show(2))
         .ok()?;
     Some((answered.number, answered.reply))
@@ -307,7 +309,7 @@ struct Called {
 }
 
 /// A pass loads, reports and asks; then its receipts are held against no history.
-fn calls<L: Yard, R: Wait>(
+fn calls<L: SiteLedger, R: Wait>(
     rt: &R,
     alloc: Global,
     blank: Blank,
@@ -319,11 +321,11 @@ fn calls<L: Yard, R: Wait>(
     requires new { (L.base ≡ []) × (L.taken ≡ None) }
     requires two { blank.parts ≡ 2 }
 {
-    let (yard, mut passes) = Forecourt::<L>::start(alloc, config, 2, blank)?;
+    let (forecourt, mut passes) = Forecourt::<L>::start(alloc, config, 2, blank)?;
     let mut second = passes.pop().ok_or("a pass")?;
-    let loaded = loaded(rt, alloc, &yard, &mut second);
-    let reported = reported(rt, &yard, &mut second);
-    let asked = shown(rt, &yard, &mut second);
+    let loaded = loaded(rt, alloc, &forecourt, &mut second);
+    let reported = reported(rt, &forecourt, &mut second);
+    let asked = shown(rt, &forecourt, &mut second);
     let alone = are_all(2, passes.as_slice());
     let last = second.id();
     passes.push(second)?;

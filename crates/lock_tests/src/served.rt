@@ -74,10 +74,10 @@ fn serve_day<R: Net<Listener = TcpListener, Stream = TcpStream> + Threads + Wait
     let crew = Crew::new(1, 1).ok_or("a crew")?;
     let (site, listeners, at) = opened(rt, alloc)?;
     let group = GroupSync::new(MemoryDisk::new(good));
-    let yard = &group;
+    let forecourt = &group;
     let (journal, heard) = join(
         rt,
-        || serve(rt, alloc, yard, site, listeners, crew),
+        || serve(rt, alloc, forecourt, site, listeners, crew),
         || as_far_as_answered(rt, alloc, at),
     );
     Ok(Day {

@@ -3,8 +3,8 @@ use decision_journal::write_entries;
 use line_session::Doors;
 use site_core::{Config, Site};
 use site_server::{
-    Breach, CloseRefusal, Crew, Limiter, ListenFault, Listeners, Notices, ServeFault, Served,
-    SessionFault, TcpDoors, serve_site,
+    CloseRefusal, Crew, Limiter, ListenFault, Listeners, Notices, ServeFault, Served,
+    SessionFailure, SessionFault, TcpDoors, serve_site,
 };
 use std::alloc::Global;
 use std::fmt::Display;
@@ -30,9 +30,9 @@ fn config(alloc: Global) -> Option<Config> {
 pub struct Silent;
 
 impl Notices for Silent {
-    fn no_door(&self, _role: Role, _pass: u32, _error: &io::Error) {}
+    fn accept_failed(&self, _role: Role, _pass: u32, _error: &io::Error) {}
 
-    fn breach(&self, _role: Role, _pass: u32, _breach: Breach) {}
+    fn session_failed(&self, _role: Role, _pass: u32, _breach: SessionFailure) {}
 }
 
 /// A connection of a peer.
@@ -149,7 +149,7 @@ fn serve_on_loopback(rt: HostRuntime) -> Result<(), Fail> {
     let wanted = "1 version 1\n2 done\n3 granted 8000 by 1\n4 order authorise 8000\n";
     let last = b"\n4 2 0 disp 1 order = order authorise 8000\n";
     let is_last = journal_ends(rt.alloc(), &served.site, last);
-    assert!(rt; heard.as_str() == wanted && served.well == 3 && is_last);
+    assert!(rt; heard.as_str() == wanted && served.clean == 3 && is_last);
     Ok(())
 }
 
@@ -232,11 +232,11 @@ fn breaches_in_words(rt: HostRuntime) -> Result<(), Fail> {
         rt.alloc(),
         &[
             (
-                Breach::Session(SessionFault::ReadsSpent),
+                SessionFailure::Session(SessionFault::ReadsSpent),
                 "the reads ran out",
             ),
             (
-                Breach::Line(LineFault::TooLong),
+                SessionFailure::Line(LineFault::TooLong),
                 "ended by a line of more than 8,400 bytes",
             ),
         ],

@@ -9,7 +9,7 @@ use crate::texts::{output, station};
 use crate::yards::entries_of;
 use line_session::{Clock, SessionFault, session};
 use site_core::Config;
-use site_lock::{Forecourt, PassDesk, Straight, Yard};
+use site_lock::{Forecourt, PassDesk, SiteLedger, Straight};
 use std::alloc::Global;
 use std::marker::Brand;
 use std::sync::Wait;
@@ -38,7 +38,7 @@ struct Seen {
 }
 
 /// A session at a new forecourt, whose line of this number finds so much memory.
-fn seat<L: Yard, R: Wait>(
+fn seat<L: SiteLedger, R: Wait>(
     rt: &R,
     alloc: Global,
     blank: Blank,
@@ -52,10 +52,10 @@ fn seat<L: Yard, R: Wait>(
     requires new { (L.base ≡ []) × (L.taken ≡ None) }
     requires one { blank.parts ≡ 1 }
 {
-    let (yard, mut passes) = Forecourt::<L>::start(alloc, config, 1, blank)?;
+    let (forecourt, mut passes) = Forecourt::<L>::start(alloc, config, 1, blank)?;
     let pass = passes.pop().ok_or("a pass")?;
     let mut clock = Still;
-    let mut desk = PassDesk::new(rt, alloc, &yard, pass, Straight { calls: 0 });
+    let mut desk = PassDesk::new(rt, alloc, &forecourt, pass, Straight { calls: 0 });
     let ended = session(
         alloc,
         Role::All,
@@ -72,7 +72,7 @@ fn seat<L: Yard, R: Wait>(
             is_want: ended == Err(SessionFault::OutOfMemory),
             is_done: ended.is_ok(),
         },
-        entries: entries_of(rt, yard, passes),
+        entries: entries_of(rt, forecourt, passes),
     })
 }
 

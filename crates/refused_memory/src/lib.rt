@@ -7,6 +7,8 @@ mod calls;
 #[cfg(test)]
 mod desks;
 #[cfg(test)]
+mod forecourts;
+#[cfg(test)]
 mod hoarding;
 #[cfg(test)]
 mod many;
@@ -22,5 +24,3 @@ mod sites;
 mod texts;
 #[cfg(test)]
 mod workers;
-#[cfg(test)]
-mod yards;

@@ -10,7 +10,7 @@ use crate::texts::{device, output, station};
 use crate::yards::entries_of;
 use line_session::{Doors, worker};
 use site_core::Config;
-use site_lock::{Forecourt, PassDesk, Straight, Yard};
+use site_lock::{Forecourt, PassDesk, SiteLedger, Straight};
 use std::alloc::Global;
 use std::marker::Brand;
 use std::sync::Wait;
@@ -56,7 +56,7 @@ impl Doors for TwoDoors {
 }
 
 /// How many of two connections at these doors ended well, and how many entries the closed site has.
-fn worked<L: Yard, R: Wait>(
+fn worked<L: SiteLedger, R: Wait>(
     rt: &R,
     alloc: Global,
     blank: Blank,
@@ -69,13 +69,16 @@ fn worked<L: Yard, R: Wait>(
     requires new { (L.base ≡ []) × (L.taken ≡ None) }
     requires one { blank.parts ≡ 1 }
 {
-    let (yard, mut passes) = Forecourt::<L>::start(alloc, config, 1, blank)?;
+    let (forecourt, mut passes) = Forecourt::<L>::start(alloc, config, 1, blank)?;
     let pass = passes.pop().ok_or("a pass")?;
     let mut clock = Still;
-    let mut desk = PassDesk::new(rt, alloc, &yard, pass, Straight { calls: 0 });
-    let well = worker(alloc, Role::All, &mut doors, &mut clock, &mut desk, 2);
+    let mut desk = PassDesk::new(rt, alloc, &forecourt, pass, Straight { calls: 0 });
+    let clean = worker(alloc, Role::All, &mut doors, &mut clock, &mut desk, 2);
     passes.push(desk.into_pass())?;
-    Ok((well, entries_of(rt, yard, passes).ok_or("a closed site")?))
+    Ok((
+        clean,
+        entries_of(rt, forecourt, passes).ok_or("a closed site")?,
+    ))
 }
 
 fn worked_of<R: Wait>(

@@ -8,7 +8,7 @@ use Rattle.site_core.specs.Site.{SiteValue, Upholds}
 use Rattle.site_lock.specs.declared.close.CloseRefusal.{CloseRefusal}
 use Rattle.site_lock.specs.declared.close.CloseRefusal.TheVariants.{PassMissing, NotInHistory, OtherConfig}
 use Rattle.site_lock.specs.Passes.{PassView, Opened}
-use Rattle.site_lock.specs.Grounds.{GroundValue, IsWhole, Stands}
+use Rattle.site_lock.specs.LockedSites.{LockedSiteValue, IsWhole, Stands}
 use Rattle.site_lock.specs.Merge.{AreAll, IsFault, IsFaultSince, IsMerge, IsMergeSince}
 
 -- The configuration is the kept one, its history is legal and the merge of what the passes were answered, and has as many entries as these were answered calls.
@@ -35,14 +35,14 @@ pub record ClosesSince (f : Opened) (passes : List PassView) (s : SiteValue) (wr
 -- A forecourt that could not be closed, whose lock nobody can take: how it was opened, and what stands still under it.
 pub record HaltedValue : Type 0 where
   pub opened : Opened
-  pub ground : GroundValue
+  pub locked_site : LockedSiteValue
 
 -- Its configuration is the one started with, its history is legal and goes on from the one started with by the answered
 -- calls, and the journal took the text of these.
 pub record IsHalted (may_fail : Type 0) (h : HaltedValue) : Type 0 where
-  pub config : h.ground.site.config ≡ h.opened.config
-  pub legal : Upholds h.ground.site
-  pub stands : Stands h.ground.stopped h.opened.base h.opened.taken may_fail h.ground.site.history h.ground.total h.ground.written
+  pub config : h.locked_site.site.config ≡ h.opened.config
+  pub legal : Upholds h.locked_site.site
+  pub stands : Stands h.locked_site.stopped h.opened.base h.opened.taken may_fail h.locked_site.site.history h.locked_site.total h.locked_site.written
 
 -- the last entry has this pass and number
 abbrev pub IsLast : List Entry → ℕ → ℕ → Type 0
@@ -55,7 +55,7 @@ IsWrong false base history passes id number = IsFaultSince base history passes i
 IsWrong true base history passes id number = IsLast history id number
 
 -- what stands in the way, at what lies under the lock; a site of another configuration can't be
-abbrev pub HindersSince : ℕ → GroundValue → List PassView → CloseRefusal → Type 0
+abbrev pub HindersSince : ℕ → LockedSiteValue → List PassView → CloseRefusal → Type 0
 HindersSince base v passes PassMissing = ⊥
 HindersSince base v passes (NotInHistory id number) = IsWrong v.stopped base v.site.history passes id number
 HindersSince base v passes OtherConfig = ⊥
@@ -65,8 +65,8 @@ abbrev pub RefusesSince : HaltedValue → List PassView → CloseRefusal → Typ
 RefusesSince h passes PassMissing = ¬ AreAll h.opened.passes passes
 RefusesSince h passes (NotInHistory id number) =
     AreAll h.opened.passes passes
-    × (h.ground.total ≡ sum_by (λ (p : PassView). p.amount) passes)
-    × IsWrong h.ground.stopped (length h.opened.base) h.ground.site.history passes id number
+    × (h.locked_site.total ≡ sum_by (λ (p : PassView). p.amount) passes)
+    × IsWrong h.locked_site.stopped (length h.opened.base) h.locked_site.site.history passes id number
 RefusesSince h passes OtherConfig = ⊥
 
 -- the same where nothing was gone on from, and no journal can fail
@@ -74,12 +74,12 @@ abbrev pub Refuses : HaltedValue → List PassView → CloseRefusal → Type 0
 Refuses h passes PassMissing = ¬ AreAll h.opened.passes passes
 Refuses h passes (NotInHistory id number) =
     AreAll h.opened.passes passes
-    × (length h.ground.site.history ≡ sum_by (λ (p : PassView). p.amount) passes)
-    × IsFault h.ground.site.history passes id number
+    × (length h.locked_site.site.history ≡ sum_by (λ (p : PassView). p.amount) passes)
+    × IsFault h.locked_site.site.history passes id number
 Refuses h passes OtherConfig = ⊥
 
 -- nothing does
-pub record IsClear (base : List Entry) (taken : Option (List ℕ)) (v : GroundValue) (config : ConfigValue) (passes : List PassView) : Type 0 where
+pub record IsClear (base : List Entry) (taken : Option (List ℕ)) (v : LockedSiteValue) (config : ConfigValue) (passes : List PassView) : Type 0 where
   pub config_is : v.site.config ≡ config
   pub legal : Upholds v.site
   pub merge : IsMergeSince (length base) v.site.history passes

@@ -4,7 +4,7 @@ ghost use Rattle.std.specs.Prelude.{◌≤◌, ℕ, length, drop};
 ghost use Rattle.site_lock.specs.Merge.{Matches, IsEntryOf, StandsFrom, FailsFrom, HasNumber, Covers, Covered, IsMerge};
 ghost use Rattle.site_lock.specs.Merge.{IsMergeSince, IsFault, IsFaultSince, AreAll};
 
-use super::pass::{Pass, Receipt, Yard};
+use super::pass::{Pass, Receipt, SiteLedger};
 use decision_journal::Entry;
 
 fn matches(id: u32, receipt: &Receipt, entry: &Entry) -> bool
@@ -46,7 +46,7 @@ fn wrong_receipt(history: &[Entry], base: u32, id: u32, receipts: &[Receipt]) ->
     None
 }
 
-fn wrong_pass<L: Yard>(history: &[Entry], base: u32, passes: &[Pass<L>]) -> Option<(u32, u32)>
+fn wrong_pass<L: SiteLedger>(history: &[Entry], base: u32, passes: &[Pass<L>]) -> Option<(u32, u32)>
     ensures none { IfNone result (All (λ p. StandsFrom history.now p.id base p.receipts) passes.now) }
     ensures some { IfSome result
         (λ x. Any (λ p. (p.id ≡ x.0) × FailsFrom history.now p.id base p.receipts x.1) passes.now) }
@@ -75,13 +75,13 @@ fn has_rising_number(receipts: &[Receipt], number: u32) -> bool
     }
 }
 
-fn covers<L: Yard>(pass: &Pass<L>, entry: &Entry) -> bool
+fn covers<L: SiteLedger>(pass: &Pass<L>, entry: &Entry) -> bool
     ensures { IsTrue result ↔ Covers entry.now pass.now }
 {
     pass.id() == entry.pass && has_number(pass.receipts(), entry.number)
 }
 
-fn is_covered<L: Yard>(passes: &[Pass<L>], entry: &Entry) -> bool
+fn is_covered<L: SiteLedger>(passes: &[Pass<L>], entry: &Entry) -> bool
     ensures { IsTrue result ↔ Covered passes.now entry.now }
 {
     for pass in passes {
@@ -93,7 +93,7 @@ fn is_covered<L: Yard>(passes: &[Pass<L>], entry: &Entry) -> bool
 }
 
 // The same, fast where the passes' numbers rise. False says nothing.
-fn is_covered_soon<L: Yard>(passes: &[Pass<L>], entry: &Entry) -> bool
+fn is_covered_soon<L: SiteLedger>(passes: &[Pass<L>], entry: &Entry) -> bool
     ensures { IsTrue result → Covered passes.now entry.now }
 {
     for pass in passes {
@@ -104,13 +104,13 @@ fn is_covered_soon<L: Yard>(passes: &[Pass<L>], entry: &Entry) -> bool
     false
 }
 
-fn is_covered_at_all<L: Yard>(passes: &[Pass<L>], entry: &Entry) -> bool
+fn is_covered_at_all<L: SiteLedger>(passes: &[Pass<L>], entry: &Entry) -> bool
     ensures { IsTrue result ↔ Covered passes.now entry.now }
 {
     is_covered_soon(passes, entry) || is_covered(passes, entry)
 }
 
-fn uncovered<L: Yard>(history: &[Entry], passes: &[Pass<L>]) -> Option<(u32, u32)>
+fn uncovered<L: SiteLedger>(history: &[Entry], passes: &[Pass<L>]) -> Option<(u32, u32)>
     ensures none { IfNone result (All (Covered passes.now) history.now) }
     ensures some { IfSome result
         (λ x. Any (λ e. (e.pass ≡ x.0) × (e.number ≡ x.1) × ¬ Covered passes.now e) history.now) }
@@ -131,7 +131,11 @@ pub(super) fn behind(base: u32, history: &[Entry]) -> &[Entry]
     &history[base as usize..]
 }
 
-fn uncovered_since<L: Yard>(base: u32, history: &[Entry], passes: &[Pass<L>]) -> Option<(u32, u32)>
+fn uncovered_since<L: SiteLedger>(
+    base: u32,
+    history: &[Entry],
+    passes: &[Pass<L>],
+) -> Option<(u32, u32)>
     requires { base ≤ length history.now }
     ensures none { IfNone result (All (Covered passes.now) (drop base history.now)) }
     ensures some { IfSome result
@@ -143,7 +147,7 @@ fn uncovered_since<L: Yard>(base: u32, history: &[Entry], passes: &[Pass<L>]) ->
 /// What keeps a history from being what the passes were answered: a pass and a number. Either the first receipt of the
 /// pass that is wrong has this number: it isn't the entry there by pass, event, moment and reply, or isn't above the
 /// receipt before it. Or the entry of this pass and number stands in no receipt of that pass.
-pub fn fault<L: Yard>(history: &[Entry], passes: &[Pass<L>]) -> Option<(u32, u32)>
+pub fn fault<L: SiteLedger>(history: &[Entry], passes: &[Pass<L>]) -> Option<(u32, u32)>
     ensures none { IfNone result (IsMerge history.now passes.now) }
     ensures some { IfSome result (λ x. IsFault history.now passes.now x.0 x.1) }
 {
@@ -152,7 +156,11 @@ pub fn fault<L: Yard>(history: &[Entry], passes: &[Pass<L>]) -> Option<(u32, u32
 
 /// The same of a history that went on from its first `base` entries, which no pass was answered: a receipt's number is
 /// above them, and each entry behind them stands in the receipts of its pass.
-pub fn fault_since<L: Yard>(base: u32, history: &[Entry], passes: &[Pass<L>]) -> Option<(u32, u32)>
+pub fn fault_since<L: SiteLedger>(
+    base: u32,
+    history: &[Entry],
+    passes: &[Pass<L>],
+) -> Option<(u32, u32)>
     requires within { base ≤ length history.now }
     ensures none { IfNone result (IsMergeSince base history.now passes.now) }
     ensures some { IfSome result (λ x. IsFaultSince base history.now passes.now x.0 x.1) }
@@ -163,14 +171,14 @@ pub fn fault_since<L: Yard>(base: u32, history: &[Entry], passes: &[Pass<L>]) ->
     }
 }
 
-fn count_of<L: Yard>(passes: &[Pass<L>], id: u32) -> usize
+fn count_of<L: SiteLedger>(passes: &[Pass<L>], id: u32) -> usize
     ensures { result ≡ count_by (λ p. p.id == id) passes.now }
 {
     passes.iter().filter(|pass| pass.id() == id).count()
 }
 
 /// Whether these are the passes 1 to `number`, each once.
-pub fn are_all<L: Yard>(number: u32, passes: &[Pass<L>]) -> bool
+pub fn are_all<L: SiteLedger>(number: u32, passes: &[Pass<L>]) -> bool
     ensures { IsTrue result ↔ AreAll number passes.now }
 {
     if passes.len() != number as usize {

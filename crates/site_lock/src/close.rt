@@ -1,7 +1,7 @@
 //! Closing a forecourt.
 use super::halted::Halted;
 use super::journal::{Journal, NoJournal};
-use super::pass::{Pass, Yard};
+use super::pass::{Pass, SiteLedger};
 use site_core::Site;
 use std::fmt;
 use thiserror::Error;
@@ -23,13 +23,13 @@ pub enum CloseRefusal {
 
 /// A forecourt that was not closed, as it stands, with the passes that were handed in.
 #[derive(Drop)]
-pub struct CloseFault<L: Yard, J: Journal = NoJournal> {
+pub struct CloseFault<L: SiteLedger, J: Journal = NoJournal> {
     pub why: CloseRefusal,
     pub forecourt: Halted<L, J>,
     pub passes: Vec<Pass<L>>,
 }
 
-impl<L: Yard, J: Journal> fmt::Display for CloseFault<L, J> {
+impl<L: SiteLedger, J: Journal> fmt::Display for CloseFault<L, J> {
     fn fmt<W: fmt::Write>(&self, f: &mut fmt::Formatter<W>) -> fmt::Result {
         write!(f, "{}", self.why)
     }

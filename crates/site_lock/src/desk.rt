@@ -14,7 +14,7 @@ use super::enter_fault::EnterFault;
 use super::forecourt::Forecourt;
 use super::gate::Gate;
 use super::journal::{Journal, NoJournal};
-use super::pass::{Pass, Yard};
+use super::pass::{Pass, SiteLedger};
 use line_session::Desk;
 use reg_types::Refusal;
 use site_core::{Answered, CallFault, What, event_of};
@@ -26,20 +26,20 @@ use till_request::{Act, Answer};
 /// the lock is taken: a refused program is answered by its V line and is no event. Once the journal has failed each
 /// event is answered by what ends a session without a line.
 #[derive(Drop)]
-pub struct PassDesk<'a, L: Yard, R: Wait, G: Gate + Drop, J: Journal = NoJournal> {
+pub struct PassDesk<'a, L: SiteLedger, R: Wait, G: Gate + Drop, J: Journal = NoJournal> {
     rt: &'a R,
     alloc: Global,
-    yard: &'a Forecourt<L, J>,
+    forecourt: &'a Forecourt<L, J>,
     pass: Pass<L>,
     gate: G,
 }
 
-impl<'a, L: Yard, R: Wait, G: Gate + Drop, J: Journal> PassDesk<'a, L, R, G, J> {
+impl<'a, L: SiteLedger, R: Wait, G: Gate + Drop, J: Journal> PassDesk<'a, L, R, G, J> {
     /// A desk with this pass and this gate. Takes no memory.
     pub fn new(
         rt: &'a R,
         alloc: Global,
-        yard: &'a Forecourt<L, J>,
+        forecourt: &'a Forecourt<L, J>,
         pass: Pass<L>,
         gate: G,
     ) -> PassDesk<'a, L, R, G, J>
@@ -49,7 +49,7 @@ impl<'a, L: Yard, R: Wait, G: Gate + Drop, J: Journal> PassDesk<'a, L, R, G, J> 
         PassDesk {
             rt,
             alloc,
-            yard,
+            forecourt,
             pass,
             gate,
         }
@@ -63,7 +63,7 @@ impl<'a, L: Yard, R: Wait, G: Gate + Drop, J: Journal> PassDesk<'a, L, R, G, J> 
     }
 }
 
-impl<L: Yard, R: Wait, G: Gate + Drop, J: Journal> Desk for PassDesk<'_, L, R, G, J> {
+impl<L: SiteLedger, R: Wait, G: Gate + Drop, J: Journal> Desk for PassDesk<'_, L, R, G, J> {
     ghost use Rattle.site_lock.specs.Calls.{RoseWithin};
     ghost use Rattle.site_lock.specs.Desks.{DeskAnswers, DeskDecides, AsksGate};
 
@@ -77,21 +77,21 @@ impl<L: Yard, R: Wait, G: Gate + Drop, J: Journal> Desk for PassDesk<'_, L, R, G
         let PassDesk {
             rt,
             alloc,
-            yard,
+            forecourt,
             pass,
             gate,
         } = self;
         match event_of(*alloc, &act) {
-            Ok(what) => call(*rt, yard, pass, gate, moment, act, what),
+            Ok(what) => call(*rt, forecourt, pass, gate, moment, act, what),
             Err(refusal) => refused::<G, J>(refusal),
         }
     }
 }
 
 // Makes the call that an act asks for; the event is that of the act.
-fn call<L: Yard, R: Wait, G: Gate, J: Journal>(
+fn call<L: SiteLedger, R: Wait, G: Gate, J: Journal>(
     rt: &R,
-    yard: &Forecourt<L, J>,
+    forecourt: &Forecourt<L, J>,
     pass: &mut Pass<L>,
     gate: &mut G,
     moment: u64,
@@ -107,13 +107,13 @@ fn call<L: Yard, R: Wait, G: Gate, J: Journal>(
     ensures decided_by { DeskDecides G.makes L.config pass.old.id moment gate.old gate.new result act }
 {
     // Lets the proof know that the configuration is the ledger's.
-    let _ = yard.config();
+    let _ = forecourt.config();
     match what {
-        What::Till { till, request } => said(yard.ask(rt, pass, gate, till, moment, request)),
+        What::Till { till, request } => said(forecourt.ask(rt, pass, gate, till, moment, request)),
         What::Dispenser { point, event } => {
-            said(yard.tell(rt, pass, act, What::Dispenser { point, event }))
+            said(forecourt.enter_event(rt, pass, act, What::Dispenser { point, event }))
         }
-        What::Load { slot, program } => said(yard.tell(
+        What::Load { slot, program } => said(forecourt.enter_event(
             rt,
             pass,
             act,

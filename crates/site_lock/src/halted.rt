@@ -4,9 +4,9 @@ ghost use Rattle.std.specs.Prelude.{◌≡◌, IfNone, IfSome};
 use super::check::are_all;
 use super::close::CloseRefusal;
 use super::forecourt::Forecourt;
-use super::ground::Ground;
 use super::journal::{Journal, NoJournal};
-use super::pass::{Pass, Yard};
+use super::locked_site::LockedSite;
+use super::pass::{Pass, SiteLedger};
 use decision_journal::Entry;
 use site_core::{Config, Site};
 use std::alloc::Global;
@@ -15,14 +15,14 @@ use std::marker::Model;
 /// A forecourt that could not be closed. Until it is opened again nobody can call it, so its history stands still and
 /// can be read.
 #[derive(Drop)]
-pub struct Halted<L: Yard, J: Journal = NoJournal> {
+pub struct Halted<L: SiteLedger, J: Journal = NoJournal> {
     pub(super) alloc: Global,
     pub(super) config: Config,
     pub(super) passes: u32,
-    pub(super) ground: Ground<L, J>,
+    pub(super) locked_site: LockedSite<L, J>,
 }
 
-impl<L: Yard, J: Journal> Model for Halted<L, J> {
+impl<L: SiteLedger, J: Journal> Model for Halted<L, J> {
     ghost use Rattle.std.specs.Prelude.{◌≡◌, ◌<◌};
     ghost use Rattle.site_lock.specs.Closing.{HaltedValue};
 
@@ -35,20 +35,20 @@ impl<L: Yard, J: Journal> Model for Halted<L, J> {
         base = L.base;
         taken = L.taken;
       };
-      ground = h.ground;
+      locked_site = h.locked_site;
     } };
 
     ghost invariant = { λ h. (h.passes ≡ L.parts) × (0 < h.passes) × (h.config ≡ L.config) };
 }
 
-impl<L: Yard, J: Journal> Halted<L, J> {
+impl<L: SiteLedger, J: Journal> Halted<L, J> {
     ghost use Rattle.site_lock.specs.Closing.{ClosesSince, IsHalted, RefusesSince};
 
     /// Why it can't be closed with these passes.
     pub(super) fn refusal(&mut self, passes: &mut Vec<Pass<L>>) -> Option<CloseRefusal>
         ensures same { (self.new ≡ self.old) × (passes.new.items ≡ passes.old.items) }
         ensures none { IfNone result
-            (ClosesSince self.old.opened passes.old.items self.old.ground.site self.old.ground.written) }
+            (ClosesSince self.old.opened passes.old.items self.old.locked_site.site self.old.locked_site.written) }
         ensures some { IfSome result (λ why. RefusesSince self.old passes.old.items why) }
         ensures halted { IsHalted J.may_fail self.new }
     {
@@ -57,33 +57,33 @@ impl<L: Yard, J: Journal> Halted<L, J> {
         if !are_all(self.passes, passes.as_slice()) {
             return Some(CloseRefusal::PassMissing);
         }
-        self.ground.count(passes);
-        self.ground.refusal(&self.config, passes.as_slice())
+        self.locked_site.count(passes);
+        self.locked_site.refusal(&self.config, passes.as_slice())
     }
 
     /// The site and the journal.
     pub(super) fn into_parts(self) -> (Site, J)
-        ensures site { result.0 ≡ self.ground.site }
-        ensures journal { J.written result.1 ≡ self.ground.written }
+        ensures site { result.0 ≡ self.locked_site.site }
+        ensures journal { J.written result.1 ≡ self.locked_site.written }
     {
-        self.ground.into_parts()
+        self.locked_site.into_parts()
     }
 
     /// The history, as it stands.
     pub fn history(&self) -> &[Entry]
-        ensures same { result.now ≡ self.now.ground.site.history }
+        ensures same { result.now ≡ self.now.locked_site.site.history }
         ensures stands { IsHalted J.may_fail self.now }
     {
         // Lets the proof know that the configuration is the ledger's.
         let _ = &self.config;
-        self.ground.history()
+        self.locked_site.history()
     }
 
     /// Whether the journal failed: then the last entry isn't answered.
     pub fn has_stopped(&self) -> bool
-        ensures { result ≡ self.now.ground.stopped }
+        ensures { result ≡ self.now.locked_site.stopped }
     {
-        self.ground.has_stopped()
+        self.locked_site.has_stopped()
     }
 
     /// The forecourt, for further calls and another close.
@@ -94,19 +94,19 @@ impl<L: Yard, J: Journal> Halted<L, J> {
             alloc,
             config,
             passes,
-            ground,
+            locked_site,
         } = self;
-        Forecourt::over(alloc, config, passes, ground)
+        Forecourt::over(alloc, config, passes, locked_site)
     }
 
     /// The journal. It took the text of all that was answered, and where it failed a front of one line more.
     pub fn into_journal(self) -> J
-        ensures written { J.written result ≡ self.ground.written }
+        ensures written { J.written result ≡ self.locked_site.written }
         ensures stands { IsHalted J.may_fail self }
     {
         // Lets the proof know that the configuration is the ledger's.
         let _ = &self.config;
-        let (_, journal) = self.ground.into_parts();
+        let (_, journal) = self.locked_site.into_parts();
         journal
     }
 }

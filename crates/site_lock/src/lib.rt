@@ -2,20 +2,21 @@
 //! held against the site's history.
 #![tactic(auto)]
 
+mod builder;
 mod check;
 mod close;
 mod desk;
 mod enter_fault;
 mod forecourt;
 mod gate;
-mod ground;
 mod halted;
 mod journal;
+mod locked_site;
 mod opening;
 mod pass;
-mod plot;
 mod programs;
 
+pub use builder::ForecourtBuilder;
 pub use check::{are_all, fault, fault_since};
 pub use close::{CloseFault, CloseRefusal, Closed};
 pub use desk::PassDesk;
@@ -25,6 +26,5 @@ pub use gate::{Gate, Straight};
 pub use halted::Halted;
 pub use journal::{Journal, LineJournal, NoJournal};
 pub use line_session::{Clock, Desk, Doors, Ended, SessionFault, session, worker};
-pub use pass::{Pass, Receipt, Yard};
-pub use plot::Plot;
+pub use pass::{Pass, Receipt, SiteLedger};
 pub use programs::verify_all;

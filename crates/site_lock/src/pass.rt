@@ -10,7 +10,7 @@ use till_request::{Act, Reply};
 ///
 /// A forecourt lives and ends in one function that is generic over its ledger, and which is called with `Brand` for it;
 /// the call's proof picks name, parts and configuration. So a pass of another forecourt doesn't compile.
-pub trait Yard: Ledger {
+pub trait SiteLedger: Ledger {
     ghost use Rattle.std.specs.Prelude.{List, Option, ℕ};
     ghost use Rattle.decision_journal.specs.declared.entries.Entry.{Entry};
     ghost use Rattle.site_core.specs.Limits.{ConfigValue};
@@ -25,7 +25,7 @@ pub trait Yard: Ledger {
     ghost taken: { Option (List ℕ) };
 }
 
-impl Yard for Brand {
+impl SiteLedger for Brand {
     ghost config = { record { tills = 1; price_slot = 0; prices = []; points = []; counters = [] } };
 
     ghost base = { [] };
@@ -45,13 +45,13 @@ pub struct Receipt {
 /// A caller's pass. It has a number, from 1, a share of the call ledger, and a receipt for each answered call, the
 /// oldest first.
 #[derive(Drop)]
-pub struct Pass<L: Yard> {
+pub struct Pass<L: SiteLedger> {
     pub(super) id: u32,
     pub(super) share: Share<L>,
     pub(super) receipts: Vec<Receipt>,
 }
 
-impl<L: Yard> Model for Pass<L> {
+impl<L: SiteLedger> Model for Pass<L> {
     ghost use Rattle.std.specs.Prelude.{◌≡◌, length};
     ghost use Rattle.site_lock.specs.Passes.{PassView};
 
@@ -62,7 +62,7 @@ impl<L: Yard> Model for Pass<L> {
     ghost invariant = { λ p. (p.share.parts ≡ 1) × (p.share.amount ≡ length p.receipts.items) };
 }
 
-impl<L: Yard> Pass<L> {
+impl<L: SiteLedger> Pass<L> {
     ghost use Rattle.site_lock.specs.Passes.{new_pass};
 
     /// A pass without receipts.

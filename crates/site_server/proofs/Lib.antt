@@ -1,4 +1,4 @@
-pub mod Gathering
+pub mod Collecting
 pub mod Keeping
 pub mod Numbering
 pub mod Posting

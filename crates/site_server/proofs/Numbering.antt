@@ -9,8 +9,8 @@ use Rattle.site_lock.specs.Passes.{PassView, new_pass}
 use Rattle.site_lock.specs.Merge.{AreAll}
 use Rattle.site_core.specs.Limits.{ConfigValue}
 use Rattle.site_server.specs.Crews.{role_of}
-use Rattle.site_server.specs.Posts.{Worked}
-use Rattle.site_server.specs.Ending.{HandedBack, HandsBack, HaveWorked, all_well}
+use Rattle.site_server.specs.Tasks.{Worked}
+use Rattle.site_server.specs.Ending.{HandedBack, HandsBack, HaveWorked, all_clean}
 
 -- the numbers from `before` + 1 on
 abbrev Numbers : ℕ → List ℕ → Type 0
@@ -86,12 +86,12 @@ module _ (config : ConfigValue) (may_fail : Type 0) (tills dispensers connection
         (subst (λ (p : PassView). Worked own may_fail (role_of tills dispensers p.id) connections r.1 p r.0) is w),
   )
 
-  pub have_worked : (ps : List PassView) (done : List (PassView × ℕ)) (well : ℕ) → ps ≡ map (λ (x : PassView × ℕ). x.0) done
-      → HandsBack config may_fail tills dispensers connections done → well ≡ all_well done → HaveWorked config may_fail tills dispensers connections ps well
-  have_worked ps done well e h counted = record { done = done; passes_are = e; each = h; counted = counted }
+  pub have_worked : (ps : List PassView) (done : List (PassView × ℕ)) (clean : ℕ) → ps ≡ map (λ (x : PassView × ℕ). x.0) done
+      → HandsBack config may_fail tills dispensers connections done → clean ≡ all_clean done → HaveWorked config may_fail tills dispensers connections ps clean
+  have_worked ps done clean e h counted = record { done = done; passes_are = e; each = h; counted = counted }
 
-  pub all_worked : (ps : List PassView) (n well : ℕ) → length ps ≡ n → HaveWorked config may_fail tills dispensers connections ps well → AreAll n ps
-  all_worked ps n well is h = all_numbered ps n is (λ k d lt.
+  pub all_worked : (ps : List PassView) (n clean : ℕ) → length ps ≡ n → HaveWorked config may_fail tills dispensers connections ps clean → AreAll n ps
+  all_worked ps n clean is h = all_numbered ps n is (λ k d lt.
       let P : List PassView → Type 0 = λ l. (slice_index_or l k d).id ≡ k + 1 in
       subst P (sym h.passes_are) (ap (λ (p : PassView). p.id) (first_of h.done k d)
       ∙ (h.each k (d, 0) (omega (arith, lt, ap length h.passes_are, length-map h.done (λ (x : PassView × ℕ). x.0)))).0))

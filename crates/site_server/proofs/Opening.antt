@@ -32,10 +32,10 @@ module _ (site : SiteValue) (tills dispensers connections : ℕ) (none : site.hi
   abbrev of_base : List Entry → Opened
   of_base b = record { config = site.config; passes = passes_of tills dispensers; base = b; taken = None }
 
-  pub leaves_new : (well : ℕ) (s : SiteValue) (written : Option (List ℕ))
-      → LeavesSince (from_site site None tills dispensers) ⊥ tills dispensers connections well s written
-      → Leaves site.config tills dispensers connections well s
-  leaves_new well s written h =
+  pub leaves_new : (clean : ℕ) (s : SiteValue) (written : Option (List ℕ))
+      → LeavesSince (from_site site None tills dispensers) ⊥ tills dispensers connections clean s written
+      → Leaves site.config tills dispensers connections clean s
+  leaves_new clean s written h =
       let closes = closes_new (from_site site None tills dispensers) h.passes s written none h.closes in
       record {
         passes = h.passes;
@@ -48,12 +48,12 @@ module _ (site : SiteValue) (tills dispensers connections : ℕ) (none : site.hi
   spoils_new OutOfMemory h = h
   spoils_new Journal h =
       let stays = h.1 in
-      let ground = stays.forecourt.ground in
-      absurd (torn ground.stopped stays.forecourt.opened.base stays.forecourt.opened.taken ⊥ ground.site.history ground.total ground.written
+      let locked_site = stays.forecourt.locked_site in
+      absurd (torn locked_site.stopped stays.forecourt.opened.base stays.forecourt.opened.taken ⊥ locked_site.site.history locked_site.total locked_site.written
       stays.stopped_is stays.halted.stands).0
   spoils_new (NotClosed why) h = record {
     passes = h.passes;
-    well = h.well;
+    clean = h.clean;
     forecourt = h.forecourt;
     all = h.all;
     worked = h.worked;

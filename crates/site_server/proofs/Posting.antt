@@ -9,7 +9,7 @@ use Rattle.line_session.proofs.Projecting.{serves_seen, desk_seen, desk_lost, de
 use Rattle.site_core.specs.Limits.{ConfigValue}
 use Rattle.site_lock.specs.Passes.{PassView}
 use Rattle.site_lock.specs.Desks.{DeskAnswers}
-use Rattle.site_server.specs.Posts.{pass_answers, tells}
+use Rattle.site_server.specs.Tasks.{pass_answers, tells}
 
 module _ {C P D I O : Type 0} (last : C → ℕ) (pass : P → PassView) (config : ConfigValue) (may_fail : Type 0)
     (step : P → Act → ℕ → Answer → P → Type 0) (tick : C → ℕ → C → Type 0)
@@ -20,11 +20,11 @@ module _ {C P D I O : Type 0} (last : C → ℕ) (pass : P → PassView) (config
   abbrev see : C × P → ℕ × PassView
   see s = (last s.0, pass s.1)
 
-  serves_so : (asked well : ℕ) (d : D) (s : C × P) (d' : D) (s' : C × P)
+  serves_so : (asked clean : ℕ) (d : D) (s : C × P) (d' : D) (s' : C × P)
       → Serves (Visits opens fails (Sits (desk_says step tick role) (desk_drops step tick role) (desk_fails step tick role) remaining reads read_failures
-      written write_failures)) asked well d s d' s'
+      written write_failures)) asked clean d s d' s'
       → Serves (Visits opens fails (Sits (desk_says (pass_answers config may_fail) tells role) (desk_drops (pass_answers config may_fail) tells role)
-      (desk_fails (pass_answers config may_fail) tells role) remaining reads read_failures written write_failures)) asked well d (see s) d' (see s')
+      (desk_fails (pass_answers config may_fail) tells role) remaining reads read_failures written write_failures)) asked clean d (see s) d' (see s')
   serves_so = serves_seen {S = C × P} {T = ℕ × PassView} see (desk_says step tick role) (desk_drops step tick role) (desk_fails step tick role)
       (desk_says (pass_answers config may_fail) tells role) (desk_drops (pass_answers config may_fail) tells role)
       (desk_fails (pass_answers config may_fail) tells role)
@@ -32,9 +32,9 @@ module _ {C P D I O : Type 0} (last : C → ℕ) (pass : P → PassView) (config
       (desk_lost last pass step (pass_answers config may_fail) tick tells steps ticks role)
       (desk_failed last pass step (pass_answers config may_fail) tick tells steps ticks role) remaining reads read_failures written write_failures opens fails
 
-  pub serves_as_pass : (asked well : ℕ) (d : D) (c : C) (p : P) (d' : D) (c' : C) (p' : P) (m : ℕ) (q r : PassView) → last c ≡ m → pass p ≡ q → r ≡ pass p'
+  pub serves_as_pass : (asked clean : ℕ) (d : D) (c : C) (p : P) (d' : D) (c' : C) (p' : P) (m : ℕ) (q r : PassView) → last c ≡ m → pass p ≡ q → r ≡ pass p'
       → Serves (Visits opens fails (Sits (desk_says step tick role) (desk_drops step tick role) (desk_fails step tick role) remaining reads read_failures
-      written write_failures)) asked well d (c, p) d' (c', p')
+      written write_failures)) asked clean d (c, p) d' (c', p')
       → Serves (Visits opens fails (Sits (desk_says (pass_answers config may_fail) tells role) (desk_drops (pass_answers config may_fail) tells role)
-      (desk_fails (pass_answers config may_fail) tells role) remaining reads read_failures written write_failures)) asked well d (m, q) d' (last c', r)
-  serves_as_pass asked well d c p d' c' p' m q r is_last is_first is_now h = rw (← is_last, ← is_first, is_now) (serves_so asked well d (c, p) d' (c', p') h)
+      (desk_fails (pass_answers config may_fail) tells role) remaining reads read_failures written write_failures)) asked clean d (m, q) d' (last c', r)
+  serves_as_pass asked clean d c p d' c' p' m q r is_last is_first is_now h = rw (← is_last, ← is_first, is_now) (serves_so asked clean d (c, p) d' (c', p') h)

@@ -3,10 +3,10 @@ use Rattle.std.proofs.Common.{ℕ, List, [], ◌∷◌, Option, Some, None, Ok, 
 use Rattle.till_request.specs.declared.act.Role.{Role}
 use Rattle.line_session.specs.Session.{desk_says, desk_drops, desk_fails}
 use Rattle.line_session.specs.Serving.{Outcome, Sits, Visits, VisitsAll, Serves}
-use Rattle.line_session.specs.Talk.{DropsNext}
+use Rattle.line_session.specs.Answering.{DropsNext}
 use Rattle.site_core.specs.Limits.{ConfigValue}
 use Rattle.site_lock.specs.Passes.{PassView}
-use Rattle.site_server.specs.Posts.{pass_answers, tells, DropsOne, Talked, TalkedAll, Worked}
+use Rattle.site_server.specs.Tasks.{pass_answers, tells, DropsOne, Talked, TalkedAll, Worked}
 
 module _ (config : ConfigValue) (may_fail : Type 0) (role : Role) {I O D : Type 0} (remaining : I → Option (List ℕ)) (reads read_failures : I → ℕ) (written : O
     → Option (List ℕ)) (write_failures : O → ℕ)
@@ -19,7 +19,7 @@ module _ (config : ConfigValue) (may_fail : Type 0) (role : Role) {I O D : Type 
       → Visits opens fails (Sits (desk_says (pass_answers config may_fail) tells role) (desk_drops (pass_answers config may_fail) tells role)
       (desk_fails (pass_answers config may_fail) tells role) remaining reads read_failures written write_failures) outcome d s e t → Talked config may_fail role outcome s t
   talked None d s e t v = v.1
-  talked (Some (Ok ended)) d s e t v = let talks = v.3.said.talks in (talks.lines, talks.texts, t, talks.each, talks.said, inl refl, λ e. (v.3.journal e).2.4.1)
+  talked (Some (Ok ended)) d s e t v = let answering = v.3.said.answering in (answering.lines, answering.texts, t, answering.each, answering.said, inl refl, λ e. (v.3.journal e).2.4.1)
   talked (Some (Err fault)) d s e t v = let breaks =
       v.3.broken in (
         breaks.lines,
@@ -37,11 +37,11 @@ module _ (config : ConfigValue) (may_fail : Type 0) (role : Role) {I O D : Type 
   all_talked [] d s e t h = h.1
   all_talked (outcome ∷ outcomes) d s e t h = (h.1, talked outcome d s h.0 h.1 h.2, all_talked outcomes h.0 h.1 e t h.3)
 
-  pub worked : (asked well : ℕ) (d : D) (p : PassView) (e : D) (moment : ℕ) (q : PassView)
+  pub worked : (asked clean : ℕ) (d : D) (p : PassView) (e : D) (moment : ℕ) (q : PassView)
       → Serves (Visits opens fails (Sits (desk_says (pass_answers config may_fail) tells role) (desk_drops (pass_answers config may_fail) tells role)
-      (desk_fails (pass_answers config may_fail) tells role) remaining reads read_failures written write_failures)) asked well d (0, p) e (moment, q)
-      → Worked config may_fail role asked well p q
-  worked asked well d p e moment q h = record {
+      (desk_fails (pass_answers config may_fail) tells role) remaining reads read_failures written write_failures)) asked clean d (0, p) e (moment, q)
+      → Worked config may_fail role asked clean p q
+  worked asked clean d p e moment q h = record {
     moment = moment;
     outcomes = h.outcomes;
     each = all_talked h.outcomes d (0, p) e (moment, q) h.each;

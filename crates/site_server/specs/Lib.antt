@@ -1,6 +1,6 @@
 pub mod Crews
 pub mod Ending
-pub mod Handing
+pub mod Collecting
 pub mod Limits
 pub mod Pauses
-pub mod Posts
+pub mod Tasks

@@ -3,8 +3,8 @@ use Rattle.std.specs.Prelude.{ℕ, ◌*◌, zero, suc, nat_le, if◌then◌else�
 use Rattle.std.specs.Option.{option_map}
 use Rattle.line_session.specs.declared.answering.Ended.{Ended}
 use Rattle.line_session.specs.declared.answering.SessionFault.{SessionFault}
-use Rattle.site_server.specs.declared.notices.Breach.{Breach}
-use Rattle.site_server.specs.declared.notices.Breach.TheVariants.{Line, Session}
+use Rattle.site_server.specs.declared.notices.SessionFailure.{SessionFailure}
+use Rattle.site_server.specs.declared.notices.SessionFailure.TheVariants.{Line, Session}
 
 -- milliseconds, by what it waited before: 10 at first, then twice as long each time, and at most 1,000
 abbrev pub longer_pause : ℕ → ℕ
@@ -12,6 +12,6 @@ longer_pause zero = 10
 longer_pause (suc n) = if nat_le 500 (suc n) then 1000 else 2 * suc n
 
 -- the line that cut it, or its fault; nothing where neither did
-abbrev pub told_of : Result Ended SessionFault → Option Breach
+abbrev pub told_of : Result Ended SessionFault → Option SessionFailure
 told_of (Ok ended) = option_map (λ fault. Line fault) ended.cut
 told_of (Err fault) = Some (Session fault)

@@ -3,7 +3,7 @@ ghost use Rattle.std.specs.Prelude.{◌≡◌};
 ghost use Rattle.till_request.specs.Count.{RoseBy};
 ghost use Rattle.site_server.specs.Pauses.{longer_pause, told_of};
 
-use crate::notices::{Breach, Notices};
+use crate::notices::{Notices, SessionFailure};
 use line_session::{Doors, Ended, SessionFault};
 use std::net::{TcpListener, TcpStream};
 use std::time::{Clock, Duration};
@@ -43,12 +43,12 @@ fn longer(pause: u64) -> u64
 }
 
 /// What an operator is told of how a session ended: nothing where its peer ended it behind a line.
-fn breach_of(outcome: &Result<Ended, SessionFault>) -> Option<Breach>
+fn failure_of(outcome: &Result<Ended, SessionFault>) -> Option<SessionFailure>
     ensures { result ≡ told_of outcome.now }
 {
     match outcome {
-        Ok(ended) => ended.cut.map(Breach::Line),
-        Err(fault) => Some(Breach::Session(*fault)),
+        Ok(ended) => ended.cut.map(SessionFailure::Line),
+        Err(fault) => Some(SessionFailure::Session(*fault)),
     }
 }
 
@@ -101,7 +101,7 @@ impl<'a, R: Clock, N: Notices> TcpDoors<'a, R, N> {
         ensures pause { self.new.pause ≡ longer_pause self.old.pause }
     {
         if self.pause == 0 {
-            self.notices.no_door(self.role, self.pass, error);
+            self.notices.accept_failed(self.role, self.pass, error);
         }
         self.pause = longer(self.pause);
         thread::sleep(self.rt, Duration::from_millis(self.pause));
@@ -132,13 +132,13 @@ impl<R: Clock, N: Notices> Doors for TcpDoors<'_, R, N> {
     }
 
     // The bytes of a line that came with the one before were read ahead.
-    fn has_line(&self, input: &Self::In) -> bool {
+    fn has_buffered_line(&self, input: &Self::In) -> bool {
         input.holds_line()
     }
 
     fn ended(&self, outcome: &Result<Ended, SessionFault>) {
-        if let Some(breach) = breach_of(outcome) {
-            self.notices.breach(self.role, self.pass, breach);
+        if let Some(failure) = failure_of(outcome) {
+            self.notices.session_failed(self.role, self.pass, failure);
         }
     }
 }

@@ -8,8 +8,8 @@ mod doors;
 mod limiter;
 mod listeners;
 mod notices;
-mod posts;
 mod serving;
+mod tasks;
 
 pub use clock::MachineClock;
 pub use crew::Crew;
@@ -18,6 +18,6 @@ pub use group_sync::{AtOnce, Claim, CountedOut, Durable, GroupSync, MemoryDisk, 
 pub use limiter::Limiter;
 pub use line_session::SessionFault;
 pub use listeners::{ListenFault, Listeners};
-pub use notices::{Breach, Notices};
+pub use notices::{Notices, SessionFailure};
 pub use serving::{ServeFault, Served, Unclosed, resume_site, serve_on, serve_pass, serve_site};
 pub use site_lock::{CloseRefusal, Journal, LineJournal, NoJournal};

@@ -5,22 +5,22 @@ use till_request::{LineFault, Role};
 
 /// Why a session ended before its peer had said all it wanted.
 #[derive(Clone, Copy, Drop)]
-pub enum Breach {
+pub enum SessionFailure {
     /// A line that ended it: L1 or L4.
     Line(LineFault),
     /// A device that failed, reads that ran out, or want of memory.
     Session(SessionFault),
 }
 
-impl fmt::Display for Breach {
+impl fmt::Display for SessionFailure {
     fn fmt<W: fmt::Write>(&self, f: &mut fmt::Formatter<W>) -> fmt::Result {
         match self {
-            Breach::Line(LineFault::TooLong) => {
+            SessionFailure::Line(LineFault::TooLong) => {
                 f.write_str("ended by a line of more than 8,400 bytes")
             }
             // No other line ends a session than one that is too long or has no end.
-            Breach::Line(_) => f.write_str("ended in mid-line"),
-            Breach::Session(fault) => write!(f, "{fault}"),
+            SessionFailure::Line(_) => f.write_str("ended in mid-line"),
+            SessionFailure::Session(fault) => write!(f, "{fault}"),
         }
     }
 }
@@ -28,8 +28,8 @@ impl fmt::Display for Breach {
 /// Tells an operator what doesn't go as it should. All workers share it, and none of them waits for it to be read.
 pub trait Notices {
     /// A connection can't be opened for the worker of this role with this pass.
-    fn no_door(&self, role: Role, pass: u32, error: &io::Error);
+    fn accept_failed(&self, role: Role, pass: u32, error: &io::Error);
 
     /// A session of the worker of this role with this pass ended so.
-    fn breach(&self, role: Role, pass: u32, breach: Breach);
+    fn session_failed(&self, role: Role, pass: u32, failure: SessionFailure);
 }

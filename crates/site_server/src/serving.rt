@@ -5,19 +5,20 @@ ghost use Rattle.line_session.specs.Session.{desk_says, desk_drops, desk_fails};
 ghost use Rattle.line_session.specs.Serving.{Serves, Sits, Visits};
 ghost use Rattle.site_server.specs.Crews.{passes_of};
 ghost use Rattle.site_server.specs.Ending.{Leaves, LeavesSince, Spoils, SpoilsSince, fault_of_close, from_site};
-ghost use Rattle.site_server.specs.Handing.{AreWaiting, Manned, waits};
-ghost use Rattle.site_server.specs.Posts.{Worked, pass_answers, tells};
+ghost use Rattle.site_server.specs.Collecting.{AreWaiting, RunsWorker, waits};
+ghost use Rattle.site_server.specs.Tasks.{Worked, pass_answers, tells};
 
 use crate::clock::MachineClock;
 use crate::crew::Crew;
 use crate::listeners::Listeners;
 use crate::notices::Notices;
-use crate::posts::{Post, gather, man, posts_of};
+use crate::tasks::{WorkerTask, collect_passes, run_worker, tasks_of};
 use group_sync::{AtOnce, Release};
 use line_session::{Doors, worker};
 use site_core::{Config, Site};
 use site_lock::{
-    CloseRefusal, Forecourt, Journal, NoJournal, Pass, PassDesk, Plot, Straight, Yard,
+    CloseRefusal, Forecourt, ForecourtBuilder, Journal, NoJournal, Pass, PassDesk, SiteLedger,
+    Straight,
 };
 use std::alloc::{AllocError, Global};
 use std::marker::Brand;
@@ -37,7 +38,7 @@ pub struct Served<J: Journal = NoJournal> {
     /// The journal that was kept.
     pub journal: J,
     /// How many connections ended without fault.
-    pub well: u64,
+    pub clean: u64,
 }
 
 /// Why serving left no closed site.
@@ -73,10 +74,10 @@ pub struct Unclosed<J: Journal = NoJournal> {
 
 /// Serves so many connections of a role for one pass, whose programs run while nobody holds the site's lock, and
 /// answers the pass, with the receipts that it gained, and how many connections ended without fault.
-pub fn serve_pass<L: Yard, J: Journal, S: Doors, R: Wait + Clock>(
+pub fn serve_pass<L: SiteLedger, J: Journal, S: Doors, R: Wait + Clock>(
     rt: &R,
     alloc: Global,
-    yard: &Forecourt<L, J>,
+    forecourt: &Forecourt<L, J>,
     pass: Pass<L>,
     role: Role,
     doors: &mut S,
@@ -93,9 +94,9 @@ pub fn serve_pass<L: Yard, J: Journal, S: Doors, R: Wait + Clock>(
     ensures id { result.0.id ≡ pass.id }
 {
     let mut clock = MachineClock::new(rt);
-    let mut desk = PassDesk::new(rt, alloc, yard, pass, Straight { calls: 0 });
-    let well = worker(alloc, role, doors, &mut clock, &mut desk, connections);
-    (desk.into_pass(), well)
+    let mut desk = PassDesk::new(rt, alloc, forecourt, pass, Straight { calls: 0 });
+    let clean = worker(alloc, role, doors, &mut clock, &mut desk, connections);
+    (desk.into_pass(), clean)
 }
 
 /// Why a site wasn't closed, where its journal failed or didn't.
@@ -110,10 +111,10 @@ fn why_not_closed(why: CloseRefusal, has_stopped: bool) -> ServeFault
     }
 }
 
-/// Serves with each post's pass, beside one another, and then closes the site. Takes no memory of its own: what it
+/// Runs a worker for each task, beside one another, and then closes the site. Takes no memory of its own: what it
 /// needs was made before.
-fn serve_posts<
-    L: Yard + Send + Sync,
+fn run_workers<
+    L: SiteLedger + Send + Sync,
     J: Journal + Send,
     N: Notices + Sync,
     A: Release + Sync,
@@ -121,44 +122,44 @@ fn serve_posts<
 >(
     rt: &R,
     alloc: Global,
-    yard: Forecourt<L, J>,
-    posts: Vec<Post<L>>,
+    forecourt: Forecourt<L, J>,
+    tasks: Vec<WorkerTask<L>>,
     room: Vec<Pass<L>>,
     crew: Crew,
     notices: &N,
     release: &A,
     connections: u32,
 ) -> Result<Served<J>, ServeFault>
-    requires config { yard.config ≡ L.config }
-    requires passes { yard.passes ≡ passes_of crew.tills crew.dispensers }
-    requires posts { AreWaiting yard.passes (map (λ p. waits p.waiting) posts.items) }
-    requires room { (room.items ≡ []) × (length posts.items ≤ vec_capacity room) }
+    requires config { forecourt.config ≡ L.config }
+    requires passes { forecourt.passes ≡ passes_of crew.tills crew.dispensers }
+    requires tasks { AreWaiting forecourt.passes (map (λ p. waits p.waiting) tasks.items) }
+    requires room { (room.items ≡ []) × (length tasks.items ≤ vec_capacity room) }
     ensures memory { result ≢ Err ServeFault.OutOfMemory }
     ensures ok { IfOk result
-        (λ served. LeavesSince yard J.may_fail crew.tills crew.dispensers connections served.well served.site
+        (λ served. LeavesSince forecourt J.may_fail crew.tills crew.dispensers connections served.clean served.site
         (J.written served.journal)) }
-    ensures err { IfErr result (λ fault. SpoilsSince yard J.may_fail crew.tills crew.dispensers connections fault) }
+    ensures err { IfErr result (λ fault. SpoilsSince forecourt J.may_fail crew.tills crew.dispensers connections fault) }
 {
-    let mut posts = posts;
+    let mut tasks = tasks;
     let mut passes = room;
-    let workers = posts.len().max(1);
-    let shared = &yard;
-    let all = posts.as_mut_slice();
+    let workers = tasks.len().max(1);
+    let shared = &forecourt;
+    let all = tasks.as_mut_slice();
     thread::for_each_mut(
         rt,
         all,
         workers,
-        &|_: usize, post: &mut Post<L>|
-            ensures { Manned L.config J.may_fail crew.tills crew.dispensers connections
-                post.entry.now.waiting post.exit.now.done }
-        { man(rt, alloc, shared, post, crew, notices, release, connections) },
+        &|_: usize, task: &mut WorkerTask<L>|
+            ensures { RunsWorker L.config J.may_fail crew.tills crew.dispensers connections
+                task.entry.now.waiting task.exit.now.done }
+        { run_worker(rt, alloc, shared, task, crew, notices, release, connections) },
     );
-    let well = gather(all, &mut passes);
-    match yard.finish(rt, passes) {
+    let clean = collect_passes(all, &mut passes);
+    match forecourt.finish(rt, passes) {
         Ok((closed, journal)) => Ok(Served {
             site: closed.site,
             journal,
-            well,
+            clean,
         }),
         Err(fault) => Err(why_not_closed(fault.why, fault.forecourt.has_stopped())),
     }
@@ -166,14 +167,14 @@ fn serve_posts<
 
 /// All of serving that takes memory.
 #[derive(Drop)]
-struct Prepared<L: Yard> {
-    plot: Plot<L>,
-    posts: Vec<Post<L>>,
+struct Prepared<L: SiteLedger> {
+    builder: ForecourtBuilder<L>,
+    tasks: Vec<WorkerTask<L>>,
     /// For the passes that come back.
     room: Vec<Pass<L>>,
 }
 
-fn prepare<L: Yard>(
+fn prepare<L: SiteLedger>(
     alloc: Global,
     config: &Config,
     blank: Blank,
@@ -184,18 +185,22 @@ fn prepare<L: Yard>(
     requires parts { blank.parts ≡ L.parts }
     requires config { config.now ≡ L.config }
     requires passes { blank.parts ≡ passes_of crew.tills crew.dispensers }
-    ensures config { IfOk result (λ p. p.plot.config ≡ config.now) }
-    ensures passes { IfOk result (λ p. p.plot.passes ≡ passes_of crew.tills crew.dispensers) }
-    ensures base { IfOk result (λ p. p.plot.base ≡ L.base) }
-    ensures taken { IfOk result (λ p. p.plot.taken ≡ L.taken) }
-    ensures posts { IfOk result
-        (λ p. AreWaiting (passes_of crew.tills crew.dispensers) (map (λ q. waits q.waiting) p.posts.items)) }
-    ensures room { IfOk result (λ p. (p.room.items ≡ []) × (length p.posts.items ≤ vec_capacity p.room)) }
+    ensures config { IfOk result (λ p. p.builder.config ≡ config.now) }
+    ensures passes { IfOk result (λ p. p.builder.passes ≡ passes_of crew.tills crew.dispensers) }
+    ensures base { IfOk result (λ p. p.builder.base ≡ L.base) }
+    ensures taken { IfOk result (λ p. p.builder.taken ≡ L.taken) }
+    ensures tasks { IfOk result
+        (λ p. AreWaiting (passes_of crew.tills crew.dispensers) (map (λ q. waits q.waiting) p.tasks.items)) }
+    ensures room { IfOk result (λ p. (p.room.items ≡ []) × (length p.tasks.items ≤ vec_capacity p.room)) }
 {
-    let (plot, passes) = Plot::new(alloc, config, crew.passes(), blank)?;
+    let (builder, passes) = ForecourtBuilder::new(alloc, config, crew.passes(), blank)?;
     let room = Vec::with_capacity(alloc, passes.len())?;
-    let posts = posts_of(alloc, passes, listeners, crew)?;
-    Ok(Prepared { plot, posts, room })
+    let tasks = tasks_of(alloc, passes, listeners, crew)?;
+    Ok(Prepared {
+        builder,
+        tasks,
+        room,
+    })
 }
 
 /// Serves a site from where it stands: each worker of the crew serves so many connections, one after another, and then
@@ -204,7 +209,7 @@ fn prepare<L: Yard>(
 ///
 /// Want of memory is told only before anything is served, and hands site and journal back.
 pub fn serve_on<
-    L: Yard + Send + Sync,
+    L: SiteLedger + Send + Sync,
     J: Journal + Send,
     N: Notices + Sync,
     A: Release + Sync,
@@ -229,7 +234,7 @@ pub fn serve_on<
     requires passes { blank.parts ≡ passes_of crew.tills crew.dispensers }
     ensures ok { IfOk result
         (λ served. LeavesSince (from_site site (J.written journal) crew.tills crew.dispensers) J.may_fail crew.tills
-        crew.dispensers connections served.well served.site (J.written served.journal)) }
+        crew.dispensers connections served.clean served.site (J.written served.journal)) }
     ensures err { IfErr result
         (λ unclosed. SpoilsSince (from_site site (J.written journal) crew.tills crew.dispensers) J.may_fail crew.tills
         crew.dispensers connections unclosed.why) }
@@ -242,13 +247,17 @@ pub fn serve_on<
             back: Some((site, journal)),
         });
     };
-    let Prepared { plot, posts, room } = prepared;
-    let yard = plot.open(site, journal);
-    match serve_posts(
+    let Prepared {
+        builder,
+        tasks,
+        room,
+    } = prepared;
+    let forecourt = builder.open(site, journal);
+    match run_workers(
         rt,
         alloc,
-        yard,
-        posts,
+        forecourt,
+        tasks,
         room,
         crew,
         notices,
@@ -272,7 +281,7 @@ pub fn serve_site<N: Notices + Sync, R: Threads + Wait + Clock + Sync>(
 ) -> Result<Served, Unclosed>
     ensures ok { IfOk result
         (λ served. site.history ≡ []
-        → Leaves site.config crew.tills crew.dispensers connections served.well served.site) }
+        → Leaves site.config crew.tills crew.dispensers connections served.clean served.site) }
     ensures err { IfErr result
         (λ unclosed. site.history ≡ []
         → Spoils site.config crew.tills crew.dispensers connections unclosed.why) }
@@ -311,7 +320,7 @@ pub fn resume_site<
 ) -> Result<Served<J>, Unclosed<J>>
     ensures ok { IfOk result
         (λ served. LeavesSince (from_site site (J.written journal) crew.tills crew.dispensers) J.may_fail crew.tills
-        crew.dispensers connections served.well served.site (J.written served.journal)) }
+        crew.dispensers connections served.clean served.site (J.written served.journal)) }
     ensures err { IfErr result
         (λ unclosed. SpoilsSince (from_site site (J.written journal) crew.tills crew.dispensers) J.may_fail crew.tills
         crew.dispensers connections unclosed.why) }

@@ -1,6 +1,6 @@
 //! Sessions at doors that fail, with a desk that numbers what it is asked; what is written at once. What peers hear is
 //! `cases/serve/lines_of_roles` and those beside it.
-use line_session::{Clock, Desk, Doors, Ended, SessionFault, session_ahead, worker};
+use line_session::{Clock, Desk, Doors, Ended, SessionFault, pipelined_session, worker};
 use std::alloc::Global;
 use till_request::devices::{MemoryIn, MemoryOut};
 use till_request::{Act, Answer, DeviceFault, Reply, Role};
@@ -89,7 +89,7 @@ fn served(alloc: Global, doors: &[Door], connections: u32) -> (u64, usize, u32, 
     };
     let mut clock = Ticks { moment: 0 };
     let mut desk = Numbers { entries: 0 };
-    let well = worker(
+    let clean = worker(
         alloc,
         Role::Till,
         &mut row,
@@ -97,7 +97,7 @@ fn served(alloc: Global, doors: &[Door], connections: u32) -> (u64, usize, u32, 
         &mut desk,
         connections,
     );
-    (well, row.asked, desk.entries, clock.moment)
+    (clean, row.asked, desk.entries, clock.moment)
 }
 
 const DOORS: [Door; 5] = [
@@ -134,7 +134,7 @@ impl Doors for Arrived {
         Err(DeviceFault)
     }
 
-    fn has_line(&self, input: &MemoryIn) -> bool {
+    fn has_buffered_line(&self, input: &MemoryIn) -> bool {
         match input.bytes.get(input.at..self.bytes) {
             Some(ahead) => ahead.contains(&b'\n'),
             None => false,
@@ -163,7 +163,7 @@ fn written_ahead(alloc: Global, arrived: usize, good_writes: Option<u64>) -> Opt
     let mut clock = Ticks { moment: 0 };
     let mut desk = Numbers { entries: 0 };
     let doors = Arrived { bytes: arrived };
-    let ended = session_ahead(
+    let ended = pipelined_session(
         alloc,
         Role::Till,
         &doors,

@@ -1,5 +1,5 @@
 use Rattle.site_core.specs.Site.{new_site}
-use Rattle.line_session.specs.Talk.{drops_none}
+use Rattle.line_session.specs.Answering.{drops_none}
 use Rattle.console.specs.Play.{Plays, TakesMemory}
 use Rattle.console.proofs.Fronts.{breaks_none, stops_none, said_from, broken_from, stopped_from}
 use Rattle.console.proofs.playing.play_within.Goals as goal
@@ -10,16 +10,16 @@ returns-in_default-clause-broken g c =
 
 pub returns-clause-said : goal.returns-clause-said
 returns-clause-said g c =
-    said_from c.talk_within.result c.in-Ok.site (new_site c.args.config) c.talk_within.new.clock c.talk_within.new.desk _ _ _ _ c.in-Ok.ensures
-    c.talk_within.ensures.said
+    said_from c.answer_lines_within.result c.in-Ok.site (new_site c.args.config) c.answer_lines_within.new.clock c.answer_lines_within.new.desk _ _ _ _ c.in-Ok.ensures
+    c.answer_lines_within.ensures.said
 
 pub returns-clause-broken : goal.returns-clause-broken
 returns-clause-broken g c =
-    broken_from c.talk_within.result c.in-Ok.site (new_site c.args.config) c.talk_within.new.clock c.talk_within.new.desk _ _ _ _ c.in-Ok.ensures
-    c.talk_within.ensures.broken
+    broken_from c.answer_lines_within.result c.in-Ok.site (new_site c.args.config) c.answer_lines_within.new.clock c.answer_lines_within.new.desk _ _ _ _ c.in-Ok.ensures
+    c.answer_lines_within.ensures.broken
 
 pub returns-clause-journal : goal.returns-clause-journal
-returns-clause-journal g c = λ e. (c.talk_within.ensures.journal e).2
+returns-clause-journal g c = λ e. (c.answer_lines_within.ensures.journal e).2
 
 pub returns-in_default-clause-stopped : goal.returns-in_default-clause-stopped
 returns-in_default-clause-stopped g c =
@@ -27,5 +27,5 @@ returns-in_default-clause-stopped g c =
 
 pub returns-clause-stopped : goal.returns-clause-stopped
 returns-clause-stopped g c =
-    stopped_from c.talk_within.result c.in-Ok.site (new_site c.args.config) c.talk_within.new.clock c.talk_within.new.desk _ _ _ _ c.in-Ok.ensures
-    c.talk_within.ensures.stopped
+    stopped_from c.answer_lines_within.result c.in-Ok.site (new_site c.args.config) c.answer_lines_within.new.clock c.answer_lines_within.new.desk _ _ _ _ c.in-Ok.ensures
+    c.answer_lines_within.ensures.stopped

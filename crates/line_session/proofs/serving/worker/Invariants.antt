@@ -9,6 +9,6 @@ invariant-loop g l = record {
   serves : Serves
       (Visits g.S.Doors.opens g.S.Doors.fails (Sits (desk_says g.D.Desk.step g.C.Clock.tick l.role) (desk_drops g.D.Desk.step g.C.Clock.tick l.role)
       (desk_fails g.D.Desk.step g.C.Clock.tick l.role) g.S.In.LineIn.remaining g.S.In.LineIn.reads g.S.In.LineIn.failures g.S.Out.LineOut.written g.S.Out.LineOut.failures))
-      l.counter l.well l.initial.doors (l.initial.clock, l.initial.desk) l.doors (l.clock, l.desk);
-  few : l.well ≤ l.counter;
+      l.counter l.clean l.initial.doors (l.initial.clock, l.initial.desk) l.doors (l.clock, l.desk);
+  few : l.clean ≤ l.counter;
 }

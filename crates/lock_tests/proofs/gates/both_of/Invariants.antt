@@ -4,5 +4,5 @@ use Rattle.lock_tests.proofs.gates.both_of.Given as goal
 abbrev pub ghosts-both-L-Ledger : goal.ghosts-both-L-Ledger
 ghosts-both-L-Ledger g a = record { name = a.blank.name; parts = a.blank.parts }
 
-abbrev pub ghosts-both-L-Yard : goal.ghosts-both-L-Yard
-ghosts-both-L-Yard g a = record { config = a.config; base = []; taken = None }
+abbrev pub ghosts-both-L-SiteLedger : goal.ghosts-both-L-SiteLedger
+ghosts-both-L-SiteLedger g a = record { config = a.config; base = []; taken = None }

@@ -4,5 +4,5 @@ use Rattle.lock_tests.proofs.locks.two_of.Given as goal
 abbrev pub ghosts-two-L-Ledger : goal.ghosts-two-L-Ledger
 ghosts-two-L-Ledger g a = record { name = a.blank.name; parts = a.blank.parts }
 
-abbrev pub ghosts-two-L-Yard : goal.ghosts-two-L-Yard
-ghosts-two-L-Yard g a = record { config = a.config; base = []; taken = None }
+abbrev pub ghosts-two-L-SiteLedger : goal.ghosts-two-L-SiteLedger
+ghosts-two-L-SiteLedger g a = record { config = a.config; base = []; taken = None }

@@ -4,5 +4,5 @@ use Rattle.refused_memory.proofs.desks.seat_of.Given as goal
 abbrev pub ghosts-seat-L-Ledger : goal.ghosts-seat-L-Ledger
 ghosts-seat-L-Ledger g a = record { name = a.blank.name; parts = a.blank.parts }
 
-abbrev pub ghosts-seat-L-Yard : goal.ghosts-seat-L-Yard
-ghosts-seat-L-Yard g a = record { config = a.config; base = []; taken = None }
+abbrev pub ghosts-seat-L-SiteLedger : goal.ghosts-seat-L-SiteLedger
+ghosts-seat-L-SiteLedger g a = record { config = a.config; base = []; taken = None }

@@ -4,5 +4,5 @@ use Rattle.refused_memory.proofs.yards.start_of.Given as goal
 abbrev pub ghosts-start_in-L-Ledger : goal.ghosts-start_in-L-Ledger
 ghosts-start_in-L-Ledger g a = record { name = a.blank.name; parts = a.blank.parts }
 
-abbrev pub ghosts-start_in-L-Yard : goal.ghosts-start_in-L-Yard
-ghosts-start_in-L-Yard g a = record { config = a.config; base = []; taken = None }
+abbrev pub ghosts-start_in-L-SiteLedger : goal.ghosts-start_in-L-SiteLedger
+ghosts-start_in-L-SiteLedger g a = record { config = a.config; base = []; taken = None }

@@ -6,7 +6,7 @@ use Rattle.site_server.proofs.serving.serve_site.Goals as goal
 pub returns-clause-ok : goal.returns-clause-ok
 returns-clause-ok g c =
     if_ok_more _ _ c.resume_site.result
-    (λ served h none. leaves_new c.args.site c.args.crew.tills c.args.crew.dispensers c.args.connections none served.well served.site None h)
+    (λ served h none. leaves_new c.args.site c.args.crew.tills c.args.crew.dispensers c.args.connections none served.clean served.site None h)
     c.resume_site.ensures.ok
 
 pub returns-clause-err : goal.returns-clause-err

@@ -1,0 +1,193 @@
+-- Promises: what somebody says to lines, one after another. The input is cut at LF; to each line in order one text is
+-- said, from the state that the lines before it left; a line that is too long or cut is answered by its fault and is
+-- the last.
+use Rattle.std.specs.Prelude.{◌≡◌, ◌⊎◌, ℕ, ◌<◌, ◌≤◌, List, [], ◌∷◌, ◌++◌, ◌+◌, length, take, Option, Some, None, Result, Ok, Err, Bool, true, false}
+use Rattle.std.specs.Io.KnownBytes.{Appends, Consumes, IsAtEnd}
+use Rattle.std.specs.List.{flat_map, AllByRecursion}
+use Rattle.till_request.specs.Answer.{answer_line}
+use Rattle.till_request.specs.Count.{RoseBy}
+use Rattle.till_request.specs.Line.{HasNoLf, IsLine}
+use Rattle.till_request.specs.declared.act.Answer.TheVariants.{Line}
+use Rattle.till_request.specs.declared.act.LineFault.{LineFault}
+use Rattle.till_request.specs.declared.act.LineFault.TheVariants as line
+use Rattle.line_session.specs.declared.line_handler.HandlerError.{HandlerError}
+use Rattle.line_session.specs.declared.line_handler.HandlerError.TheVariants as error
+use Rattle.line_session.specs.declared.answering.SessionFault.{SessionFault}
+use Rattle.line_session.specs.declared.answering.SessionFault.TheVariants as session
+
+-- the line was answered, and the answer is out
+pub record Said {S : Type 0} (says : S → List ℕ → List ℕ → S → Type 0) (line : List ℕ) (s s' : S) (out_old out_new : Option (List ℕ)) : Type 0 where
+  pub text : List ℕ
+  pub says_it : says s line text s'
+  pub written : Appends out_old out_new text
+
+-- the line was answered, and a front of the answer is out
+pub record Half {S : Type 0} (says : S → List ℕ → List ℕ → S → Type 0) (line : List ℕ) (s s' : S) (out_old out_new : Option (List ℕ)) : Type 0 where
+  pub text : List ℕ
+  pub says_it : says s line text s'
+  pub kept : ℕ
+  pub written : Appends out_old out_new (take kept text)
+
+-- the line has no answer, since memory was refused or the journal failed, and nothing of one is out
+pub record Dropped {S O : Type 0} (drops : S → List ℕ → S → Type 0) (line : List ℕ) (s s' : S) (o o' : O) : Type 0 where
+  pub drops_it : drops s line s'
+  pub output : o' ≡ o
+
+-- what somebody drops who never drops a line that changed anything
+abbrev pub drops_none : {S : Type 0} → S → List ℕ → S → Type 0
+drops_none s line s' = ⊥
+
+-- the line takes memory, which was refused, and nothing changed
+pub record Silent {S O : Type 0} (takes : List ℕ → Type 0) (line : List ℕ) (s s' : S) (o o' : O) : Type 0 where
+  pub takes_it : takes line
+  pub state : s' ≡ s
+  pub output : o' ≡ o
+
+-- why the line has no whole answer: the device failed, and a front of the answer is out; or memory was refused, and nothing changed or the line has
+-- no answer; or the journal failed, and the line has no answer
+abbrev pub FallsShort : {S O : Type 0} → (S → List ℕ → List ℕ → S → Type 0) → (S → List ℕ → S → Type 0) → (List ℕ → Type 0) → (O → Option (List ℕ))
+    → HandlerError → List ℕ → S → S → O → O → Type 0
+FallsShort says drops takes out error.Write line s s' o o' = Half says line s s' (out o) (out o')
+FallsShort says drops takes out error.OutOfMemory line s s' o o' = Silent takes line s s' o o' ⊎ Dropped drops line s s' o o'
+FallsShort says drops takes out error.Journal line s s' o o' = Dropped drops line s s' o o'
+
+-- the state is what a line leaves at which the journal failed
+abbrev pub FailsAt : {S : Type 0} → (S → List ℕ → S → Type 0) → S → Type 0
+FailsAt {S} fails s' = (s : S) × (line : List ℕ) × fails s line s'
+
+-- at what lines the journal of somebody fails who keeps none
+abbrev pub fails_none : {S : Type 0} → S → List ℕ → S → Type 0
+fails_none s line s' = ⊥
+
+-- a line with its LF
+abbrev pub with_lf : List ℕ → List ℕ
+with_lf line = line ++ 10 ∷ []
+
+-- the lines, each with its LF, and the texts, one behind the other
+abbrev pub all_lines : List (List ℕ) → List ℕ
+all_lines lines = flat_map with_lf lines
+
+abbrev pub all_texts : List (List ℕ) → List ℕ
+all_texts texts = flat_map (λ text. text) texts
+
+-- to these lines it says these texts, one after another
+abbrev pub SaysAll : {S : Type 0} → (S → List ℕ → List ℕ → S → Type 0) → List (List ℕ) → S → List (List ℕ) → S → Type 0
+SaysAll says [] s [] s' = s' ≡ s
+SaysAll {S} says (line ∷ lines) s (text ∷ texts) s' = (m : S) × says s line text m × SaysAll says lines m texts s'
+SaysAll says [] s (text ∷ texts) s' = ⊥
+SaysAll says (line ∷ lines) s [] s' = ⊥
+
+-- lines were taken and answered, and behind them something more was taken and written
+pub record AnswersLines {S : Type 0} (says : S → List ℕ → List ℕ → S → Type 0) (s s' : S) (in_old in_new out_old out_new : Option (List ℕ)) (count : ℕ)
+    (rest more : List ℕ) : Type 0 where
+  pub lines : List (List ℕ)
+  pub texts : List (List ℕ)
+  pub each : AllByRecursion IsLine lines
+  pub said : SaysAll says lines s texts s'
+  pub taken : Consumes in_old in_new (all_lines lines ++ rest)
+  pub written : Appends out_old out_new (all_texts texts ++ more)
+  pub counted : count ≡ length texts
+
+-- what was taken behind the last line: nothing at the end, a line that is too long, or one without LF
+abbrev pub IsCut : Option LineFault → Option (List ℕ) → List ℕ → Type 0
+IsCut None in_new rest = (rest ≡ []) × IsAtEnd in_new
+IsCut (Some line.TooLong) in_new rest = HasNoLf rest × (length rest ≡ 8401)
+IsCut (Some line.CutLine) in_new rest = IsLine rest × (0 < length rest) × IsAtEnd in_new
+IsCut (Some line.BadLine) in_new rest = ⊥
+IsCut (Some line.BadNumber) in_new rest = ⊥
+IsCut (Some line.OutOfMemory) in_new rest = ⊥
+
+-- the answer to a cut, and the number of answers to it
+abbrev pub cut_line : Option LineFault → List ℕ
+cut_line None = []
+cut_line (Some fault) = answer_line (Line fault)
+
+abbrev pub cut_count : Option LineFault → ℕ
+cut_count None = 0
+cut_count (Some fault) = 1
+
+-- all of it was said
+pub record Ends {S : Type 0} (says : S → List ℕ → List ℕ → S → Type 0) (s s' : S) (in_old in_new out_old out_new : Option (List ℕ)) (count : ℕ)
+    (cut : Option LineFault) : Type 0 where
+  pub answered : ℕ
+  pub rest : List ℕ
+  pub answering : AnswersLines says s s' in_old in_new out_old out_new answered rest (cut_line cut)
+  pub is_cut : IsCut cut in_new rest
+  pub counted : count ≡ answered + cut_count cut
+
+-- a beginning of a line, or a line with its LF
+abbrev pub IsUpToLine : List ℕ → Type 0
+IsUpToLine rest = IsLine rest ⊎ ((line : List ℕ) × IsLine line × (rest ≡ with_lf line))
+
+-- what was taken behind the last line that was answered: at most the line that stands next; a cut that is answered, be it by a front of
+-- the answer, is one
+abbrev pub AnswersCut : Option LineFault → Option (List ℕ) → List ℕ → Type 0
+AnswersCut None in_new rest = IsUpToLine rest
+AnswersCut (Some fault) in_new rest = IsCut (Some fault) in_new rest
+
+-- no line more was taken up, or the one that stands next was dropped
+abbrev pub DropsNext : {S : Type 0} → (S → List ℕ → S → Type 0) → S → S → List ℕ → Type 0
+DropsNext drops s s' rest = (s' ≡ s) ⊎ ((line : List ℕ) × IsLine line × (rest ≡ with_lf line) × drops s line s')
+
+-- a beginning of what would be said is out
+pub record Breaks {S : Type 0} (says : S → List ℕ → List ℕ → S → Type 0) (drops : S → List ℕ → S
+    → Type 0) (s s' : S) (in_old in_new out_old out_new : Option (List ℕ)) : Type 0 where
+  pub lines : List (List ℕ)
+  pub texts : List (List ℕ)
+  pub each : AllByRecursion IsLine lines
+  pub answered : S
+  pub said : SaysAll says lines s texts answered
+  pub rest : List ℕ
+  pub dropped : DropsNext drops answered s' rest
+  pub taken : Consumes in_old in_new (all_lines lines ++ rest)
+  pub cut : Option LineFault
+  pub is_cut : AnswersCut cut in_new rest
+  pub front : List ℕ
+  pub after : List ℕ
+  pub written : Appends out_old out_new front
+  pub begins : all_texts texts ++ cut_line cut ≡ front ++ after
+
+-- what wanted memory: the line that stands next, as it was read; or its answer, for a line that takes memory; or the line was dropped
+abbrev pub WantsNext : {S : Type 0} → (S → List ℕ → S → Type 0) → (List ℕ → Type 0) → S → S → List ℕ → Type 0
+WantsNext drops takes s s' rest = ((s' ≡ s) × IsLine rest)
+    ⊎ ((line : List ℕ) × IsLine line × (rest ≡ with_lf line) × (((s' ≡ s) × takes line) ⊎ drops s line s'))
+
+-- It broke off though no write failed: the whole answers to the lines so far are out, and a cut is not answered. If that was for want of
+-- memory, then something wanted memory.
+abbrev pub Stops : {S : Type 0} → (S → List ℕ → List ℕ → S → Type 0) → (S → List ℕ → S → Type 0) → (List ℕ → Type 0) → SessionFault → S → S
+    → Option (List ℕ) → Option (List ℕ) → Option (List ℕ) → Option (List ℕ) → Type 0
+Stops says drops takes fault s s' in_old in_new out_old out_new =
+    (b : Breaks says drops s s' in_old in_new out_old out_new) × (b.cut ≡ None) × (b.after ≡ [])
+    × (fault ≡ session.OutOfMemory → WantsNext drops takes b.answered s' b.rest)
+
+-- the device failed in a read, or in a write
+abbrev pub is_read : {T : Type 0} → Result T SessionFault → Bool
+is_read (Ok x) = false
+is_read (Err session.Read) = true
+is_read (Err session.Write) = false
+is_read (Err session.ReadsSpent) = false
+is_read (Err session.OutOfMemory) = false
+is_read (Err session.Journal) = false
+
+abbrev pub is_write : {T : Type 0} → Result T SessionFault → Bool
+is_write (Ok x) = false
+is_write (Err session.Read) = false
+is_write (Err session.Write) = true
+is_write (Err session.ReadsSpent) = false
+is_write (Err session.OutOfMemory) = false
+is_write (Err session.Journal) = false
+
+abbrev pub is_write_fault : {T : Type 0} → Result T HandlerError → Bool
+is_write_fault (Ok x) = false
+is_write_fault (Err error.Write) = true
+is_write_fault (Err error.OutOfMemory) = false
+is_write_fault (Err error.Journal) = false
+
+-- how many reads a session may make (this profile)
+abbrev pub session_reads : ℕ
+session_reads = 67108864
+
+-- So many reads at most were made, each for one byte; where they ran out, just so many. By the counts of the input's reads and of the bytes asked.
+abbrev pub SpendsReads : {T : Type 0} → ℕ → Result T SessionFault → ℕ → ℕ → ℕ → ℕ → Type 0
+SpendsReads most result reads_old reads_new asked_old asked_new =
+    (k : ℕ) × (k ≤ most) × RoseBy k reads_old reads_new × (result ≡ Err session.ReadsSpent → k ≡ most) × RoseBy k asked_old asked_new

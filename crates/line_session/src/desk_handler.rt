@@ -1,0 +1,80 @@
+//! A desk and a clock that answer lines.
+ghost use Rattle.std.specs.Prelude.{◌≡◌, OnOk, IfErr, IfSome, IfNone, false};
+ghost use Rattle.till_request.specs.Count.{RoseBy, one_if};
+ghost use Rattle.line_session.specs.Answering.{is_write_fault};
+ghost use Rattle.line_session.specs.Session.{IsUnsaid, StaysUnsaid, Writes, ends_unsaid};
+
+use crate::desk::{Clock, Desk};
+use crate::line_handler::{HandlerError, LineHandler};
+use std::alloc::Global;
+use till_request::{Answer, LineFault, LineOut, Role, WriteFault, parse_line, write_answer};
+
+// Why an answer has no line, and ends the session, if it does.
+fn unsaid(answer: &Answer) -> Option<HandlerError>
+    ensures some { IfSome result (λ fault. IsUnsaid fault answer.now) }
+    ensures none { IfNone result (ends_unsaid answer.now ≡ false) }
+{
+    match answer {
+        Answer::Entered { .. } => None,
+        Answer::JournalFull => None,
+        Answer::OutOfMemory => None,
+        Answer::Line(LineFault::TooLong) => None,
+        Answer::Line(LineFault::BadLine) => None,
+        Answer::Line(LineFault::BadNumber) => None,
+        Answer::Line(LineFault::CutLine) => None,
+        Answer::Line(LineFault::OutOfMemory) => Some(HandlerError::OutOfMemory),
+        Answer::Program(..) => None,
+        Answer::JournalFailed => Some(HandlerError::Journal),
+    }
+}
+
+// Writes an answer. Want of memory at a line has no line, whoever tells it, nor has a failed journal.
+fn say<O: LineOut>(alloc: Global, output: &mut O, answer: &Answer) -> Result<(), HandlerError>
+    ensures ok { OnOk result (Writes O.written answer.now output.old output.new) }
+    ensures err { IfErr result (λ fault. StaysUnsaid O.written fault answer.now output.old output.new) }
+    ensures failed { RoseBy (one_if (is_write_fault result)) (O.failures output.old) (O.failures output.new) }
+{
+    if let Some(fault) = unsaid(answer) {
+        return Err(fault);
+    }
+    match write_answer(alloc, output, answer) {
+        Ok(()) => Ok(()),
+        Err(WriteFault::Write) => Err(HandlerError::Write),
+        Err(WriteFault::OutOfMemory) => Err(HandlerError::OutOfMemory),
+    }
+}
+
+/// Answers the lines of a role by a desk, at the moments of a clock.
+#[derive(Clone, Copy, Drop)]
+pub struct DeskHandler {
+    pub role: Role,
+}
+
+impl<C: Clock, D: Desk> LineHandler<C, D> for DeskHandler {
+    ghost use Rattle.line_session.specs.Session.{desk_says, desk_drops, desk_fails, desk_takes};
+
+    ghost says = { λ a. desk_says D.step C.tick a.role };
+
+    ghost drops = { λ a. desk_drops D.step C.tick a.role };
+
+    ghost fails = { λ a. desk_fails D.step C.tick a.role };
+
+    ghost takes = { λ a. desk_takes a.role };
+
+    fn handle_line<O: LineOut>(
+        &self,
+        alloc: Global,
+        line: &[u8],
+        clock: &mut C,
+        desk: &mut D,
+        output: &mut O,
+    ) -> Result<(), HandlerError> {
+        let act = match parse_line(alloc, self.role, line) {
+            Ok(act) => act,
+            Err(fault) => return say(alloc, output, &Answer::Line(fault)),
+        };
+        let moment = clock.now();
+        let answer = desk.answer(act, moment);
+        say(alloc, output, &answer)
+    }
+}

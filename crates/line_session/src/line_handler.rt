@@ -1,0 +1,55 @@
+//! Who answers lines.
+use std::alloc::Global;
+use thiserror::Error;
+use till_request::LineOut;
+
+/// Why a line was not answered, or its answer is not out.
+#[derive(Clone, Copy, Debug, Drop, Error)]
+pub enum HandlerError {
+    /// N2: the device failed.
+    #[error("a write failed")]
+    Write,
+    #[error("out of memory")]
+    OutOfMemory,
+    /// The line has no answer, since the site takes no further event.
+    #[error("the journal failed")]
+    Journal,
+}
+
+/// Answers lines by text, and changes by it what tells moments, a clock, and what answers, a desk.
+pub trait LineHandler<C, D> {
+    ghost use Rattle.std.specs.Prelude.{◌≡◌, List, ℕ, OnOk, IfErr, Err};
+    ghost use Rattle.till_request.specs.Count.{RoseBy, one_if};
+    ghost use Rattle.line_session.specs.Answering.{FallsShort, Said, is_write_fault};
+
+    /// What it may say to a line, and what clock and desk go on to.
+    ghost says: { Self → (C × D) → List ℕ → List ℕ → (C × D) → Type 0 };
+
+    /// What clock and desk go on to at a line that has no answer, for want of memory or since the journal failed.
+    ghost drops: { Self → (C × D) → List ℕ → (C × D) → Type 0 };
+
+    /// What clock and desk go on to at a line at which the journal failed.
+    ghost fails: { Self → (C × D) → List ℕ → (C × D) → Type 0 };
+
+    /// The lines that take memory before anything changes.
+    ghost takes: { Self → List ℕ → Type 0 };
+
+    /// Answers a line, which comes without its LF. After an error nobody is asked any more.
+    fn handle_line<O: LineOut>(
+        &self,
+        alloc: Global,
+        line: &[u8],
+        clock: &mut C,
+        desk: &mut D,
+        output: &mut O,
+    ) -> Result<(), HandlerError>
+        ensures ok { OnOk result
+            (Said (says self.now) line.now (clock.old, desk.old) (clock.new, desk.new) (O.written output.old)
+            (O.written output.new)) }
+        ensures err { IfErr result
+            (λ fault. FallsShort (says self.now) (drops self.now) (takes self.now) O.written fault line.now (clock.old, desk.old)
+            (clock.new, desk.new) output.old output.new) }
+        ensures journal { result ≡ Err HandlerError.Journal
+            → fails self.now (clock.old, desk.old) line.now (clock.new, desk.new) }
+        ensures failed { RoseBy (one_if (is_write_fault result)) (O.failures output.old) (O.failures output.new) };
+}

@@ -1,0 +1,49 @@
+-- Definitions: what a worker's desk and clock do, as a caller sees them (this profile): the pass that answers, and the moment told last.
+use Rattle.std.specs.Prelude.{◌≡◌, ◌⊎◌, ℕ, List, [], ◌∷◌, length, Some, None, Err}
+use Rattle.std.specs.List.{AllByRecursion}
+use Rattle.till_request.specs.Line.{IsLine}
+use Rattle.till_request.specs.declared.act.Act.{Act}
+use Rattle.till_request.specs.declared.act.Answer.{Answer}
+use Rattle.till_request.specs.declared.act.Role.{Role}
+use Rattle.line_session.specs.declared.answering.SessionFault.TheVariants.{Journal}
+use Rattle.line_session.specs.Session.{desk_says, desk_drops}
+use Rattle.line_session.specs.Serving.{Outcome, good}
+use Rattle.line_session.specs.Answering.{SaysAll}
+use Rattle.site_core.specs.Limits.{ConfigValue}
+use Rattle.site_lock.specs.Passes.{PassView}
+use Rattle.site_lock.specs.Desks.{DeskAnswers}
+
+-- what a pass of a forecourt of this configuration may be answered, and what it goes on to
+abbrev pub pass_answers : ConfigValue → Type 0 → PassView → Act → ℕ → Answer → PassView → Type 0
+pass_answers config may_fail before act moment answer now = DeskAnswers config may_fail before now act moment answer
+
+-- the moment told is the one told last
+abbrev pub tells : ℕ → ℕ → ℕ → Type 0
+tells before moment now = now ≡ moment
+
+-- no line more was taken up, or one was, and has no answer: its desk found no memory for it, or the journal failed
+abbrev pub DropsOne : ConfigValue → Type 0 → Role → ℕ × PassView → ℕ × PassView → Type 0
+DropsOne config may_fail role s s' = (s' ≡ s) ⊎ ((line : List ℕ) × IsLine line × desk_drops (pass_answers config may_fail) tells role s line s')
+
+-- One connection: its door did not open, or lines of somebody of this role were answered, one after another, and then at most one had no answer.
+-- It ends by the journal only where that may fail.
+abbrev pub Talked : ConfigValue → Type 0 → Role → Outcome → ℕ × PassView → ℕ × PassView → Type 0
+Talked config may_fail role None s s' = s' ≡ s
+Talked config may_fail role (Some result) s s' =
+    (lines : List (List ℕ)) × (texts : List (List ℕ)) × (m : ℕ × PassView) × AllByRecursion IsLine lines
+    × SaysAll (desk_says (pass_answers config may_fail) tells role) lines s texts m × DropsOne config may_fail role m s'
+    × (result ≡ Err Journal → may_fail)
+
+-- connections that went so, one after another
+abbrev pub TalkedAll : ConfigValue → Type 0 → Role → List Outcome → ℕ × PassView → ℕ × PassView → Type 0
+TalkedAll config may_fail role [] s s' = s' ≡ s
+TalkedAll config may_fail role (outcome ∷ outcomes) s s' =
+    (m : ℕ × PassView) × Talked config may_fail role outcome s m × TalkedAll config may_fail role outcomes m s'
+
+-- The pass served so many connections in this role, and so many of them ended without fault.
+pub record Worked (config : ConfigValue) (may_fail : Type 0) (role : Role) (connections clean : ℕ) (before now : PassView) : Type 0 where
+  pub moment : ℕ
+  pub outcomes : List Outcome
+  pub each : TalkedAll config may_fail role outcomes (0, before) (moment, now)
+  pub all_asked : length outcomes ≡ connections
+  pub counted : clean ≡ good outcomes
