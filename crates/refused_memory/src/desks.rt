@@ -2,11 +2,11 @@
 //! closes with the site.
 ghost use Rattle.std.specs.Prelude.{◌≡◌, [], None};
 
+use crate::forecourts::entries_of;
 use crate::hoarding::{TURNS, leave_few, room_of};
 use crate::narrow::Narrow;
 use crate::plays::{Became, DELIVERY, Outcome, Wanted, what_became, with_want, without};
 use crate::texts::{output, station};
-use crate::yards::entries_of;
 use line_session::{Clock, SessionFault, session};
 use site_core::Config;
 use site_lock::{Forecourt, PassDesk, SiteLedger, Straight};

@@ -3,11 +3,11 @@
 ghost use Rattle.std.specs.Prelude.{◌≡◌, [], None};
 
 use crate::desks::Still;
+use crate::forecourts::entries_of;
 use crate::hoarding::{TURNS, leave_few, room_of};
 use crate::narrow::Narrow;
 use crate::plays::DELIVERY;
 use crate::texts::{device, output, station};
-use crate::yards::entries_of;
 use line_session::{Doors, worker};
 use site_core::Config;
 use site_lock::{Forecourt, PassDesk, SiteLedger, Straight};

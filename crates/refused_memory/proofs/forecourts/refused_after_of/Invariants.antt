@@ -1,5 +1,5 @@
 use Rattle.std.proofs.Common.{[], None}
-use Rattle.refused_memory.proofs.yards.refused_after_of.Given as goal
+use Rattle.refused_memory.proofs.forecourts.refused_after_of.Given as goal
 
 abbrev pub ghosts-refused_after-L-Ledger : goal.ghosts-refused_after-L-Ledger
 ghosts-refused_after-L-Ledger g a = record { name = a.blank.name; parts = a.blank.parts }

@@ -1,5 +1,5 @@
 use Rattle.std.proofs.Common.{[], None}
-use Rattle.refused_memory.proofs.yards.start_of.Given as goal
+use Rattle.refused_memory.proofs.forecourts.start_of.Given as goal
 
 abbrev pub ghosts-start_in-L-Ledger : goal.ghosts-start_in-L-Ledger
 ghosts-start_in-L-Ledger g a = record { name = a.blank.name; parts = a.blank.parts }
