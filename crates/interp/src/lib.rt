@@ -3,6 +3,7 @@
 
 mod arithmetic;
 mod dispatch;
+mod frame;
 mod rebasing;
 mod running;
 mod words;
