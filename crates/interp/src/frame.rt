@@ -1,8 +1,8 @@
 // What a run has of its own.
 
-/// The registers as words, and the stack's bytes.
+/// The stack's bytes, and the registers as words. The stack stands first, so that an address in it costs no addition.
 #[derive(Drop)]
 pub struct Frame {
-    pub words: [u64; 11],
     pub stack: [u8; 512],
+    pub words: [u64; 11],
 }
