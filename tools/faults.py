@@ -383,6 +383,8 @@ def calls_of_files(shim):
     yield Call("dis of an odd digit", "dis", "odd.hex")
     yield Call("verify", "verify", "--counters", "1", "rule.hex")
     yield Call("verify of a wrong argument", "verify", "call.hex")
+    yield Call("help", "--help")
+    yield Call("words of no job", "asm", "--mask")
 
 
 def calls_of_sites(shim, taken):

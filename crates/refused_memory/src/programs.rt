@@ -1,18 +1,15 @@
-//! Calls on programs that find so much memory. Each tells whether it was answered as with ample memory, `false` where
-//! it told want of memory and left what it had as it was, and nothing where it did neither.
+//! Calls on programs that find this much memory. Each returns `true` where it answered as with ample memory, `false`
+//! where it answered out of memory and left what it had as it was, and nothing where it did neither.
 use crate::hoarding::take_but;
-use bpf_asm::{AsmFault, assemble, disassemble};
-use bpf_decode::{DecodeFault, decode, encode};
+use bpf_decode::{decode, encode};
 use flow_check::check_flow;
 use program_slots::{SlotFault, Slots};
-use reg_types::{Layout, Program, Refusal, verify};
+use reg_types::{Layout, Program, verify};
 use std::alloc::Global;
 use std::sync::Arc;
 
-/// A rule that grants what is asked, and its text.
+/// A rule that grants what is asked.
 pub const RULE: [u8; 16] = [0x79, 0x10, 0x18, 0, 0, 0, 0, 0, 0x95, 0, 0, 0, 0, 0, 0, 0];
-
-const TEXT: &str = "r0 = *(u64 *)(r1 + 24)\nexit\n";
 
 /// A rule that grants what is asked in state 4 alone: two paths meet at its end.
 const MEETING: [u8; 40] = [
@@ -31,16 +28,6 @@ pub fn rule(alloc: Global) -> Option<Arc<Program>> {
     accepted(alloc, &RULE)
 }
 
-pub fn decodes(alloc: Global, size: usize) -> Option<bool> {
-    let taken = take_but(alloc, size)?;
-    let answer = decode(alloc, &RULE);
-    drop(taken);
-    match answer {
-        Ok(_) => Some(true),
-        Err(fault) => (fault == DecodeFault::OutOfMemory).then_some(false),
-    }
-}
-
 pub fn encodes(alloc: Global, size: usize) -> Option<bool> {
     let code = decode(alloc, &RULE).ok()?;
     let taken = take_but(alloc, size)?;
@@ -52,43 +39,12 @@ pub fn encodes(alloc: Global, size: usize) -> Option<bool> {
     }
 }
 
-pub fn assembles(alloc: Global, size: usize) -> Option<bool> {
-    let taken = take_but(alloc, size)?;
-    let answer = assemble(alloc, TEXT.as_bytes());
-    drop(taken);
-    match answer {
-        Ok(_) => Some(true),
-        Err(fault) => (fault == AsmFault::OutOfMemory).then_some(false),
-    }
-}
-
-pub fn disassembles(alloc: Global, size: usize) -> Option<bool> {
-    let code = decode(alloc, &RULE).ok()?;
-    let taken = take_but(alloc, size)?;
-    let answer = disassemble(alloc, &code);
-    drop(taken);
-    match answer {
-        Ok(text) => (text.as_str() == TEXT).then_some(true),
-        Err(_) => Some(false),
-    }
-}
-
 pub fn checks_flow(alloc: Global, size: usize) -> Option<bool> {
     let code = decode(alloc, &MEETING).ok()?;
     let taken = take_but(alloc, size)?;
     let answer = check_flow(alloc, code);
     drop(taken);
     answer.ok().map(|_| true)
-}
-
-pub fn verifies(alloc: Global, size: usize) -> Option<bool> {
-    let taken = take_but(alloc, size)?;
-    let answer = verify(alloc, &MEETING, 0, Layout::One);
-    drop(taken);
-    match answer {
-        Ok(_) => Some(true),
-        Err(fault) => (fault == Refusal::OutOfMemory).then_some(false),
-    }
 }
 
 pub fn installs(alloc: Global, size: usize) -> Option<bool> {

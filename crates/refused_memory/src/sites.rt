@@ -2,9 +2,8 @@
 use crate::hoarding::take_but;
 use crate::programs::{RULE, accepted};
 use crate::texts::{entries, station};
-use reg_types::Refusal;
 use site_core::{
-    Answered, AuditFault, Begin, CallFault, Commit, Event, Ready, Site, What, Why, audit, event_of,
+    Answered, AuditFault, Begin, CallFault, Commit, Event, Ready, Site, What, Why, audit,
 };
 use std::alloc::Global;
 use till_request::{Reply, Request};
@@ -42,35 +41,12 @@ fn site_after(alloc: Global, shown: u32, loads: u32) -> Option<Site> {
     Some(site)
 }
 
-pub fn starts(alloc: Global, size: usize) -> Option<bool> {
-    let config = station(alloc)?;
-    let taken = take_but(alloc, size)?;
-    let answer = Site::start(alloc, config);
-    drop(taken);
-    match answer {
-        Ok(site) => site.history().is_empty().then_some(true),
-        Err(_) => Some(false),
-    }
-}
-
 pub fn copies_config(alloc: Global, size: usize) -> Option<bool> {
     let config = station(alloc)?;
     let taken = take_but(alloc, size)?;
     let copy = config.copied(alloc);
     drop(taken);
     Some(copy.is_ok())
-}
-
-pub fn makes_event(alloc: Global, size: usize) -> Option<bool> {
-    let entries = entries(alloc)?;
-    let load = entries.first()?;
-    let taken = take_but(alloc, size)?;
-    let answer = event_of(alloc, &load.act);
-    drop(taken);
-    match answer {
-        Ok(what) => matches!(what, What::Load { .. }).then_some(true),
-        Err(refusal) => (refusal == Refusal::OutOfMemory).then_some(false),
-    }
 }
 
 pub fn audits(alloc: Global, size: usize) -> Option<bool> {
