@@ -1,5 +1,5 @@
-//! Devices that fail at each call in turn. A session tells the fault of the device that failed, what was entered stays,
-//! and what is out is a beginning of the answers; a worker goes on with its next door; a journal's fault is the
+//! Devices that fail at each call in turn. A session returns the fault of the device that failed, what was entered
+//! stays, and what is out is a beginning of the answers; a worker goes on with its next door; a journal's fault is the
 //! device's.
 ghost use Rattle.std.specs.Prelude.{◌≡◌, [], None};
 
@@ -119,13 +119,13 @@ fn station(alloc: Global) -> Result<Config, Fail> {
     Ok(settings.config)
 }
 
-/// The delivery at a device of which so many reads are good.
+/// The delivery, at a device whose first reads succeed, as many as given.
 fn delivery(alloc: Global, good: Option<u64>) -> Result<MemoryIn, Fail> {
     let bytes = Vec::from_slice(alloc, DELIVERY.as_bytes())?;
     Ok(MemoryIn::new(bytes, Vec::new(alloc), good))
 }
 
-/// A device that takes so many bytes at most a write, and of which so many writes are good.
+/// A device that takes at most `most` bytes a write, and whose first writes succeed.
 fn answers(alloc: Global, each: usize, good: Option<u64>) -> MemoryOut {
     let mut output = MemoryOut::new(alloc, Vec::new(alloc), good);
     output.each = each;
@@ -157,7 +157,7 @@ fn seen_after_reads<R: Wait>(rt: &R, alloc: Global, good: u64) -> Result<Seen, F
     seen_by(rt, alloc, input, answers(alloc, 4096, None))
 }
 
-/// What a session saw that so many good reads and writes left with so many lines entered and out.
+/// What a session saw, with how many lines were entered and answered.
 fn failed(ended: SessionFault, entries: usize, lines: usize) -> Seen {
     let failed = match ended {
         SessionFault::Write => (0, 1),
@@ -205,7 +205,7 @@ fn unlike_after_writes<R: Wait>(rt: &R, alloc: Global) -> Result<Option<u64>, Fa
     Ok(Some(100))
 }
 
-/// A door at the delivery, of which so many reads and writes are good, and then one at another line.
+/// A door at the delivery, whose first reads and writes succeed, and then one at another line.
 #[derive(Drop)]
 struct TwoDoors {
     alloc: Global,
@@ -277,7 +277,7 @@ fn worked_of<R: Wait>(
     worked::<Brand, R>(rt, alloc, Blank::new(1), config, doors)
 }
 
-/// The same of doors of which so many reads and writes of the first are good.
+/// The same at doors, where the first reads and writes of the first connection succeed.
 fn worked_after<R: Wait>(
     rt: &R,
     alloc: Global,
@@ -321,7 +321,7 @@ fn a_worker_goes_on_after_each_failed_write(rt: HostRuntime) -> Result<(), Fail>
     Ok(())
 }
 
-/// The journal at a device that gives 50 bytes a read, of which so many are good.
+/// The journal, at a device that gives 50 bytes a read and whose first reads succeed.
 fn cut_journal(alloc: Global, good: u64) -> Result<MemoryIn, Fail> {
     let bytes = Vec::from_slice(alloc, JOURNAL.as_bytes())?;
     let mut input = MemoryIn::new(bytes, Vec::new(alloc), Some(good));
@@ -353,7 +353,7 @@ fn read_after(alloc: Global, good: u64) -> Result<Read, Fail> {
     })
 }
 
-/// What is read in so many reads, the last of which failed.
+/// What is read where the last of these reads fails.
 fn failed_read(reads: u64) -> Read {
     Read {
         entries: Err(JournalFault::Device),
@@ -364,7 +364,7 @@ fn failed_read(reads: u64) -> Read {
     }
 }
 
-/// What is read where none of so many reads failed.
+/// What is read where none of these reads fails.
 fn whole_read(reads: u64) -> Read {
     Read {
         entries: Ok(14),
@@ -399,7 +399,7 @@ struct Written {
     is_all: bool,
 }
 
-/// Writes entries to a device that takes 30 bytes a write, of which so many are good.
+/// Writes entries to a device that takes 30 bytes a write and whose first writes succeed.
 fn written_after(alloc: Global, entries: &[Entry], good: u64) -> Written {
     let mut output = answers(alloc, 30, Some(good));
     let told = write_entries(alloc, entries, &mut output);

@@ -22,7 +22,7 @@ begins_with_mark text = starts_with nat_eq text (239 ∷ 187 ∷ 191 ∷ [])
 abbrev pub ends_with_return : Text → Bool
 ends_with_return text = ends_with nat_eq text (13 ∷ [])
 
--- the line is the first, and the mark stands before it
+-- the line is the first, and the mark comes before it
 abbrev pub is_marked : Text → ℕ → Bool
 is_marked text number = nat_eq number 1 && begins_with_mark text
 

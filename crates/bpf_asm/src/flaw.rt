@@ -61,7 +61,7 @@ impl fmt::Display for Excerpt<'_> {
     }
 }
 
-/// A line of a text by its number, from 1; an empty one where the text hasn't so many.
+/// A line of a text by its number, from 1; an empty one where the text has fewer lines.
 fn line_of(alloc: Global, text: &[u8], number: u64) -> Result<&[u8], AllocError>
     ensures { IfOk result (λ line. line.now ≡ line_at text.now number) }
 {
@@ -119,7 +119,7 @@ fn out_of_range<'a>(alloc: Global, text: &'a [u8], number: u64) -> Result<AsmFla
 }
 
 /// What a fault of a text names of it: the line or the label, and whether the line is none for its end or for a byte
-/// order mark. The error is want of memory, also where that is the fault.
+/// order mark. The error is out of memory, also where that is the fault.
 pub fn explain<'a>(
     alloc: Global,
     text: &'a [u8],

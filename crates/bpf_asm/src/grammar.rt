@@ -446,7 +446,7 @@ fn no_fields() -> Fields
     fields_of(0, 0, exactly(0), exactly(0))
 }
 
-// Returns the instruction for the tokens after a register that stands first.
+// Returns the instruction for the tokens after a register at the start.
 fn changed(width: Width, dst: u8, tokens: &[Token]) -> Option<Statement>
     ensures { result ≡ spec.statement (Token.Register width dst ∷ tokens.now) }
 {

@@ -42,7 +42,7 @@ context_rule =
 abbrev pub journal_rule : Rule
 journal_rule = record (new_rule (codes "journal")) { long = Some (codes "journal"); value_names = 1 }
 
--- a word that stands alone, as --units
+-- a word without a value, as --units
 abbrev pub flag_rule : Text → Rule
 flag_rule name = record (new_rule name) { long = Some name; action = Some SetTrue }
 
@@ -105,7 +105,7 @@ abbrev pub files_in : Text → Text → (Text → Text → Asked) → List Row �
 files_in first second ask rows =
     option_and_then (λ (a : Text). option_map (ask a) (first_of second rows)) (first_of first rows)
 
--- a word that stands alone was used
+-- a word without a value was used
 abbrev pub is_set : Text → List Row → Bool
 is_set id rows = option_map_or (λ (t : Text). bytes_eq t (codes "true")) (first_of id rows) false
 
@@ -156,7 +156,7 @@ abbrev pub asked_of : Option (Text × List Row) → Option Asked
 asked_of None = Some nothing
 asked_of (Some p) = asked_by p.0 p.1
 
--- A job stands for what is asked; a text that is shown stands for no job.
+-- A job is what is asked; a text that is shown asks for no job.
 abbrev pub asked : Job → Option Asked
 asked job.NoWords = Some nothing
 asked (job.Asm file) = Some (asm (string_bytes file))
@@ -177,11 +177,11 @@ asked (job.Show text) = None
 abbrev pub IsShown : ErrorKind → Type 0
 IsShown k = (k ≡ kind.DisplayHelp) ⊎ (k ≡ kind.DisplayVersion)
 
--- Help or the version is among what `clap` may tell of the words.
+-- Help or the version is among what `clap` may answer to the words.
 abbrev pub MayShow : Kinds → Type 0
 MayShow kinds = (k : ErrorKind) × IsAmong k kinds × IsShown k
 
--- something else is, which is no want of memory
+-- something else is, which isn't out of memory
 abbrev pub MayRefuse : Kinds → Type 0
 MayRefuse kinds = (k : ErrorKind) × IsAmong k kinds × ¬ IsShown k × (k ≢ kind.OutOfMemory)
 
@@ -195,11 +195,11 @@ HasNoMask rows =
 abbrev pub IsNothing : Option (Text × List Row) → Type 0
 IsNothing found = (asked_of found ≡ None) ⊎ ((p : Text × List Row) × (found ≡ Some p) × HasNoMask p.1)
 
--- the last line of what is told of words that are wrong
+-- the last line of what is said of words that are wrong
 abbrev pub further : Text
 further = codes "For more information, try '--help'." ++ 10 ∷ []
 
--- what is told of words that `clap` takes and that ask for nothing
+-- what is said of words that `clap` takes and that ask for nothing
 abbrev pub unasked_by : Text → Text
 unasked_by name =
     if bytes_eq name (codes "serve") then codes "error: --sync wants --journal FILE" ++ 10 ∷ 10 ∷ further
@@ -209,7 +209,7 @@ abbrev pub unasked_text : Option (Text × List Row) → Text
 unasked_text None = unasked_by []
 unasked_text (Some p) = unasked_by p.0
 
--- The usage is told only where `clap` may refuse the words, or where what it read of them asks for nothing and the usage says so.
+-- A usage is returned only where `clap` may refuse the words, or where what it read of them asks for nothing and the usage says so.
 abbrev pub RefusesBy : Kinds → Option (Text × List Row) → CommandFault → Type 0
 RefusesBy kinds found (refusal.Usage text) = MayRefuse kinds ⊎ (IsNothing found × (string_bytes text ≡ unasked_text found))
 RefusesBy kinds found refusal.OutOfMemory = Unit {0}

@@ -30,12 +30,12 @@ abbrev pub FindsIn : Option (Text × List Row) → Option Job → Type 0
 FindsIn found (Some job) = (asked_of found ≡ asked job) × IsSome (asked job)
 FindsIn found None = IsNothing found
 
--- a usage is told only where nothing is asked for, and says so
+-- a usage is returned only where nothing is asked for, and says so
 abbrev pub IsUnasked : Option (Text × List Row) → CommandFault → Type 0
 IsUnasked found (refusal.Usage text) = IsNothing found × (string_bytes text ≡ unasked_text found)
 IsUnasked found refusal.OutOfMemory = Unit {0}
 
--- A usage is the text that was made of an error which is neither help nor the version nor want of memory. Want of memory is told
+-- A usage is the text that was made of an error which is neither help nor the version nor out of memory. Out of memory is returned
 -- where the error is that, or no text could be made.
 abbrev pub IsRefusalOf : ErrorKind → Result (String Global) AllocError → CommandFault → Type 0
 IsRefusalOf k made (refusal.Usage text) = (¬ IsShown k) × (k ≢ kind.OutOfMemory) × (made ≡ Ok text)

@@ -20,7 +20,7 @@ enum Argument {
     Context,
     /// --journal FILE.
     Journal,
-    /// A word that stands alone, with what help says of it.
+    /// A word without a value, with what help says of it.
     Flag(&'static str, &'static str),
 }
 
@@ -81,7 +81,7 @@ fn journal_arg<'a>(alloc: Global) -> Arg<'a>
     option_arg(alloc, "journal", "FILE", help)
 }
 
-/// A word that stands alone.
+/// A word without a value.
 fn flag_arg<'a>(alloc: Global, name: &'a str, help: &'a str) -> Arg<'a>
     ensures rule { rule_of result ≡ flag_rule name.entry.now }
     ensures local { result.global ≡ false }

@@ -8,7 +8,7 @@ use thiserror::Error;
 /// What the words ask for. Files are named as the words name them.
 #[derive(Drop)]
 pub enum Job {
-    /// No words: the configuration and the script stand on standard input.
+    /// No words: the configuration and the script come on standard input.
     NoWords,
     /// Text of the assembler to units.
     Asm(String),

@@ -65,7 +65,7 @@ fn asm_of(alloc: Global, matches: &ArgMatches) -> Result<Option<Job>, AllocError
     }
 }
 
-/// Whether a word that stands alone was used.
+/// Whether a word without a value was used.
 fn is_set(matches: &ArgMatches, id: &str) -> bool
     ensures { result ≡ is_set id.now (rows_of (found_of matches.now)) }
 {
@@ -201,7 +201,7 @@ fn job_of(alloc: Global, matches: &ArgMatches) -> Result<Option<Job>, AllocError
     }
 }
 
-/// What is told of words that `clap` takes and that ask for nothing, where they ask to serve.
+/// What is said of words that `clap` takes and that ask for nothing, where they ask to serve.
 const UNKEPT: &str = "error: --sync wants --journal FILE
 
 For more information, try '--help'.

@@ -121,8 +121,8 @@ pub record PlayBreaks (site : SiteValue) (in_old in_new out_old out_new : Option
   pub left : SiteValue
   pub breaks : Breaks Plays drops_none (0, site) (moment, left) in_old in_new out_old out_new
 
--- The play broke off though no write failed: the whole answers to the lines so far are out. If that was for want of memory, then the site could not
--- start, a line could not be read, or the line that stands next takes memory.
+-- The play broke off though no write failed: the whole answers to the lines so far are out. If it was out of memory, then the site could not
+-- start, a line could not be read, or the next line takes memory.
 pub record PlayStops (fault : SessionFault) (site : SiteValue) (in_old in_new out_old out_new : Option (List ℕ)) : Type 0 where
   pub moment : ℕ
   pub left : SiteValue

@@ -97,7 +97,7 @@ pub(crate) fn write_hours<W: fmt::Write>(f: &mut fmt::Formatter<W>, sums: &[Sum]
     f.write_str(COLUMNS_END)
 }
 
-/// Writes the column of an hour, so many high.
+/// Writes the column of an hour, of this height.
 fn write_hour<W: fmt::Write>(f: &mut fmt::Formatter<W>, hour: usize, height: usize) -> fmt::Result {
     let left = hour.saturating_mul(41).saturating_add(8);
     let top = 206usize.saturating_sub(height);
@@ -135,7 +135,7 @@ pub(crate) fn write_versions<W: fmt::Write>(
     f.write_str(COLUMNS_END)
 }
 
-/// The most that so many neighbours decided together.
+/// The most that this many neighbours decided together.
 fn most_decided(totals: &Totals, together: usize) -> u128
     requires { 0 < together }
 {
@@ -160,7 +160,7 @@ fn decided(totals: &Totals, loads: &[Load]) -> (u128, u128) {
     both
 }
 
-/// Where a column of so many begins, and how wide it is.
+/// Where one of this many columns begins, and how wide it is.
 fn column_at(place: usize, columns: usize) -> (usize, usize) {
     // A few columns stand side by side, and do not spread over the whole width.
     let room = 1000usize.min(scaled(columns as u128, 12, 1000));
@@ -171,7 +171,7 @@ fn column_at(place: usize, columns: usize) -> (usize, usize) {
     (left, width)
 }
 
-/// Writes a column of versions, of so many, whose two parts are so high.
+/// Writes one of this many columns of versions, whose two parts have these heights.
 fn write_column<W: fmt::Write>(
     f: &mut fmt::Formatter<W>,
     place: usize,

@@ -24,7 +24,7 @@ pub(crate) fn write_axis<W: fmt::Write>(
     Ok(())
 }
 
-/// Writes the name of a place on an axis, so many quarters behind its start.
+/// Writes the name of a place on an axis, this many quarters of its length from the start.
 fn write_place<W: fmt::Write>(
     f: &mut fmt::Formatter<W>,
     axis: Axis,
@@ -42,7 +42,7 @@ fn write_place<W: fmt::Write>(
     writeln!(f, " text-anchor=\"{anchor}\">{name}</text>")
 }
 
-/// The name of a place on an axis, so many quarters behind its start.
+/// The name of a place on an axis, this many quarters of its length from the start.
 fn name_at(axis: Axis, quarters: usize) -> Text {
     match axis {
         Axis::Entries(count) => Text::Entry(step_of(quarters as u128, 4, count).max(1) as u64),

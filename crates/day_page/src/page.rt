@@ -8,7 +8,7 @@ use site_core::Site;
 use std::alloc::{AllocError, Global};
 use std::fmt;
 
-/// A page of HTML that shows a site's history: its text is written by `Display`. It stands alone: it names no other
+/// A page of HTML that shows a site's history: its text is written by `Display`. It is complete: it names no other
 /// file and has no script.
 #[derive(Drop)]
 pub struct Page {
@@ -33,7 +33,7 @@ fn counters_of(site: &Site) -> [(u64, u64); 32] {
 }
 
 impl Page {
-    /// The page of a site. The error is want of memory.
+    /// Makes the page of a site. The error is out of memory.
     pub fn of(alloc: Global, site: &Site) -> Result<Page, AllocError> {
         let entries = site.history();
         let points = site.config().points().len();
@@ -131,7 +131,7 @@ fn write_sums<W: fmt::Write>(f: &mut fmt::Formatter<W>, totals: &Totals) -> fmt:
     f.write_str("</div></div>\n")
 }
 
-/// Writes what was sold by hour, where the moments of sales tell one.
+/// Writes what was sold by hour, where the sales have moments.
 fn write_hours<W: fmt::Write>(f: &mut fmt::Formatter<W>, sums: &[Sum]) -> fmt::Result {
     if !sums.iter().any(|sum| sum.count > 0) {
         return write_note(f, "No sale tells its moment, so there are no hours.");

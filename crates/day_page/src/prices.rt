@@ -77,7 +77,7 @@ fn write_range<W: fmt::Write>(f: &mut fmt::Formatter<W>, range: Range) -> fmt::R
     f.write_str("\n")
 }
 
-/// Where a change stands.
+/// Where a change is drawn.
 fn x_of(change: &PriceChange, axis: Axis) -> usize {
     let place = match axis {
         Axis::Entries(count) => scaled(change.number as u128, count as u128, PLACES),

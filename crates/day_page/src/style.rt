@@ -1,6 +1,6 @@
 //! How a page begins, and how it looks.
 
-/// What stands before a page's body. The style's colours differ in lightness too, and for those who don't see red and
+/// What comes before a page's body. The style's colours differ in lightness too, and for those who don't see red and
 /// green apart.
 pub(crate) const START: &str = "<!DOCTYPE html>
 <html lang=\"en\"><head><meta charset=\"utf-8\">

@@ -63,7 +63,7 @@ const POINTS: [&str; 6] = [
     "State at the end",
 ];
 
-/// Writes what was sold at each point, and how it stands at the end.
+/// Writes what was sold at each point, and its state at the end.
 pub(crate) fn write_points<W: fmt::Write>(
     f: &mut fmt::Formatter<W>,
     totals: &Totals,

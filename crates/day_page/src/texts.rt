@@ -17,7 +17,7 @@ pub(crate) enum Text {
     Hundredths(u128),
     /// Thousandths with three decimals, as 1.799: prices.
     Thousandths(u64),
-    /// A moment as its date and time of the day in UTC; 0 tells no moment.
+    /// A moment as its date and time of the day in UTC; 0 is no moment.
     Moment(u64),
     /// A moment as its hour and minute in UTC.
     Clock(u64),

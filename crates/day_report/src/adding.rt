@@ -258,7 +258,7 @@ fn verdicts_of(
     })
 }
 
-/// What the sales of a history come to, and how the points stand at its end.
+/// What the sales of a history come to, and the state of the points at its end.
 #[derive(Drop)]
 struct Takings {
     sold: Sum,

@@ -95,7 +95,7 @@ pub struct Incoming<'a, 'b> {
 
 impl Read for Incoming<'_, '_> {
     fn read(&mut self, buf: &mut [u8]) -> io::Result<usize> {
-        // Where answers can't leave, no more is asked; the play's end tells why.
+        // Where answers can't leave, no more is asked; the play's end says why.
         if self.answers.flush().is_err() {
             return Ok(0);
         }

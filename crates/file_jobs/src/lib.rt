@@ -1,4 +1,4 @@
-//! What the program does for words that name files: programs told, scripts played, journals audited and shown.
+//! What the program does for words that name files: it shows programs, plays scripts, audits and shows journals.
 #![tactic(auto)]
 
 mod answers;

@@ -6,7 +6,7 @@ use bpf_model::context::Layout;
 use console::{MOST_BYTES, asm_file, dis_file, dis_flaw, dis_units_file, verify_file, verify_flaw};
 use std::io;
 
-/// What is told of one file.
+/// What is printed of one file.
 #[derive(Clone, Copy)]
 pub enum Tell {
     Asm,

@@ -11,7 +11,7 @@ use site_core::{AuditFault, Site, audit};
 use std::io::{self, BufWriter, Write};
 use till_request::devices::StreamIn;
 
-/// Prints the page of a journal, once it is audited. A fault of the journal is told as its audit tells it, and there is
+/// Prints the page of a journal, once it is audited. A fault of the journal is reported as its audit does, and there is
 /// no page.
 pub fn report_files(rt: &HostRuntime, config: &str, journal: &str) -> io::Result<u8> {
     let (settings, source) = match settings_and(rt, config, journal)? {

@@ -31,7 +31,7 @@ asm_fault_text OutOfMemory = []
 abbrev pub ToldUnits : List ℕ → Told → Type 0
 ToldUnits text told = (code : List ProgramUnit) × Spells text code × IsSaid told (unit_lines (encoded code)) 0
 
--- it spells none, and its fault is printed, which isn't want of memory
+-- it spells none, and its fault is printed, which isn't out of memory
 pub record ToldAsmFault (text : List ℕ) (told : Told) : Type 0 where
   pub fault : AsmFault
   pub refused : IsRefused text fault

@@ -31,11 +31,11 @@ audit_text OutOfMemory = []
 abbrev pub legal_text : List Entry → List ℕ
 legal_text entries = codes "legal " ++ decimal (length entries) ++ codes "\n"
 
--- a site of this configuration can have these entries, and their number is told
+-- a site of this configuration can have these entries, and their number is printed
 abbrev pub ToldLegal : ConfigValue → List Entry → Told → Type 0
 ToldLegal config entries told = IsHistory config entries × IsSaid told (legal_text entries) 0
 
--- no site of it can have them, and the fault that they show is told, which isn't want of memory
+-- no site of it can have them, and the fault that they show is printed, which isn't out of memory
 pub record ToldFault (config : ConfigValue) (entries : List Entry) (told : Told) : Type 0 where
   pub none : ¬ IsHistory config entries
   pub fault : AuditFault
@@ -46,19 +46,19 @@ pub record ToldFault (config : ConfigValue) (entries : List Entry) (told : Told)
 abbrev pub AuditTells : ConfigValue → List Entry → Told → Type 0
 AuditTells config entries told = ToldLegal config entries told ⊎ ToldFault config entries told
 
--- the line of a journal's text that is none; faults of devices and memory are told by the status alone
+-- the line for a text that is no journal; faults of devices and memory are shown by the status alone
 abbrev pub journal_fault_text : JournalFault → List ℕ
 journal_fault_text (journal.BadEntry line) = codes "J1 " ++ decimal line ++ codes "\n"
 journal_fault_text journal.Cut = codes "J2\n"
 journal_fault_text journal.Device = []
 journal_fault_text journal.OutOfMemory = []
 
--- the text is the journal of a history that a site of this configuration can have, and the number of its entries is told
+-- the text is the journal of a history that a site of this configuration can have, and the number of its entries is printed
 pub record LegalTold (config : ConfigValue) (text : List ℕ) (told : Told) : Type 0 where
   pub journal : IsJournal config text
   pub said : IsSaid told (legal_text journal.entries) 0
 
--- the text has a fault, which is told; neither a device's nor want of memory
+-- the text has a fault, which is printed; neither a device's nor out of memory
 pub record TextFault (text : List ℕ) (told : Told) : Type 0 where
   pub new : Option (List ℕ)
   pub fault : JournalFault
@@ -71,12 +71,12 @@ abbrev pub FaultOf : ConfigValue → List ℕ → Told → Type 0
 FaultOf config text told =
     ((entries : List Entry) × (text ≡ journal_text entries) × ToldFault config entries told) ⊎ TextFault text told
 
--- the text is no such journal, and its fault is told
+-- the text is no such journal, and its fault is printed
 pub record RefusedTold (config : ConfigValue) (text : List ℕ) (told : Told) : Type 0 where
   pub none : ¬ IsJournal config text
   pub status_is : told.status ≡ 1
   pub of : FaultOf config text told
 
--- what is told of a text that is audited as the journal of a site of this configuration: it is legal, or a fault of it
+-- what is printed of a text that is audited as the journal of a site of this configuration: it is legal, or a fault of it
 abbrev pub JournalTells : ConfigValue → List ℕ → Told → Type 0
 JournalTells config text told = LegalTold config text told ⊎ RefusedTold config text told

@@ -1,4 +1,4 @@
--- Definitions: what is told of a program file that is refused (this profile).
+-- Definitions: why a program file is refused (this profile).
 use Rattle.std.specs.Prelude.{◌≡◌, ◌≢◌, ℕ, List, Some, Result, Ok, Err}
 use Rattle.bpf_model.specs.declared.context.Layout.{Layout}
 use Rattle.bpf_model.specs.Program.{as_loaded}
@@ -25,7 +25,7 @@ VerifyFlawOf read counters layout flaw = ⊥
 abbrev pub IsVerifyFlaw : List ℕ → ℕ → Layout → ProgramFlaw → Type 0
 IsVerifyFlaw file counters layout flaw = VerifyFlawOf (program_in file) counters layout flaw
 
--- the decoder's fault of the bytes is told, which isn't want of memory, with what it names of them
+-- the decoder's fault of the bytes, which isn't out of memory, with what it names of them
 pub record IsUndecoded (bytes : List ℕ) (told : RefusedProgram) : Type 0 where
   pub fault : DecodeFault
   pub refused : IsRefusedFor bytes fault

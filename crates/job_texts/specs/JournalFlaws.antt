@@ -1,4 +1,4 @@
--- Definitions: what is told of a journal that is refused (this profile).
+-- Definitions: why a journal is refused (this profile).
 use Rattle.std.specs.Prelude.{◌≡◌, ◌<◌, ◌⊎◌, ◌++◌, ◌∷◌, [], ℕ, List, length, Option, Some, None}
 use Rattle.bpf_model.specs.Program.{as_loaded}
 use Rattle.till_request.specs.declared.act.Act.{Act}
@@ -47,7 +47,7 @@ abbrev pub IsLoadFlaw : Act → JournalFlaw → Type 0
 IsLoadFlaw (act.Load number mask layout bytes) (flaw.Program slot refused) = (slot ≡ number) × IsReason (as_loaded bytes mask layout) refused
 IsLoadFlaw act told = ⊥
 
--- what is told of an entry for an audit's fault: for its number that and its place, for a load why its program is refused, else in what it
+-- what is wrong with an entry by an audit's fault: for its number that and its place, for a load why its program is refused, else in what it
 -- differs
 abbrev pub TellsFault : ConfigValue → List Entry → Entry → AuditFault → JournalFlaw → Type 0
 TellsFault config before entry (BadNumber place) (flaw.Number number at) = (number ≡ entry.number) × (at ≡ place)
@@ -62,7 +62,7 @@ IsPlaceOf (BadProgram place refusal) at = at ≡ place
 IsPlaceOf (NotLegal place) at = at ≡ place
 IsPlaceOf OutOfMemory at = ⊥
 
--- the entries show a fault at this place, so they are no history, and this is told of the entry there
+-- the entries show a fault at this place, so they are no history, and this is wrong with the entry there
 pub record ShowsFlawAt (config : ConfigValue) (entries : List Entry) (at : ℕ) (told : JournalFlaw) : Type 0 where
   pub fault : AuditFault
   pub place : IsPlaceOf fault at
@@ -76,7 +76,7 @@ line_in journal.Cut = None
 line_in journal.Device = None
 line_in journal.OutOfMemory = None
 
--- the text that was read has this fault, neither a device's nor want of memory, at this line
+-- the text that was read has this fault, neither a device's nor out of memory, at this line
 pub record IsTextFlaw (old new : Option (List ℕ)) (line : Option ℕ) (told : JournalFlaw) : Type 0 where
   pub fault : JournalFault
   pub reads : ReadsFault old new fault

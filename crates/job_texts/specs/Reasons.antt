@@ -1,4 +1,4 @@
--- Definitions: what is told of a program that is refused (this profile).
+-- Definitions: why a program is refused (this profile).
 use Rattle.std.specs.Prelude.{◌≡◌, ◌≢◌, ◌==◌, ◌+◌, ◌*◌, nat_le, ℕ, ℤ, List, length, Option, Some, None, slice_get, if◌then◌else◌}
 use Rattle.std.specs.Prelude.{option_map, string_bytes}
 use Rattle.bpf_model.specs.declared.instruction.Unit.{Unit as ProgramUnit}
@@ -50,7 +50,7 @@ abbrev pub wanted_in : Option (List ProgramUnit) → Refusal → Option Kind
 wanted_in None refusal = None
 wanted_in (Some code) refusal = kind_wanted code refusal
 
--- the 16 digits of a unit with their LF, if there are so many bytes
+-- the 16 digits of a unit with their LF, if there are enough bytes
 abbrev pub digits_line : List ℕ → ℕ → Option (List ℕ)
 digits_line bytes unit = if nat_le (8 * unit + 8) (length bytes) then Some (line_at bytes unit) else None
 
@@ -64,7 +64,7 @@ abbrev pub line_named : List ℕ → Option ℕ → Option (List ℕ)
 line_named bytes None = None
 line_named bytes (Some unit) = line_by (units bytes) bytes unit
 
--- what is told beside a refusal is what it names of these bytes
+-- what is said beside a refusal is what it names of these bytes
 pub record Names (bytes : List ℕ) (told : RefusedProgram) : Type 0 where
   pub line_is : option_map string_bytes told.line ≡ line_named bytes (unit_in (shown_by told.refusal))
   pub wanted_is : told.wanted ≡ wanted_in (units bytes) told.refusal
@@ -73,12 +73,12 @@ pub record Names (bytes : List ℕ) (told : RefusedProgram) : Type 0 where
 abbrev pub IsSpelling : List ℕ → Type 0
 IsSpelling text = (code : List ProgramUnit) × Spells text code
 
--- the program's own refusal is told, with what it names of the bytes
+-- the program's own refusal, with what it names of the bytes
 pub record IsReason (p : ProgramText) (told : RefusedProgram) : Type 0 where
   pub refused : refusal_of p ≡ Some told.refusal
   pub names : Names p.bytes told
 
--- it is told so; it has a number, and the bytes show it
+-- it is this refusal; it has a number, and the bytes show it
 pub record IsExplained (p : ProgramText) (told : RefusedProgram) : Type 0 where
   pub reason : IsReason p told
   pub shows : IsRefused p told.refusal

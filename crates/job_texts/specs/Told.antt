@@ -29,7 +29,7 @@ pub record Passes (p : ProgramText) : Type 0 where
   pub accepted : refusal_of p ≡ None
   pub good : IsGood p
 
--- so many units are accepted
+-- this many units are accepted
 abbrev pub Accepted : ProgramText → Told → Type 0
 Accepted p told = Passes p × IsSaid told (codes "accepted " ++ decimal (length p.bytes / 8) ++ codes "\n") 0
 

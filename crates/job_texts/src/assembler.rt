@@ -26,7 +26,7 @@ fn told_units(alloc: Global, code: &Code) -> Result<Told, AllocError>
     Ok(Told { text, status: 0 })
 }
 
-/// The line of a fault of the assembler; none of want of memory.
+/// The line for a fault of the assembler; out of memory has none.
 fn asm_fault_line(alloc: Global, fault: AsmFault) -> Result<String, AllocError>
     ensures line { IfOk result (λ line. string_bytes line ≡ asm_fault_text fault) }
     ensures fault { OnOk result (fault ≢ AsmFault.OutOfMemory) }

@@ -18,7 +18,7 @@ pub enum ProgramFlaw {
     Program(RefusedProgram),
 }
 
-/// A file's own fault; want of memory is none.
+/// A file's own fault; out of memory is none.
 fn file_flaw(fault: ProgramFileFault) -> Result<ProgramFlaw, AllocError>
     ensures flaw { IfOk result (λ flaw. flaw ≡ ProgramFlaw.File fault) }
     ensures fault { OnOk result (fault ≢ ProgramFileFault.OutOfMemory) }
@@ -49,7 +49,7 @@ pub fn verify_flaw(
     }
 }
 
-/// Why a program file can't be shown as text, as `dis_file` refuses it; none where it can. The error is want of memory.
+/// Why a program file can't be shown as text, as `dis_file` refuses it; none where it can. The error is out of memory.
 pub fn dis_flaw(alloc: Global, file: &[u8]) -> Result<Option<ProgramFlaw>, AllocError>
     ensures { IfOk result (λ found. MatchOption found (IsShown file.now) (IsDisFlaw file.now)) }
 {

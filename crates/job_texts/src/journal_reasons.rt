@@ -22,7 +22,7 @@ pub enum JournalFlaw {
     /// J1 and J2.
     #[error("{0}")]
     Text(JournalFault),
-    /// F1: the number that stands there, and the entry's place.
+    /// F1: the entry's number, and its place.
     #[error("the entry's number is {0}, its place {1}")]
     Number(u32, u32),
     /// F2: the slot of the load.
@@ -37,7 +37,7 @@ pub enum JournalFlaw {
 }
 
 /// The site of a configuration after these entries and the event of a further one; none where it takes no entry more.
-/// The error is want of memory.
+/// The error is out of memory.
 fn answered_after(
     alloc: Global,
     config: Config,
@@ -111,7 +111,7 @@ fn load_flaw(alloc: Global, act: &Act, refusal: Refusal) -> Result<JournalFlaw, 
     }
 }
 
-/// What is told of the entry behind these, which an audit refuses.
+/// What is wrong with the entry behind these, which an audit refuses.
 fn fault_flaw(
     alloc: Global,
     config: Config,
@@ -130,7 +130,7 @@ fn fault_flaw(
     }
 }
 
-/// The place that an audit's fault names; none of want of memory.
+/// The place that an audit's fault names; out of memory names none.
 fn place_of(fault: AuditFault) -> Option<u32>
     ensures { MatchOption result (fault ≡ AuditFault.OutOfMemory) (IsPlaceOf fault) }
 {
@@ -142,7 +142,7 @@ fn place_of(fault: AuditFault) -> Option<u32>
     }
 }
 
-/// The place of the entry at fault where entries show a fault, and what is told of it. The error is want of memory.
+/// The place of the entry at fault where entries show a fault, and what is wrong. The error is out of memory.
 fn shown_flaw(
     alloc: Global,
     config: Config,
@@ -162,7 +162,7 @@ fn shown_flaw(
 }
 
 /// Why entries are no history of a site of this configuration, with the place of the first that is at fault; none
-/// where they are one. The error is want of memory.
+/// where they are one. The error is out of memory.
 pub fn entries_flaw(
     alloc: Global,
     config: Config,
@@ -177,7 +177,7 @@ pub fn entries_flaw(
     }
 }
 
-/// The line that a text's fault names, and what is told of it; a fault of the device or of memory is the error.
+/// The line that a text's fault names, and what is wrong; a fault of the device or of memory is the error.
 fn text_flaw(fault: JournalFault) -> Result<(Option<u32>, JournalFlaw), JournalFault>
     ensures line { IfOk result (λ p. p.0 ≡ line_in fault) }
     ensures flaw { IfOk result (λ p. p.1 ≡ JournalFlaw.Text fault) }
@@ -196,7 +196,7 @@ fn text_flaw(fault: JournalFault) -> Result<(Option<u32>, JournalFlaw), JournalF
 /// Why the journal that a device gives is none of a site of this configuration, with the line at fault, if one is;
 /// none where it is one.
 ///
-/// `Device` where a read failed or the reads ran out, `OutOfMemory` for want of memory; nothing else refuses.
+/// The error is `Device` where a read failed or the reads ran out, else `OutOfMemory`.
 pub fn journal_flaw<I: LineIn>(
     alloc: Global,
     config: Config,

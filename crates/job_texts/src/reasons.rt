@@ -56,7 +56,7 @@ impl fmt::Display for RefusedProgram {
 }
 
 impl RefusedProgram {
-    /// The number of the V fault; 0 for want of memory, which has none.
+    /// The number of the V fault; 0 for out of memory, which has none.
     pub fn number(&self) -> u32
         ensures { result ≡ number_in (shown_by self.now.refusal) }
     {
@@ -136,7 +136,7 @@ fn units_of(alloc: Global, bytes: &[u8]) -> Result<Option<Code>, AllocError>
 }
 
 /// Why bytes are no program, where they are refused so: the line is that of the instruction at the unit that the
-/// refusal names, or the unit's digits where the bytes are no units. The error is want of memory.
+/// refusal names, or the unit's digits where the bytes are no units. The error is out of memory.
 pub fn explain_refusal(
     alloc: Global,
     bytes: &[u8],
@@ -175,7 +175,7 @@ pub fn explain_refusal(
     }
 }
 
-/// Why a program's bytes are refused; none where they are accepted. The error is want of memory.
+/// Why a program's bytes are refused; none where they are accepted. The error is out of memory.
 pub fn refused_program(
     alloc: Global,
     bytes: &[u8],
@@ -201,7 +201,7 @@ pub fn refused_program(
 }
 
 /// Why a text of the assembler is refused: its fault, and what that names of the text; none where it spells a
-/// program. The error is want of memory.
+/// program. The error is out of memory.
 pub fn asm_flaw(alloc: Global, text: &[u8]) -> Result<Option<(AsmFault, AsmFlaw<'_>)>, AllocError>
     ensures { IfOk result
         (λ found. MatchOption found (IsSpelling text.now)

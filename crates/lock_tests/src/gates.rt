@@ -219,7 +219,7 @@ struct Holding<'a> {
     in_time: bool,
 }
 
-/// Whether the flag is set within so many turns.
+/// Whether the flag is set within this many turns.
 fn wait_for(flag: &AtomicBool) -> bool {
     for _ in 0..100_000_000u32 {
         if flag.load(Ordering::SeqCst) {

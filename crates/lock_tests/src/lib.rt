@@ -1,5 +1,5 @@
 //! Tests of the site under its lock and of serving it: passes, gates, kept and synced journals, workers and sockets.
-//! They stand apart from those crates, so that the gate proves each of these once.
+//! They are a crate of their own, so that the gate proves each of those crates once.
 #![tactic(auto)]
 
 #[cfg(test)]

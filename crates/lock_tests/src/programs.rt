@@ -81,7 +81,7 @@ fn as_shown(alloc: Global, items: &[Item], answers: &[Result<Program, Refusal>])
     count
 }
 
-/// The same of the answers by so many workers.
+/// The same of the answers by this many workers.
 fn answered<R: Threads + Sync>(rt: &R, alloc: Global, items: &[Item], workers: u32) -> u32
     requires { (0 < workers) × (workers ≤ 16) }
 {

@@ -34,7 +34,7 @@ fn as_far_as_answered<R: Net<Listener = TcpListener, Stream = TcpStream>>(
     Ok(heard)
 }
 
-/// What a day leaves whose syncs go well so many times: what the peers heard, the journal or why there is none, how
+/// What a day leaves whose first syncs succeed: what the peers heard, the journal or why there is none, how
 /// often it was synced and up to where.
 #[derive(Drop)]
 struct Day {

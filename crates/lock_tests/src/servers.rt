@@ -190,7 +190,7 @@ fn ten_lines_a_second_are_told(rt: HostRuntime) {
     }
 }
 
-/// Sees that each fault is told in these words.
+/// Checks that each fault has these words.
 fn expect_words<D: Display>(
     rt: &impl Abort,
     alloc: Global,

@@ -28,8 +28,8 @@ enum Call {
     LoadBeforeCommit,
 }
 
-/// Whether a call that finds so much memory was answered as with ample memory; none where neither that nor want of
-/// memory was told.
+/// Whether a call that finds this much memory was answered as with ample memory; none where it was neither that nor out
+/// of memory.
 fn made_in(alloc: Global, call: Call, size: usize) -> Option<bool> {
     match call {
         Call::Encode => encodes(alloc, size),

@@ -37,7 +37,7 @@ struct Seen {
     entries: Option<usize>,
 }
 
-/// A session at a new forecourt, whose line of this number finds so much memory.
+/// A session at a new forecourt, whose line of this number finds this much memory.
 fn seat<L: SiteLedger, R: Wait>(
     rt: &R,
     alloc: Global,
@@ -178,7 +178,7 @@ fn refused_from<R: Wait>(
     Ok((wanted, ended))
 }
 
-// The first line alone takes room: the others stand in it.
+// The first line alone takes room: the others are read into it.
 #[test]
 fn each_growth_refused_at_a_desk(rt: HostRuntime) -> Result<(), Fail> {
     let (wanted, ended) = refused_from(&rt, rt.alloc(), 0, 5)?;

@@ -36,7 +36,7 @@ enum Call {
     Load,
 }
 
-/// Makes a call, in so much memory where that is told, and tells how often the gate was called.
+/// Makes a call, in this much memory where that is given, and returns how often the gate was called.
 fn called<L: SiteLedger, R: Wait>(
     rt: &R,
     alloc: Global,
@@ -75,7 +75,7 @@ fn prepare<L: SiteLedger, R: Wait>(
     Some(())
 }
 
-/// How often the gate was called before a call at a new forecourt, which finds so much memory, was refused; none where
+/// How often the gate was called before a call at a new forecourt, which finds little memory, was refused; none where
 /// it was answered. After a refusal the pass has no receipt of it, and is answered when it calls again.
 fn refused_after<L: SiteLedger, R: Wait>(
     rt: &R,
@@ -123,7 +123,7 @@ fn refused_after_of<R: Wait>(
     refused_after::<Brand, R>(rt, alloc, Blank::new(1), config, call, size)
 }
 
-/// Whether a forecourt that finds so much memory starts.
+/// Whether a forecourt that finds this much memory starts.
 fn start_in<L: SiteLedger, R: Wait>(
     rt: &R,
     alloc: Global,

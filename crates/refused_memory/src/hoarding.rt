@@ -1,8 +1,8 @@
 //! All memory, but for a room.
 use std::alloc::Global;
 
-/// A freed block of up to 1,032 bytes serves its own size alone, so a room is a larger block of which so much is taken
-/// again.
+/// A freed block of up to 1,032 bytes serves its own size alone, so a room is a larger block of which that much is
+/// taken again.
 const HELD: usize = 1080;
 
 /// The most rooms that a call is tried in.
@@ -39,7 +39,7 @@ pub struct Taken {
     held: Option<Vec<u8>>,
 }
 
-/// Takes all memory but one room of so many bytes.
+/// Takes all memory but one room of `size` bytes.
 pub fn take_but(alloc: Global, size: usize) -> Option<Taken> {
     let room: Vec<u8> = Vec::with_capacity(alloc, size.saturating_add(HELD)).ok()?;
     let mut blocks = Vec::with_capacity(alloc, 200_000).ok()?;

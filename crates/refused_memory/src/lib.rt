@@ -1,5 +1,5 @@
 //! Refused memory: tests that take all memory that the process can get, give back a measured room, and see that a call
-//! which finds too little of it changes nothing. They stand apart, since they leave no memory to anybody beside them.
+//! which finds too little of it changes nothing. They are a crate of their own, since they leave no memory to others.
 #![tactic(auto)]
 
 #[cfg(test)]

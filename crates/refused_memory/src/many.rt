@@ -1,5 +1,5 @@
-//! Many programs verified at once that find too little memory: there is no list, or each item has its answer or tells
-//! want of memory.
+//! Many programs verified at once that find too little memory: there is no list, or each item has its answer or is
+//! out of memory.
 ghost use Rattle.std.specs.Prelude.{◌<◌, ◌≤◌};
 
 use crate::hoarding::{TURNS, leave_few, room_of, take_but};
@@ -21,7 +21,7 @@ fn items(alloc: Global) -> Option<Vec<(Vec<u8>, u32, Layout)>> {
     Some(items)
 }
 
-/// Whether an item's answer is what ample memory gives; `false` where it tells want of memory.
+/// Whether an item's answer is what ample memory gives; `false` where it is out of memory.
 fn is_answered(answer: &Result<Program, Refusal>, is_good: bool) -> Option<bool> {
     match answer {
         Ok(_) => is_good.then_some(true),
@@ -32,7 +32,7 @@ fn is_answered(answer: &Result<Program, Refusal>, is_good: bool) -> Option<bool>
     }
 }
 
-/// How many of three items were answered as with ample memory, by so many workers that find so much memory; 4 where
+/// How many of three items were answered as with ample memory, by this many workers that find this much memory; 4 where
 /// there is no list.
 fn answered<R: Threads + Sync>(rt: &R, alloc: Global, workers: u32, size: usize) -> Option<u32>
     requires { (0 < workers) × (workers ≤ 16) }
@@ -53,7 +53,7 @@ fn answered<R: Threads + Sync>(rt: &R, alloc: Global, workers: u32, size: usize)
     (answers.len() == 3).then_some(answered)
 }
 
-/// How often there was no list, and how often an item told want of memory, in rooms that grow until nothing is refused.
+/// How often there was no list, and how often an item was out of memory, in rooms that grow until nothing is refused.
 fn refused<R: Threads + Sync>(rt: &R, alloc: Global, workers: u32) -> Option<(u32, u32)>
     requires { (0 < workers) × (workers ≤ 16) }
 {

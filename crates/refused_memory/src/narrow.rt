@@ -19,7 +19,7 @@ pub struct Narrow {
 }
 
 impl Narrow {
-    /// The line of this number, from 0, finds so much memory.
+    /// The line of this number, from 0, finds `size` bytes of memory.
     pub fn new(alloc: Global, input: MemoryIn, line: usize, size: usize) -> Self {
         Narrow {
             input,

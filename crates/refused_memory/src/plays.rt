@@ -1,5 +1,5 @@
 //! Plays one of whose lines finds too little memory: the line is answered `S31` and changes nothing, or the play ends
-//! for want of memory behind the answers of the lines before it, or nothing is refused.
+//! out of memory after the answers to the lines before it, or nothing is refused.
 use crate::hoarding::{TURNS, leave_few, room_of};
 use crate::narrow::Narrow;
 use crate::texts::output;
@@ -40,7 +40,7 @@ pub struct Outcome {
     pub is_done: bool,
 }
 
-/// A play whose line of this number finds so much memory.
+/// A play whose line of this number finds this much memory.
 fn played(alloc: Global, site: &str, script: &[u8], line: usize, size: usize) -> Option<Outcome> {
     let settings = read_config(alloc, site.as_bytes()).ok()?;
     let input = MemoryIn::new(Vec::from_slice(alloc, script).ok()?, Vec::new(alloc), None);
@@ -67,7 +67,7 @@ pub struct Wanted {
 pub enum Became {
     Answered,
     Refused,
-    /// All ended for want of memory behind the answers of the lines before it.
+    /// It ended out of memory, after the answers to the lines before it.
     Ended,
 }
 
@@ -86,7 +86,7 @@ pub fn what_became(found: &Outcome, wanted: &Wanted, line: usize) -> Option<Beca
     (text == wanted.told.as_slice()).then_some(Became::Refused)
 }
 
-/// The first lines of a text, so many.
+/// The first lines of a text, as many as asked.
 pub fn first_lines(text: &[u8], lines: usize) -> &[u8] {
     let mut left = lines;
     for (at, byte) in text.iter().enumerate() {
@@ -181,8 +181,8 @@ fn refused_in(alloc: Global, site: &str, script: &str, lines: usize) -> Option<(
     Some((wanted, ended))
 }
 
-// The history's list begins with room for four entries and is next refused memory at its fifth, so two lines stand
-// before the load, the opening and the release. The release, whose line stands in the room of the first, is refused,
+// The history's list begins with room for four entries and is next refused memory at its fifth, so two lines come
+// before the load, the opening and the release. The release, whose line is read into the room of the first, is refused,
 // and granted when it is sent again.
 #[test]
 fn a_refused_release_is_sent_again(rt: HostRuntime) -> Result<(), Fail> {

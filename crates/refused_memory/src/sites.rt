@@ -1,4 +1,4 @@
-//! Calls on a site that find so much memory, told as those on programs are.
+//! Calls on a site that find this much memory, with results as of those on programs.
 use crate::hoarding::take_but;
 use crate::programs::{RULE, accepted};
 use crate::texts::{entries, station};
@@ -29,7 +29,7 @@ fn load(alloc: Global, bytes: &[u8]) -> Option<Event> {
     Some(event(What::Load { slot: 0, program }))
 }
 
-/// A site with so many entries of a point shown, and then so many loads.
+/// A site with `shown` entries of a point shown, and then `loads` loads.
 fn site_after(alloc: Global, shown: u32, loads: u32) -> Option<Site> {
     let mut site = Site::start(alloc, station(alloc)?).ok()?;
     for _ in 0..shown {
@@ -61,7 +61,7 @@ pub fn audits(alloc: Global, size: usize) -> Option<bool> {
     }
 }
 
-/// Enters an event in so much memory; where it is refused nothing was entered, and the same sent again is entered.
+/// Enters an event in this much memory; where it is refused nothing was entered, and the same sent again is entered.
 fn enters(alloc: Global, site: Site, first: Event, again: Event, size: usize) -> Option<bool> {
     let mut site = site;
     let before = site.history().len();
@@ -136,7 +136,7 @@ fn entered(results: &[Result<Answered, CallFault>]) -> Option<usize> {
     Some(entered)
 }
 
-/// How many events of the day a site entered that finds so much memory; 0 where there is no site.
+/// How many events of the day a site entered that finds this much memory; 0 where there is no site.
 pub fn runs(alloc: Global, size: usize) -> Option<usize> {
     let config = station(alloc)?;
     let events = day(alloc)?;
@@ -161,7 +161,7 @@ fn ran(site: &Site) -> Option<Ready> {
     }
 }
 
-/// Whether a run was entered as a grant of so much by a version; `false` where memory was refused.
+/// Whether a run was entered as a grant of this amount by a version; `false` where memory was refused.
 fn granted(answer: Result<Commit, CallFault>, grant: u64, version: u32) -> Option<bool> {
     match answer {
         Ok(Commit::Done(answered)) => (answered.reply == Reply::Granted(grant, version)).then_some(
@@ -180,14 +180,14 @@ fn stale(answer: Result<Commit, CallFault>) -> Option<bool> {
     }
 }
 
-/// A site with so many entries, then the rule of 5,000 as version 1 and its point open.
+/// A site with `shown` entries, then the rule of 5,000 as version 1 and its point open.
 fn opened(alloc: Global, shown: u32) -> Option<Site> {
     let mut site = site_after(alloc, shown, 1)?;
     site.apply(event(till(Request::OpenPoint(1)))).ok()?;
     Some(site)
 }
 
-/// A run, committed in so much memory as a fifth entry; sent again where it was refused.
+/// A run, committed in this much memory as a fifth entry; sent again where it was refused.
 pub fn commits(alloc: Global, size: usize) -> Option<bool> {
     let mut site = opened(alloc, 2)?;
     let taken = take_but(alloc, size)?;
@@ -204,8 +204,8 @@ pub fn commits(alloc: Global, size: usize) -> Option<bool> {
     (site.history().len() == 5).then_some(first)
 }
 
-/// A run on version 1 that is committed after version 2 was loaded, and then one on version 2, both in so much memory
-/// and behind so many entries: whether the first was found stale, and whether the second was entered.
+/// A run on version 1 that is committed after version 2 was loaded, and then one on version 2, both in this much memory
+/// and behind `shown` entries: whether the first was found stale, and whether the second was entered.
 pub fn replaces(alloc: Global, shown: u32, size: usize) -> Option<(bool, bool)> {
     let mut site = opened(alloc, shown)?;
     let ready = ran(&site)?;
@@ -220,7 +220,7 @@ pub fn replaces(alloc: Global, shown: u32, size: usize) -> Option<(bool, bool)> 
     (site.history().len() == before.wrapping_add(more)).then_some((is_stale, is_entered))
 }
 
-/// The same, where the load alone finds so much memory: whether it was entered. Where it is refused the run isn't
+/// The same, where the load alone finds this much memory: whether it was entered. Where it is refused the run isn't
 /// stale.
 pub fn loads_before_commit(alloc: Global, size: usize) -> Option<bool> {
     let mut site = opened(alloc, 0)?;

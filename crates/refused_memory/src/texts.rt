@@ -25,7 +25,7 @@ pub fn device(alloc: Global, text: &str) -> Option<MemoryIn> {
     Some(MemoryIn::new(bytes, Vec::new(alloc), None))
 }
 
-/// A device that takes so many bytes without growing.
+/// A device that takes this many bytes without growing.
 pub fn output(alloc: Global, bytes: usize) -> Option<MemoryOut> {
     let mut output = MemoryOut::new(alloc, Vec::new(alloc), None);
     output.bytes = Vec::with_capacity(alloc, bytes).ok()?;

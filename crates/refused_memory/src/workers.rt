@@ -19,7 +19,7 @@ use std::test::Fail;
 use till_request::devices::MemoryOut;
 use till_request::{DeviceFault, Role};
 
-/// A door at a delivery, one of whose lines finds so much memory, and then one at another line, which has ample memory.
+/// A door at a delivery, one of whose lines finds little memory, and then one at another line, which has ample memory.
 #[derive(Drop)]
 struct TwoDoors {
     alloc: Global,
@@ -95,7 +95,7 @@ fn refused_at<R: Wait>(rt: &R, alloc: Global, line: usize) -> Result<(u32, u32),
     count_refusals(rt, alloc, line)
 }
 
-/// How often the connection ended for want of memory, and how often one line alone was refused, in rooms that grow
+/// How often the connection ended out of memory, and how often one line alone was refused, in rooms that grow
 /// until nothing is.
 fn count_refusals<R: Wait>(rt: &R, alloc: Global, line: usize) -> Result<(u32, u32), Fail> {
     let (mut ended, mut wanted) = (0u32, 0u32);

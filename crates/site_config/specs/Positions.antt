@@ -2,7 +2,7 @@
 -- characters: the bytes 128 to 191 go on with one, every other byte begins one.
 use Rattle.std.specs.Prelude.{ℕ, ◌+◌, ◌==◌, ◌&&◌, nat_le, if◌then◌else◌, List, [], ◌∷◌, take}
 
--- the position behind a byte that stands at this one
+-- the position behind a byte at this one
 abbrev pub past : ℕ × ℕ → ℕ → ℕ × ℕ
 past at byte =
     if byte == 10 then (at.0 + 1, 1)

@@ -9,7 +9,7 @@ use crate::flaw::ConfigFlaw;
 use std::alloc::Global;
 use toml::Table;
 
-/// Returns the position behind a byte that stands at this one.
+/// Returns the position behind a byte at this one.
 fn past(at: (usize, usize), byte: u8) -> (usize, usize)
     requires { (at.0 < usize.MAX) × (at.1 < usize.MAX) }
     ensures { result ≡ past at byte }

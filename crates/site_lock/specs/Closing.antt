@@ -32,7 +32,7 @@ pub record ClosesSince (f : Opened) (passes : List PassView) (s : SiteValue) (wr
   pub merge : IsMergeSince (length f.base) s.history passes
   pub kept : Appends f.taken written (journal_text since)
 
--- A forecourt that could not be closed, whose lock nobody can take: how it was opened, and what stands still under it.
+-- A forecourt that could not be closed, whose lock nobody can take: how it was opened, and what lies under it.
 pub record HaltedValue : Type 0 where
   pub opened : Opened
   pub locked_site : LockedSiteValue
@@ -54,7 +54,7 @@ abbrev pub IsWrong : Bool → ℕ → List Entry → List PassView → ℕ → �
 IsWrong false base history passes id number = IsFaultSince base history passes id number
 IsWrong true base history passes id number = IsLast history id number
 
--- what stands in the way, at what lies under the lock; a site of another configuration can't be
+-- why it isn't closed, by what lies under the lock; a site of another configuration can't be there
 abbrev pub HindersSince : ℕ → LockedSiteValue → List PassView → CloseRefusal → Type 0
 HindersSince base v passes PassMissing = ⊥
 HindersSince base v passes (NotInHistory id number) = IsWrong v.stopped base v.site.history passes id number

@@ -32,22 +32,22 @@ HasNumber receipts n = Any (λ r. r.number ≡ n) receipts
 abbrev pub Covers : Entry → PassView → Type 0
 Covers e p = (p.id ≡ e.pass) × HasNumber p.receipts e.number
 
--- the entry stands in the receipts of its pass
+-- the entry is in the receipts of its pass
 abbrev pub Covered : List PassView → Entry → Type 0
 Covered passes e = Any (Covers e) passes
 
--- The history is what the passes were answered: each receipt is its entry, each pass's numbers rise, and each entry stands in the receipts of its pass.
+-- The history is what the passes were answered: each receipt is its entry, each pass's numbers rise, and each entry is in the receipts of its pass.
 abbrev pub IsMerge : List Entry → List PassView → Type 0
 IsMerge history passes = All (λ p. StandsFrom history p.id 0 p.receipts) passes × All (Covered passes) history
 
--- The receipt of this number is the first of this pass that is wrong, or the entry of this pass and number stands in no receipt of that pass.
+-- The receipt of this number is the first of this pass that is wrong, or the entry of this pass and number is in no receipt of that pass.
 abbrev pub IsFault : List Entry → List PassView → ℕ → ℕ → Type 0
 IsFault history passes id n =
     Any (λ p. (p.id ≡ id) × FailsFrom history p.id 0 p.receipts n) passes
     ⊎ Any (λ e. (e.pass ≡ id) × (e.number ≡ n) × ¬ Covered passes e) history
 
 -- The same of a history that went on from its first `base` entries: the receipts' numbers are above them, and each
--- entry behind them stands in the receipts of its pass.
+-- entry behind them is in the receipts of its pass.
 abbrev pub IsMergeSince : ℕ → List Entry → List PassView → Type 0
 IsMergeSince base history passes = All (λ p. StandsFrom history p.id base p.receipts) passes × All (Covered passes) (drop base history)
 

@@ -29,7 +29,7 @@ fn stands(history: &[Entry], id: u32, receipt: &Receipt) -> bool
     }
 }
 
-// The number of the first receipt that is wrong, where so many entries stood before any call.
+// The number of the first receipt that is wrong, where this many entries came before any call.
 fn wrong_receipt(history: &[Entry], base: u32, id: u32, receipts: &[Receipt]) -> Option<u32>
     ensures none { IfNone result (StandsFrom history.now id base receipts.now) }
     ensures some { IfSome result (λ n. FailsFrom history.now id base receipts.now n) }
@@ -123,7 +123,7 @@ fn uncovered<L: SiteLedger>(history: &[Entry], passes: &[Pass<L>]) -> Option<(u3
     None
 }
 
-// The entries behind so many.
+// The entries after the first ones, as many as given.
 pub(super) fn behind(base: u32, history: &[Entry]) -> &[Entry]
     requires { base ≤ length history.now }
     ensures { result.now ≡ drop base history.now }
@@ -146,7 +146,7 @@ fn uncovered_since<L: SiteLedger>(
 
 /// What keeps a history from being what the passes were answered: a pass and a number. Either the first receipt of the
 /// pass that is wrong has this number: it isn't the entry there by pass, event, moment and reply, or isn't above the
-/// receipt before it. Or the entry of this pass and number stands in no receipt of that pass.
+/// receipt before it. Or the entry of this pass and number is in no receipt of that pass.
 pub fn fault<L: SiteLedger>(history: &[Entry], passes: &[Pass<L>]) -> Option<(u32, u32)>
     ensures none { IfNone result (IsMerge history.now passes.now) }
     ensures some { IfSome result (λ x. IsFault history.now passes.now x.0 x.1) }
@@ -155,7 +155,7 @@ pub fn fault<L: SiteLedger>(history: &[Entry], passes: &[Pass<L>]) -> Option<(u3
 }
 
 /// The same of a history that went on from its first `base` entries, which no pass was answered: a receipt's number is
-/// above them, and each entry behind them stands in the receipts of its pass.
+/// above them, and each entry behind them is in the receipts of its pass.
 pub fn fault_since<L: SiteLedger>(
     base: u32,
     history: &[Entry],

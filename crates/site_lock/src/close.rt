@@ -21,7 +21,7 @@ pub enum CloseRefusal {
     OtherConfig,
 }
 
-/// A forecourt that was not closed, as it stands, with the passes that were handed in.
+/// A forecourt that was not closed, as it is, with the passes that were handed in.
 #[derive(Drop)]
 pub struct CloseFault<L: SiteLedger, J: Journal = NoJournal> {
     pub why: CloseRefusal,

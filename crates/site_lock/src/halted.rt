@@ -12,7 +12,7 @@ use site_core::{Config, Site};
 use std::alloc::Global;
 use std::marker::Model;
 
-/// A forecourt that could not be closed. Until it is opened again nobody can call it, so its history stands still and
+/// A forecourt that could not be closed. Until it is opened again nobody can call it, so its history doesn't change and
 /// can be read.
 #[derive(Drop)]
 pub struct Halted<L: SiteLedger, J: Journal = NoJournal> {
@@ -69,7 +69,7 @@ impl<L: SiteLedger, J: Journal> Halted<L, J> {
         self.locked_site.into_parts()
     }
 
-    /// The history, as it stands.
+    /// The history, as it is.
     pub fn history(&self) -> &[Entry]
         ensures same { result.now ≡ self.now.locked_site.site.history }
         ensures stands { IsHalted J.may_fail self.now }

@@ -7,7 +7,7 @@ use std::alloc::{AllocError, Global};
 use std::thread;
 use std::thread::Threads;
 
-/// What stands at an item that wasn't verified yet. No program has a unit of this number.
+/// The value of an item that wasn't verified yet. No program has a unit of this number.
 const UNDECIDED: Refusal = Refusal::Type(TypeFault::FallsOff(u32::MAX));
 
 fn verified(alloc: Global, item: &(Vec<u8>, u32, Layout)) -> Result<Program, Refusal>

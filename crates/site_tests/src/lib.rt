@@ -1,5 +1,5 @@
 //! Tests of the site and of what it stands on, as far as no word of the program reaches it: drafts, runs of events,
-//! facts and jumps of programs, doors that fail, and words of faults. They stand apart from those crates, so that the
+//! facts and jumps of programs, doors that fail, and words of faults. They are a crate of their own, so that the
 //! gate proves each of these once and not once more with its tests.
 #![tactic(auto)]
 

@@ -1,12 +1,12 @@
-//! How a reading that fails is told. Lines and answers themselves are tables of cases, `cases/play/line_forms.table` and
-//! those beside it.
+//! What a reading that fails returns. Lines and answers themselves are tables of cases, `cases/play/line_forms.table`
+//! and those beside it.
 use std::alloc::Global;
 use till_request::devices::MemoryIn;
 use till_request::{Act, LineReadFault, Request, Role, read_line};
 
 const LINE: &[u8] = b"till 1 open 1\n";
 
-/// Whether a line is read whole of a device of which so many reads are good, in so many reads; and how many failed.
+/// Whether a line is read whole of a device whose first reads succeed, within this many reads; and how many failed.
 fn read_in(
     alloc: Global,
     good: Option<u64>,

@@ -1,4 +1,4 @@
-//! What the machine's crates tell and no word of the program prints: how many facts a program keeps, and where its
+//! What the machine's crates return and no word of the program prints: how many facts a program keeps, and where its
 //! jumps go.
 use bpf_decode::decode;
 use flow_check::{Flow, check_flow};
@@ -19,7 +19,7 @@ const RULE: &[u64] = &[
     EXIT,
 ];
 
-/// Its one jump stands behind an exit.
+/// Its one jump comes after an exit.
 const UNREACHED: &[u64] = &[
     ONE,
     EXIT,
@@ -52,7 +52,7 @@ fn facts_of(alloc: Global, units: &[u64]) -> Option<u32> {
     Some(program.facts())
 }
 
-// A fact stands for the first unit and for each target of a jump that is reached, once where two jumps share it.
+// There is a fact for the first unit and for each target of a jump that is reached, once where two jumps share it.
 #[test]
 fn targets_keep_a_fact_each(rt: HostRuntime) {
     for (units, facts) in [

@@ -115,7 +115,7 @@ fn a_worker_serves_each_door(rt: HostRuntime) {
     }
 }
 
-/// A door whose first bytes, so many, have come already.
+/// A door whose first bytes have come already, as many as given.
 #[derive(Drop)]
 struct Arrived {
     bytes: usize,
@@ -155,7 +155,7 @@ struct Left {
     entries: u32,
 }
 
-/// A session over three lines, of which so many bytes have come when the first one is read.
+/// A session over three lines, of which this many bytes have come when the first one is read.
 fn written_ahead(alloc: Global, arrived: usize, good_writes: Option<u64>) -> Option<Left> {
     let bytes = Vec::from_slice(alloc, THREE).ok()?;
     let mut input = MemoryIn::new(bytes, Vec::new(alloc), None);
@@ -192,7 +192,7 @@ fn writes_of(alloc: Global, arrived: usize) -> Option<u64> {
     )
 }
 
-// Of 42 bytes so many have come: no whole further line, one, and two.
+// Of 42 bytes some have come: no whole further line, one, and two.
 #[test]
 fn answers_that_are_ready_are_written_at_once(rt: HostRuntime) {
     for (arrived, wanted) in [(14, 3), (27, 3), (28, 2), (41, 2), (42, 1)] {

@@ -1,4 +1,4 @@
-//! What is told of faults in words, which no answer has.
+//! The words of faults, which no answer has.
 
 use fuelling_point::{PointFault, State};
 use program_slots::SlotFault;
@@ -9,7 +9,7 @@ use std::fmt::Display;
 use std::process::Abort;
 use std::test::Fail;
 
-/// Sees that each fault is told in these words.
+/// Checks that each fault has these words.
 fn expect_words<D: Display>(
     rt: &impl Abort,
     alloc: Global,
