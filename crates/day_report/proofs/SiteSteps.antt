@@ -290,7 +290,8 @@ busy-asks true None q is here = (is, here)
 busy-asks true (Some st) q is here = (22, Some (state_number st), refl)
 busy-asks false busy q is here = (25, None, refl)
 
-price-asks : (busy : Option State) (product price slot : ℕ) → AsksAt kind.Price 0 (price_at busy product price slot)
+price-asks : (busy : Option State) (product price slot : ℕ)
+    → AsksAt kind.Price 0 (price_at busy (record { kind = kind.Price; point = 0; product = product; asked = price; slot = slot }))
 price-asks busy product price slot =
     busy-asks (is_within 1 product 8 && is_within 1 price 9999999) busy (record {
       kind = kind.Price;

@@ -18,7 +18,7 @@ use Rattle.site_core.specs.Limits.{ConfigValue}
 use Rattle.site_core.specs.State.{SiteState, at_number, first_busy}
 use Rattle.site_core.specs.Context.{context}
 use Rattle.site_core.specs.Decide.{is_till, is_within, need, bad_amount, wrong_state, no_such_point, slots_of, release_question, preset_question}
-use Rattle.site_core.specs.Decide.{price_question, price_at, WellAsked}
+use Rattle.site_core.specs.Decide.{price_question, price_of_product, price_at, WellAsked}
 use Rattle.site_core.specs.Draft.{routed, routed_request, at_point}
 use Rattle.site_core.specs.Asked.{asked_question, question_of, FitsContext}
 use Rattle.site_core.proofs.Points.{release-some, preset-none, preset-some}
@@ -145,13 +145,7 @@ preset-again : (config : ConfigValue) (s : SiteState) (n amount : ℕ) (p : Poin
 preset-again config s n amount p at within ready = preset-some config s n amount p at ∙ rw (within, ready) refl
 
 price-again : (config : ConfigValue) (product price : ℕ) (b : Bool) (busy : Option State) → (is_within 1 product 8 && is_within 1 price 9999999) ≡ true
-    → busy ≡ None → price_at busy product price config.price_slot ≡ Ok (record {
-      kind = kind.Price;
-      point = 0;
-      product = product;
-      asked = price;
-      slot = config.price_slot;
-    })
+    → busy ≡ None → price_at busy (price_of_product config product price) ≡ Ok (price_of_product config product price)
 price-again config product price b busy within free = rw (within, free) refl
 
 by-request : (layout : Layout) (config other : ConfigValue) (s t : SiteState) (till moment : ℕ) (r : Request) (q was : Question)

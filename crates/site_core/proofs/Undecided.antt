@@ -71,7 +71,8 @@ busy-no true None p = refl
 busy-no true (Some state) p = refl
 busy-no false busy p = refl
 
-pub price-no : (busy : Option State) (product price slot : ℕ) → refuses (price_at busy product price slot) ≡ false
+pub price-no : (busy : Option State) (product price slot : ℕ)
+    → refuses (price_at busy (record { kind = kind.Price; point = 0; product = product; asked = price; slot = slot })) ≡ false
 price-no busy product price slot =
     busy-no (is_within 1 product 8 && is_within 1 price 9999999) busy (record { kind = kind.Price; point = 0; product = product; asked = price; slot = slot })
 

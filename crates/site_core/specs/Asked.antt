@@ -4,26 +4,27 @@ use Rattle.std.specs.Prelude.{◌≡◌, ℕ, ◌<◌, ◌⊎◌, if◌then◌el
 use Rattle.std.specs.Result.{result_ok}
 use Rattle.fuelling_point.specs.Table.{PointState}
 use Rattle.till_request.specs.declared.act.Request.{Request}
-use Rattle.till_request.specs.declared.act.Request.TheVariants as request
 use Rattle.bpf_model.specs.Layouts.{bytes_of}
 use Rattle.program_slots.specs.Value.{SlotsValue}
 use Rattle.program_slots.specs.Slots.{version_in}
 use Rattle.site_core.specs.declared.question.Question.{Question}
+use Rattle.site_core.specs.declared.question.Asks.{Asks}
+use Rattle.site_core.specs.declared.question.Asks.TheVariants as asks
 use Rattle.site_core.specs.declared.why.Why.{Why}
 use Rattle.site_core.specs.Limits.{ConfigValue}
 use Rattle.site_core.specs.State.{SiteState, busy_points, view_of}
 use Rattle.site_core.specs.Context.{context, of_point}
-use Rattle.site_core.specs.Decide.{is_till, release_question, preset_question, price_question, WellAsked}
+use Rattle.site_core.specs.Decide.{is_till, admitted, asks_of, WellAsked}
 use Rattle.site_core.specs.Draft.{DraftValue, Basis, basis_of, routed}
 use Rattle.site_core.specs.Differences.{IsFresh, Differs}
 
--- The question that a request asks a program in this state: none where the request is refused before a program is looked for, and none for a
--- request that no program decides.
+-- The question that a program is asked in this state: none where it is refused before a program is looked for, and none where no program decides.
+abbrev pub question_in : SiteState → Asks → Option Question
+question_in s (asks.Decision q) = result_ok (admitted s q)
+question_in s _ = None
+
 abbrev pub question_of : ConfigValue → SiteState → Request → Option Question
-question_of config s (request.Release n amount) = result_ok (release_question config s n amount)
-question_of config s (request.Preset n amount) = result_ok (preset_question config s n amount)
-question_of config s (request.Price product price) = result_ok (price_question config s product price)
-question_of config s _ = None
+question_of config s request = question_in s (asks_of config request)
 
 -- As `question_of`, of a request by this till: none too where the site has no such till.
 abbrev pub asked_question : ConfigValue → SiteState → ℕ → Request → Option Question

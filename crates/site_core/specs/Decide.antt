@@ -9,6 +9,8 @@ use Rattle.fuelling_point.specs.declared.kinds.Command.{Command}
 use Rattle.fuelling_point.specs.declared.kinds.Command.TheVariants as command
 use Rattle.decision_journal.specs.declared.entries.Entry.{Entry}
 use Rattle.decision_journal.specs.declared.entries.Run.{Run}
+use Rattle.till_request.specs.declared.act.Request.{Request}
+use Rattle.till_request.specs.declared.act.Request.TheVariants as request
 use Rattle.till_request.specs.declared.act.Reply.{Reply}
 use Rattle.till_request.specs.declared.act.Reply.TheVariants as reply
 use Rattle.bpf_model.specs.Machine.{Counters, counter}
@@ -21,6 +23,8 @@ use Rattle.site_core.specs.Context.{context}
 use Rattle.site_core.specs.declared.question.Kind.{Kind}
 use Rattle.site_core.specs.declared.question.Kind.TheVariants.{Release, Preset, Price}
 use Rattle.site_core.specs.declared.question.Question.{Question}
+use Rattle.site_core.specs.declared.question.Asks.{Asks}
+use Rattle.site_core.specs.declared.question.Asks.TheVariants as asks
 use Rattle.program_slots.specs.Slots.{Version}
 use Rattle.site_core.specs.History.{in_force}
 
@@ -82,40 +86,65 @@ is_till config till = is_within 1 till config.tills
 abbrev pub slots_of : ConfigValue → ℕ → ℕ × ℕ
 slots_of config n = slice_index_or config.points (n - 1) (0, 0)
 
--- The question that a release at a point asks the slot's program, or the refusal that comes before a program is looked for.
-abbrev pub release_at : PointState → ℕ → ℕ → ℕ → Result Question Reply
-release_at p n amount slot =
-    need (is_within 1 amount 999999999) bad_amount
+-- The questions that a release, a preset and a price change ask the program of their slot.
+abbrev pub release_of : ConfigValue → ℕ → ℕ → Question
+release_of config n amount = record { kind = Release; point = n; product = 0; asked = amount; slot = (slots_of config n).0 }
+
+abbrev pub preset_of : ConfigValue → ℕ → ℕ → Question
+preset_of config n amount = record { kind = Preset; point = n; product = 0; asked = amount; slot = (slots_of config n).1 }
+
+abbrev pub price_of_product : ConfigValue → ℕ → ℕ → Question
+price_of_product config product price = record { kind = Price; point = 0; product = product; asked = price; slot = config.price_slot }
+
+-- What a request asks: a question of a program, or of a point a command or its state.
+abbrev pub asks_of : ConfigValue → Request → Asks
+asks_of config (request.Release n amount) = asks.Decision (release_of config n amount)
+asks_of config (request.Preset n amount) = asks.Decision (preset_of config n amount)
+asks_of config (request.Price product price) = asks.Decision (price_of_product config product price)
+asks_of config (request.OpenPoint n) = asks.Command n command.OpenPoint
+asks_of config (request.ClosePoint n) = asks.Command n command.ClosePoint
+asks_of config (request.Suspend n) = asks.Command n command.Suspend
+asks_of config (request.Resume n) = asks.Command n command.Resume
+asks_of config (request.Stop n) = asks.Command n command.Stop
+asks_of config (request.Lock n number) = asks.Command n (command.Lock number)
+asks_of config (request.Unlock n number) = asks.Command n (command.Unlock number)
+asks_of config (request.Clear n number) = asks.Command n (command.Clear number)
+asks_of config (request.Show n) = asks.Show n
+
+-- A point has room for the transaction that a release makes.
+abbrev pub has_room : Kind → PointState → Bool
+has_room Release p = nat_lt (length p.unpaid) 2
+has_room _ p = true
+
+-- The question of a release or a preset at its point, or the refusal that comes before a program is looked for.
+abbrev pub asked_at : PointState → Question → Result Question Reply
+asked_at p q =
+    need (is_within 1 q.asked 999999999) bad_amount
     (need (is_ready p.state) (wrong_state p.state)
-    (need (nat_lt (length p.unpaid) 2) transactions_full
-    (Ok (record { kind = Release; point = n; product = 0; asked = amount; slot = slot }))))
+    (need (has_room q.kind p) transactions_full
+    (Ok q)))
 
-abbrev pub preset_at : PointState → ℕ → ℕ → ℕ → Result Question Reply
-preset_at p n amount slot =
-    need (is_within 1 amount 999999999) bad_amount
-    (need (is_ready p.state) (wrong_state p.state)
-    (Ok (record { kind = Preset; point = n; product = 0; asked = amount; slot = slot })))
+unfoldable pub asked_at_point : SiteState → Question → Result Question Reply
+asked_at_point s q = elim (at_number s.points q.point) [ None ↦ Err no_such_point | Some p ↦ asked_at p q ]
 
-unfoldable pub release_question : ConfigValue → SiteState → ℕ → ℕ → Result Question Reply
-release_question config s n amount =
-    elim (at_number s.points n) [ None ↦ Err no_such_point | Some p ↦ release_at p n amount (slots_of config n).0 ]
+-- The question of a price change, or its refusal. A price isn't changed while any point is in one of states 5 to 9: `busy` is the state of the
+-- first such point.
+abbrev pub price_at : Option State → Question → Result Question Reply
+price_at busy q =
+    need (is_within 1 q.product 8 && is_within 1 q.asked 9999999) bad_amount (elim busy [ Some state ↦ Err (wrong_state state) | None ↦ Ok q ])
 
-unfoldable pub preset_question : ConfigValue → SiteState → ℕ → ℕ → Result Question Reply
-preset_question config s n amount =
-    elim (at_number s.points n) [ None ↦ Err no_such_point | Some p ↦ preset_at p n amount (slots_of config n).1 ]
+-- The question, or the refusal that comes before a program is looked for.
+abbrev pub admitted : SiteState → Question → Result Question Reply
+admitted s q = elim q.kind [ Price ↦ price_at (first_busy s) q | _ ↦ asked_at_point s q ]
 
--- The question that a price change asks, or its refusal. A price isn't changed while any point is in one of states 5 to 9: `busy` is the state of
--- the first such point.
-abbrev pub price_at : Option State → ℕ → ℕ → ℕ → Result Question Reply
-price_at busy product price slot =
-    need (is_within 1 product 8 && is_within 1 price 9999999) bad_amount
-    (elim busy [
-      | Some state ↦ Err (wrong_state state)
-      | None ↦ Ok (record { kind = Price; point = 0; product = product; asked = price; slot = slot })
-    ])
+abbrev pub release_question : ConfigValue → SiteState → ℕ → ℕ → Result Question Reply
+release_question config s n amount = admitted s (release_of config n amount)
+
+abbrev pub preset_question : ConfigValue → SiteState → ℕ → ℕ → Result Question Reply
+preset_question config s n amount = admitted s (preset_of config n amount)
 
 abbrev pub price_question : ConfigValue → SiteState → ℕ → ℕ → Result Question Reply
-price_question config s product price = price_at (first_busy s) product price config.price_slot
+price_question config s product price = admitted s (price_of_product config product price)
 
 -- What is granted where the program answered r: the least of the amount that is asked, of r, and, for a release, of the point's preset where there
 -- is one (0 is none). A price is granted as it is asked.

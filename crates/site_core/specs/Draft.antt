@@ -1,19 +1,20 @@
 -- Definitions: a decision whose program is run outside the site.
 use Rattle.std.specs.Prelude.{◌≡◌, ℕ, if◌then◌else◌, List, [], Option, Some, None}
 use Rattle.till_request.specs.declared.act.Request.{Request}
-use Rattle.till_request.specs.declared.act.Request.TheVariants as request
 use Rattle.bpf_model.specs.declared.machine.View.{View}
 use Rattle.bpf_model.specs.Machine.{Counters}
 use Rattle.bpf_model.specs.Runs.{Ended}
 use Rattle.bpf_model.specs.Program.{outcome}
 use Rattle.bpf_model.specs.Layouts.{bytes_of}
 use Rattle.program_slots.specs.Slots.{Version}
-use Rattle.site_core.specs.declared.question.Kind.TheVariants.{Release, Preset, Price}
+use Rattle.site_core.specs.declared.question.Kind.TheVariants.{Price}
 use Rattle.site_core.specs.declared.question.Question.{Question}
+use Rattle.site_core.specs.declared.question.Asks.{Asks}
+use Rattle.site_core.specs.declared.question.Asks.TheVariants as asks
 use Rattle.site_core.specs.Limits.{ConfigValue}
 use Rattle.site_core.specs.State.{SiteState, at_number, view_of}
 use Rattle.site_core.specs.Context.{context}
-use Rattle.site_core.specs.Decide.{is_till, slots_of}
+use Rattle.site_core.specs.Decide.{is_till, asks_of}
 
 -- What a run outside the site starts from: which till asks what at which moment, and the version, context, view and counters of the run.
 pub record DraftValue : Type 0 where
@@ -39,16 +40,13 @@ Ran draft r0 after = outcome draft.version.program draft.context draft.view draf
 unfoldable pub at_point : SiteState → ℕ → Question → Option Question
 at_point s n q = elim (at_number s.points n) [ None ↦ None | Some _ ↦ Some q ]
 
--- The question that a request asks a program, even where this state refuses the request. None where there is no such point, and none for a
--- request that no program decides.
+-- The question that a program is asked, even where this state refuses it. None where there is no such point, and none where no program decides.
+abbrev pub routed_to : SiteState → Asks → Option Question
+routed_to s (asks.Decision q) = elim q.kind [ Price ↦ Some q | _ ↦ at_point s q.point q ]
+routed_to s _ = None
+
 abbrev pub routed_request : ConfigValue → SiteState → Request → Option Question
-routed_request config s (request.Release n amount) =
-    at_point s n (record { kind = Release; point = n; product = 0; asked = amount; slot = (slots_of config n).0 })
-routed_request config s (request.Preset n amount) =
-    at_point s n (record { kind = Preset; point = n; product = 0; asked = amount; slot = (slots_of config n).1 })
-routed_request config s (request.Price product price) =
-    Some (record { kind = Price; point = 0; product = product; asked = price; slot = config.price_slot })
-routed_request config s _ = None
+routed_request config s request = routed_to s (asks_of config request)
 
 -- As `routed_request`, of a request by this till: none too where the site has no such till.
 abbrev pub routed : ConfigValue → SiteState → ℕ → Request → Option Question

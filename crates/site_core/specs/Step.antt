@@ -3,14 +3,12 @@ use Rattle.std.specs.Prelude.{◌≡◌, ℕ, ◌+◌, nat_lt, nat_le, if◌then
 use Rattle.fuelling_point.specs.Table.{PointState, Answer, command_step, event_step}
 use Rattle.fuelling_point.specs.States.{state_number}
 use Rattle.fuelling_point.specs.declared.kinds.Command.{Command}
-use Rattle.fuelling_point.specs.declared.kinds.Command.TheVariants as command
 use Rattle.fuelling_point.specs.declared.kinds.DispenserEvent.{DispenserEvent}
 use Rattle.fuelling_point.specs.declared.kinds.Order.{Order}
 use Rattle.fuelling_point.specs.declared.kinds.PointFault.{PointFault}
 use Rattle.fuelling_point.specs.declared.kinds.PointFault.TheVariants.{WrongState, TransactionsFull, NotYourTransaction, NoSuchTransaction, NoOrder, Unexpected}
 use Rattle.decision_journal.specs.declared.entries.Entry.{Entry}
 use Rattle.till_request.specs.declared.act.Request.{Request}
-use Rattle.till_request.specs.declared.act.Request.TheVariants as request
 use Rattle.till_request.specs.declared.act.Act.{Act}
 use Rattle.till_request.specs.declared.act.Act.TheVariants as act
 use Rattle.till_request.specs.declared.act.Reply.{Reply}
@@ -18,8 +16,9 @@ use Rattle.till_request.specs.declared.act.Reply.TheVariants as reply
 use Rattle.site_core.specs.Limits.{ConfigValue}
 use Rattle.site_core.specs.State.{SiteState, at_number, with_point}
 use Rattle.site_core.specs.History.{versions}
-use Rattle.site_core.specs.Decide.{Effect, replied, refused, wrong_state, no_such_point, no_such_till, is_till, decided, release_question, preset_question}
-use Rattle.site_core.specs.Decide.{price_question}
+use Rattle.site_core.specs.declared.question.Asks.{Asks}
+use Rattle.site_core.specs.declared.question.Asks.TheVariants as asks
+use Rattle.site_core.specs.Decide.{Effect, replied, refused, wrong_state, no_such_point, no_such_till, is_till, decided, admitted, asks_of}
 
 -- The reply for a refusal by a point.
 abbrev pub fault_reply : PointFault → Reply
@@ -71,20 +70,15 @@ unfoldable pub reported : SiteState → ℕ → DispenserEvent → Effect
 reported s n event =
     elim (at_number s.points n) [ None ↦ replied no_such_point s | Some p ↦ event_effect s n (event_step p event) ]
 
+-- The effect of what a till asks.
+abbrev pub effect_of : List Entry → SiteState → ℕ → ℕ → Asks → Effect
+effect_of past s till moment (asks.Decision q) = decided past s till moment (admitted s q)
+effect_of past s till moment (asks.Command n command) = commanded s till n command
+effect_of past s till moment (asks.Show n) = replied (show_reply s n) s
+
 -- The effect of a request by a till that the site has.
 abbrev pub asked : ConfigValue → List Entry → SiteState → ℕ → ℕ → Request → Effect
-asked config past s till moment (request.Release n amount) = decided past s till moment (release_question config s n amount)
-asked config past s till moment (request.Preset n amount) = decided past s till moment (preset_question config s n amount)
-asked config past s till moment (request.Price product price) = decided past s till moment (price_question config s product price)
-asked config past s till moment (request.OpenPoint n) = commanded s till n command.OpenPoint
-asked config past s till moment (request.ClosePoint n) = commanded s till n command.ClosePoint
-asked config past s till moment (request.Suspend n) = commanded s till n command.Suspend
-asked config past s till moment (request.Resume n) = commanded s till n command.Resume
-asked config past s till moment (request.Stop n) = commanded s till n command.Stop
-asked config past s till moment (request.Lock n number) = commanded s till n (command.Lock number)
-asked config past s till moment (request.Unlock n number) = commanded s till n (command.Unlock number)
-asked config past s till moment (request.Clear n number) = commanded s till n (command.Clear number)
-asked config past s till moment (request.Show n) = replied (show_reply s n) s
+asked config past s till moment request = effect_of past s till moment (asks_of config request)
 
 -- The reply to a load: S32 where there is no such slot, S30 where there are 4,096 versions already, or else the next version.
 abbrev pub load_reply : ℕ → List Entry → Reply

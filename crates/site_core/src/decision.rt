@@ -1,7 +1,7 @@
 //! What a decision asks, what it grants, and which counters its run changed.
 
 ghost use Rattle.std.specs.Prelude.{◌≡◌, ◌<◌, ◌≤◌, IfOk, None, replicate};
-ghost use Rattle.site_core.specs.Decide.{release_at, preset_at, price_at, granted_point, command_of, counts, count_of};
+ghost use Rattle.site_core.specs.Decide.{has_room, asked_at, price_at, granted_point, command_of, counts, count_of};
 ghost use Rattle.bpf_model.specs.declared.limits.TheConstants.{COUNTERS};
 
 use crate::question::{Kind, Question};
@@ -19,70 +19,48 @@ const PRODUCTS: u32 = 8;
 /// The greatest price of a litre, in thousandths.
 const GREATEST_PRICE: u64 = 9_999_999;
 
-/// Returns the question that a release at a point asks. The error is the refusal that comes before a program is looked
-/// for: the first that holds of S25, S22 and S26.
-pub fn release_at(point: &Point, n: u32, amount: u64, slot: u32) -> Result<Question, Reply>
-    ensures question { result ≡ release_at point.now n amount slot }
-    ensures point { IfOk result (λ q. q.point ≡ n) }
+/// Returns whether a point has room for the transaction that a release makes.
+fn has_room(kind: Kind, point: &Point) -> bool
+    ensures { result ≡ has_room kind point.now }
 {
-    if amount < 1 || amount > GREATEST_AMOUNT {
+    match kind {
+        Kind::Release => point.unpaid() < 2,
+        Kind::Preset | Kind::Price => true,
+    }
+}
+
+/// Returns the question of a release or a preset at its point. The error is the refusal that comes before a program is
+/// looked for: the first that holds of S25, S22 and, for a release, S26.
+pub fn asked_at(point: &Point, question: Question) -> Result<Question, Reply>
+    ensures question { result ≡ asked_at point.now question }
+    ensures same { IfOk result (λ q. q ≡ question) }
+{
+    if question.asked < 1 || question.asked > GREATEST_AMOUNT {
         return Err(BAD_AMOUNT);
     }
     let state = point.state();
     if !state.is_ready() {
         return Err(wrong_state(state));
     }
-    if point.unpaid() >= 2 {
+    if !has_room(question.kind, point) {
         return Err(TRANSACTIONS_FULL);
     }
-    Ok(Question {
-        kind: Kind::Release,
-        point: n,
-        product: 0,
-        asked: amount,
-        slot,
-    })
+    Ok(question)
 }
 
-/// Returns the question that a preset at a point asks. The error is its refusal: S25, or else S22.
-pub fn preset_at(point: &Point, n: u32, amount: u64, slot: u32) -> Result<Question, Reply>
-    ensures question { result ≡ preset_at point.now n amount slot }
-    ensures point { IfOk result (λ q. q.point ≡ n) }
-{
-    if amount < 1 || amount > GREATEST_AMOUNT {
-        return Err(BAD_AMOUNT);
-    }
-    let state = point.state();
-    if !state.is_ready() {
-        return Err(wrong_state(state));
-    }
-    Ok(Question {
-        kind: Kind::Preset,
-        point: n,
-        product: 0,
-        asked: amount,
-        slot,
-    })
-}
-
-/// Returns the question that a price change asks. The error is its refusal: S25, or else S22 with the state of the
-/// first busy point.
-pub fn price_at(busy: Option<State>, product: u32, price: u64, slot: u32) -> Result<Question, Reply>
-    ensures question { result ≡ price_at busy product price slot }
+/// Returns the question of a price change. The error is its refusal: S25, or else S22 with the state of the first busy
+/// point.
+pub fn price_at(busy: Option<State>, question: Question) -> Result<Question, Reply>
+    ensures question { result ≡ price_at busy question }
     ensures fits { IfOk result (λ q. (1 ≤ q.product) × (q.product ≤ PRODUCTS) × (q.asked ≤ GREATEST_PRICE)) }
 {
+    let (product, price) = (question.product, question.asked);
     if product < 1 || product > PRODUCTS || price < 1 || price > GREATEST_PRICE {
         return Err(BAD_AMOUNT);
     }
     match busy {
         Some(state) => Err(wrong_state(state)),
-        None => Ok(Question {
-            kind: Kind::Price,
-            point: 0,
-            product,
-            asked: price,
-            slot,
-        }),
+        None => Ok(question),
     }
 }
 

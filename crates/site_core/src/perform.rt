@@ -5,9 +5,9 @@ ghost use Rattle.std.specs.Arc.{arc_value};
 ghost use Rattle.decision_journal.specs.declared.entries.Entry.{Entry};
 ghost use Rattle.till_request.specs.declared.act.Act.TheVariants as act;
 ghost use Rattle.site_core.specs.Bounds.{Bounded, HasRoom};
-ghost use Rattle.site_core.specs.Decide.{decided, WellAsked};
+ghost use Rattle.site_core.specs.Decide.{admitted, decided};
 ghost use Rattle.site_core.specs.Asked.{asked_question};
-ghost use Rattle.site_core.specs.Draft.{at_point, routed};
+ghost use Rattle.site_core.specs.Draft.{routed};
 ghost use Rattle.site_core.specs.Keeping.{Agrees, Performs, Loads, blank};
 ghost use Rattle.site_core.specs.Site.{act_of};
 ghost use Rattle.site_core.specs.Step.{effect};
@@ -15,11 +15,10 @@ ghost use Rattle.site_core.specs.Step.{effect};
 use crate::comparing::look_up;
 use crate::config::Config;
 use crate::events::What;
-use crate::question::{Kind, Question};
+use crate::question::{Asks, Question, asks_of};
 use crate::replies::{NO_SUCH_SLOT, NO_SUCH_TILL, VERSIONS_FULL, no_program};
 use crate::station::Station;
 use decision_journal::{Entry, Run};
-use fuelling_point::Command;
 use program_slots::{SlotFault, Slots};
 use reg_types::Program;
 use std::alloc::{AllocError, Global};
@@ -120,28 +119,10 @@ fn ask(
     if !config.has_till(till) {
         return NO_SUCH_TILL;
     }
-    match request {
-        Request::Release(n, amount) => {
-            let question = station.release_question(config, n, amount);
-            decide(station, slots, till, moment, question, ran)
-        }
-        Request::Preset(n, amount) => {
-            let question = station.preset_question(config, n, amount);
-            decide(station, slots, till, moment, question, ran)
-        }
-        Request::Price(product, price) => {
-            let question = station.price_question(config, product, price);
-            decide(station, slots, till, moment, question, ran)
-        }
-        Request::OpenPoint(n) => station.command(till, n, Command::OpenPoint),
-        Request::ClosePoint(n) => station.command(till, n, Command::ClosePoint),
-        Request::Suspend(n) => station.command(till, n, Command::Suspend),
-        Request::Resume(n) => station.command(till, n, Command::Resume),
-        Request::Stop(n) => station.command(till, n, Command::Stop),
-        Request::Lock(n, number) => station.command(till, n, Command::Lock(number)),
-        Request::Unlock(n, number) => station.command(till, n, Command::Unlock(number)),
-        Request::Clear(n, number) => station.command(till, n, Command::Clear(number)),
-        Request::Show(n) => station.show(n),
+    match asks_of(config, &request) {
+        Asks::Decision(question) => decide(station, slots, till, moment, question, ran),
+        Asks::Command(n, command) => station.command(till, n, command),
+        Asks::Show(n) => station.show(n),
     }
 }
 
@@ -159,11 +140,9 @@ pub fn asked_question(
     if !config.has_till(till) {
         return None;
     }
-    match *request {
-        Request::Release(n, amount) => station.release_question(config, n, amount).ok(),
-        Request::Preset(n, amount) => station.preset_question(config, n, amount).ok(),
-        Request::Price(product, price) => station.price_question(config, product, price).ok(),
-        _ => None,
+    match asks_of(config, request) {
+        Asks::Decision(question) => station.admitted(question).ok(),
+        Asks::Command(_, _) | Asks::Show(_) => None,
     }
 }
 
@@ -175,57 +154,27 @@ pub fn routed(config: &Config, station: &Station, till: u32, request: &Request) 
     if !config.has_till(till) {
         return None;
     }
-    match *request {
-        Request::Release(n, amount) => {
-            let slot = config.release_slot(n);
-            routed_to(station, Kind::Release, n, amount, slot)
-        }
-        Request::Preset(n, amount) => {
-            let slot = config.preset_slot(n);
-            routed_to(station, Kind::Preset, n, amount, slot)
-        }
-        Request::Price(product, price) => Some(Question {
-            kind: Kind::Price,
-            point: 0,
-            product,
-            asked: price,
-            slot: config.price_slot(),
-        }),
-        _ => None,
+    match asks_of(config, request) {
+        Asks::Decision(question) => station.routed(question),
+        Asks::Command(_, _) | Asks::Show(_) => None,
     }
 }
 
-/// Returns the question at a point, or None where there is no such point.
-#[tactic(auto, unfolding(crate::specs::Draft::at_point))]
-fn routed_to(station: &Station, kind: Kind, n: u32, asked: u64, slot: u32) -> Option<Question>
-    ensures { let question : Question = record { kind = kind; point = n; product = 0; asked = asked; slot = slot } in
-        result ≡ at_point station.now n question }
-{
-    let _point = station.point(n)?;
-    Some(Question {
-        kind,
-        point: n,
-        product: 0,
-        asked,
-        slot,
-    })
-}
-
-/// Runs the program in force in the question's slot, does what it answers, and returns the reply.
+/// Runs the program in force in the question's slot, if nothing refuses the question before, does what it answers, and
+/// returns the reply.
 fn decide(
     station: &mut Station,
     slots: &Slots,
     till: u32,
     moment: u64,
-    question: Result<Question, Reply>,
+    question: Question,
     ran: &mut Option<Run>,
 ) -> Reply
     requires bounded { HasRoom station.old }
     requires till { 0 < till }
-    requires asked { IfOk question (λ q. WellAsked station.old q) }
     requires none { ran.old ≡ None }
     ensures effect { (past : List Entry) → Agrees slots.now past →
-        decided past station.old till moment question ≡ record {
+        decided past station.old till moment (admitted station.old question) ≡ record {
           reply = result;
           run = ran.new;
           after = station.new;
@@ -233,7 +182,7 @@ fn decide(
     ensures bounded { (k : ℕ) → Bounded k station.old → Bounded (k + 1) station.new }
     ensures points { length station.new.points ≡ length station.old.points }
 {
-    let question = match question {
+    let question = match station.admitted(question) {
         Ok(question) => question,
         Err(refusal) => return refusal,
     };

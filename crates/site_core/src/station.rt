@@ -10,8 +10,9 @@ ghost use Rattle.bpf_model.specs.Program.{outcome};
 ghost use Rattle.site_core.specs.Bounds.{Bounded, HasRoom};
 ghost use Rattle.site_core.specs.Context.{context, fields, product_of, told};
 ghost use Rattle.site_core.specs.Asked.{FitsContext};
-ghost use Rattle.site_core.specs.Decide.{replied, counts, grant, WellAsked, release_question, preset_question};
-ghost use Rattle.site_core.specs.Decide.{price_question};
+ghost use Rattle.site_core.specs.Decide.{replied, counts, grant, WellAsked, admitted, asked_at_point};
+ghost use Rattle.site_core.specs.Draft.{routed_to};
+ghost use Rattle.site_core.specs.declared.question.Asks.TheVariants as Asks;
 ghost use Rattle.site_core.specs.Keeping.{settled, with_counters};
 ghost use Rattle.site_core.specs.Step.{commanded, reported, show_reply};
 ghost use Rattle.interp.specs.Depends.{Agrees};
@@ -20,7 +21,7 @@ ghost use Rattle.bpf_model.specs.declared.limits.TheConstants.{COUNTERS};
 
 use crate::config::Config;
 use crate::context::{Field, kind_number, lay};
-use crate::decision::{command_of, granted_point, note_counts, preset_at, price_at, release_at};
+use crate::decision::{asked_at, command_of, granted_point, note_counts, price_at};
 use crate::question::{Kind, Question};
 use crate::replies::{NO_SUCH_POINT, denied, event_reply, fault_reply};
 use crate::seeing::{renew, seen, seen_points};
@@ -167,42 +168,41 @@ impl Station {
         self.points.get(n as usize - 1)
     }
 
-    /// Returns the question that a release asks. The error is the refusal that comes before a program is looked for.
-    pub fn release_question(&self, config: &Config, n: u32, amount: u64) -> Result<Question, Reply>
-        requires { length self.now.points ≡ length config.now.points }
-        ensures question { result ≡ release_question config.now self.now n amount }
+    /// Returns the question. The error is the refusal that comes before a program is looked for.
+    pub fn admitted(&self, question: Question) -> Result<Question, Reply>
+        ensures question { result ≡ admitted self.now question }
         ensures asked { IfOk result (λ q. WellAsked self.now q) }
     {
-        match self.point(n) {
-            None => Err(NO_SUCH_POINT),
-            Some(point) => release_at(point, n, amount, config.release_slot(n)),
+        match question.kind {
+            Kind::Price => price_at(self.first_busy(), question),
+            Kind::Release | Kind::Preset => self.asked_at_point(question),
         }
     }
 
-    /// Returns the question that a preset asks. The error is the refusal that comes before a program is looked for.
-    pub fn preset_question(&self, config: &Config, n: u32, amount: u64) -> Result<Question, Reply>
-        requires { length self.now.points ≡ length config.now.points }
-        ensures question { result ≡ preset_question config.now self.now n amount }
-        ensures asked { IfOk result (λ q. WellAsked self.now q) }
-    {
-        match self.point(n) {
-            None => Err(NO_SUCH_POINT),
-            Some(point) => preset_at(point, n, amount, config.preset_slot(n)),
-        }
-    }
-
-    /// Returns the question that a price change asks. The error is the refusal that comes before a program is looked
+    /// Returns the question of a release or a preset. The error is the refusal that comes before a program is looked
     /// for.
-    pub fn price_question(
-        &self,
-        config: &Config,
-        product: u32,
-        price: u64,
-    ) -> Result<Question, Reply>
-        ensures question { result ≡ price_question config.now self.now product price }
+    fn asked_at_point(&self, question: Question) -> Result<Question, Reply>
+        ensures question { result ≡ asked_at_point self.now question }
         ensures asked { IfOk result (λ q. WellAsked self.now q) }
     {
-        price_at(self.first_busy(), product, price, config.price_slot())
+        match self.point(question.point) {
+            None => Err(NO_SUCH_POINT),
+            Some(point) => asked_at(point, question),
+        }
+    }
+
+    /// Returns the question, even where the state refuses it. None where there is no such point.
+    #[tactic(auto, unfolding(crate::specs::Draft::at_point))]
+    pub fn routed(&self, question: Question) -> Option<Question>
+        ensures { result ≡ routed_to self.now (Asks.Decision question) }
+    {
+        match question.kind {
+            Kind::Price => Some(question),
+            Kind::Release | Kind::Preset => {
+                let _point = self.point(question.point)?;
+                Some(question)
+            }
+        }
     }
 
     /// Returns the state of the first point at which a delivery is authorised or under way.

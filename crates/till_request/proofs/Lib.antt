@@ -1,6 +1,7 @@
 pub mod Apart
 pub mod Counts
 pub mod Faults
+pub mod Fitting
 pub mod Numerals
 pub mod Out
 pub mod Parted
@@ -8,4 +9,3 @@ pub mod Pieces
 pub mod Short
 pub mod Spelled
 pub mod Taken
-pub mod Told

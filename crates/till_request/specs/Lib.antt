@@ -7,5 +7,4 @@ pub mod Grammar
 pub mod Line
 pub mod Short
 pub mod Spelling
-pub mod Told
 pub mod Write

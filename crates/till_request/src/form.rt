@@ -1,7 +1,9 @@
 //! The forms of lines.
-ghost use Rattle.std.specs.Prelude.{◌≡◌};
+ghost use Rattle.std.specs.Prelude.{◌≡◌, ◌∷◌, [], map, find, IfSome, true};
 ghost use Rattle.till_request.specs.Grammar.{text, template, sender, allows, amount_request, point_request};
-ghost use Rattle.till_request.specs.Grammar.{transaction_request, report_event};
+ghost use Rattle.till_request.specs.Grammar.{transaction_request, report_event, all_forms, part_fits, fits, suits};
+ghost use Rattle.till_request.specs.declared.form.Part.TheVariants.{Word, Value};
+ghost use Rattle.till_request.specs.declared.form.Form.TheVariants as forms;
 
 use crate::act::{Request, Role};
 use bpf_model::context::Layout;
@@ -78,34 +80,59 @@ pub enum Part {
     Value,
 }
 
+/// The forms, a row for each verb, in the order in which words are compared with them.
+pub const FORMS: [Form; 21] = [
+    Form::Amount(AmountVerb::Release),
+    Form::Amount(AmountVerb::Preset),
+    Form::Amount(AmountVerb::Price),
+    Form::Point(PointVerb::Open),
+    Form::Point(PointVerb::Close),
+    Form::Point(PointVerb::Show),
+    Form::Point(PointVerb::Suspend),
+    Form::Point(PointVerb::Resume),
+    Form::Point(PointVerb::Stop),
+    Form::Transaction(TransactionVerb::Lock),
+    Form::Transaction(TransactionVerb::Unlock),
+    Form::Transaction(TransactionVerb::Clear),
+    Form::Report(ReportVerb::Down),
+    Form::Report(ReportVerb::Started),
+    Form::Report(ReportVerb::Fault),
+    Form::Report(ReportVerb::Repaired),
+    Form::Report(ReportVerb::Order),
+    Form::Up,
+    Form::Flow,
+    Form::Load(Layout::One),
+    Form::Load(Layout::Two),
+];
+
 /// How a fixed word is spelled.
-pub fn text_of(keyword: Keyword) -> &'static [u8]
+pub fn text_of(keyword: Keyword) -> &'static str
     ensures { result.now ≡ text keyword }
 {
     match keyword {
-        Keyword::Till => b"till",
-        Keyword::Disp => b"disp",
-        Keyword::Load(Layout::One) => b"load",
-        Keyword::Load(Layout::Two) => b"load2",
-        Keyword::Up => b"up",
-        Keyword::Flow => b"flow",
-        Keyword::Amount(AmountVerb::Release) => b"release",
-        Keyword::Amount(AmountVerb::Preset) => b"preset",
-        Keyword::Amount(AmountVerb::Price) => b"price",
-        Keyword::Point(PointVerb::Open) => b"open",
-        Keyword::Point(PointVerb::Close) => b"close",
-        Keyword::Point(PointVerb::Show) => b"show",
-        Keyword::Point(PointVerb::Suspend) => b"suspend",
-        Keyword::Point(PointVerb::Resume) => b"resume",
-        Keyword::Point(PointVerb::Stop) => b"stop",
-        Keyword::Transaction(TransactionVerb::Lock) => b"lock",
-        Keyword::Transaction(TransactionVerb::Unlock) => b"unlock",
-        Keyword::Transaction(TransactionVerb::Clear) => b"clear",
-        Keyword::Report(ReportVerb::Down) => b"down",
-        Keyword::Report(ReportVerb::Started) => b"started",
-        Keyword::Report(ReportVerb::Fault) => b"fault",
-        Keyword::Report(ReportVerb::Repaired) => b"repaired",
-        Keyword::Report(ReportVerb::Order) => b"order",
+        Keyword::Till => "till",
+        Keyword::Disp => "disp",
+        Keyword::Load(Layout::One) => "load",
+        Keyword::Load(Layout::Two) => "load2",
+        Keyword::Up => "up",
+        Keyword::Flow => "flow",
+        Keyword::Amount(AmountVerb::Release) => "release",
+        Keyword::Amount(AmountVerb::Preset) => "preset",
+        Keyword::Amount(AmountVerb::Price) => "price",
+        Keyword::Point(PointVerb::Open) => "open",
+        Keyword::Point(PointVerb::Close) => "close",
+        Keyword::Point(PointVerb::Show) => "show",
+        Keyword::Point(PointVerb::Suspend) => "suspend",
+        Keyword::Point(PointVerb::Resume) => "resume",
+        Keyword::Point(PointVerb::Stop) => "stop",
+        Keyword::Transaction(TransactionVerb::Lock) => "lock",
+        Keyword::Transaction(TransactionVerb::Unlock) => "unlock",
+        Keyword::Transaction(TransactionVerb::Clear) => "clear",
+        Keyword::Report(ReportVerb::Down) => "down",
+        Keyword::Report(ReportVerb::Started) => "started",
+        Keyword::Report(ReportVerb::Fault) => "fault",
+        Keyword::Report(ReportVerb::Repaired) => "repaired",
+        Keyword::Report(ReportVerb::Order) => "order",
     }
 }
 
@@ -130,6 +157,108 @@ pub fn sender_of(form: Form) -> Role
         Form::Report(_) | Form::Up | Form::Flow => Role::Dispenser,
         Form::Load(_) => Role::Owner,
     }
+}
+
+/// Whether the word is this fixed one.
+fn is_word(word: &[u8], keyword: Keyword) -> bool
+    ensures { result ≡ part_fits (Word keyword) word.now }
+{
+    word == text_of(keyword).as_bytes()
+}
+
+/// Whether a value may be there.
+fn is_value(word: &[u8]) -> bool
+    ensures { result ≡ part_fits Value word.now }
+{
+    !word.is_empty()
+}
+
+/// Whether the words are these fixed ones with a value between them.
+fn three_fit(first: Keyword, third: Keyword, words: &[&[u8]]) -> bool
+    ensures { result ≡ fits (Word first ∷ Value ∷ Word third ∷ []) (map (λ w. w.now) words.now) }
+{
+    match words {
+        [a, b, c] => is_word(a, first) && is_value(b) && is_word(c, third),
+        _ => false,
+    }
+}
+
+/// Whether the words are these fixed ones with a value between them, and a value.
+fn four_fit(first: Keyword, third: Keyword, words: &[&[u8]]) -> bool
+    ensures { result ≡ fits (Word first ∷ Value ∷ Word third ∷ Value ∷ []) (map (λ w. w.now) words.now) }
+{
+    match words {
+        [a, b, c, d] => is_word(a, first) && is_value(b) && is_word(c, third) && is_value(d),
+        _ => false,
+    }
+}
+
+/// Whether the words are these fixed ones with a value between them, and two values.
+fn five_fit(first: Keyword, third: Keyword, words: &[&[u8]]) -> bool
+    ensures { result ≡ fits (Word first ∷ Value ∷ Word third ∷ Value ∷ Value ∷ []) (map (λ w. w.now) words.now) }
+{
+    match words {
+        [a, b, c, d, e] => {
+            is_word(a, first) && is_value(b) && is_word(c, third) && is_value(d) && is_value(e)
+        }
+        _ => false,
+    }
+}
+
+/// Whether the words are a load's for this layout.
+fn load_fits(layout: Layout, words: &[&[u8]]) -> bool
+    ensures { result ≡ fits (template (forms.Load layout)) (map (λ w. w.now) words.now) }
+{
+    match words {
+        [a, b, c, d] => {
+            is_word(a, Keyword::Load(layout)) && is_value(b) && is_value(c) && is_value(d)
+        }
+        _ => false,
+    }
+}
+
+/// Whether the words have this form.
+fn has_form(form: Form, words: &[&[u8]]) -> bool
+    ensures { result ≡ fits (template form) (map (λ w. w.now) words.now) }
+{
+    match form {
+        Form::Amount(verb) => five_fit(Keyword::Till, Keyword::Amount(verb), words),
+        Form::Point(verb) => four_fit(Keyword::Till, Keyword::Point(verb), words),
+        Form::Transaction(verb) => five_fit(Keyword::Till, Keyword::Transaction(verb), words),
+        Form::Report(verb) => three_fit(Keyword::Disp, Keyword::Report(verb), words),
+        Form::Up => four_fit(Keyword::Disp, Keyword::Up, words),
+        Form::Flow => five_fit(Keyword::Disp, Keyword::Flow, words),
+        Form::Load(layout) => load_fits(layout, words),
+    }
+}
+
+/// Whether the role may send the form, and the words have it.
+fn is_suited(role: Role, words: &[&[u8]], form: Form) -> bool
+    ensures { result ≡ suits role (map (λ w. w.now) words.now) form }
+{
+    may_send(role, sender_of(form)) && has_form(form, words)
+}
+
+/// The first of these forms that the role may send and the words have.
+fn first_suited(role: Role, words: &[&[u8]], forms: &[Form]) -> Option<Form>
+    ensures found { result ≡ find (suits role (map (λ w. w.now) words.now)) forms.now }
+    ensures suited { IfSome result (λ form. suits role (map (λ w. w.now) words.now) form ≡ true) }
+{
+    for form in forms {
+        if is_suited(role, words, *form) {
+            return Some(*form);
+        }
+    }
+    None
+}
+
+/// The form that the role may send and the words have.
+#[tactic(auto, unfolding(crate::specs::Grammar::all_forms))]
+pub fn form_of(role: Role, words: &[&[u8]]) -> Option<Form>
+    ensures found { result ≡ find (suits role (map (λ w. w.now) words.now)) all_forms }
+    ensures suited { IfSome result (λ form. suits role (map (λ w. w.now) words.now) form ≡ true) }
+{
+    first_suited(role, words, &FORMS)
 }
 
 /// The request of a verb with an amount or a price.

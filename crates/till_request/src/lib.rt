@@ -7,7 +7,6 @@ mod answer;
 mod block;
 mod device;
 pub mod devices;
-mod finding;
 mod form;
 mod grammar;
 mod line;

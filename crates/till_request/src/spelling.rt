@@ -1,9 +1,16 @@
 //! Acts written as lines.
-ghost use Rattle.std.specs.Prelude.{◌≡◌, ◌∷◌, IfOk, decimal, map, string_bytes};
+ghost use Rattle.std.specs.Prelude.{◌≡◌, ◌∷◌, IfOk, Some, decimal, map, slice_get, string_bytes};
 ghost use Rattle.std.specs.Option.{option_to_list};
+ghost use Rattle.till_request.specs.Grammar.{text};
 ghost use Rattle.till_request.specs.Spelling.{ReadsBack, spelling, event_words, request_words, spelled_words};
 
 use crate::act::{Act, Request};
+use crate::form::AmountVerb::{Preset, Price, Release};
+use crate::form::Keyword::{Amount, Flow, Load, Point, Report, Transaction, Up};
+use crate::form::PointVerb::{Close, Open, Resume, Show, Stop, Suspend};
+use crate::form::ReportVerb::{Down, Fault, Order, Repaired, Started};
+use crate::form::TransactionVerb::{Clear, Lock, Unlock};
+use crate::form::{Keyword, text_of};
 use bpf_model::context::Layout;
 use fuelling_point::DispenserEvent;
 use std::alloc::{AllocError, Global};
@@ -15,22 +22,22 @@ pub fn spelling_is_read()
 {}
 
 /// A request's verb, and its one or two numbers.
-fn words_of(request: Request) -> (&'static str, u32, Option<u64>)
-    ensures { request_words request ≡ result.0.now ∷ decimal result.1 ∷ map decimal (option_to_list result.2) }
+fn words_of(request: Request) -> (Keyword, u32, Option<u64>)
+    ensures { request_words request ≡ text result.0 ∷ decimal result.1 ∷ map decimal (option_to_list result.2) }
 {
     match request {
-        Request::Release(point, amount) => ("release", point, Some(amount)),
-        Request::Preset(point, amount) => ("preset", point, Some(amount)),
-        Request::Price(product, price) => ("price", product, Some(price)),
-        Request::OpenPoint(point) => ("open", point, None),
-        Request::ClosePoint(point) => ("close", point, None),
-        Request::Show(point) => ("show", point, None),
-        Request::Suspend(point) => ("suspend", point, None),
-        Request::Resume(point) => ("resume", point, None),
-        Request::Stop(point) => ("stop", point, None),
-        Request::Lock(point, number) => ("lock", point, Some(u64::from(number))),
-        Request::Unlock(point, number) => ("unlock", point, Some(u64::from(number))),
-        Request::Clear(point, number) => ("clear", point, Some(u64::from(number))),
+        Request::Release(point, amount) => (Amount(Release), point, Some(amount)),
+        Request::Preset(point, amount) => (Amount(Preset), point, Some(amount)),
+        Request::Price(product, price) => (Amount(Price), product, Some(price)),
+        Request::OpenPoint(point) => (Point(Open), point, None),
+        Request::ClosePoint(point) => (Point(Close), point, None),
+        Request::Show(point) => (Point(Show), point, None),
+        Request::Suspend(point) => (Point(Suspend), point, None),
+        Request::Resume(point) => (Point(Resume), point, None),
+        Request::Stop(point) => (Point(Stop), point, None),
+        Request::Lock(point, number) => (Transaction(Lock), point, Some(u64::from(number))),
+        Request::Unlock(point, number) => (Transaction(Unlock), point, Some(u64::from(number))),
+        Request::Clear(point, number) => (Transaction(Clear), point, Some(u64::from(number))),
     }
 }
 
@@ -41,10 +48,27 @@ impl fmt::Display for Request {
     ghost output = { λ r. Some (request_text r) };
 
     fn fmt<W: fmt::Write>(&self, f: &mut fmt::Formatter<W>) -> fmt::Result {
-        match words_of(*self) {
-            (verb, first, None) => write!(f, "{verb} {first}"),
-            (verb, first, Some(second)) => write!(f, "{verb} {first} {second}"),
+        let (keyword, first, second) = words_of(*self);
+        let verb = text_of(keyword);
+        match second {
+            None => write!(f, "{verb} {first}"),
+            Some(second) => write!(f, "{verb} {first} {second}"),
         }
+    }
+}
+
+/// An event's verb.
+fn verb_of(event: DispenserEvent) -> Keyword
+    ensures { slice_get (event_words event) 0 ≡ Some (text result) }
+{
+    match event {
+        DispenserEvent::Up(_) => Up,
+        DispenserEvent::Down => Report(Down),
+        DispenserEvent::Started => Report(Started),
+        DispenserEvent::Flowed(_, _) => Flow,
+        DispenserEvent::Fault => Report(Fault),
+        DispenserEvent::Repaired => Report(Repaired),
+        DispenserEvent::TakeOrder => Report(Order),
     }
 }
 
@@ -52,20 +76,22 @@ impl fmt::Display for Request {
 fn spell_event(alloc: Global, point: u32, event: DispenserEvent) -> Result<String, AllocError>
     ensures { IfOk result (λ text. string_bytes text ≡ spelling (Act.Dispenser point event)) }
 {
+    let verb = text_of(verb_of(event));
     match event {
-        DispenserEvent::Up(nozzle) => format!(in alloc; "disp {point} up {nozzle}"),
-        DispenserEvent::Down => format!(in alloc; "disp {point} down"),
-        DispenserEvent::Started => format!(in alloc; "disp {point} started"),
+        DispenserEvent::Up(nozzle) => format!(in alloc; "disp {point} {verb} {nozzle}"),
         DispenserEvent::Flowed(amount, volume) => {
-            format!(in alloc; "disp {point} flow {amount} {volume}")
+            format!(in alloc; "disp {point} {verb} {amount} {volume}")
         }
-        DispenserEvent::Fault => format!(in alloc; "disp {point} fault"),
-        DispenserEvent::Repaired => format!(in alloc; "disp {point} repaired"),
-        DispenserEvent::TakeOrder => format!(in alloc; "disp {point} order"),
+        DispenserEvent::Down
+        | DispenserEvent::Started
+        | DispenserEvent::Fault
+        | DispenserEvent::Repaired
+        | DispenserEvent::TakeOrder => format!(in alloc; "disp {point} {verb}"),
     }
 }
 
 /// The line of a load, without its LF.
+#[tactic(auto, using(crate::proofs::Fitting::load_text))]
 fn spell_load(
     alloc: Global,
     slot: u32,
@@ -76,10 +102,8 @@ fn spell_load(
     ensures { IfOk result (λ text. string_bytes text ≡ spelling (Act.Load slot mask layout bytes.now)) }
 {
     let hex = hex::encode(alloc, bytes)?;
-    match layout {
-        Layout::One => format!(in alloc; "load {slot} {mask} {hex}"),
-        Layout::Two => format!(in alloc; "load2 {slot} {mask} {hex}"),
-    }
+    let word = text_of(Load(layout));
+    format!(in alloc; "{word} {slot} {mask} {hex}")
 }
 
 /// The one spelling of an act: its line, without the LF.

@@ -18,13 +18,13 @@ use Rattle.site_core.proofs.perform.decide.Goals as goal
 
 pub returns-in-Err-clause-effect : goal.returns-in-Err-clause-effect
 returns-in-Err-clause-effect c = λ past agrees.
-    rw (c.in-Err.is, c.requires.none) (decided-refused past c.args.station.now c.args.till c.args.moment c.in-Err.refusal)
+    rw (← c.in-Err.ensures.question, c.requires.none) (decided-refused past c.args.station.now c.args.till c.args.moment c.in-Err.refusal)
 
 pub returns-in_default-clause-effect : goal.returns-in_default-clause-effect
 returns-in_default-clause-effect c = λ past agrees.
     let q = c.in-Ok.question in
     let none : in_force q.slot past ≡ None = agrees.in_force q.slot ∙ c.in_default.ensures in
-    rw (c.in-Ok.is, c.no_program.ensures, c.requires.none) (decided-none past c.args.station.now c.args.till c.args.moment q none)
+    rw (← c.in-Ok.ensures.question, c.no_program.ensures, c.requires.none) (decided-none past c.args.station.now c.args.till c.args.moment q none)
 
 pub returns-clause-effect : goal.returns-clause-effect
 returns-clause-effect c = λ past agrees.
@@ -44,7 +44,7 @@ returns-clause-effect c = λ past agrees.
     c.run-run.ensures.noted ∙ ap (λ (t : ProgramText). counts t.declared s.counters after) c.deref-2.ensures in
     let told : settled (with_counters s after) c.args.till q c.in-Some.version c.run-run.result ≡ (c.settle.result, c.settle.new.self) =
     (λ i. settled (sym c.run-run.ensures.rest i) c.args.till q c.in-Some.version c.run-run.result) ∙ c.settle.ensures.settled in
-    rw c.in-Ok.is (decided-ended past s c.args.till c.args.moment q v c.run-run.result after some ended
+    rw (← c.in-Ok.ensures.question) (decided-ended past s c.args.till c.args.moment q v c.run-run.result after some ended
     ∙ verdict-is s c.args.till c.args.moment c.run-run.result q v after c.settle.result c.settle.new.self told
     ∙ (λ i. record {
       reply = c.settle.result;
