@@ -18,6 +18,9 @@ is_answered : (cut : Option LineFault) (now : Option (List ℕ)) (rest : List �
 is_answered None now rest h = subst IsUpToLine (sym h.0) (inl is_line_empty)
 is_answered (Some fault) now rest h = h
 
+read_is_no_write : session.Read ≡ session.Write → ⊥
+read_is_no_write e = absurd (cc)
+
 -- what waited goes out, in part
 pub waits_on : (X : Option (List ℕ) → Option (List ℕ) → Type 0) (o p q : Option (List ℕ)) (waiting after : List ℕ) → Waits X o p waiting
     → Sends waiting after p q → Waits X o q after
@@ -237,17 +240,26 @@ module _ {C D : Type 0} (says : C × D → List ℕ → List ℕ → C × D → 
           (part_out s m i k o q (x.sent ++ []) x.sent [] x.as_if_out.0 refl x.out, x.as_if_out.1, λ _. x.as_if_out.2, x.as_if_out.3)
 
       -- the same, where what waited still does since a read failed
-      pub stops_waiting : (s m : C × D) (i k o p : Option (List ℕ)) (waiting : List ℕ) → Waits (Stops says drops takes session.Read s m i k) o p waiting
-          → StopsAtDoor says drops takes session.Read s m i k o p
+      stops_waiting : (fault : SessionFault) (s m : C × D) (i k o p : Option (List ℕ)) (waiting : List ℕ) → Waits (Stops says drops takes fault s m i k) o p waiting
+          → fault ≡ session.Read → StopsAtDoor says drops takes fault s m i k o p
       unfolding part_out
-      stops_waiting s m i k o p waiting w =
-          (part_out s m i k o p (w.sent ++ waiting) w.sent waiting w.as_if_out.0 refl w.out, w.as_if_out.1, λ e. absurd (e refl), λ e. absurd (cc))
+      stops_waiting fault s m i k o p waiting w is =
+          (part_out s m i k o p (w.sent ++ waiting) w.sent waiting w.as_if_out.0 refl w.out, w.as_if_out.1, λ e. absurd (e is), w.as_if_out.3)
+
+      -- a device failed
+      pub stops_off : (fault : SessionFault) (s m : C × D) (i k o p : Option (List ℕ)) (waiting : List ℕ) → (fault ≡ session.Read) ⊎ (fault ≡ session.Write)
+          → (fault ≢ session.Write → Waits (Stops says drops takes fault s m i k) o p waiting) → fault ≢ session.Write
+          → StopsAtDoor says drops takes fault s m i k o p
+      stops_off fault s m i k o p waiting (inl read) w other = stops_waiting fault s m i k o p waiting (w other) read
+      stops_off fault s m i k o p waiting (inr write) w other = absurd (other write)
+
+      pub breaks_off : (fault : SessionFault) (s m : C × D) (i k o p : Option (List ℕ)) (waiting : List ℕ) → (fault ≡ session.Read) ⊎ (fault ≡ session.Write)
+          → (fault ≢ session.Write → Waits (Stops says drops takes fault s m i k) o p waiting) → (fault ≡ session.Write → Breaks says drops s m i k o p)
+          → Breaks says drops s m i k o p
+      breaks_off fault s m i k o p waiting (inl read) w b = (stops_waiting fault s m i k o p waiting (w (λ write. read_is_no_write (sym read ∙ write))) read).0
+      breaks_off fault s m i k o p waiting (inr write) w b = b write
 
       pub stops_part : (fault : SessionFault) (s m : C × D) (i k o p q : Option (List ℕ)) (waiting : List ℕ) → Waits (Stops says drops takes fault s m i k) o p waiting
           → (lost : List ℕ) × Sends waiting lost p q → Breaks says drops s m i k o q
       stops_part fault s m i k o p q waiting w e =
           breaks_part s m i k o p q waiting e.0 (record { sent = w.sent; as_if_out = w.as_if_out.0; out = w.out }) e.1
-
-      pub door_breaks : (fault : SessionFault) (s m : C × D) (i k o q : Option (List ℕ)) → StopsAtDoor says drops takes fault s m i k o q
-          → Breaks says drops s m i k o q
-      door_breaks fault s m i k o q h = h.0

@@ -20,10 +20,6 @@ pub spoke : {T U : Type 0} (r : Result T SessionFault) (f : HandlerError) → Is
 spoke (Ok x) f h e = absurd (cc)
 spoke (Err fault) f h e = ap Err (spoken f (sym h.1 ∙ the_fault fault session.Journal e))
 
-pub handed_is : {T : Type 0} (r : Result T SessionFault) (f g : SessionFault) → IsErr r × IsErrAnd r (λ e. e ≡ f) → r ≡ Err g → f ≡ g
-handed_is (Ok x) f g h e = absurd (cc)
-handed_is (Err fault) f g h e = sym h.1 ∙ the_fault fault g e
-
 pub handed : {T U : Type 0} (r : Result T SessionFault) (f : SessionFault) → IsErr r × IsErrAnd r (λ e. e ≡ f) → r ≡ Err session.Journal
     → ◌≡◌ {A = Result U SessionFault} (Err f) (Err session.Journal)
 handed (Ok x) f h e = absurd (cc)

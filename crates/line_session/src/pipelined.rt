@@ -1,5 +1,5 @@
 //! The loop over the lines of a connection. Answers that are ready together are written together.
-ghost use Rattle.std.specs.Prelude.{◌≡◌, ◌≢◌, ◌⊎◌, ◌++◌, ◌-◌, ◌≤◌, ℕ, List, [], IfOk, IfErr, OnErr, OnOk, Err};
+ghost use Rattle.std.specs.Prelude.{◌≡◌, ◌≢◌, ◌⊎◌, ◌++◌, ◌-◌, ◌≤◌, ℕ, List, [], true, false, IfOk, IfErr, OnErr, OnOk, Err};
 ghost use Rattle.till_request.specs.Count.{RoseBy, one_if};
 ghost use Rattle.line_session.specs.Buffering.{SaysOn, Sends, StaysOff, Waits};
 ghost use Rattle.line_session.specs.Session.{desk_says, desk_drops, desk_fails, desk_takes};
@@ -103,10 +103,10 @@ impl Progress {
             ended.cut)
             (S.Out.written connection.old.output) (S.Out.written connection.new.output)
             self.new.waiting.held.bytes.items) }
-        ensures broken { result ≡ Err SessionFault.Write
+        ensures broken { IfErr result (λ fault. fault ≡ SessionFault.Write
             → Breaks (desk_says D.step C.tick role) (desk_drops D.step C.tick role) (clock.old, desk.old)
             (clock.new, desk.new) (S.In.remaining connection.old.input) (S.In.remaining connection.new.input)
-            (S.Out.written connection.old.output) (S.Out.written connection.new.output) }
+            (S.Out.written connection.old.output) (S.Out.written connection.new.output)) }
         ensures stopped { IfErr result (λ fault. fault ≢ SessionFault.Write → Waits
             (Stops (desk_says D.step C.tick role) (desk_drops D.step C.tick role) (desk_takes role) fault
             (clock.old, desk.old) (clock.new, desk.new) (S.In.remaining connection.old.input)
@@ -161,6 +161,17 @@ impl Progress {
     }
 }
 
+/// Whether a device failed: then nothing is written any more.
+fn device_failed(fault: SessionFault) -> bool
+    ensures yes { result ≡ true → (fault ≡ SessionFault.Read) ⊎ (fault ≡ SessionFault.Write) }
+    ensures no { result ≡ false → (fault ≢ SessionFault.Read) × (fault ≢ SessionFault.Write) }
+{
+    match fault {
+        SessionFault::Read | SessionFault::Write => true,
+        SessionFault::ReadsSpent | SessionFault::OutOfMemory | SessionFault::Journal => false,
+    }
+}
+
 /// Answers the lines that somebody of a role sends over a connection, as `session`; but where further lines are there
 /// already, as the doors say, the answers are written together.
 ///
@@ -199,9 +210,10 @@ pub fn pipelined_session<S: Doors, C: Clock, D: Desk>(
             progress.waiting.flush(&mut connection.output)?;
             Ok(ended)
         }
-        Err(SessionFault::Read) => Err(SessionFault::Read),
-        Err(SessionFault::Write) => Err(SessionFault::Write),
         Err(fault) => {
+            if device_failed(fault) {
+                return Err(fault);
+            }
             progress.waiting.flush(&mut connection.output)?;
             Err(fault)
         }

@@ -2,7 +2,7 @@ use Rattle.std.proofs.Common.{arith, rules}
 use Rattle.till_request.proofs.Counts.{rose_more, rose_left}
 use Rattle.till_request.specs.declared.act.LineFault.TheVariants.{TooLong, CutLine}
 use Rattle.line_session.specs.Session.{desk_says, desk_drops, desk_takes}
-use Rattle.line_session.proofs.Failing.{handed, handed_is, if_handed}
+use Rattle.line_session.proofs.Failing.{handed, if_handed}
 use Rattle.line_session.proofs.Buffered.{Answers, waits_none, waits_on, waits_more, breaks_gone, breaks_said, breaks_cut_off, stops_read, stops_said, ends_here, ends_cut}
 use Rattle.line_session.proofs.pipelined.Progress.answer_lines.Goals as goal
 
@@ -17,9 +17,9 @@ turns-init g c = record {
 }
 
 pub returns-in_err-flush_unless_more-clause-broken : goal.returns-in_err-flush_unless_more-clause-broken
-returns-in_err-flush_unless_more-clause-broken g c = λ _.
-    rw c.in_err-flush_unless_more.ensures.input (breaks_gone (desk_says g.D.Desk.step g.C.Clock.tick c.args.role) (desk_drops g.D.Desk.step g.C.Clock.tick c.args.role)
-    _ _ _ _ _ _ _ _ c.turns.count c.turns.invariant.answering c.in_err-flush_unless_more.ensures.err)
+returns-in_err-flush_unless_more-clause-broken g c =
+    if_handed _ _ c.from_residual.ensures _ (λ _. rw c.in_err-flush_unless_more.ensures.input (breaks_gone (desk_says g.D.Desk.step g.C.Clock.tick c.args.role) (desk_drops g.D.Desk.step g.C.Clock.tick c.args.role)
+    _ _ _ _ _ _ _ _ c.turns.count c.turns.invariant.answering c.in_err-flush_unless_more.ensures.err))
 
 pub returns-in_err-find_line-clause-stopped : goal.returns-in_err-find_line-clause-stopped
 returns-in_err-find_line-clause-stopped g c =
@@ -33,9 +33,9 @@ pub returns-in_err-answer_line-in-Line-clause-broken : goal.returns-in_err-answe
 returns-in_err-answer_line-in-Line-clause-broken g c =
     let way = waits_on _ _ _ _ _ _ c.turns.invariant.answering c.in_ok-flush_unless_more.ensures.ok in
     let t = rw (c.in-Line.is, c.in_ok-flush_unless_more.ensures.input) at c.in_ok-find_line.ensures.taken in
-    λ e. breaks_said (desk_says g.D.Desk.step g.C.Clock.tick c.args.role) (desk_drops g.D.Desk.step g.C.Clock.tick c.args.role) (desk_takes c.args.role) _ _ _ _ _ _ _ _ _ _
-    _ _ c.turns.count c.find_line.new.line.items way t.1 t.0 (rw c.deref.ensures.value at c.in_err-answer_line-in-Line.ensures.err)
-    (handed_is _ _ _ c.from_residual-in_err-answer_line-in-Line.ensures e)
+    if_handed _ _ c.from_residual-in_err-answer_line-in-Line.ensures _
+    (breaks_said (desk_says g.D.Desk.step g.C.Clock.tick c.args.role) (desk_drops g.D.Desk.step g.C.Clock.tick c.args.role) (desk_takes c.args.role) _ _ _ _ _ _ _ _ _ _
+    _ _ c.turns.count c.find_line.new.line.items way t.1 t.0 (rw c.deref.ensures.value at c.in_err-answer_line-in-Line.ensures.err))
 
 pub returns-in_err-answer_line-in-Line-clause-stopped : goal.returns-in_err-answer_line-in-Line-clause-stopped
 returns-in_err-answer_line-in-Line-clause-stopped g c =
@@ -64,8 +64,9 @@ pub returns-in_err-put-in-TooLong-clause-broken : goal.returns-in_err-put-in-Too
 returns-in_err-put-in-TooLong-clause-broken g c =
     let way = waits_on _ _ _ _ _ _ c.turns.invariant.answering c.in_ok-flush_unless_more.ensures.ok in
     let t = rw (c.in-TooLong.is, c.in_ok-flush_unless_more.ensures.input) at c.in_ok-find_line.ensures.taken in
-    λ _. breaks_cut_off (desk_says g.D.Desk.step g.C.Clock.tick c.args.role) (desk_drops g.D.Desk.step g.C.Clock.tick c.args.role) _ _ _ _ _ _ _ _ _ c.turns.count TooLong
-    t.0 way t.1 (t.2, t.3) c.in_err-put-in-TooLong.ensures.err
+    if_handed _ _ c.from_residual-in_err-put-in-TooLong.ensures _
+    (λ _. breaks_cut_off (desk_says g.D.Desk.step g.C.Clock.tick c.args.role) (desk_drops g.D.Desk.step g.C.Clock.tick c.args.role) _ _ _ _ _ _ _ _ _ c.turns.count TooLong
+    t.0 way t.1 (t.2, t.3) c.in_err-put-in-TooLong.ensures.err)
 
 pub returns-in-TooLong-clause-said : goal.returns-in-TooLong-clause-said
 returns-in-TooLong-clause-said g c =
@@ -78,8 +79,9 @@ pub returns-in_err-put-in-Cut-clause-broken : goal.returns-in_err-put-in-Cut-cla
 returns-in_err-put-in-Cut-clause-broken g c =
     let way = waits_on _ _ _ _ _ _ c.turns.invariant.answering c.in_ok-flush_unless_more.ensures.ok in
     let t = rw (c.in-Cut.is, c.in_ok-flush_unless_more.ensures.input) at c.in_ok-find_line.ensures.taken in
-    λ _. breaks_cut_off (desk_says g.D.Desk.step g.C.Clock.tick c.args.role) (desk_drops g.D.Desk.step g.C.Clock.tick c.args.role) _ _ _ _ _ _ _ _ _ c.turns.count CutLine
-    t.0 way t.1 (t.2, t.3, t.4) c.in_err-put-in-Cut.ensures.err
+    if_handed _ _ c.from_residual-in_err-put-in-Cut.ensures _
+    (λ _. breaks_cut_off (desk_says g.D.Desk.step g.C.Clock.tick c.args.role) (desk_drops g.D.Desk.step g.C.Clock.tick c.args.role) _ _ _ _ _ _ _ _ _ c.turns.count CutLine
+    t.0 way t.1 (t.2, t.3, t.4) c.in_err-put-in-Cut.ensures.err)
 
 pub returns-in-Cut-clause-said : goal.returns-in-Cut-clause-said
 returns-in-Cut-clause-said g c =
