@@ -94,27 +94,6 @@ module _ {C D : Type 0} (says : C × D → List ℕ → List ℕ → C × D → 
       waits_on (λ a b. Ends says s m i k a b (count + 1) (Some fault)) o p q (waiting ++ answer_line (Line fault)) after
       (ends_so s m i j k o p waiting count (Some fault) more w taken is) sends
 
-  -- all of it is out
-  pub ends_out : (s m : C × D) (i k o p q : Option (List ℕ)) (waiting : List ℕ) (count : ℕ) (cut : Option LineFault)
-      → Waits (λ a b. Ends says s m i k a b count cut) o p waiting → Sends waiting [] p q → Ends says s m i k o q count cut
-  ends_out s m i k o p q waiting count cut w sends =
-      let x = waits_on (λ a b. Ends says s m i k a b count cut) o p q waiting [] w sends in
-      let e = x.as_if_out in record {
-        answered = e.answered;
-        rest = e.rest;
-        answering = record {
-          lines = e.answering.lines;
-          texts = e.answering.texts;
-          each = e.answering.each;
-          said = e.answering.said;
-          taken = e.answering.taken;
-          written = subst (λ (t : List ℕ). Appends o q t) (sym (append-nil x.sent) ∙ e.answering.written) x.out;
-          counted = e.answering.counted;
-        };
-        is_cut = e.is_cut;
-        counted = e.counted;
-      }
-
   module _ (drops : C × D → List ℕ → C × D → Type 0) where
     -- what was said is broken off where a beginning of it is out
     part_out : (s m : C × D) (i k o q : Option (List ℕ)) (text sent lost : List ℕ) → Breaks says drops s m i k (Some []) (Some text) → sent ++ lost ≡ text

@@ -27,9 +27,12 @@ text_behind o p q bytes text s w =
 pub front_behind : (o p q : Option (List ℕ)) (bytes text : List ℕ) → Sends bytes [] o p → (k : ℕ) × Appends p q (take k text)
     → (lost : List ℕ) × Sends (bytes ++ text) lost o q
 front_behind o p q bytes text s h =
-    let e = all_sent o p bytes s in (drop h.0 text, record {
-      sent = s.sent ++ take h.0 text;
-      out = appends_more o p q s.sent (take h.0 text) s.out h.1;
-      in_order = append_assoc s.sent (take h.0 text) (drop h.0 text) ∙ ap (λ (t : List ℕ). s.sent ++ t) (take-append-drop h.0 text)
-          ∙ ap (λ (t : List ℕ). t ++ text) e;
-    })
+    let e = all_sent o p bytes s in (
+      drop h.0 text,
+      record {
+        sent = s.sent ++ take h.0 text;
+        out = appends_more o p q s.sent (take h.0 text) s.out h.1;
+        in_order = append_assoc s.sent (take h.0 text) (drop h.0 text) ∙ ap (λ (t : List ℕ). s.sent ++ t) (take-append-drop h.0 text)
+            ∙ ap (λ (t : List ℕ). t ++ text) e;
+      },
+    )

@@ -3,7 +3,7 @@ use Rattle.till_request.proofs.Counts.{rose_more, rose_left}
 use Rattle.till_request.specs.declared.act.LineFault.TheVariants.{TooLong, CutLine}
 use Rattle.line_session.specs.Session.{desk_says, desk_drops, desk_takes}
 use Rattle.line_session.proofs.Failing.{handed, if_handed}
-use Rattle.line_session.proofs.Buffered.{Answers, waits_none, waits_on, waits_more, breaks_gone, breaks_said, breaks_cut_off, stops_read, stops_said, ends_here, ends_cut}
+use Rattle.line_session.proofs.Buffered.{waits_none, waits_on, waits_more, breaks_gone, breaks_said, breaks_cut_off, stops_read, stops_said, ends_here, ends_cut}
 use Rattle.line_session.proofs.pipelined.Progress.answer_lines.Goals as goal
 
 pub turns-init : goal.turns-init
