@@ -1,207 +1,244 @@
--- Answers that wait in a buffer until they are written at once.
-use Rattle.std.proofs.Common.{◌≡◌, ℕ, ◌+◌, List, [], ◌∷◌, ◌++◌, take, drop, Option, Some, None, refl, sym, ◌∙◌, ap, subst, arith, append_assoc, append-nil}
-use Rattle.std.proofs.Common.{length, inl, inr}
+-- Answers that wait in a buffer until they are written together.
+use Rattle.std.proofs.Common.{◌≡◌, ◌≢◌, ◌⊎◌, ℕ, ◌+◌, List, [], ◌∷◌, ◌++◌, Option, Some, None, refl, sym, ◌∙◌, ap, subst, arith, append_assoc, append-nil}
+use Rattle.std.proofs.Common.{inl, inr}
 use Rattle.std.specs.List.{flat_map}
 use Rattle.std.specs.Io.KnownBytes.{Consumes, Appends, IsAtEnd}
-use Rattle.std.proofs.lemmas.List.{take-append-drop, take_all}
 use Rattle.till_request.proofs.Taken.{consumes_more, appends_more}
 use Rattle.till_request.specs.declared.act.LineFault.{LineFault}
 use Rattle.till_request.specs.declared.act.Answer.TheVariants.{Line}
 use Rattle.till_request.specs.Answer.{answer_line}
 use Rattle.till_request.specs.Line.{IsLine}
-use Rattle.line_session.specs.Answering.{with_lf, cut_line, cut_count, FallsShort, Said, IsCut, AnswersCut, IsUpToLine, Ends, Breaks}
-use Rattle.line_session.specs.declared.line_handler.HandlerError.{HandlerError}
-use Rattle.line_session.specs.declared.line_handler.HandlerError.TheVariants as error
-use Rattle.line_session.specs.Buffering.{Gathers, EndsBuffered, BreaksBuffered, FlushesOrKeeps}
-use Rattle.line_session.proofs.Saying.{is_line_empty, consumes_none, appends_none, talks_none, talks_more, breaks_here, breaks_line, breaks_cut}
-
--- what is put behind the buffer is put behind all
-behind : (sent buffer after text : List ℕ) → after ≡ buffer ++ text → sent ++ after ≡ (sent ++ buffer) ++ text
-behind sent buffer after text e = ap (λ (t : List ℕ). sent ++ t) e ∙ sym (append_assoc sent buffer text)
+use Rattle.line_session.specs.Answering.{with_lf, cut_line, cut_count, all_texts, AnswersLines, IsCut, AnswersCut, IsUpToLine, Ends, Breaks, Stops, StopsAtDoor}
+use Rattle.line_session.specs.declared.answering.SessionFault.{SessionFault}
+use Rattle.line_session.specs.declared.answering.SessionFault.TheVariants as session
+use Rattle.line_session.specs.Buffering.{Sends, Waits, SaysOn, LosesSome, StaysOff}
+use Rattle.line_session.proofs.Saying.{is_line_empty, consumes_none, appends_none, talks_none, talks_more, breaks_here, stops_here, stops_silent, stops_dropped}
 
 is_answered : (cut : Option LineFault) (now : Option (List ℕ)) (rest : List ℕ) → IsCut cut now rest → AnswersCut cut now rest
 is_answered None now rest h = subst IsUpToLine (sym h.0) (inl is_line_empty)
 is_answered (Some fault) now rest h = h
 
-module _ {C D : Type 0} (says : C × D → List ℕ → List ℕ → C × D → Type 0) (drops : C × D → List ℕ → C × D → Type 0) where
-  pub gathers_none : (s : C × D) (i o : Option (List ℕ)) → Gathers says s s i i o o [] 0
-  gathers_none s i o = record { sent = []; answering = talks_none says s i (Some []); out = appends_none o }
+read_is_no_write : session.Read ≡ session.Write → ⊥
+read_is_no_write e = absurd (cc)
 
-  pub gathers_gone : (s m : C × D) (i j o p q : Option (List ℕ)) (buffer : List ℕ) (count : ℕ) → Gathers says s m i j o p buffer count → Appends p q buffer
-      → Gathers says s m i j o q [] count
-  gathers_gone s m i j o p q buffer count g w = record { sent = g.sent ++ buffer; answering = rw append-nil g.answering; out = appends_more o p q g.sent buffer g.out w }
+-- what waited goes out, in part
+pub waits_on : (X : Option (List ℕ) → Option (List ℕ) → Type 0) (o p q : Option (List ℕ)) (waiting after : List ℕ) → Waits X o p waiting
+    → Sends waiting after p q → Waits X o q after
+waits_on X o p q waiting after w s =
+    let P : List ℕ → Type 0 = λ t. X (Some []) (Some t) in
+    record {
+      sent = w.sent ++ s.sent;
+      as_if_out = subst P (ap (λ t. w.sent ++ t) (sym s.in_order) ∙ sym (append_assoc w.sent s.sent after)) w.as_if_out;
+      out = appends_more o p q w.sent s.sent w.out s.out;
+    }
 
-  pub gathers_way : (s m : C × D) (i j o p q : Option (List ℕ)) (buffer after : List ℕ) (count : ℕ) → Gathers says s m i j o p buffer count → FlushesOrKeeps buffer after p q
-      → Gathers says s m i j o q after count
-  gathers_way s m i j o p q buffer after count g (inl same) = rw (same.0, same.1) g
-  gathers_way s m i j o p q buffer after count g (inr gone) = rw gone.0 (gathers_gone s m i j o p q buffer count g gone.1)
+module _ {C D : Type 0} (says : C × D → List ℕ → List ℕ → C × D → Type 0) where
+  -- the lines so far are answered, and the answers are out, or wait
+  abbrev pub Answers : (s s' : C × D) (i j : Option (List ℕ)) (count : ℕ) → Option (List ℕ) → Option (List ℕ) → Type 0
+  Answers s s' i j count o p = AnswersLines says s s' i j o p count [] []
 
-  pub gathers_more : (s m s' : C × D) (i j k o p : Option (List ℕ)) (buffer after : List ℕ) (count : ℕ) (l : List ℕ)
-      → Gathers says s m i j o p buffer count → IsLine l → Consumes j k (l ++ 10 ∷ []) → Said says l m s' (Some buffer) (Some after)
-      → Gathers says s s' i k o p after (count + 1)
-  gathers_more s m s' i j k o p buffer after count l g whole taken a = record {
-    sent = g.sent;
-    answering = talks_more says s m s' i j k (Some []) (Some (g.sent ++ buffer)) (Some (g.sent ++ after)) count l g.answering whole taken
-        (record { text = a.text; says_it = a.says_it; written = behind g.sent buffer after a.text a.written });
-    out = g.out;
+  pub waits_none : (s : C × D) (i o : Option (List ℕ)) → Waits (Answers s s i i 0) o o []
+  waits_none s i o = record { sent = []; as_if_out = talks_none says s i (Some []); out = appends_none o }
+
+  -- the next line is answered too, if its text waits
+  text_waits : (s m s' : C × D) (i j k o p : Option (List ℕ)) (waiting : List ℕ) (count : ℕ) (l text : List ℕ) → Waits (Answers s m i j count) o p waiting
+      → IsLine l → Consumes j k (l ++ 10 ∷ []) → says m l text s' → Waits (Answers s s' i k (count + 1)) o p (waiting ++ text)
+  text_waits s m s' i j k o p waiting count l text w whole taken said = record {
+    sent = w.sent;
+    as_if_out = talks_more says s m s' i j k (Some []) (Some (w.sent ++ waiting)) (Some (w.sent ++ (waiting ++ text))) count l w.as_if_out whole taken
+        (record { text = text; says_it = said; written = sym (append_assoc w.sent waiting text) });
+    out = w.out;
   }
 
-  pub breaks_gone : (s m : C × D) (i j o p q : Option (List ℕ)) (buffer after : List ℕ) (count k : ℕ) → Gathers says s m i j o p buffer count
-      → Appends p q (take k buffer) → after ≡ [] → BreaksBuffered says drops s m i j o q after
-  breaks_gone s m i j o p q buffer after count k g w none = rw none record {
-    sent = g.sent ++ take k buffer;
-    lost = drop k buffer;
-    breaks = rw (append_assoc, take-append-drop) (breaks_here says drops s m i j (Some []) (Some (g.sent ++ buffer)) count j [] g.answering
-        (consumes_none j) (inl is_line_empty));
-    out = appends_more o p q g.sent (take k buffer) g.out w;
-  }
+  pub waits_more : (s m s' : C × D) (i j k o p q : Option (List ℕ)) (waiting after : List ℕ) (count : ℕ) (l : List ℕ)
+      → Waits (Answers s m i j count) o p waiting → IsLine l → Consumes j k (l ++ 10 ∷ []) → SaysOn says l m s' waiting after p q
+      → Waits (Answers s s' i k (count + 1)) o q after
+  waits_more s m s' i j k o p q waiting after count l w whole taken a =
+      waits_on (Answers s s' i k (count + 1)) o p q (waiting ++ a.text) after (text_waits s m s' i j k o p waiting count l a.text w whole taken a.says_it) a.goes_on
 
-  pub breaks_read : (s m : C × D) (i j k o p : Option (List ℕ)) (buffer : List ℕ) (count : ℕ) (more : List ℕ) → Gathers says s m i j o p buffer count
-      → Consumes j k more → IsLine more → BreaksBuffered says drops s m i k o p buffer
-  breaks_read s m i j k o p buffer count more g taken line = record {
-    sent = g.sent;
-    lost = [];
-    breaks = rw append-nil (breaks_here says drops s m i j (Some []) (Some (g.sent ++ buffer)) count k more g.answering taken (inl line));
-    out = g.out;
-  }
-
-  half_behind : {O : Type 0} (bytes : O → List ℕ) (sent l : List ℕ) (m s' : C × D) (p q : O) (takes : List ℕ → Type 0) (fault : HandlerError)
-      → FallsShort says drops takes (λ (x : O). Some (bytes x)) fault l m s' p q → FallsShort says drops takes (λ (x : O). Some (sent ++ bytes x)) fault l m s' p q
-  half_behind bytes sent l m s' p q takes error.OutOfMemory a = a
-  half_behind bytes sent l m s' p q takes error.Journal a = a
-  half_behind bytes sent l m s' p q takes error.Write a =
-      record { text = a.text; says_it = a.says_it; kept = a.kept; written = behind sent (bytes p) (bytes q) (take a.kept a.text) a.written }
-
-  pub breaks_spoken : {O : Type 0} (bytes : O → List ℕ) (s m s' : C × D) (i j k o r : Option (List ℕ)) (p q : O) (count : ℕ) (l : List ℕ)
-      → Gathers says s m i j o r (bytes p) count → IsLine l → Consumes j k (l ++ 10 ∷ [])
-      → (takes : List ℕ → Type 0) → (fault : HandlerError) × FallsShort says drops takes (λ (x : O). Some (bytes x)) fault l m s' p q → BreaksBuffered says drops s s' i k o r (bytes q)
-  breaks_spoken {O} bytes s m s' i j k o r p q count l g whole taken takes e = record {
-    sent = g.sent;
-    lost = [];
-    breaks = rw append-nil (breaks_line says drops (λ (x : O). Some (g.sent ++ bytes x)) s m s' i j k (Some []) p q count l g.answering whole taken
-        takes e.0 (half_behind bytes g.sent l m s' p q takes e.0 e.1));
-    out = g.out;
-  }
-
-  pub breaks_held_cut : (s m : C × D) (i j k o p : Option (List ℕ)) (buffer after : List ℕ) (count : ℕ) (more : List ℕ) (fault : LineFault) (kept : ℕ)
-      → Gathers says s m i j o p buffer count → Consumes j k more → IsCut (Some fault) k more → after ≡ buffer ++ take kept (answer_line (Line fault))
-      → BreaksBuffered says drops s m i k o p after
-  breaks_held_cut s m i j k o p buffer after count more fault kept g taken is w = record {
-    sent = g.sent;
-    lost = [];
-    breaks = rw append-nil (breaks_cut says drops s m i j k (Some []) (Some (g.sent ++ buffer)) (Some (g.sent ++ after)) count more fault kept g.answering taken is
-        (behind g.sent buffer after (take kept (answer_line (Line fault))) w));
-    out = g.out;
-  }
-
-  ends_so : (s m : C × D) (i j k o p : Option (List ℕ)) (buffer after : List ℕ) (count : ℕ) (cut : Option LineFault) (more : List ℕ)
-      → Gathers says s m i j o p buffer count → Consumes j k more → IsCut cut k more → after ≡ buffer ++ cut_line cut
-      → EndsBuffered says s m i k o p after (count + cut_count cut) cut
-  ends_so s m i j k o p buffer after count cut more g taken is w = record {
-    sent = g.sent;
-    ends = record {
+  -- the session ends
+  ends_so : (s m : C × D) (i j k o p : Option (List ℕ)) (waiting : List ℕ) (count : ℕ) (cut : Option LineFault) (more : List ℕ)
+      → Waits (Answers s m i j count) o p waiting → Consumes j k more → IsCut cut k more
+      → Waits (λ a b. Ends says s m i k a b (count + cut_count cut) cut) o p (waiting ++ cut_line cut)
+  ends_so s m i j k o p waiting count cut more w taken is = record {
+    sent = w.sent;
+    as_if_out = record {
       answered = count;
       rest = more;
       answering = record {
-        lines = g.answering.lines;
-        texts = g.answering.texts;
-        each = g.answering.each;
-        said = g.answering.said;
-        taken = consumes_more i j k (flat_map with_lf g.answering.lines) more (rw append-nil at g.answering.taken) taken;
-        written = behind g.sent buffer after (cut_line cut) w ∙ ap (λ (t : List ℕ). t ++ cut_line cut) (rw append-nil at g.answering.written);
-        counted = g.answering.counted;
+        lines = w.as_if_out.lines;
+        texts = w.as_if_out.texts;
+        each = w.as_if_out.each;
+        said = w.as_if_out.said;
+        taken = consumes_more i j k (flat_map with_lf w.as_if_out.lines) more (rw append-nil at w.as_if_out.taken) taken;
+        written = sym (append_assoc w.sent waiting (cut_line cut)) ∙ ap (λ (t : List ℕ). t ++ cut_line cut) (rw append-nil at w.as_if_out.written);
+        counted = w.as_if_out.counted;
       };
       is_cut = is;
       counted = refl;
     };
-    out = g.out;
+    out = w.out;
   }
 
-  pub ends_here : (s m : C × D) (i j k o p : Option (List ℕ)) (buffer : List ℕ) (count : ℕ) → Gathers says s m i j o p buffer count → Consumes j k [] → IsAtEnd k
-      → EndsBuffered says s m i k o p buffer count None
-  ends_here s m i j k o p buffer count g taken at_end =
-      subst (λ (n : ℕ). EndsBuffered says s m i k o p buffer n None) (omega arith)
-      (ends_so s m i j k o p buffer buffer count None [] g taken (refl, at_end) (sym (append-nil buffer)))
+  pub ends_here : (s m : C × D) (i j k o p : Option (List ℕ)) (waiting : List ℕ) (count : ℕ) → Waits (Answers s m i j count) o p waiting → Consumes j k []
+      → IsAtEnd k → Waits (λ a b. Ends says s m i k a b count None) o p waiting
+  ends_here s m i j k o p waiting count w taken at_end =
+      let P : ℕ → List ℕ → Type 0 = λ n t. Waits (λ a b. Ends says s m i k a b n None) o p t in
+      subst (λ (n : ℕ). P n waiting) (omega arith)
+      (subst (λ (t : List ℕ). P (count + 0) t) (append-nil waiting) (ends_so s m i j k o p waiting count None [] w taken (refl, at_end)))
 
-  pub ends_cut : (s m : C × D) (i j k o p : Option (List ℕ)) (buffer after : List ℕ) (count : ℕ) (fault : LineFault) (more : List ℕ)
-      → Gathers says s m i j o p buffer count → Consumes j k more → IsCut (Some fault) k more → after ≡ buffer ++ answer_line (Line fault)
-      → EndsBuffered says s m i k o p after (count + 1) (Some fault)
-  ends_cut s m i j k o p buffer after count fault more g taken is w = ends_so s m i j k o p buffer after count (Some fault) more g taken is w
+  pub ends_cut : (s m : C × D) (i j k o p q : Option (List ℕ)) (waiting after : List ℕ) (count : ℕ) (fault : LineFault) (more : List ℕ)
+      → Waits (Answers s m i j count) o p waiting → Consumes j k more → IsCut (Some fault) k more → Sends (waiting ++ answer_line (Line fault)) after p q
+      → Waits (λ a b. Ends says s m i k a b (count + 1) (Some fault)) o q after
+  ends_cut s m i j k o p q waiting after count fault more w taken is sends =
+      waits_on (λ a b. Ends says s m i k a b (count + 1) (Some fault)) o p q (waiting ++ answer_line (Line fault)) after
+      (ends_so s m i j k o p waiting count (Some fault) more w taken is) sends
 
-  -- what the buffer had is out too
-  pub ends_out : (s m : C × D) (i k o p q : Option (List ℕ)) (buffer : List ℕ) (count : ℕ) (cut : Option LineFault) → EndsBuffered says s m i k o p buffer count cut
-      → Appends p q buffer → Ends says s m i k o q count cut
-  ends_out s m i k o p q buffer count cut h w = record {
-    answered = h.ends.answered;
-    rest = h.ends.rest;
-    answering = record {
-      lines = h.ends.answering.lines;
-      texts = h.ends.answering.texts;
-      each = h.ends.answering.each;
-      said = h.ends.answering.said;
-      taken = h.ends.answering.taken;
-      written = rw (← h.ends.answering.written) (appends_more o p q h.sent buffer h.out w);
-      counted = h.ends.answering.counted;
-    };
-    is_cut = h.ends.is_cut;
-    counted = h.ends.counted;
-  }
+  module _ (drops : C × D → List ℕ → C × D → Type 0) where
+    -- what was said is broken off where a beginning of it is out
+    part_out : (s m : C × D) (i k o q : Option (List ℕ)) (text sent lost : List ℕ) → Breaks says drops s m i k (Some []) (Some text) → sent ++ lost ≡ text
+        → Appends o q sent → Breaks says drops s m i k o q
+    part_out s m i k o q text sent lost b in_order out = record {
+      lines = b.lines;
+      texts = b.texts;
+      each = b.each;
+      answered = b.answered;
+      said = b.said;
+      rest = b.rest;
+      dropped = b.dropped;
+      taken = b.taken;
+      cut = b.cut;
+      is_cut = b.is_cut;
+      front = sent;
+      after = lost ++ b.after;
+      written = out;
+      begins = b.begins ∙ ap (λ (t : List ℕ). t ++ b.after) (sym b.written ∙ sym in_order) ∙ append_assoc sent lost b.after;
+    }
 
-  -- a front of it is
-  pub ends_broken : (s m : C × D) (i k o p q : Option (List ℕ)) (buffer : List ℕ) (count kept : ℕ) (cut : Option LineFault)
-      → EndsBuffered says s m i k o p buffer count cut → Appends p q (take kept buffer) → Breaks says drops s m i k o q
-  ends_broken s m i k o p q buffer count kept cut h w = record {
-    lines = h.ends.answering.lines;
-    texts = h.ends.answering.texts;
-    each = h.ends.answering.each;
-    answered = m;
-    said = h.ends.answering.said;
-    rest = h.ends.rest;
-    dropped = inl refl;
-    taken = h.ends.answering.taken;
-    cut = cut;
-    is_cut = is_answered cut k h.ends.rest h.ends.is_cut;
-    front = h.sent ++ take kept buffer;
-    after = drop kept buffer;
-    written = appends_more o p q h.sent (take kept buffer) h.out w;
-    begins = sym h.ends.answering.written ∙ ap (λ (t : List ℕ). h.sent ++ t) (sym (take-append-drop kept buffer))
-        ∙ sym (append_assoc h.sent (take kept buffer) (drop kept buffer));
-  }
+    breaks_part : (s m : C × D) (i k o p q : Option (List ℕ)) (waiting lost : List ℕ) → Waits (Breaks says drops s m i k) o p waiting → Sends waiting lost p q
+        → Breaks says drops s m i k o q
+    breaks_part s m i k o p q waiting lost w sends =
+        let x = waits_on (Breaks says drops s m i k) o p q waiting lost w sends in part_out s m i k o q (x.sent ++ lost) x.sent lost x.as_if_out refl x.out
 
-  pub breaks_out : (s m : C × D) (i k o p q : Option (List ℕ)) (buffer : List ℕ) (kept : ℕ) → BreaksBuffered says drops s m i k o p buffer
-      → Appends p q (take kept buffer) → Breaks says drops s m i k o q
-  breaks_out s m i k o p q buffer kept h w = record {
-    lines = h.breaks.lines;
-    texts = h.breaks.texts;
-    each = h.breaks.each;
-    answered = h.breaks.answered;
-    said = h.breaks.said;
-    rest = h.breaks.rest;
-    dropped = h.breaks.dropped;
-    taken = h.breaks.taken;
-    cut = h.breaks.cut;
-    is_cut = h.breaks.is_cut;
-    front = h.sent ++ take kept buffer;
-    after = drop kept buffer ++ (h.lost ++ h.breaks.after);
-    written = appends_more o p q h.sent (take kept buffer) h.out w;
-    begins =
-        h.breaks.begins
-        ∙ ap (λ (t : List ℕ). t ++ h.breaks.after) (sym h.breaks.written)
-        ∙ append_assoc h.sent (buffer ++ h.lost) h.breaks.after
-        ∙ ap (λ (t : List ℕ). h.sent ++ t) (
-        append_assoc buffer h.lost h.breaks.after
-        ∙ ap (λ (t : List ℕ). t ++ (h.lost ++ h.breaks.after)) (sym (take-append-drop kept buffer))
-        ∙ append_assoc (take kept buffer) (drop kept buffer) (h.lost ++ h.breaks.after)
-        )
-        ∙ sym (append_assoc h.sent (take kept buffer) (drop kept buffer ++ (h.lost ++ h.breaks.after)));
-  }
+    breaks_so : (s m : C × D) (i j k o p : Option (List ℕ)) (waiting : List ℕ) (count : ℕ) (more : List ℕ) → Waits (Answers s m i j count) o p waiting
+        → Consumes j k more → IsUpToLine more → Waits (Breaks says drops s m i k) o p waiting
+    breaks_so s m i j k o p waiting count more w taken is =
+        record { sent = w.sent; as_if_out = breaks_here says drops s m i j (Some []) (Some (w.sent ++ waiting)) count k more w.as_if_out taken is; out = w.out }
 
-  -- all of it is
-  pub breaks_all : (s m : C × D) (i k o p q : Option (List ℕ)) (buffer : List ℕ) → BreaksBuffered says drops s m i k o p buffer → Appends p q buffer
-      → Breaks says drops s m i k o q
-  breaks_all s m i k o p q buffer h w =
-      breaks_out s m i k o p q buffer (length buffer) h (subst (λ (t : List ℕ). Appends p q t) (sym (take_all (length buffer) buffer (omega arith))) w)
+    -- a write failed: of what waited, of an answer, or of the answer to a cut
+    pub breaks_gone : (s m : C × D) (i j o p q : Option (List ℕ)) (waiting : List ℕ) (count : ℕ) → Waits (Answers s m i j count) o p waiting
+        → (lost : List ℕ) × Sends waiting lost p q → Breaks says drops s m i j o q
+    breaks_gone s m i j o p q waiting count w e =
+        breaks_part s m i j o p q waiting e.0 (breaks_so s m i j j o p waiting count [] w (consumes_none j) (inl is_line_empty)) e.1
 
-  -- nothing of it is
-  pub breaks_left : (s m : C × D) (i k o p : Option (List ℕ)) (buffer : List ℕ) → BreaksBuffered says drops s m i k o p buffer → Breaks says drops s m i k o p
-  breaks_left s m i k o p buffer h = breaks_out s m i k o p p buffer 0 h (appends_none p)
+    breaks_lost : (s m s' : C × D) (i j k o p q : Option (List ℕ)) (waiting : List ℕ) (count : ℕ) (l : List ℕ)
+        → Waits (Answers s m i j count) o p waiting → IsLine l → Consumes j k (l ++ 10 ∷ []) → LosesSome says l m s' waiting p q
+        → Breaks says drops s s' i k o q
+    breaks_lost s m s' i j k o p q waiting count l w whole taken a =
+        breaks_gone s s' i k o p q (waiting ++ a.text) (count + 1) (text_waits s m s' i j k o p waiting count l a.text w whole taken a.says_it) (a.lost, a.goes_on)
+
+    pub breaks_said : (takes : List ℕ → Type 0) (fault : SessionFault) (s m s' : C × D) (i j k o p q : Option (List ℕ)) (waiting after : List ℕ) (count : ℕ)
+        (l : List ℕ) → Waits (Answers s m i j count) o p waiting → IsLine l → Consumes j k (l ++ 10 ∷ [])
+        → StaysOff says drops takes fault l m s' waiting after p q → fault ≡ session.Write → Breaks says drops s s' i k o q
+    breaks_said takes fault s m s' i j k o p q waiting after count l w whole taken a is =
+        let P : SessionFault → Type 0 = λ f. StaysOff says drops takes f l m s' waiting after p q in
+        breaks_lost s m s' i j k o p q waiting count l w whole taken (subst P is a)
+
+    ends_broken : (s m : C × D) (i k o p : Option (List ℕ)) (count : ℕ) (cut : Option LineFault) → Ends says s m i k o p count cut
+        → Breaks says drops s m i k o p
+    ends_broken s m i k o p count cut e = record {
+      lines = e.answering.lines;
+      texts = e.answering.texts;
+      each = e.answering.each;
+      answered = m;
+      said = e.answering.said;
+      rest = e.rest;
+      dropped = inl refl;
+      taken = e.answering.taken;
+      cut = cut;
+      is_cut = is_answered cut k e.rest e.is_cut;
+      front = all_texts e.answering.texts ++ cut_line cut;
+      after = [];
+      written = e.answering.written;
+      begins = sym (append-nil (all_texts e.answering.texts ++ cut_line cut));
+    }
+
+    pub ends_part : (s m : C × D) (i k o p q : Option (List ℕ)) (waiting : List ℕ) (count : ℕ) (cut : Option LineFault)
+        → Waits (λ a b. Ends says s m i k a b count cut) o p waiting → (lost : List ℕ) × Sends waiting lost p q → Breaks says drops s m i k o q
+    ends_part s m i k o p q waiting count cut w e =
+        breaks_part s m i k o p q waiting e.0
+        (record { sent = w.sent; as_if_out = ends_broken s m i k (Some []) (Some (w.sent ++ waiting)) count cut w.as_if_out; out = w.out }) e.1
+
+    pub breaks_cut_off : (s m : C × D) (i j k o p q : Option (List ℕ)) (waiting : List ℕ) (count : ℕ) (fault : LineFault) (more : List ℕ)
+        → Waits (Answers s m i j count) o p waiting → Consumes j k more → IsCut (Some fault) k more
+        → (lost : List ℕ) × Sends (waiting ++ answer_line (Line fault)) lost p q → Breaks says drops s m i k o q
+    breaks_cut_off s m i j k o p q waiting count fault more w taken is e =
+        ends_part s m i k o p q (waiting ++ answer_line (Line fault)) (count + 1) (Some fault) (ends_so s m i j k o p waiting count (Some fault) more w taken is) e
+
+    module _ (takes : List ℕ → Type 0) where
+      -- no write failed
+      pub stops_read : (fault : SessionFault) (s m : C × D) (i j k o p : Option (List ℕ)) (waiting : List ℕ) (count : ℕ) (more : List ℕ)
+          → Waits (Answers s m i j count) o p waiting → Consumes j k more → IsLine more → Waits (Stops says drops takes fault s m i k) o p waiting
+      stops_read fault s m i j k o p waiting count more w taken line = record {
+        sent = w.sent;
+        as_if_out = stops_here says drops takes fault s m i j (Some []) (Some (w.sent ++ waiting)) count k more w.as_if_out taken line;
+        out = w.out;
+      }
+
+      stops_want : (s m s' : C × D) (i j k o p : Option (List ℕ)) (count : ℕ) (l : List ℕ)
+          → AnswersLines says s m i j o p count [] [] → IsLine l → Consumes j k (l ++ 10 ∷ []) → (takes l × (s' ≡ m)) ⊎ drops m l s'
+          → Stops says drops takes session.OutOfMemory s s' i k o p
+      stops_want s m s' i j k o p count l t whole taken (inl load) =
+          rw load.1 (stops_silent says drops takes session.OutOfMemory s m i j k o p count l t whole taken load.0)
+      stops_want s m s' i j k o p count l t whole taken (inr dropped) =
+          stops_dropped says drops takes session.OutOfMemory s m s' i j k o p count l t whole taken dropped
+
+      pub stops_said : (fault : SessionFault) (s m s' : C × D) (i j k o p q : Option (List ℕ)) (waiting after : List ℕ) (count : ℕ) (l : List ℕ)
+          → Waits (Answers s m i j count) o p waiting → IsLine l → Consumes j k (l ++ 10 ∷ [])
+          → StaysOff says drops takes fault l m s' waiting after p q → fault ≢ session.Write → Waits (Stops says drops takes fault s s' i k) o q after
+      stops_said session.Write s m s' i j k o p q waiting after count l w whole taken a other = absurd (other refl)
+      stops_said session.Read s m s' i j k o p q waiting after count l w whole taken a other = absurd a
+      stops_said session.ReadsSpent s m s' i j k o p q waiting after count l w whole taken a other = absurd a
+      stops_said session.OutOfMemory s m s' i j k o p q waiting after count l w whole taken a other = rw (a.0.waits, a.0.out) record {
+        sent = w.sent;
+        as_if_out = stops_want s m s' i j k (Some []) (Some (w.sent ++ waiting)) count l w.as_if_out whole taken a.1;
+        out = w.out;
+      }
+      stops_said session.Journal s m s' i j k o p q waiting after count l w whole taken a other = rw (a.0.waits, a.0.out) record {
+        sent = w.sent;
+        as_if_out = stops_dropped says drops takes session.Journal s m s' i j k (Some []) (Some (w.sent ++ waiting)) count l w.as_if_out whole taken a.1;
+        out = w.out;
+      }
+
+      -- it broke off, and what waited is out
+      pub stops_out : (fault : SessionFault) (s m : C × D) (i k o p q : Option (List ℕ)) (waiting : List ℕ) → Waits (Stops says drops takes fault s m i k) o p waiting
+          → Sends waiting [] p q → StopsAtDoor says drops takes fault s m i k o q
+      unfolding part_out
+      stops_out fault s m i k o p q waiting w sends =
+          let x = waits_on (Stops says drops takes fault s m i k) o p q waiting [] w sends in
+          (part_out s m i k o q (x.sent ++ []) x.sent [] x.as_if_out.0 refl x.out, x.as_if_out.1, λ _. x.as_if_out.2, x.as_if_out.3)
+
+      -- the same, where what waited still does since a read failed
+      stops_waiting : (fault : SessionFault) (s m : C × D) (i k o p : Option (List ℕ)) (waiting : List ℕ) → Waits (Stops says drops takes fault s m i k) o p waiting
+          → fault ≡ session.Read → StopsAtDoor says drops takes fault s m i k o p
+      unfolding part_out
+      stops_waiting fault s m i k o p waiting w is =
+          (part_out s m i k o p (w.sent ++ waiting) w.sent waiting w.as_if_out.0 refl w.out, w.as_if_out.1, λ e. absurd (e is), w.as_if_out.3)
+
+      -- a device failed
+      pub stops_off : (fault : SessionFault) (s m : C × D) (i k o p : Option (List ℕ)) (waiting : List ℕ) → (fault ≡ session.Read) ⊎ (fault ≡ session.Write)
+          → (fault ≢ session.Write → Waits (Stops says drops takes fault s m i k) o p waiting) → fault ≢ session.Write
+          → StopsAtDoor says drops takes fault s m i k o p
+      stops_off fault s m i k o p waiting (inl read) w other = stops_waiting fault s m i k o p waiting (w other) read
+      stops_off fault s m i k o p waiting (inr write) w other = absurd (other write)
+
+      pub breaks_off : (fault : SessionFault) (s m : C × D) (i k o p : Option (List ℕ)) (waiting : List ℕ) → (fault ≡ session.Read) ⊎ (fault ≡ session.Write)
+          → (fault ≢ session.Write → Waits (Stops says drops takes fault s m i k) o p waiting) → (fault ≡ session.Write → Breaks says drops s m i k o p)
+          → Breaks says drops s m i k o p
+      breaks_off fault s m i k o p waiting (inl read) w b = (stops_waiting fault s m i k o p waiting (w (λ write. read_is_no_write (sym read ∙ write))) read).0
+      breaks_off fault s m i k o p waiting (inr write) w b = b write
+
+      pub stops_part : (fault : SessionFault) (s m : C × D) (i k o p q : Option (List ℕ)) (waiting : List ℕ) → Waits (Stops says drops takes fault s m i k) o p waiting
+          → (lost : List ℕ) × Sends waiting lost p q → Breaks says drops s m i k o q
+      stops_part fault s m i k o p q waiting w e =
+          breaks_part s m i k o p q waiting e.0 (record { sent = w.sent; as_if_out = w.as_if_out.0; out = w.out }) e.1

@@ -1,5 +1,5 @@
 -- What was said from state to state was also said from what a caller sees of the states.
-use Rattle.std.proofs.Common.{ℕ, List, [], ◌∷◌, Option, Some, None, Result, Ok, Err, ap, inl, inr}
+use Rattle.std.proofs.Common.{◌≡◌, ◌⊎◌, ℕ, List, [], ◌∷◌, Option, Some, None, Result, Ok, Err, ap, inl, inr}
 use Rattle.till_request.specs.declared.act.Act.{Act}
 use Rattle.till_request.specs.declared.act.Role.{Role}
 use Rattle.till_request.specs.declared.act.LineFault.{LineFault}
@@ -9,11 +9,11 @@ use Rattle.till_request.specs.Grammar.{line_read}
 use Rattle.line_session.specs.declared.answering.Ended.{Ended}
 use Rattle.line_session.specs.declared.answering.SessionFault.{SessionFault}
 use Rattle.line_session.specs.Session.{AnswersAct, desk_says, desk_drops, desk_fails}
-use Rattle.line_session.specs.Answering.{SaysAll, AnswersLines, Ends, DropsNext, Breaks, FailsAt}
+use Rattle.line_session.specs.Answering.{SaysAll, AnswersLines, Ends, DropsNext, Breaks, FailsAt, StopsAtDoor, WantsNext}
 use Rattle.line_session.specs.Serving.{Outcome, Sits, Visits, VisitsAll, Serves}
 
 module _ {S T : Type 0} (f : S → T) (says : S → List ℕ → List ℕ → S → Type 0) (drops fails : S → List ℕ → S → Type 0)
-    (seen : T → List ℕ → List ℕ → T → Type 0) (lost failed : T → List ℕ → T → Type 0)
+    (seen : T → List ℕ → List ℕ → T → Type 0) (lost failed : T → List ℕ → T → Type 0) (takes : List ℕ → Type 0)
     (shows : (s : S) (line text : List ℕ) (s' : S) → says s line text s' → seen (f s) line text (f s'))
     (loses : (s : S) (line : List ℕ) (s' : S) → drops s line s' → lost (f s) line (f s'))
     (stops : (s : S) (line : List ℕ) (s' : S) → fails s line s' → failed (f s) line (f s')) where
@@ -67,13 +67,26 @@ module _ {S T : Type 0} (f : S → T) (says : S → List ℕ → List ℕ → S 
     begins = b.begins;
   }
 
+  wants_more : (s s' : S) (line : List ℕ) → ((s' ≡ s) × takes line) ⊎ drops s line s' → ((f s' ≡ f s) × takes line) ⊎ lost (f s) line (f s')
+  wants_more s s' line (inl same) = inl (ap f same.0, same.1)
+  wants_more s s' line (inr dropped) = inr (loses s line s' dropped)
+
+  wants_seen : (s s' : S) (rest : List ℕ) → WantsNext drops takes s s' rest → WantsNext lost takes (f s) (f s') rest
+  wants_seen s s' rest (inl line) = inl (ap f line.0, line.1)
+  wants_seen s s' rest (inr next) = inr (next.0, next.1, next.2, wants_more s s' next.0 next.3)
+
+  door_seen : (fault : SessionFault) (s s' : S) (i j o p : Option (List ℕ)) → StopsAtDoor says drops takes fault s s' i j o p
+      → StopsAtDoor seen lost takes fault (f s) (f s') i j o p
+  unfolding breaks_seen
+  door_seen fault s s' i j o p h = (breaks_seen s s' i j o p h.0, h.1, h.2, λ e. wants_seen h.0.answered s' h.0.rest (h.3 e))
+
   fails_seen : (s' : S) → FailsAt fails s' → FailsAt failed (f s')
   fails_seen s' h = (f h.0, h.1, stops h.0 h.1 s' h.2)
 
   module _ {I O : Type 0} (remaining : I → Option (List ℕ)) (reads read_failures : I → ℕ) (written : O → Option (List ℕ)) (write_failures : O → ℕ) where
     sits_seen : (result : Result Ended SessionFault) (i : I) (o : O) (s s' : S)
-        → Sits says drops fails remaining reads read_failures written write_failures result i o s s'
-        → Sits seen lost failed remaining reads read_failures written write_failures result i o (f s) (f s')
+        → Sits says drops fails takes remaining reads read_failures written write_failures result i o s s'
+        → Sits seen lost failed takes remaining reads read_failures written write_failures result i o (f s) (f s')
     sits_seen (Ok ended) i o s s' t = record {
       input = t.input;
       output = t.output;
@@ -86,6 +99,7 @@ module _ {S T : Type 0} (f : S → T) (says : S → List ℕ → List ℕ → S 
       counted = t.counted;
       spent = t.spent;
       journal = λ e. fails_seen s' (t.journal e);
+      stopped = t.stopped;
     }
     sits_seen (Err fault) i o s s' t = record {
       input = t.input;
@@ -99,24 +113,25 @@ module _ {S T : Type 0} (f : S → T) (says : S → List ℕ → List ℕ → S 
       counted = t.counted;
       spent = t.spent;
       journal = λ e. fails_seen s' (t.journal e);
+      stopped = λ other. door_seen fault s s' _ _ _ _ (t.stopped other);
     }
 
     module _ {D : Type 0} (opens : D → I → O → D → Type 0) (stays : D → D → Type 0) where
       visits_seen : (outcome : Outcome) (d : D) (s : S) (d' : D) (s' : S)
-          → Visits opens stays (Sits says drops fails remaining reads read_failures written write_failures) outcome d s d' s'
-          → Visits opens stays (Sits seen lost failed remaining reads read_failures written write_failures) outcome d (f s) d' (f s')
+          → Visits opens stays (Sits says drops fails takes remaining reads read_failures written write_failures) outcome d s d' s'
+          → Visits opens stays (Sits seen lost failed takes remaining reads read_failures written write_failures) outcome d (f s) d' (f s')
       visits_seen None d s d' s' v = (v.0, ap f v.1)
       visits_seen (Some result) d s d' s' v = (v.0, v.1, v.2, sits_seen result v.0 v.1 s s' v.3)
 
       all_visits_seen : (outcomes : List Outcome) (d : D) (s : S) (d' : D) (s' : S)
-          → VisitsAll (Visits opens stays (Sits says drops fails remaining reads read_failures written write_failures)) outcomes d s d' s'
-          → VisitsAll (Visits opens stays (Sits seen lost failed remaining reads read_failures written write_failures)) outcomes d (f s) d' (f s')
+          → VisitsAll (Visits opens stays (Sits says drops fails takes remaining reads read_failures written write_failures)) outcomes d s d' s'
+          → VisitsAll (Visits opens stays (Sits seen lost failed takes remaining reads read_failures written write_failures)) outcomes d (f s) d' (f s')
       all_visits_seen [] d s d' s' h = (h.0, ap f h.1)
       all_visits_seen (outcome ∷ outcomes) d s d' s' h = (h.0, f h.1, visits_seen outcome d s h.0 h.1 h.2, all_visits_seen outcomes h.0 h.1 d' s' h.3)
 
       pub serves_seen : (asked clean : ℕ) (d : D) (s : S) (d' : D) (s' : S)
-          → Serves (Visits opens stays (Sits says drops fails remaining reads read_failures written write_failures)) asked clean d s d' s'
-          → Serves (Visits opens stays (Sits seen lost failed remaining reads read_failures written write_failures)) asked clean d (f s) d' (f s')
+          → Serves (Visits opens stays (Sits says drops fails takes remaining reads read_failures written write_failures)) asked clean d s d' s'
+          → Serves (Visits opens stays (Sits seen lost failed takes remaining reads read_failures written write_failures)) asked clean d (f s) d' (f s')
       serves_seen asked clean d s d' s' h = record {
         outcomes = h.outcomes;
         each = all_visits_seen h.outcomes d s d' s' h.each;

@@ -165,13 +165,13 @@ module _ {C D : Type 0} (says : C × D → List ℕ → List ℕ → C × D → 
     stops_here takes fault s m i j o p count k more t taken line =
         (breaks_here s m i j o p count k more t taken (inl line), refl, refl, λ e. inl (refl, line))
 
-    stops_silent : (takes : List ℕ → Type 0) (fault : SessionFault) (s m : C × D) (i j k o p : Option (List ℕ)) (count : ℕ) (l : List ℕ)
+    pub stops_silent : (takes : List ℕ → Type 0) (fault : SessionFault) (s m : C × D) (i j k o p : Option (List ℕ)) (count : ℕ) (l : List ℕ)
         → AnswersLines says s m i j o p count [] [] → IsLine l → Consumes j k (l ++ 10 ∷ []) → takes l → Stops says drops takes fault s m i k o p
     unfolding breaks_here
     stops_silent takes fault s m i j k o p count l t whole taken h =
         (breaks_here s m i j o p count k (l ++ 10 ∷ []) t taken (inr (l, whole, refl)), refl, refl, λ e. inr (l, whole, refl, inl (refl, h)))
 
-    stops_dropped : (takes : List ℕ → Type 0) (fault : SessionFault) (s m s' : C × D) (i j k o p : Option (List ℕ)) (count : ℕ) (l : List ℕ)
+    pub stops_dropped : (takes : List ℕ → Type 0) (fault : SessionFault) (s m s' : C × D) (i j k o p : Option (List ℕ)) (count : ℕ) (l : List ℕ)
         → AnswersLines says s m i j o p count [] [] → IsLine l → Consumes j k (l ++ 10 ∷ []) → drops m l s' → Stops says drops takes fault s s' i k o p
     unfolding dropped_next
     stops_dropped takes fault s m s' i j k o p count l t whole taken d =

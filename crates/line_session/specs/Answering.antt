@@ -1,7 +1,7 @@
 -- Promises: what somebody says to lines, one after another. The input is cut at LF; to each line in order one text is
 -- said, from the state that the lines before it left; a line that is too long or cut is answered by its fault and is
 -- the last.
-use Rattle.std.specs.Prelude.{◌≡◌, ◌⊎◌, ℕ, ◌<◌, ◌≤◌, List, [], ◌∷◌, ◌++◌, ◌+◌, length, take, Option, Some, None, Result, Ok, Err, Bool, true, false}
+use Rattle.std.specs.Prelude.{◌≡◌, ◌≢◌, ◌⊎◌, ℕ, ◌<◌, ◌≤◌, List, [], ◌∷◌, ◌++◌, ◌+◌, length, take, Option, Some, None, Result, Ok, Err, Bool, true, false}
 use Rattle.std.specs.Io.KnownBytes.{Appends, Consumes, IsAtEnd}
 use Rattle.std.specs.List.{flat_map, AllByRecursion}
 use Rattle.till_request.specs.Answer.{answer_line}
@@ -158,6 +158,13 @@ abbrev pub Stops : {S : Type 0} → (S → List ℕ → List ℕ → S → Type 
     → Option (List ℕ) → Option (List ℕ) → Option (List ℕ) → Option (List ℕ) → Type 0
 Stops says drops takes fault s s' in_old in_new out_old out_new =
     (b : Breaks says drops s s' in_old in_new out_old out_new) × (b.cut ≡ None) × (b.after ≡ [])
+    × (fault ≡ session.OutOfMemory → WantsNext drops takes b.answered s' b.rest)
+
+-- The same at a door, where answers may wait for a line that is said to be there: those that wait where a read fails are not out.
+abbrev pub StopsAtDoor : {S : Type 0} → (S → List ℕ → List ℕ → S → Type 0) → (S → List ℕ → S → Type 0) → (List ℕ → Type 0) → SessionFault → S → S
+    → Option (List ℕ) → Option (List ℕ) → Option (List ℕ) → Option (List ℕ) → Type 0
+StopsAtDoor says drops takes fault s s' in_old in_new out_old out_new =
+    (b : Breaks says drops s s' in_old in_new out_old out_new) × (b.cut ≡ None) × (fault ≢ session.Read → b.after ≡ [])
     × (fault ≡ session.OutOfMemory → WantsNext drops takes b.answered s' b.rest)
 
 -- the device failed in a read, or in a write

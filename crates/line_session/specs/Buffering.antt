@@ -1,31 +1,48 @@
--- Promises: what was said while some answers wait in a buffer, to be written at once: what is out, and what waits behind it.
+-- Promises: what was said while some answers wait in a buffer, to be written together: what is out, and what waits behind it.
 use Rattle.std.specs.Prelude.{◌≡◌, ◌⊎◌, ℕ, List, [], ◌++◌, Option, Some}
 use Rattle.std.specs.Io.KnownBytes.{Appends}
-use Rattle.till_request.specs.declared.act.LineFault.{LineFault}
-use Rattle.line_session.specs.Answering.{AnswersLines, Ends, Breaks}
+use Rattle.line_session.specs.declared.answering.SessionFault.{SessionFault}
+use Rattle.line_session.specs.declared.answering.SessionFault.TheVariants as session
 
--- the lines so far are answered: what is out and what is in the buffer are the answers
-pub record Gathers {S : Type 0} (says : S → List ℕ → List ℕ → S → Type 0) (s s' : S) (in_old in_new out_old out_new : Option (List ℕ)) (buffer : List ℕ)
-    (count : ℕ) : Type 0 where
+-- a beginning of these bytes went out, and the rest did not
+pub record Sends (bytes rest : List ℕ) (out_old out_new : Option (List ℕ)) : Type 0 where
   pub sent : List ℕ
-  pub answering : AnswersLines says s s' in_old in_new (Some []) (Some (sent ++ buffer)) count [] []
+  pub out : Appends out_old out_new sent
+  pub in_order : sent ++ rest ≡ bytes
+
+-- This was said, as to an output that was empty: a beginning of it is out, and the rest waits.
+pub record Waits (said : Option (List ℕ) → Option (List ℕ) → Type 0) (out_old out_new : Option (List ℕ)) (waiting : List ℕ) : Type 0 where
+  pub sent : List ℕ
+  pub as_if_out : said (Some []) (Some (sent ++ waiting))
   pub out : Appends out_old out_new sent
 
--- all of it was said, and what isn't out is in the buffer
-pub record EndsBuffered {S : Type 0} (says : S → List ℕ → List ℕ → S → Type 0) (s s' : S) (in_old in_new out_old out_new : Option (List ℕ)) (buffer : List ℕ)
-    (count : ℕ) (cut : Option LineFault) : Type 0 where
-  pub sent : List ℕ
-  pub ends : Ends says s s' in_old in_new (Some []) (Some (sent ++ buffer)) count cut
-  pub out : Appends out_old out_new sent
+-- the line was answered, and the answer stands behind what waited
+pub record SaysOn {S : Type 0} (says : S → List ℕ → List ℕ → S → Type 0) (line : List ℕ) (s s' : S) (waiting after : List ℕ)
+    (out_old out_new : Option (List ℕ)) : Type 0 where
+  pub text : List ℕ
+  pub says_it : says s line text s'
+  pub goes_on : Sends (waiting ++ text) after out_old out_new
 
--- a beginning was said, and of that a beginning is out; what is in the buffer follows it
-pub record BreaksBuffered {S : Type 0} (says : S → List ℕ → List ℕ → S → Type 0) (drops : S → List ℕ → S
-    → Type 0) (s s' : S) (in_old in_new out_old out_new : Option (List ℕ)) (buffer : List ℕ) : Type 0 where
-  pub sent : List ℕ
+-- the line was answered, and of what waited and the answer only a beginning is out
+pub record LosesSome {S : Type 0} (says : S → List ℕ → List ℕ → S → Type 0) (line : List ℕ) (s s' : S) (waiting : List ℕ)
+    (out_old out_new : Option (List ℕ)) : Type 0 where
+  pub text : List ℕ
+  pub says_it : says s line text s'
   pub lost : List ℕ
-  pub breaks : Breaks says drops s s' in_old in_new (Some []) (Some (sent ++ (buffer ++ lost)))
-  pub out : Appends out_old out_new sent
+  pub goes_on : Sends (waiting ++ text) lost out_old out_new
 
--- what was in the buffer is still there, or it is out
-abbrev pub FlushesOrKeeps : List ℕ → List ℕ → Option (List ℕ) → Option (List ℕ) → Type 0
-FlushesOrKeeps buffer after out_old out_new = ((after ≡ buffer) × (out_new ≡ out_old)) ⊎ ((after ≡ []) × Appends out_old out_new buffer)
+-- what waited still does, and nothing went out
+pub record Keeps (waiting after : List ℕ) (out_old out_new : Option (List ℕ)) : Type 0 where
+  pub waits : after ≡ waiting
+  pub out : out_new ≡ out_old
+
+-- why the answer to the line is neither out nor waits: a write failed; or memory was refused, and nothing changed or the line has no answer; or the
+-- journal failed, and the line has no answer
+abbrev pub StaysOff : {S : Type 0} → (S → List ℕ → List ℕ → S → Type 0) → (S → List ℕ → S → Type 0) → (List ℕ → Type 0) → SessionFault → List ℕ → S → S
+    → List ℕ → List ℕ → Option (List ℕ) → Option (List ℕ) → Type 0
+StaysOff says drops takes session.Write line s s' waiting after out_old out_new = LosesSome says line s s' waiting out_old out_new
+StaysOff says drops takes session.OutOfMemory line s s' waiting after out_old out_new =
+    Keeps waiting after out_old out_new × ((takes line × (s' ≡ s)) ⊎ drops s line s')
+StaysOff says drops takes session.Journal line s s' waiting after out_old out_new = Keeps waiting after out_old out_new × drops s line s'
+StaysOff says drops takes session.Read line s s' waiting after out_old out_new = ⊥
+StaysOff says drops takes session.ReadsSpent line s s' waiting after out_old out_new = ⊥

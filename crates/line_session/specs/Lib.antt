@@ -1,6 +1,7 @@
 pub mod Cut
 pub mod Faults
 pub mod Buffering
+pub mod Deciding
 pub mod Serving
 pub mod Session
 pub mod Answering

@@ -1,11 +1,15 @@
 -- Promises: what a worker did. It asked for one door after another, and at each one that opened a session ran, from where
 -- the connections before left the clock and the desk.
-use Rattle.std.specs.Prelude.{◌≡◌, ℕ, ◌+◌, ◌≤◌, List, [], ◌∷◌, length, Option, Some, None, Result, Ok, Err, IfOk, OnErr}
+use Rattle.std.specs.Prelude.{◌≡◌, ◌≢◌, ℕ, ◌+◌, ◌≤◌, List, [], ◌∷◌, length, Option, Some, None, Result, Ok, Err, IfOk, IfErr, OnErr}
+use Rattle.till_request.specs.declared.act.Act.{Act}
+use Rattle.till_request.specs.declared.act.Role.{Role}
+use Rattle.till_request.specs.declared.act.Answer.{Answer}
 use Rattle.till_request.specs.Count.{RoseBy, one_if}
 use Rattle.line_session.specs.declared.answering.Ended.{Ended}
 use Rattle.line_session.specs.declared.answering.SessionFault.{SessionFault}
-use Rattle.line_session.specs.declared.answering.SessionFault.TheVariants.{Journal, ReadsSpent}
-use Rattle.line_session.specs.Answering.{Ends, Breaks, FailsAt, is_read, is_write, session_reads}
+use Rattle.line_session.specs.declared.answering.SessionFault.TheVariants.{Journal, ReadsSpent, Write}
+use Rattle.line_session.specs.Answering.{Ends, Breaks, FailsAt, StopsAtDoor, is_read, is_write, session_reads}
+use Rattle.line_session.specs.Session.{desk_says, desk_drops, desk_fails, desk_takes}
 
 -- how a connection went: None, the door did not open; else what its session answered
 abbrev pub Outcome : Type 0
@@ -22,9 +26,10 @@ abbrev pub good : List Outcome → ℕ
 good [] = 0
 good (outcome ∷ outcomes) = one_good outcome + good outcomes
 
--- a session that ended so at this input and output: all was said, or a beginning of it is out. It failed by a device only
--- where that failed, for its reads only where they ran out, and by the journal only at a line at which this failed.
-pub record Sits {S I O : Type 0} (says : S → List ℕ → List ℕ → S → Type 0) (drops fails : S → List ℕ → S → Type 0)
+-- a session that ended so at this input and output: all was said, or a beginning of it is out, in whole answers where no device failed. It failed
+-- by a device only where that failed, for its reads only where they ran out, by the journal only at a line at which this failed, and for want of
+-- memory only where something wanted memory.
+pub record Sits {S I O : Type 0} (says : S → List ℕ → List ℕ → S → Type 0) (drops fails : S → List ℕ → S → Type 0) (takes : List ℕ → Type 0)
     (remaining : I → Option (List ℕ)) (reads read_failures : I → ℕ) (written : O → Option (List ℕ)) (write_failures : O → ℕ)
     (result : Result Ended SessionFault) (i : I) (o : O) (s s' : S) : Type 0 where
   pub input : I
@@ -38,6 +43,13 @@ pub record Sits {S I O : Type 0} (says : S → List ℕ → List ℕ → S → T
   pub counted : RoseBy count (reads i) (reads input)
   pub spent : result ≡ Err ReadsSpent → count ≡ session_reads
   pub journal : result ≡ Err Journal → FailsAt fails s'
+  pub stopped : IfErr result
+      (λ fault. fault ≢ Write → StopsAtDoor says drops takes fault s s' (remaining i) (remaining input) (written o) (written output))
+
+-- such a session of a role, at a desk and a clock that do so
+abbrev pub SitsAtDesk : {C D I O : Type 0} → (D → Act → ℕ → Answer → D → Type 0) → (C → ℕ → C → Type 0) → Role → (I → Option (List ℕ)) → (I → ℕ) → (I → ℕ)
+    → (O → Option (List ℕ)) → (O → ℕ) → Result Ended SessionFault → I → O → C × D → C × D → Type 0
+SitsAtDesk step tick role = Sits (desk_says step tick role) (desk_drops step tick role) (desk_fails step tick role) (desk_takes role)
 
 -- one connection: the door did not open, and nobody was asked; or it opened, and a session ran at it
 abbrev pub Visits : {D S I O : Type 0} → (D → I → O → D → Type 0) → (D → D → Type 0) → (Result Ended SessionFault → I → O → S → S → Type 0) → Outcome

@@ -2,6 +2,7 @@
 ghost use Rattle.std.specs.Prelude.{◌≡◌, OnOk, IfErr, IfSome, IfNone, false};
 ghost use Rattle.till_request.specs.Count.{RoseBy, one_if};
 ghost use Rattle.line_session.specs.Answering.{is_write_fault};
+ghost use Rattle.line_session.specs.Deciding.{Decides};
 ghost use Rattle.line_session.specs.Session.{IsUnsaid, StaysUnsaid, Writes, ends_unsaid};
 
 use crate::desk::{Clock, Desk};
@@ -9,8 +10,27 @@ use crate::line_handler::{HandlerError, LineHandler};
 use std::alloc::Global;
 use till_request::{Answer, LineFault, LineOut, Role, WriteFault, parse_line, write_answer};
 
-// Why an answer has no line, and ends the session, if it does.
-fn unsaid(answer: &Answer) -> Option<HandlerError>
+/// What is answered to a line of a role.
+pub fn answer_to<C: Clock, D: Desk>(
+    alloc: Global,
+    role: Role,
+    line: &[u8],
+    clock: &mut C,
+    desk: &mut D,
+) -> Answer
+    ensures { Decides D.step C.tick role line.now clock.old desk.old result clock.new desk.new }
+{
+    match parse_line(alloc, role, line) {
+        Ok(act) => {
+            let moment = clock.now();
+            desk.answer(act, moment)
+        }
+        Err(fault) => Answer::Line(fault),
+    }
+}
+
+/// Why an answer has no line, and ends the session, if it does.
+pub fn unsaid(answer: &Answer) -> Option<HandlerError>
     ensures some { IfSome result (λ fault. IsUnsaid fault answer.now) }
     ensures none { IfNone result (ends_unsaid answer.now ≡ false) }
 {
@@ -69,12 +89,7 @@ impl<C: Clock, D: Desk> LineHandler<C, D> for DeskHandler {
         desk: &mut D,
         output: &mut O,
     ) -> Result<(), HandlerError> {
-        let act = match parse_line(alloc, self.role, line) {
-            Ok(act) => act,
-            Err(fault) => return say(alloc, output, &Answer::Line(fault)),
-        };
-        let moment = clock.now();
-        let answer = desk.answer(act, moment);
+        let answer = answer_to(alloc, self.role, line, clock, desk);
         say(alloc, output, &answer)
     }
 }

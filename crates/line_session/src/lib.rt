@@ -1,7 +1,9 @@
 //! Sessions: lines in, answers out, one for each line in order.
 #![tactic(auto)]
 
+mod answer_buffer;
 mod answering;
+mod connection;
 mod cut;
 mod desk;
 mod desk_handler;
@@ -12,6 +14,7 @@ mod pipelined;
 mod serving;
 
 pub use answering::{Ended, READS, SessionFault, answer_lines, answer_lines_within};
+pub use connection::Connection;
 pub use cut::{law_of_the_cut, law_of_the_cut_at_desks};
 pub use desk::{Clock, Desk};
 pub use desk_handler::DeskHandler;

@@ -1,9 +1,9 @@
 //! Sessions at a desk, connection by connection.
 ghost use Rattle.std.specs.Prelude.{◌≡◌, ◌≤◌};
-ghost use Rattle.line_session.specs.Session.{desk_says, desk_drops, desk_fails};
-ghost use Rattle.line_session.specs.Serving.{Serves, Sits, Visits, one_good};
+ghost use Rattle.line_session.specs.Serving.{Serves, SitsAtDesk, Visits, one_good};
 
 use crate::answering::{Ended, SessionFault};
+use crate::connection::Connection;
 use crate::desk::{Clock, Desk};
 use crate::doors::Doors;
 use crate::pipelined::pipelined_session;
@@ -19,21 +19,13 @@ fn serve_connection<S: Doors, C: Clock, D: Desk>(
     desk: &mut D,
 ) -> Option<Result<Ended, SessionFault>>
     ensures { Visits S.opens S.fails
-        (Sits (desk_says D.step C.tick role) (desk_drops D.step C.tick role) (desk_fails D.step C.tick role)
-        S.In.remaining S.In.reads S.In.failures S.Out.written S.Out.failures)
+        (SitsAtDesk D.step C.tick role S.In.remaining S.In.reads S.In.failures S.Out.written S.Out.failures)
         result doors.old (clock.old, desk.old) doors.new (clock.new, desk.new) }
 {
     match doors.next() {
-        Ok((mut input, mut output)) => {
-            let outcome = pipelined_session(
-                alloc,
-                role,
-                doors,
-                &mut input,
-                &mut output,
-                clock,
-                desk,
-            );
+        Ok((input, output)) => {
+            let mut connection = Connection { input, output };
+            let outcome = pipelined_session(alloc, role, doors, &mut connection, clock, desk);
             doors.ended(&outcome);
             Some(outcome)
         }
@@ -66,8 +58,7 @@ pub fn worker<S: Doors, C: Clock, D: Desk>(
 ) -> u64
     ensures { Serves
         (Visits S.opens S.fails
-        (Sits (desk_says D.step C.tick role) (desk_drops D.step C.tick role) (desk_fails D.step C.tick role)
-        S.In.remaining S.In.reads S.In.failures S.Out.written S.Out.failures))
+        (SitsAtDesk D.step C.tick role S.In.remaining S.In.reads S.In.failures S.Out.written S.Out.failures))
         connections result doors.old (clock.old, desk.old) doors.new (clock.new, desk.new) }
 {
     let mut clean = 0;

@@ -1,14 +1,13 @@
 use Rattle.std.proofs.Common.{◌≤◌}
-use Rattle.line_session.specs.Session.{desk_says, desk_drops, desk_fails}
-use Rattle.line_session.specs.Serving.{Serves, Sits, Visits}
+use Rattle.line_session.specs.Serving.{Serves, SitsAtDesk, Visits}
 use Rattle.line_session.proofs.serving.worker.Given as goal
 
 -- the connections so far
 abbrev pub invariant-loop : goal.invariant-loop
 invariant-loop g l = record {
   serves : Serves
-      (Visits g.S.Doors.opens g.S.Doors.fails (Sits (desk_says g.D.Desk.step g.C.Clock.tick l.role) (desk_drops g.D.Desk.step g.C.Clock.tick l.role)
-      (desk_fails g.D.Desk.step g.C.Clock.tick l.role) g.S.In.LineIn.remaining g.S.In.LineIn.reads g.S.In.LineIn.failures g.S.Out.LineOut.written g.S.Out.LineOut.failures))
+      (Visits g.S.Doors.opens g.S.Doors.fails (SitsAtDesk g.D.Desk.step g.C.Clock.tick l.role g.S.In.LineIn.remaining g.S.In.LineIn.reads g.S.In.LineIn.failures
+      g.S.Out.LineOut.written g.S.Out.LineOut.failures))
       l.counter l.clean l.initial.doors (l.initial.clock, l.initial.desk) l.doors (l.clock, l.desk);
   few : l.clean ≤ l.counter;
 }

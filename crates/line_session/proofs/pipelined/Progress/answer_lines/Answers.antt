@@ -1,0 +1,109 @@
+use Rattle.std.proofs.Common.{arith, rules}
+use Rattle.till_request.proofs.Counts.{rose_more, rose_left}
+use Rattle.till_request.specs.declared.act.LineFault.TheVariants.{TooLong, CutLine}
+use Rattle.line_session.specs.Session.{desk_says, desk_drops, desk_takes}
+use Rattle.line_session.proofs.Failing.{handed, if_handed}
+use Rattle.line_session.proofs.Buffered.{waits_none, waits_on, waits_more, breaks_gone, breaks_said, breaks_cut_off, stops_read, stops_said, ends_here, ends_cut}
+use Rattle.line_session.proofs.pipelined.Progress.answer_lines.Goals as goal
+
+pub turns-init : goal.turns-init
+turns-init g c = record {
+  answering = rw c.requires.1 (waits_none (desk_says g.D.Desk.step g.C.Clock.tick c.args.role) _ _ _);
+  within = search rules;
+  reads = search rules;
+  asked = search rules;
+  read = search rules;
+  write = search rules;
+}
+
+pub returns-in_err-flush_unless_more-clause-broken : goal.returns-in_err-flush_unless_more-clause-broken
+returns-in_err-flush_unless_more-clause-broken g c =
+    if_handed _ _ c.from_residual.ensures _ (λ _. rw c.in_err-flush_unless_more.ensures.input (breaks_gone (desk_says g.D.Desk.step g.C.Clock.tick c.args.role) (desk_drops g.D.Desk.step g.C.Clock.tick c.args.role)
+    _ _ _ _ _ _ _ _ c.turns.count c.turns.invariant.answering c.in_err-flush_unless_more.ensures.err))
+
+pub returns-in_err-find_line-clause-stopped : goal.returns-in_err-find_line-clause-stopped
+returns-in_err-find_line-clause-stopped g c =
+    let way = waits_on _ _ _ _ _ _ c.turns.invariant.answering c.in_ok-flush_unless_more.ensures.ok in
+    let t = rw c.in_ok-flush_unless_more.ensures.input at c.in_err-find_line.ensures.given in
+    if_handed _ _ c.from_residual-in_err-find_line.ensures _
+    (λ _. stops_read (desk_says g.D.Desk.step g.C.Clock.tick c.args.role) (desk_drops g.D.Desk.step g.C.Clock.tick c.args.role) (desk_takes c.args.role) _ _ _ _ _ _ _ _ _
+    c.turns.count t.0 way t.1 t.2)
+
+pub returns-in_err-answer_line-in-Line-clause-broken : goal.returns-in_err-answer_line-in-Line-clause-broken
+returns-in_err-answer_line-in-Line-clause-broken g c =
+    let way = waits_on _ _ _ _ _ _ c.turns.invariant.answering c.in_ok-flush_unless_more.ensures.ok in
+    let t = rw (c.in-Line.is, c.in_ok-flush_unless_more.ensures.input) at c.in_ok-find_line.ensures.taken in
+    if_handed _ _ c.from_residual-in_err-answer_line-in-Line.ensures _
+    (breaks_said (desk_says g.D.Desk.step g.C.Clock.tick c.args.role) (desk_drops g.D.Desk.step g.C.Clock.tick c.args.role) (desk_takes c.args.role) _ _ _ _ _ _ _ _ _ _
+    _ _ c.turns.count c.find_line.new.line.items way t.1 t.0 (rw c.deref.ensures.value at c.in_err-answer_line-in-Line.ensures.err))
+
+pub returns-in_err-answer_line-in-Line-clause-stopped : goal.returns-in_err-answer_line-in-Line-clause-stopped
+returns-in_err-answer_line-in-Line-clause-stopped g c =
+    let way = waits_on _ _ _ _ _ _ c.turns.invariant.answering c.in_ok-flush_unless_more.ensures.ok in
+    let t = rw (c.in-Line.is, c.in_ok-flush_unless_more.ensures.input) at c.in_ok-find_line.ensures.taken in
+    if_handed _ _ c.from_residual-in_err-answer_line-in-Line.ensures _
+    (stops_said (desk_says g.D.Desk.step g.C.Clock.tick c.args.role) (desk_drops g.D.Desk.step g.C.Clock.tick c.args.role) (desk_takes c.args.role) _ _ _ _ _ _ _ _ _ _ _ _
+    c.turns.count c.find_line.new.line.items way t.1 t.0 (rw c.deref.ensures.value at c.in_err-answer_line-in-Line.ensures.err))
+
+pub returns-in_err-answer_line-in-Line-clause-journal : goal.returns-in_err-answer_line-in-Line-clause-journal
+returns-in_err-answer_line-in-Line-clause-journal g c = λ e. (
+  (c.turns.clock, c.turns.desk),
+  c.deref.result.now,
+  c.in_err-answer_line-in-Line.ensures.journal
+      (handed c.from_residual-in_err-answer_line-in-Line.result c.in_err-answer_line-in-Line.field-0.0
+      c.from_residual-in_err-answer_line-in-Line.ensures e),
+)
+
+pub returns-in-End-clause-said : goal.returns-in-End-clause-said
+returns-in-End-clause-said g c =
+    let way = waits_on _ _ _ _ _ _ c.turns.invariant.answering c.in_ok-flush_unless_more.ensures.ok in
+    let t = rw (c.in-End.is, c.in_ok-flush_unless_more.ensures.input) at c.in_ok-find_line.ensures.taken in
+    ends_here (desk_says g.D.Desk.step g.C.Clock.tick c.args.role) _ _ _ _ _ _ _ _ c.turns.count way t.0 t.1
+
+pub returns-in_err-put-in-TooLong-clause-broken : goal.returns-in_err-put-in-TooLong-clause-broken
+returns-in_err-put-in-TooLong-clause-broken g c =
+    let way = waits_on _ _ _ _ _ _ c.turns.invariant.answering c.in_ok-flush_unless_more.ensures.ok in
+    let t = rw (c.in-TooLong.is, c.in_ok-flush_unless_more.ensures.input) at c.in_ok-find_line.ensures.taken in
+    if_handed _ _ c.from_residual-in_err-put-in-TooLong.ensures _
+    (λ _. breaks_cut_off (desk_says g.D.Desk.step g.C.Clock.tick c.args.role) (desk_drops g.D.Desk.step g.C.Clock.tick c.args.role) _ _ _ _ _ _ _ _ _ c.turns.count TooLong
+    t.0 way t.1 (t.2, t.3) c.in_err-put-in-TooLong.ensures.err)
+
+pub returns-in-TooLong-clause-said : goal.returns-in-TooLong-clause-said
+returns-in-TooLong-clause-said g c =
+    let way = waits_on _ _ _ _ _ _ c.turns.invariant.answering c.in_ok-flush_unless_more.ensures.ok in
+    let t = rw (c.in-TooLong.is, c.in_ok-flush_unless_more.ensures.input) at c.in_ok-find_line.ensures.taken in
+    ends_cut (desk_says g.D.Desk.step g.C.Clock.tick c.args.role) _ _ _ _ _ _ _ _ _ _ c.turns.count TooLong t.0 way t.1 (t.2, t.3)
+    c.in_ok-put-in-TooLong.ensures.ok
+
+pub returns-in_err-put-in-Cut-clause-broken : goal.returns-in_err-put-in-Cut-clause-broken
+returns-in_err-put-in-Cut-clause-broken g c =
+    let way = waits_on _ _ _ _ _ _ c.turns.invariant.answering c.in_ok-flush_unless_more.ensures.ok in
+    let t = rw (c.in-Cut.is, c.in_ok-flush_unless_more.ensures.input) at c.in_ok-find_line.ensures.taken in
+    if_handed _ _ c.from_residual-in_err-put-in-Cut.ensures _
+    (λ _. breaks_cut_off (desk_says g.D.Desk.step g.C.Clock.tick c.args.role) (desk_drops g.D.Desk.step g.C.Clock.tick c.args.role) _ _ _ _ _ _ _ _ _ c.turns.count CutLine
+    t.0 way t.1 (t.2, t.3, t.4) c.in_err-put-in-Cut.ensures.err)
+
+pub returns-in-Cut-clause-said : goal.returns-in-Cut-clause-said
+returns-in-Cut-clause-said g c =
+    let way = waits_on _ _ _ _ _ _ c.turns.invariant.answering c.in_ok-flush_unless_more.ensures.ok in
+    let t = rw (c.in-Cut.is, c.in_ok-flush_unless_more.ensures.input) at c.in_ok-find_line.ensures.taken in
+    ends_cut (desk_says g.D.Desk.step g.C.Clock.tick c.args.role) _ _ _ _ _ _ _ _ _ _ c.turns.count CutLine t.0 way t.1 (t.2, t.3, t.4)
+    c.in_ok-put-in-Cut.ensures.ok
+
+pub turns-preserved : goal.turns-preserved
+turns-preserved g c =
+    let way = waits_on _ _ _ _ _ _ c.turns.invariant.answering c.in_ok-flush_unless_more.ensures.ok in
+    let t = rw (c.in-Line.is, c.in_ok-flush_unless_more.ensures.input) at c.in_ok-find_line.ensures.taken in
+    record {
+      answering = waits_more (desk_says g.D.Desk.step g.C.Clock.tick c.args.role) _ _ _ _ _ _ _ _ _ _ _ c.turns.count c.find_line.new.line.items way t.1 t.0
+          (rw c.deref.ensures.value at c.in_ok-answer_line-in-Line.ensures.ok);
+      within = omega (arith, c.turns.invariant.within, c.in_ok-flush_unless_more.ensures.left, c.in_ok-find_line.ensures.used, c.in_ok-answer_line-in-Line.ensures.left);
+      reads = rw c.in_ok-answer_line-in-Line.ensures.left (rose_left c.args.self.now.left c.turns.self.left c.find_line.new.left (omega (arith, c.turns.invariant.within))
+          (omega (arith, c.in_ok-find_line.ensures.left, c.in_ok-flush_unless_more.ensures.left)) c.turns.invariant.reads
+          (rw (c.in_ok-flush_unless_more.ensures.left, c.in_ok-flush_unless_more.ensures.input) at c.in_ok-find_line.ensures.counted));
+      asked = rw c.in_ok-answer_line-in-Line.ensures.left (rose_left c.args.self.now.left c.turns.self.left c.find_line.new.left (omega (arith, c.turns.invariant.within))
+          (omega (arith, c.in_ok-find_line.ensures.left, c.in_ok-flush_unless_more.ensures.left)) c.turns.invariant.asked
+          (rw (c.in_ok-flush_unless_more.ensures.left, c.in_ok-flush_unless_more.ensures.input) at c.in_ok-find_line.ensures.asked));
+      read = rose_more c.turns.invariant.read (rw c.in_ok-flush_unless_more.ensures.input at c.in_ok-find_line.ensures.failed);
+      write = rose_more c.turns.invariant.write (rose_more c.in_ok-flush_unless_more.ensures.failed c.in_ok-answer_line-in-Line.ensures.failed);
+    }

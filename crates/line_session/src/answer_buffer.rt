@@ -1,0 +1,99 @@
+//! Answers that wait, to be written together.
+ghost use Rattle.std.specs.Prelude.{◌≡◌, ◌++◌, List, ℕ, [], true, false, IfErr, OnErr, OnOk};
+ghost use Rattle.till_request.specs.Answer.{answer_line};
+ghost use Rattle.till_request.specs.Count.{RoseBy, one_if};
+ghost use Rattle.line_session.specs.Answering.{is_write};
+ghost use Rattle.line_session.specs.Buffering.{Sends};
+
+use crate::answering::SessionFault;
+use std::alloc::Global;
+use till_request::devices::MemoryOut;
+use till_request::{Answer, DeviceFault, LineOut, WriteFault, write_all, write_answer};
+
+/// From how many bytes on answers wait no longer.
+const MOST_WAITING: usize = 16_384;
+
+/// Answers that wait in memory, to be written to a device together. An answer to which memory is refused doesn't wait:
+/// it is written at once, behind those that did.
+#[derive(Drop)]
+pub struct AnswerBuffer {
+    held: MemoryOut,
+}
+
+impl AnswerBuffer {
+    /// Nothing waits.
+    pub fn new(alloc: Global) -> AnswerBuffer
+        ensures { result.held.bytes.items ≡ [] }
+    {
+        AnswerBuffer {
+            held: MemoryOut::new(alloc, Vec::new(alloc), None),
+        }
+    }
+
+    /// Whether so much waits that it has to be written before more comes.
+    pub fn is_full(&self) -> bool {
+        self.held.bytes.len() >= MOST_WAITING
+    }
+
+    /// Writes what waits, or a front of it. Then nothing waits.
+    pub fn flush<O: LineOut>(&mut self, output: &mut O) -> Result<(), SessionFault>
+        ensures ok { OnOk result
+            (Sends self.old.held.bytes.items [] (O.written output.old) (O.written output.new)) }
+        ensures err { OnErr result ((lost : List ℕ)
+            × Sends self.old.held.bytes.items lost (O.written output.old) (O.written output.new)) }
+        ensures none { self.new.held.bytes.items ≡ [] }
+        ensures failed { RoseBy (one_if (is_write result)) (O.failures output.old) (O.failures output.new) }
+        ensures cause { IfErr result (λ e. e ≡ SessionFault.Write) }
+    {
+        let written = write_all(output, self.held.bytes.as_slice());
+        self.held.bytes.clear();
+        match written {
+            Ok(()) => Ok(()),
+            Err(DeviceFault) => Err(SessionFault::Write),
+        }
+    }
+
+    /// Puts an answer's line behind what waits, and tells whether it waits now. Where memory is refused to it all is as
+    /// it was.
+    fn hold(&mut self, alloc: Global, answer: &Answer) -> bool
+        ensures waits { result ≡ true
+            → self.new.held.bytes.items ≡ self.old.held.bytes.items ++ answer_line answer.now }
+        ensures same { result ≡ false → self.new.held.bytes.items ≡ self.old.held.bytes.items }
+    {
+        let whole = self.held.bytes.len();
+        match write_answer(alloc, &mut self.held, answer) {
+            Ok(()) => true,
+            Err(_) => {
+                self.held.bytes.truncate(whole);
+                false
+            }
+        }
+    }
+
+    /// Puts an answer's line behind what waits. Where memory is refused to it, all is written.
+    pub fn put<O: LineOut>(
+        &mut self,
+        alloc: Global,
+        output: &mut O,
+        answer: &Answer,
+    ) -> Result<(), SessionFault>
+        ensures ok { OnOk result
+            (Sends (self.old.held.bytes.items ++ answer_line answer.now) self.new.held.bytes.items
+            (O.written output.old) (O.written output.new)) }
+        ensures err { OnErr result ((lost : List ℕ)
+            × Sends (self.old.held.bytes.items ++ answer_line answer.now) lost (O.written output.old)
+            (O.written output.new)) }
+        ensures failed { RoseBy (one_if (is_write result)) (O.failures output.old) (O.failures output.new) }
+        ensures cause { IfErr result (λ e. e ≡ SessionFault.Write) }
+    {
+        if self.hold(alloc, answer) {
+            return Ok(());
+        }
+        self.flush(output)?;
+        match write_answer(alloc, output, answer) {
+            Ok(()) => Ok(()),
+            Err(WriteFault::Write) => Err(SessionFault::Write),
+            Err(WriteFault::OutOfMemory) => Err(SessionFault::OutOfMemory),
+        }
+    }
+}
