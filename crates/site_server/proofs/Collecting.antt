@@ -3,8 +3,10 @@ use Rattle.std.proofs.Common.{◌≡◌, ℕ, ◌+◌, ◌<◌, List, [], ◌∷
 use Rattle.std.proofs.Common.{◌*◌, ◌≤◌, Ok, Err, arith, zero, suc}
 use Rattle.std.proofs.lemmas.List.{length-map}
 use Rattle.line_session.specs.Serving.{Outcome, good}
-use Rattle.site_lock.specs.Passes.{PassView, new_pass, AreNew}
+use Rattle.site_lock.specs.Passes.{PassView, Opened, new_pass, AreNew}
 use Rattle.site_core.specs.Limits.{ConfigValue}
+use Rattle.site_server.specs.declared.crew.Crew.{Crew}
+use Rattle.site_server.specs.Plans.{Plan}
 use Rattle.site_server.specs.Ending.{HandedBack, HandsBack, all_clean}
 use Rattle.site_server.specs.Collecting.{AreWaiting, RunsWorker, collected, waits, clean_in}
 use Rattle.site_server.proofs.Numbering.{handed_back}
@@ -40,23 +42,27 @@ abbrev or_first : Option PassView → PassView
 or_first None = new_pass 0
 or_first (Some p) = p
 
-module _ (config own : ConfigValue) (same : config ≡ own) (may_fail : Type 0) (tills dispensers connections : ℕ) where
+module _ (may_fail : Type 0) (crew : Crew) (connections : ℕ) (from : Opened) (own : ConfigValue) (same : from.config ≡ own) where
+  -- what is served
+  abbrev pub plan : Plan
+  plan = record { from = from; may_fail = may_fail; tills = crew.tills; dispensers = crew.dispensers; connections = connections }
+
   -- all workers from the number b + 1 on have handed their pass back
   abbrev pub AllBack : ℕ → List (Option (PassView × ℕ)) → Type 0
   AllBack b [] = Unit {0}
   AllBack b (None ∷ tasks) = ⊥
-  AllBack b (Some r ∷ tasks) = HandedBack config may_fail tills dispensers connections b r × AllBack (b + 1) tasks
+  AllBack b (Some r ∷ tasks) = HandedBack plan b r × AllBack (b + 1) tasks
 
   one_back : {A : Type 0} (b : ℕ) (x : Option (PassView × A)) (y : Option (PassView × ℕ)) (rest : List (Option (PassView × ℕ)))
       → waits x ≡ Some (new_pass (b + 1))
-      → RunsWorker own may_fail tills dispensers connections x y → AllBack (b + 1) rest → AllBack b (y ∷ rest)
+      → RunsWorker own may_fail crew connections x y → AllBack (b + 1) rest → AllBack b (y ∷ rest)
   one_back b None y rest e h more = absurd (subst IsThere (sym e) tt)
   one_back b (Some w) None rest e h more = absurd h
-  one_back b (Some w) (Some r) rest e h more = (handed_back config may_fail tills dispensers connections own same b w.0 r (ap or_first e) h.0 h.1, more)
+  one_back b (Some w) (Some r) rest e h more = (handed_back plan own same b w.0 r (ap or_first e) h.0 h.1, more)
 
   pub all_back : {P A : Type 0} (w : P → Option (PassView × A)) (d : P → Option (PassView × ℕ)) (b : ℕ) (xs ys : List P) → length ys ≡ length xs
       → ((k n : ℕ) (e : Option PassView) → n ≡ b + k + 1 → k < length xs → slice_index_or (map (λ p. waits (w p)) xs) k e ≡ Some (new_pass n))
-      → ((k : ℕ) (e : P) → k < length xs → RunsWorker own may_fail tills dispensers connections (w (slice_index_or xs k e)) (d (slice_index_or ys k e)))
+      → ((k : ℕ) (e : P) → k < length xs → RunsWorker own may_fail crew connections (w (slice_index_or xs k e)) (d (slice_index_or ys k e)))
       → AllBack b (map d ys)
   all_back w d b [] [] is waiting manned = tt
   all_back w d b [] (y ∷ ys) is waiting manned = absurd (omega arith)
@@ -68,7 +74,7 @@ module _ (config own : ConfigValue) (same : config ≡ own) (may_fail : Type 0) 
   -- the same of tasks that stood there as they were collected
   pub posts_back : {P A : Type 0} (w : P → Option (PassView × A)) (d : P → Option (PassView × ℕ)) (n : ℕ) (tasks xs ys : List P) → tasks ≡ xs
       → length ys ≡ length xs → AreWaiting n (map (λ p. waits (w p)) tasks)
-      → ((k : ℕ) (e : P) → k < length xs → RunsWorker own may_fail tills dispensers connections (w (slice_index_or xs k e)) (d (slice_index_or ys k e)))
+      → ((k : ℕ) (e : P) → k < length xs → RunsWorker own may_fail crew connections (w (slice_index_or xs k e)) (d (slice_index_or ys k e)))
       → AllBack 0 (map d ys)
   posts_back {P} {A} w d n tasks xs ys same as_many waiting manned =
       let W : List P → Type 0 = λ l. AreWaiting n (map (λ p. waits (w p)) l) in
@@ -78,7 +84,7 @@ module _ (config own : ConfigValue) (same : config ≡ own) (may_fail : Type 0) 
       (there.1 k e (omega (arith, lt, there.0, length-map xs (λ p. waits (w p))))))
       manned
 
-  one_few : (b : ℕ) (r : PassView × ℕ) → HandedBack config may_fail tills dispensers connections b r → r.1 ≤ connections
+  one_few : (b : ℕ) (r : PassView × ℕ) → HandedBack plan b r → r.1 ≤ connections
   one_few b r h = omega (arith, h.1.counted, h.1.all_asked, good_few h.1.outcomes)
 
   -- so few end without fault that they can be counted
@@ -88,13 +94,13 @@ module _ (config own : ConfigValue) (same : config ≡ own) (may_fail : Type 0) 
   well_few b (Some r ∷ tasks) h few = omega (arith, well_few (b + 1) tasks h.1 few, one_few b r h.0, few)
 
   back_at : (b : ℕ) (tasks : List (Option (PassView × ℕ))) → AllBack b tasks → (k n : ℕ) (d : PassView × ℕ) → n ≡ b + k → k < length (results tasks)
-      → HandedBack config may_fail tills dispensers connections n (slice_index_or (results tasks) k d)
+      → HandedBack plan n (slice_index_or (results tasks) k d)
   back_at b [] h k n d e lt = absurd (omega arith)
   back_at b (None ∷ tasks) h k n d e lt = absurd h
-  back_at b (Some r ∷ tasks) h zero n d e lt = subst (λ (m : ℕ). HandedBack config may_fail tills dispensers connections m r) (omega arith) h.0
+  back_at b (Some r ∷ tasks) h zero n d e lt = subst (λ (m : ℕ). HandedBack plan m r) (omega arith) h.0
   back_at b (Some r ∷ tasks) h (suc k) n d e lt = back_at (b + 1) tasks h.1 k n d (omega arith) (omega arith)
 
-  pub hands_back : (tasks : List (Option (PassView × ℕ))) → AllBack 0 tasks → HandsBack config may_fail tills dispensers connections (results tasks)
+  pub hands_back : (tasks : List (Option (PassView × ℕ))) → AllBack 0 tasks → HandsBack plan (results tasks)
   hands_back tasks h k d lt = back_at 0 tasks h k k d (omega arith) lt
 
   pub handed_length : (b : ℕ) (tasks : List (Option (PassView × ℕ))) → AllBack b tasks → length (collected tasks) ≡ length tasks
@@ -102,12 +108,12 @@ module _ (config own : ConfigValue) (same : config ≡ own) (may_fail : Type 0) 
   handed_length b (None ∷ tasks) h = absurd h
   handed_length b (Some r ∷ tasks) h = (let more = handed_length (b + 1) tasks h.1 in omega arith)
 
-module _ (config : ConfigValue) (may_fail : Type 0) (tills dispensers connections : ℕ) {P A : Type 0} (w : P → Option (PassView × A)) (d : P
+module _ (config : ConfigValue) (may_fail : Type 0) (crew : Crew) (connections : ℕ) {P A : Type 0} (w : P → Option (PassView × A)) (d : P
     → Option (PassView × ℕ)) where
-  pub manned_so : (x y a b : P) → a ≡ x → b ≡ y → RunsWorker config may_fail tills dispensers connections (w a) (d b)
-      → RunsWorker config may_fail tills dispensers connections (w x) (d y)
-  manned_so x y a b is left h = subst (λ (p : P). RunsWorker config may_fail tills dispensers connections (w p) (d y)) is
-      (subst (λ (p : P). RunsWorker config may_fail tills dispensers connections (w a) (d p)) left h)
+  pub manned_so : (x y a b : P) → a ≡ x → b ≡ y → RunsWorker config may_fail crew connections (w a) (d b)
+      → RunsWorker config may_fail crew connections (w x) (d y)
+  manned_so x y a b is left h = subst (λ (p : P). RunsWorker config may_fail crew connections (w p) (d y)) is
+      (subst (λ (p : P). RunsWorker config may_fail crew connections (w a) (d p)) left h)
 
   pub handed_so : (passes room : List PassView) (xs ys : List P) → passes ≡ room ++ collected (map d xs) → room ≡ [] → xs ≡ ys → passes ≡ collected (map d ys)
   handed_so passes room xs ys is none same = is ∙ ap (λ (ps : List PassView). ps ++ collected (map d xs)) none ∙ ap (λ (l : List P). collected (map d l)) same
