@@ -1,36 +1,42 @@
 -- What a close answers, after the work that all passes came back from.
-use Rattle.std.proofs.Common.{◌≡◌, ℕ, List, Bool, true, false, Result, Ok, Err, IfOk, IfErr, subst, sym}
-use Rattle.site_core.specs.Limits.{ConfigValue}
-use Rattle.decision_journal.specs.declared.entries.Entry.{Entry}
-use Rattle.site_lock.specs.declared.close.CloseRefusal.{CloseRefusal}
+use Rattle.std.proofs.Common.{◌≡◌, ℕ, List, Option, Result, Ok, Err, IfOk, IfErr, subst, sym}
+use Rattle.site_core.specs.Site.{SiteValue}
+use Rattle.site_lock.specs.Closing.{ClosesSince}
 use Rattle.site_lock.specs.Passes.{PassView, Opened}
 use Rattle.site_lock.specs.Merge.{AreAll}
 use Rattle.site_server.specs.Plans.{Plan}
-use Rattle.site_server.specs.Ending.{HaveWorked, Halts, Refuses, Spoils, fault_of_close}
+use Rattle.site_server.specs.Ending.{HaveWorked, Leaves, Refuses, Spoils, Stays}
 use Rattle.site_server.specs.declared.serving.ServeFault.{ServeFault}
 use Rattle.site_server.specs.declared.serving.ServeFault.TheVariants.{OutOfMemory, Journal, NotClosed}
 
-pub if_ok_more : {T E : Type 0} (P Q : T → Type 0) (r : Result T E) → ((x : T) → P x → Q x) → IfOk r P → IfOk r Q
-if_ok_more P Q (Ok x) more h = more x h
-if_ok_more P Q (Err e) more h = h
+pub if_ok_both : {T E : Type 0} (P Q R : T → Type 0) (r : Result T E) → ((x : T) → P x → Q x → R x) → IfOk r P → IfOk r Q → IfOk r R
+if_ok_both P Q R (Ok x) more h k = more x h k
+if_ok_both P Q R (Err e) more h k = h
 
 pub if_err_more : {T E : Type 0} (P Q : E → Type 0) (r : Result T E) → ((e : E) → P e → Q e) → IfErr r P → IfErr r Q
 if_err_more P Q (Ok x) more h = h
 if_err_more P Q (Err e) more h = more e h
 
--- the fault of a refused close
-pub refuses_so : (from : Opened) (may_fail : Type 0) (passes : List PassView) (why : CloseRefusal) (has_stopped : Bool) (fault : ServeFault)
-    → fault ≡ fault_of_close why has_stopped → Halts from may_fail passes has_stopped why → Refuses from may_fail passes fault
-refuses_so from may_fail passes why true fault is h = subst (λ (f : ServeFault). Refuses from may_fail passes f) (sym is) (why, h)
-refuses_so from may_fail passes why false fault is h = subst (λ (f : ServeFault). Refuses from may_fail passes f) (sym is) h
+-- what a close of the forecourt of a plan says after the plan's work
+module _ (plan : Plan) (from : Opened) (same : from ≡ plan.from) (passes : List PassView) (clean : ℕ) (worked : HaveWorked plan passes clean) where
+  pub leaves_so : (counted : ℕ) (site : SiteValue) (written : Option (List ℕ)) → counted ≡ clean → ClosesSince from passes site written
+      → Leaves plan counted site written
+  leaves_so counted site written is h = record {
+    passes = passes;
+    closes = subst (λ (o : Opened). ClosesSince o passes site written) same h;
+    worked = subst (λ (n : ℕ). HaveWorked plan passes n) (sym is) worked;
+  }
 
--- a refused close is never out of memory
-pub never_memory : (from : Opened) (may_fail : Type 0) (passes : List PassView) (fault : ServeFault) → Refuses from may_fail passes fault → fault ≡ OutOfMemory → ⊥
-never_memory from may_fail passes fault h is = subst (λ (f : ServeFault). Refuses from may_fail passes f) is h
+  refused_so : (fault : ServeFault) → AreAll plan.from.passes passes → Refuses from plan.may_fail passes fault → Stays plan fault
+  refused_so fault all h = record {
+    passes = passes;
+    clean = clean;
+    all = all;
+    worked = worked;
+    refused = subst (λ (o : Opened). Refuses o plan.may_fail passes fault) same h;
+  }
 
--- the same after the work of a plan
-pub spoils_so : (plan : Plan) (passes : List PassView) (clean : ℕ) (fault : ServeFault) → AreAll plan.from.passes passes → HaveWorked plan passes clean
-    → Refuses plan.from plan.may_fail passes fault → Spoils plan fault
-spoils_so plan passes clean OutOfMemory all worked h = tt
-spoils_so plan passes clean Journal all worked h = record { passes = passes; clean = clean; all = all; worked = worked; refused = h }
-spoils_so plan passes clean (NotClosed why) all worked h = record { passes = passes; clean = clean; all = all; worked = worked; refused = h }
+  pub spoils_so : (fault : ServeFault) → AreAll plan.from.passes passes → Refuses from plan.may_fail passes fault → Spoils plan fault
+  spoils_so OutOfMemory all h = tt
+  spoils_so Journal all h = refused_so Journal all h
+  spoils_so (NotClosed why) all h = refused_so (NotClosed why) all h

@@ -11,7 +11,7 @@ use Rattle.site_core.specs.Limits.{ConfigValue}
 use Rattle.site_server.specs.Crews.{role_of}
 use Rattle.site_server.specs.Plans.{Plan}
 use Rattle.site_server.specs.Tasks.{Worked}
-use Rattle.site_server.specs.Ending.{HandedBack, HandsBack, HaveWorked, all_clean}
+use Rattle.site_server.specs.Ending.{HandedBack, HaveWorked}
 
 -- the numbers from `before` + 1 on
 abbrev Numbers : ℕ → List ℕ → Type 0
@@ -86,10 +86,6 @@ module _ (plan : Plan) where
     subst (λ (c : ConfigValue). Worked c plan.may_fail (role_of plan.tills plan.dispensers (k + 1)) plan.connections r.1 (new_pass (k + 1)) r.0) (sym same)
         (subst (λ (p : PassView). Worked own plan.may_fail (role_of plan.tills plan.dispensers p.id) plan.connections r.1 p r.0) is w),
   )
-
-  pub have_worked : (ps : List PassView) (done : List (PassView × ℕ)) (clean : ℕ) → ps ≡ map (λ (x : PassView × ℕ). x.0) done
-      → HandsBack plan done → clean ≡ all_clean done → HaveWorked plan ps clean
-  have_worked ps done clean e h counted = record { done = done; passes_are = e; each = h; counted = counted }
 
   pub all_worked : (ps : List PassView) (n clean : ℕ) → length ps ≡ n → HaveWorked plan ps clean → AreAll n ps
   all_worked ps n clean is h = all_numbered ps n is (λ k d lt.

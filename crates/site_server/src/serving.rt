@@ -1,5 +1,5 @@
 //! Serving a site.
-ghost use Rattle.std.specs.Prelude.{◌≡◌, ◌≤◌, [], IfErr, IfOk, Some, length, map, vec_capacity};
+ghost use Rattle.std.specs.Prelude.{◌≡◌, ◌<◌, ◌≤◌, ◌^◌, [], IfErr, IfOk, Some, length, map, vec_capacity};
 ghost use Rattle.site_lock.specs.Closing.{ClosesSince};
 ghost use Rattle.site_server.specs.Crews.{passes_of};
 ghost use Rattle.site_server.specs.Plans.{plan_of};
@@ -149,6 +149,11 @@ fn close<L: SiteLedger, J: Journal, R: Wait>(
     }
 }
 
+/// Lets the proof know that as many connections can be counted.
+fn prove_few(connections: u32)
+    ensures { connections < 2 ^ 32 }
+{}
+
 impl<J: Journal + Send> Serving<J> {
     /// Each worker of the crew serves its connections, one after another, and then the site is closed. Each entry's line
     /// is handed to the journal before the entry is answered, and the answer leaves once `release` lets it. A role's
@@ -221,6 +226,7 @@ impl<J: Journal + Send> Serving<J> {
             release,
             connections,
         };
+        prove_few(connections);
         let most = tasks.len().max(1);
         let all = tasks.as_mut_slice();
         thread::for_each_mut(
@@ -228,7 +234,7 @@ impl<J: Journal + Send> Serving<J> {
             all,
             most,
             &|_: usize, task: &mut WorkerTask<L>|
-                ensures { RunsWorker L.config J.may_fail workers.crew workers.connections
+                ensures { RunsWorker L.config J.may_fail workers.entry.crew workers.entry.connections
                     task.entry.now.waiting task.exit.now.done }
             { workers.work(task) },
         );
