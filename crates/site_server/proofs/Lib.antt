@@ -1,6 +1,6 @@
+pub mod Closing
 pub mod Collecting
 pub mod Keeping
 pub mod Numbering
 pub mod Posting
 pub mod Working
-pub mod Opening

@@ -9,8 +9,9 @@ use Rattle.site_lock.specs.Passes.{PassView, new_pass}
 use Rattle.site_lock.specs.Merge.{AreAll}
 use Rattle.site_core.specs.Limits.{ConfigValue}
 use Rattle.site_server.specs.Crews.{role_of}
+use Rattle.site_server.specs.Plans.{Plan}
 use Rattle.site_server.specs.Tasks.{Worked}
-use Rattle.site_server.specs.Ending.{HandedBack, HandsBack, HaveWorked, all_clean}
+use Rattle.site_server.specs.Ending.{HandedBack, HaveWorked}
 
 -- the numbers from `before` + 1 on
 abbrev Numbers : ℕ → List ℕ → Type 0
@@ -72,25 +73,21 @@ all_numbered ps n is h = (
       (omega (arith, length-map ps (λ (p : PassView). p.id))),
 )
 
-module _ (config : ConfigValue) (may_fail : Type 0) (tills dispensers connections : ℕ) where
+module _ (plan : Plan) where
   first_of : (done : List (PassView × ℕ)) (k : ℕ) (d : PassView) → slice_index_or (map (λ (x : PassView × ℕ). x.0) done) k d ≡ (slice_index_or done k (d, 0)).0
   first_of [] k d = refl
   first_of (x ∷ xs) zero d = refl
   first_of (x ∷ xs) (suc k) d = first_of xs k d
 
-  pub handed_back : (own : ConfigValue) → config ≡ own → (k : ℕ) (job : PassView) (r : PassView × ℕ) → job ≡ new_pass (k + 1) → r.0.id ≡ job.id
-      → Worked own may_fail (role_of tills dispensers job.id) connections r.1 job r.0 → HandedBack config may_fail tills dispensers connections k r
+  pub handed_back : (own : ConfigValue) → plan.from.config ≡ own → (k : ℕ) (job : PassView) (r : PassView × ℕ) → job ≡ new_pass (k + 1) → r.0.id ≡ job.id
+      → Worked own plan.may_fail (role_of plan.tills plan.dispensers job.id) plan.connections r.1 job r.0 → HandedBack plan k r
   handed_back own same k job r is id w = (
     id ∙ ap (λ (p : PassView). p.id) is,
-    subst (λ (c : ConfigValue). Worked c may_fail (role_of tills dispensers (k + 1)) connections r.1 (new_pass (k + 1)) r.0) (sym same)
-        (subst (λ (p : PassView). Worked own may_fail (role_of tills dispensers p.id) connections r.1 p r.0) is w),
+    subst (λ (c : ConfigValue). Worked c plan.may_fail (role_of plan.tills plan.dispensers (k + 1)) plan.connections r.1 (new_pass (k + 1)) r.0) (sym same)
+        (subst (λ (p : PassView). Worked own plan.may_fail (role_of plan.tills plan.dispensers p.id) plan.connections r.1 p r.0) is w),
   )
 
-  pub have_worked : (ps : List PassView) (done : List (PassView × ℕ)) (clean : ℕ) → ps ≡ map (λ (x : PassView × ℕ). x.0) done
-      → HandsBack config may_fail tills dispensers connections done → clean ≡ all_clean done → HaveWorked config may_fail tills dispensers connections ps clean
-  have_worked ps done clean e h counted = record { done = done; passes_are = e; each = h; counted = counted }
-
-  pub all_worked : (ps : List PassView) (n clean : ℕ) → length ps ≡ n → HaveWorked config may_fail tills dispensers connections ps clean → AreAll n ps
+  pub all_worked : (ps : List PassView) (n clean : ℕ) → length ps ≡ n → HaveWorked plan ps clean → AreAll n ps
   all_worked ps n clean is h = all_numbered ps n is (λ k d lt.
       let P : List PassView → Type 0 = λ l. (slice_index_or l k d).id ≡ k + 1 in
       subst P (sym h.passes_are) (ap (λ (p : PassView). p.id) (first_of h.done k d)

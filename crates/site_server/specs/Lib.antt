@@ -3,4 +3,5 @@ pub mod Ending
 pub mod Collecting
 pub mod Limits
 pub mod Pauses
+pub mod Plans
 pub mod Tasks

@@ -10,6 +10,7 @@ mod listeners;
 mod notices;
 mod serving;
 mod tasks;
+mod workers;
 
 pub use clock::MachineClock;
 pub use crew::Crew;
@@ -19,5 +20,5 @@ pub use limiter::Limiter;
 pub use line_session::SessionFault;
 pub use listeners::{ListenFault, Listeners};
 pub use notices::{Notices, SessionFailure};
-pub use serving::{ServeFault, Served, Unclosed, resume_site, serve_on, serve_pass, serve_site};
+pub use serving::{ServeFault, Served, Serving, Unclosed};
 pub use site_lock::{CloseRefusal, Journal, LineJournal, NoJournal};

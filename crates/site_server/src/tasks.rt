@@ -3,23 +3,17 @@ ghost use Rattle.std.specs.Prelude.{◌≡◌, ◌++◌, ◌∷◌, ◌+◌, ◌
 ghost use Rattle.std.specs.Prelude.{vec_capacity, vec_len};
 ghost use Rattle.std.specs.Arc.{arc_value};
 ghost use Rattle.site_server.specs.Crews.{port_of, role_of};
-ghost use Rattle.site_server.specs.Collecting.{RunsWorker, collected, waits, waits_at, clean_at, clean_in};
-ghost use Rattle.site_server.specs.Tasks.{Worked};
+ghost use Rattle.site_server.specs.Collecting.{collected, waits, waits_at, clean_at, clean_in};
 
 use crate::crew::Crew;
-use crate::doors::TcpDoors;
 use crate::listeners::Listeners;
-use crate::notices::Notices;
-use crate::serving::serve_pass;
-use group_sync::{HeldDoors, Release};
-use site_lock::{Forecourt, Journal, Pass, SiteLedger};
+use site_lock::{Pass, SiteLedger};
 use std::alloc::{AllocError, Global};
 use std::net::TcpListener;
-use std::sync::{Arc, Wait};
-use std::time::Clock;
+use std::sync::Arc;
 
 /// A worker's task: the pass and the share of its role's port that it begins with, and then the pass that it hands
-/// back, with how many connections ended without fault.
+/// back, with the number of connections that ended without fault.
 #[derive(Drop)]
 pub struct WorkerTask<L: SiteLedger> {
     pub waiting: Option<(Pass<L>, Arc<TcpListener>)>,
@@ -52,58 +46,6 @@ pub fn tasks_of<L: SiteLedger>(
     Ok(tasks)
 }
 
-/// Serves so many connections of a port that is the pass's. Answers leave once they may.
-fn serve_task<L: SiteLedger, J: Journal, N: Notices, A: Release, R: Wait + Clock>(
-    rt: &R,
-    alloc: Global,
-    forecourt: &Forecourt<L, J>,
-    pass: Pass<L>,
-    crew: Crew,
-    port: &TcpListener,
-    notices: &N,
-    release: &A,
-    connections: u32,
-) -> (Pass<L>, u64)
-    ensures worked { Worked L.config J.may_fail (role_of crew.tills crew.dispensers pass.id) connections
-        result.1 pass result.0 }
-    ensures id { result.0.id ≡ pass.id }
-{
-    let role = crew.role(pass.id());
-    let doors = TcpDoors::new(rt, port, notices, role, pass.id());
-    let mut doors = HeldDoors { doors, release };
-    serve_pass(rt, alloc, forecourt, pass, role, &mut doors, connections)
-}
-
-/// Does a worker's task. Its share of the port is given up at the end, so the last worker of a role closes it.
-pub fn run_worker<L: SiteLedger, J: Journal, N: Notices, A: Release, R: Wait + Clock>(
-    rt: &R,
-    alloc: Global,
-    forecourt: &Forecourt<L, J>,
-    task: &mut WorkerTask<L>,
-    crew: Crew,
-    notices: &N,
-    release: &A,
-    connections: u32,
-)
-    ensures { RunsWorker L.config J.may_fail crew.tills crew.dispensers connections task.old.waiting task.new.done }
-{
-    let Some((pass, port)) = task.waiting.take() else {
-        return;
-    };
-    let served = serve_task(
-        rt,
-        alloc,
-        forecourt,
-        pass,
-        crew,
-        &port,
-        notices,
-        release,
-        connections,
-    );
-    task.done = Some(served);
-}
-
 /// Moves the pass that a task handed back to the others, for which there is room.
 fn collect_pass<L: SiteLedger>(task: &mut WorkerTask<L>, passes: &mut Vec<Pass<L>>) -> u64
     requires { vec_len passes.old + 1 ≤ vec_capacity passes.old }
@@ -121,8 +63,8 @@ fn collect_pass<L: SiteLedger>(task: &mut WorkerTask<L>, passes: &mut Vec<Pass<L
     }
 }
 
-/// Moves the passes that were handed back to others, for which there is room, and answers how many connections ended
-/// without fault.
+/// Moves the passes that were handed back to others, for which there is room, and answers the number of connections that
+/// ended without fault.
 pub fn collect_passes<L: SiteLedger>(tasks: &mut [WorkerTask<L>], passes: &mut Vec<Pass<L>>) -> u64
     requires room { vec_len passes.old + length tasks.old ≤ vec_capacity passes.old }
     requires few { clean_in (map (λ p. p.done) tasks.old) < 2 ^ 64 }

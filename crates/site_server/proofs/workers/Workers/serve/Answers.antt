@@ -1,7 +1,7 @@
 use Rattle.site_server.proofs.Keeping.{serves_keep}
 use Rattle.site_server.proofs.Posting.{serves_as_pass}
 use Rattle.site_server.proofs.Working.{worked}
-use Rattle.site_server.proofs.serving.serve_pass.Goals as goal
+use Rattle.site_server.proofs.workers.Workers.serve.Goals as goal
 
 pub returns-clause-served : goal.returns-clause-served
 returns-clause-served g c = (

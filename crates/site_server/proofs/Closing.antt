@@ -1,0 +1,42 @@
+-- What a close answers, after the work that all passes came back from.
+use Rattle.std.proofs.Common.{◌≡◌, ℕ, List, Option, Result, Ok, Err, IfOk, IfErr, subst, sym}
+use Rattle.site_core.specs.Site.{SiteValue}
+use Rattle.site_lock.specs.Closing.{ClosesSince}
+use Rattle.site_lock.specs.Passes.{PassView, Opened}
+use Rattle.site_lock.specs.Merge.{AreAll}
+use Rattle.site_server.specs.Plans.{Plan}
+use Rattle.site_server.specs.Ending.{HaveWorked, Leaves, Refuses, Spoils, Stays}
+use Rattle.site_server.specs.declared.serving.ServeFault.{ServeFault}
+use Rattle.site_server.specs.declared.serving.ServeFault.TheVariants.{OutOfMemory, Journal, NotClosed}
+
+pub if_ok_both : {T E : Type 0} (P Q R : T → Type 0) (r : Result T E) → ((x : T) → P x → Q x → R x) → IfOk r P → IfOk r Q → IfOk r R
+if_ok_both P Q R (Ok x) more h k = more x h k
+if_ok_both P Q R (Err e) more h k = h
+
+pub if_err_more : {T E : Type 0} (P Q : E → Type 0) (r : Result T E) → ((e : E) → P e → Q e) → IfErr r P → IfErr r Q
+if_err_more P Q (Ok x) more h = h
+if_err_more P Q (Err e) more h = more e h
+
+-- what a close of the forecourt of a plan says after the plan's work
+module _ (plan : Plan) (from : Opened) (same : from ≡ plan.from) (passes : List PassView) (clean : ℕ) (worked : HaveWorked plan passes clean) where
+  pub leaves_so : (counted : ℕ) (site : SiteValue) (written : Option (List ℕ)) → counted ≡ clean → ClosesSince from passes site written
+      → Leaves plan counted site written
+  leaves_so counted site written is h = record {
+    passes = passes;
+    closes = subst (λ (o : Opened). ClosesSince o passes site written) same h;
+    worked = subst (λ (n : ℕ). HaveWorked plan passes n) (sym is) worked;
+  }
+
+  refused_so : (fault : ServeFault) → AreAll plan.from.passes passes → Refuses from plan.may_fail passes fault → Stays plan fault
+  refused_so fault all h = record {
+    passes = passes;
+    clean = clean;
+    all = all;
+    worked = worked;
+    refused = subst (λ (o : Opened). Refuses o plan.may_fail passes fault) same h;
+  }
+
+  pub spoils_so : (fault : ServeFault) → AreAll plan.from.passes passes → Refuses from plan.may_fail passes fault → Spoils plan fault
+  spoils_so OutOfMemory all h = tt
+  spoils_so Journal all h = refused_so Journal all h
+  spoils_so (NotClosed why) all h = refused_so (NotClosed why) all h

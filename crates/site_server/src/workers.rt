@@ -1,0 +1,85 @@
+//! The workers of a served site.
+ghost use Rattle.std.specs.Prelude.{◌≡◌, ℕ};
+ghost use Rattle.line_session.specs.Session.{desk_says, desk_drops, desk_fails};
+ghost use Rattle.line_session.specs.Serving.{Serves, Sits, Visits};
+ghost use Rattle.site_server.specs.Collecting.{RunsWorker};
+ghost use Rattle.site_server.specs.Tasks.{Worked, pass_answers, tells};
+
+use crate::clock::MachineClock;
+use crate::crew::Crew;
+use crate::doors::TcpDoors;
+use crate::notices::Notices;
+use crate::tasks::WorkerTask;
+use group_sync::{HeldDoors, Release};
+use line_session::{Doors, worker};
+use site_lock::{Forecourt, Journal, Pass, PassDesk, SiteLedger, Straight};
+use std::alloc::Global;
+use std::sync::Wait;
+use std::time::Clock;
+use till_request::Role;
+
+/// What all workers of a site share.
+#[derive(Drop)]
+pub struct Workers<'a, L: SiteLedger, J: Journal, N: Notices, A: Release, R: Wait + Clock> {
+    pub rt: &'a R,
+    pub alloc: Global,
+    pub forecourt: Forecourt<L, J>,
+    pub crew: Crew,
+    pub notices: &'a N,
+    /// What lets an answer leave.
+    pub release: &'a A,
+    /// The number of connections that each worker serves.
+    pub connections: u32,
+}
+
+impl<L: SiteLedger, J: Journal, N: Notices, A: Release, R: Wait + Clock> Workers<
+    '_,
+    L,
+    J,
+    N,
+    A,
+    R,
+> {
+    /// Does a worker's task. Its share of the port is given up at the end, so the last worker of a role closes it.
+    pub fn work(&self, task: &mut WorkerTask<L>)
+        ensures { RunsWorker L.config J.may_fail self.now.crew self.now.connections task.old.waiting task.new.done }
+    {
+        let Some((pass, port)) = task.waiting.take() else {
+            return;
+        };
+        let role = self.crew.role(pass.id());
+        let doors = TcpDoors::new(self.rt, &port, self.notices, role, pass.id());
+        let mut doors = HeldDoors {
+            doors,
+            release: self.release,
+        };
+        task.done = Some(self.serve(pass, role, &mut doors));
+    }
+
+    /// Serves the connections of a role for one pass, whose programs run while nobody holds the site's lock. The answer
+    /// is the pass, with the receipts that it gained, and the number of connections that ended without fault.
+    fn serve<S: Doors>(&self, pass: Pass<L>, role: Role, doors: &mut S) -> (Pass<L>, u64)
+        ensures served { (moment : ℕ)
+            × Serves (Visits S.opens S.fails
+            (Sits (desk_says (pass_answers L.config J.may_fail) tells role)
+            (desk_drops (pass_answers L.config J.may_fail) tells role)
+            (desk_fails (pass_answers L.config J.may_fail) tells role) S.In.remaining S.In.reads S.In.failures
+            S.Out.written S.Out.failures))
+            self.now.connections result.1 doors.old (0, pass) doors.new (moment, result.0) }
+        ensures worked { Worked L.config J.may_fail role self.now.connections result.1 pass result.0 }
+        ensures id { result.0.id ≡ pass.id }
+    {
+        let mut clock = MachineClock::new(self.rt);
+        let gate = Straight { calls: 0 };
+        let mut desk = PassDesk::new(self.rt, self.alloc, &self.forecourt, pass, gate);
+        let clean = worker(
+            self.alloc,
+            role,
+            doors,
+            &mut clock,
+            &mut desk,
+            self.connections,
+        );
+        (desk.into_pass(), clean)
+    }
+}
