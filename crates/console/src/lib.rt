@@ -7,7 +7,7 @@ mod player;
 mod playing;
 mod script;
 
-pub use bpf_asm::{AsmFault, AsmFlaw};
+pub use bpf_asm::{AsmFault, AsmFlaw, ProgramFileFault};
 pub use command_line::{CommandFault, Job, command};
 pub use job_texts::{
     JournalFlaw, ProgramFlaw, RefusedProgram, Told, asm_file, asm_flaw, audit_entries,
@@ -18,7 +18,6 @@ pub use line_session::{Ended, READS, SessionFault};
 pub use loading::{RefusedLoad, refused_load};
 pub use player::Player;
 pub use playing::{law_of_the_cut, play, play_within};
-pub use program_file::ProgramFileFault;
 pub use script::{ScriptLine, parse_script_line};
 pub use site_config::{
     ConfigFault, ConfigFlaw, MOST_BYTES, Serve, Settings, config_part, read_config, read_head,
