@@ -51,7 +51,7 @@ fn without_blanks(alloc: Global, text: &[u8]) -> Result<Vec<u8>, AllocError>
 
 /// The bytes of a program file: at most 65,536 bytes of hexadecimal digits in either case; spaces, tabs, CR
 /// and LF are skipped. A file that is too long is refused before its digits are looked at.
-#[tactic(auto, unfolding(crate::specs::Digits::program_in))]
+#[tactic(auto, unfolding(crate::specs::ProgramFile::program_in))]
 pub fn read_program(alloc: Global, text: &[u8]) -> Result<Vec<u8>, ProgramFileFault>
     ensures { Gives (λ bytes. bytes.items) result (program_in text.now) }
 {
