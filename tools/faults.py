@@ -7,7 +7,8 @@ tools/faults.c, preloaded, refuses the Nth of a kind, N from 1 until a call ends
 - the status is that of the unhindered call, or 3; no signal ends it;
 - with the unhindered status all is printed as then, else a beginning of it. A line of a script may be answered S31:
   then the others are answered as without that line;
-- with status 3 a line on standard error says why; each line there begins with 'fc: ', and none has a debug text;
+- with status 3 a line on standard error says why; each line there begins with 'fc: ' and has no debug text, or is the
+  beginning of one that the unhindered call says;
 - a kept journal's file has each answered line, and its whole lines are legal;
 - where each read and write is cut to one byte, all is as unhindered.
 Where no C compiler is there (CC, or cc), nothing is tried, and said. The last line is 'N passed, M failed', of calls,
@@ -149,7 +150,11 @@ def ended_ill(told, plain):
     said = [line for line in told.said.splitlines() if not line.startswith("fc: serving on ")]
     if told.status == 3 and not said:
         return "status 3 without a word"
-    ill = [line for line in said if not line.startswith("fc: ") or DEBUG.search(line)]
+    usage = plain.said.splitlines()
+    ill = [
+        line for line in said
+        if (not line.startswith("fc: ") or DEBUG.search(line)) and not any(one.startswith(line) for one in usage)
+    ]
     return f"it says {ill[0]!r}" if ill else None
 
 

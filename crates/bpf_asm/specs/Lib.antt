@@ -4,6 +4,7 @@ pub mod Words
 pub mod Lex
 pub mod Grammar
 pub mod Program
+pub mod ProgramFile
 pub mod Flaws
 pub mod Tables
 pub mod Sound

@@ -1,4 +1,4 @@
-// The assembler: programs from text, and text of programs.
+//! The assembler: programs from text, text of programs, and files of programs as hexadecimal digits.
 #![tactic(auto)]
 
 ghost use Rattle.std.specs.Prelude.{◌≡◌, ◌++◌, IfOk, IfErr, OnOk, map, None, ◌&&◌, nat_le, string_bytes, option_map};
@@ -42,11 +42,13 @@ mod grammar;
 mod label;
 mod lex;
 mod line;
+mod program_file;
 mod text;
 mod token;
 mod units;
 
 pub use flaw::{AsmFlaw, explain};
+pub use program_file::{MOST_BYTES, ProgramFileFault, read_program, unit_lines};
 
 fn high(units: &[Unit]) -> i32
     ensures { result ≡ high_of units.now }

@@ -1,8 +1,9 @@
 //! Enters acts as events of a site.
-ghost use Rattle.std.specs.Prelude.{◌≡◌, ℕ};
+ghost use Rattle.std.specs.Prelude.{◌≡◌, ℕ, None};
 ghost use Rattle.bpf_model.specs.Program.{ProgramText, as_loaded};
 ghost use Rattle.reg_types.specs.Shown.{IsRefused, IsRefusal, refusal_of};
 ghost use Rattle.site_core.specs.Site.{SiteValue, act_of};
+ghost use Rattle.console.specs.Loading.{IsWhyRefused};
 ghost use Rattle.console.specs.Play.{EventAnswered, LoadAnswered, ActAnswered};
 
 use reg_types::{Layout, Refusal, verify};
@@ -33,19 +34,34 @@ fn enter_event(site: &mut Site, moment: u64, what: What) -> Answer
     }
 }
 
-/// Returns the answer to a load whose program the verifier refuses.
-fn answer_refusal(refusal: Refusal) -> Answer
-    ensures { (old : SiteValue) (moment slot : ℕ) (p : ProgramText) → IsRefused p refusal
-        → IsRefusal (refusal_of p) refusal → LoadAnswered old moment slot p result old }
+/// What an act was answered.
+#[derive(Clone, Copy, Drop)]
+pub struct Entered {
+    pub answer: Answer,
+    /// Why the verifier refuses the program, if the act is a load.
+    pub refusal: Option<Refusal>,
+}
+
+/// Returns the answer to a load whose program the verifier refuses, and why it does unless memory ran out.
+fn refuse_load(refusal: Refusal) -> Entered
+    ensures answered { (old : SiteValue) (moment slot : ℕ) (p : ProgramText) → IsRefused p refusal
+        → IsRefusal (refusal_of p) refusal → LoadAnswered old moment slot p result.answer old }
+    ensures refused { (slot mask : ℕ) (layout : _) (bytes : _) → IsRefusal (refusal_of (as_loaded bytes mask layout)) refusal
+        → IsWhyRefused (Act.Load slot mask layout bytes) result.answer result.refusal }
 {
     match refusal.shown() {
-        Some((number, unit, part)) => Answer::Program(number, unit, part),
-        None => Answer::OutOfMemory,
+        Some((number, unit, part)) => Entered {
+            answer: Answer::Program(number, unit, part),
+            refusal: Some(refusal),
+        },
+        None => Entered {
+            answer: Answer::OutOfMemory,
+            refusal: None,
+        },
     }
 }
 
-/// Verifies the bytes of a load. Enters the load if they are accepted, and returns the answer: the entry, or why the
-/// program is refused.
+/// Verifies the bytes of a load, and enters the load if they are accepted.
 fn enter_load(
     alloc: Global,
     site: &mut Site,
@@ -53,33 +69,55 @@ fn enter_load(
     slot: u32,
     mask: u32,
     layout: Layout,
-    bytes: Bytes,
-) -> Answer
-    ensures { LoadAnswered site.old moment slot (as_loaded bytes mask layout) result site.new }
+    bytes: &Bytes,
+) -> Entered
+    ensures answered { LoadAnswered site.old moment slot (as_loaded bytes.now mask layout) result.answer site.new }
+    ensures refused { IsWhyRefused (Act.Load slot mask layout bytes.now) result.answer result.refusal }
 {
     match verify(alloc, bytes.as_slice(), mask, layout) {
         Ok(program) => match Arc::new(alloc, program) {
-            Ok(program) => enter_event(site, moment, What::Load { slot, program }),
-            Err(_) => Answer::OutOfMemory,
+            Ok(program) => unrefused(enter_event(site, moment, What::Load { slot, program })),
+            Err(_) => unrefused(Answer::OutOfMemory),
         },
-        Err(refusal) => answer_refusal(refusal),
+        Err(refusal) => refuse_load(refusal),
     }
 }
 
-/// Enters an act at a moment, by the script's pass, and returns the answer to it.
-pub fn enter(alloc: Global, site: &mut Site, moment: u64, act: Act) -> Answer
-    ensures { ActAnswered site.old moment act result site.new }
+/// An answer to what the verifier doesn't refuse.
+fn unrefused(answer: Answer) -> Entered
+    ensures { result ≡ record { answer = answer; refusal = None } }
+{
+    Entered {
+        answer,
+        refusal: None,
+    }
+}
+
+/// Enters an act at a moment, by the script's pass. Returns the answer, and for a load why its program is refused.
+pub fn enter(alloc: Global, site: &mut Site, moment: u64, act: &Act) -> Entered
+    ensures answered { ActAnswered site.old moment act.now result.answer site.new }
+    ensures refused { IsWhyRefused act.now result.answer result.refusal }
 {
     match act {
-        Act::Till { till, request } => enter_event(site, moment, What::Till { till, request }),
+        Act::Till { till, request } => {
+            let what = What::Till {
+                till: *till,
+                request: *request,
+            };
+            unrefused(enter_event(site, moment, what))
+        }
         Act::Dispenser { point, event } => {
-            enter_event(site, moment, What::Dispenser { point, event })
+            let what = What::Dispenser {
+                point: *point,
+                event: *event,
+            };
+            unrefused(enter_event(site, moment, what))
         }
         Act::Load {
             slot,
             mask,
             layout,
             bytes,
-        } => enter_load(alloc, site, moment, slot, mask, layout, bytes),
+        } => enter_load(alloc, site, moment, *slot, *mask, *layout, bytes),
     }
 }

@@ -2,23 +2,23 @@
 #![tactic(auto)]
 
 mod entering;
-mod loading;
+mod notices;
 mod player;
 mod playing;
 mod script;
 
-pub use bpf_asm::{AsmFault, AsmFlaw};
+pub use bpf_asm::{AsmFault, AsmFlaw, ProgramFileFault};
 pub use command_line::{CommandFault, Job, command};
+pub use entering::{Entered, enter};
 pub use job_texts::{
     JournalFlaw, ProgramFlaw, RefusedProgram, Told, asm_file, asm_flaw, audit_entries,
-    audit_journal, dis_file, dis_flaw, dis_units_file, entries_flaw, journal_fault_line,
+    audit_journal, dis_file, dis_flaw, dis_units_file, entries_flaw, explain_refusal, journal_fault_line,
     journal_flaw, verify_file, verify_flaw,
 };
 pub use line_session::{Ended, READS, SessionFault};
-pub use loading::{RefusedLoad, refused_load};
+pub use notices::{NoNotices, PlayNotices};
 pub use player::Player;
 pub use playing::{law_of_the_cut, play, play_within};
-pub use program_file::ProgramFileFault;
 pub use script::{ScriptLine, parse_script_line};
 pub use site_config::{
     ConfigFault, ConfigFlaw, MOST_BYTES, Serve, Settings, config_part, read_config, read_head,

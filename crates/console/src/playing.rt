@@ -5,6 +5,7 @@ ghost use Rattle.line_session.specs.Answering.{SpendsReads, is_read, is_write, s
 ghost use Rattle.site_core.specs.Site.{new_site};
 ghost use Rattle.console.specs.Play.{PlaysOut, PlayBreaks, PlayStops, PlaysAlike};
 
+use crate::notices::{NoNotices, PlayNotices};
 use crate::player::Player;
 use line_session::{Ended, READS, SessionFault, answer_lines_within};
 use site_core::{Config, Site};
@@ -12,12 +13,13 @@ use std::alloc::Global;
 use till_request::{LineIn, LineOut};
 
 /// Answers a script line by line, as `play` does, with at most `left` reads of one byte each. `left` becomes how many
-/// reads remain.
-pub fn play_within<I: LineIn, O: LineOut>(
+/// reads remain. The notices are told of each line and of each load that is refused.
+pub fn play_within<I: LineIn, O: LineOut, N: PlayNotices>(
     alloc: Global,
     config: Config,
     input: &mut I,
     output: &mut O,
+    notices: &N,
     left: &mut u32,
 ) -> Result<Ended, SessionFault>
     requires { left.old ≤ READS }
@@ -42,7 +44,8 @@ pub fn play_within<I: LineIn, O: LineOut>(
         return Err(SessionFault::OutOfMemory);
     };
     let mut moment = 0;
-    answer_lines_within(alloc, input, output, &Player, &mut moment, &mut site, left)
+    let player = Player { notices };
+    answer_lines_within(alloc, input, output, &player, &mut moment, &mut site, left)
 }
 
 /// Answers a script line by line, as a session with a new site of the configuration that starts at moment 0 and makes
@@ -71,7 +74,7 @@ pub fn play<I: LineIn, O: LineOut>(
         (O.written output.new)) }
 {
     let mut left = READS;
-    play_within(alloc, config, input, output, &mut left)
+    play_within(alloc, config, input, output, &NoNotices, &mut left)
 }
 
 /// The answers to a script don't depend on how its bytes are cut into reads. Two plays of the same bytes with the same

@@ -3,7 +3,7 @@ ghost use Rattle.std.specs.Prelude.{◌≤◌, IfOk, length};
 
 use crate::faults::tell_write;
 use crate::files::{Outlet, Source};
-use crate::progress::Watch;
+use crate::progress::Progress;
 use console::{Ended, SessionFault};
 use std::cell::RefCell;
 use std::io::{self, BufWriter, Error, ErrorKind, Printer, Read, Write};
@@ -89,8 +89,8 @@ impl Write for Outgoing<'_, '_> {
 pub struct Incoming<'a, 'b> {
     pub source: Source,
     pub answers: &'b Answers<'a>,
-    /// Who looks at each piece that is read, which costs less than to look at each byte that is taken.
-    pub watch: Option<Watch<'a>>,
+    /// How far it is, if that is shown.
+    pub progress: Option<&'b RefCell<Progress<'a>>>,
 }
 
 impl Read for Incoming<'_, '_> {
@@ -100,8 +100,10 @@ impl Read for Incoming<'_, '_> {
             return Ok(0);
         }
         let count = self.source.read(buf)?;
-        if let Some(watch) = &mut self.watch {
-            watch.see(&buf[..count]);
+        if let Some(progress) = self.progress
+            && let Ok(mut progress) = progress.try_borrow_mut()
+        {
+            progress.see(&buf[..count]);
         }
         Ok(count)
     }

@@ -1,7 +1,7 @@
 //! Audits of a journal.
 use crate::faults::{Place, cannot_read, complain, out_of_memory, say, tell_journal};
 use crate::files::Source;
-use crate::progress::{Progress, Watch, Watched};
+use crate::progress::{Progress, Watched};
 use crate::settings::settings_and;
 use crate::statuses::{FAILED, REFUSED};
 use console::{JournalFlaw, audit_journal, journal_fault_line, journal_flaw};
@@ -25,13 +25,10 @@ pub fn audit_files(rt: &HostRuntime, config: &str, journal: &str) -> io::Result<
             failures: 0,
             asked: 0,
         },
-        watch: Watch {
-            progress: Progress::new(rt, true, size),
-            loads: None,
-        },
+        progress: Progress::new(rt, true, size),
     };
     let told = audit_journal(rt.alloc(), settings.config, &mut input);
-    input.watch.progress.clear();
+    input.progress.clear();
     match told {
         Ok(told) => {
             // Only a file can be read once more.

@@ -4,13 +4,14 @@ ghost use Rattle.std.specs.Prelude.{◌≤◌};
 use crate::answers::{Answers, Incoming, Outgoing};
 use crate::faults::{Place, complain, out_of_memory, refuse_config, refuse_length, tell_cut};
 use crate::files::{Source, name_of};
-use crate::loads::Loads;
-use crate::progress::{Progress, Watch, Watched};
+use crate::progress::Progress;
+use crate::refused_loads::RefusedLoads;
 use crate::settings::settings_and;
 use crate::statuses::{DONE, FAILED, REFUSED};
 use console::{
-    Ended, READS, SessionFault, Settings, config_part, play, play_within, read_head, read_settings,
+    Ended, READS, SessionFault, Settings, config_part, play_within, read_head, read_settings,
 };
+use std::cell::RefCell;
 use std::io::{self, IsTerminal};
 use till_request::devices::{Ahead, StreamIn, StreamOut};
 
@@ -66,7 +67,7 @@ pub fn play_input(rt: &HostRuntime) -> io::Result<u8> {
     let incoming = Incoming {
         source: Source::input(rt),
         answers: &answers,
-        watch: None,
+        progress: None,
     };
     let mut input = ahead(incoming);
     let mut left = READS;
@@ -105,7 +106,7 @@ fn lines_in(bytes: &[u8]) -> u64 {
     bytes.iter().filter(|byte| **byte == b'\n').count() as u64
 }
 
-/// The script that stands behind a configuration of so many lines.
+/// Plays the script after a configuration of this many lines.
 fn play_rest(
     rt: &HostRuntime,
     settings: Settings,
@@ -116,23 +117,20 @@ fn play_rest(
 ) -> io::Result<u8>
     requires { left ≤ READS }
 {
-    let first = lines.saturating_add(1);
-    let watch = Watch {
-        progress: Progress::new(rt, false, None),
-        loads: Some(Loads::new(rt, name_of("-"), first)),
-    };
-    let mut input = Watched { input, watch };
+    let mut input = input;
+    let notices = RefusedLoads::new(rt, name_of("-"), lines, None);
     let mut output = outlet(answers);
     let ended = play_within(
         rt.alloc(),
         settings.config,
         &mut input,
         &mut output,
+        &notices,
         &mut left,
     );
     let ended = answers.end(ended);
-    let read = input.input.input.reader.source.failure();
-    Ok(status_of(rt, ended, "-", first, read, answers))
+    let read = input.input.reader.source.failure();
+    Ok(status_of(rt, ended, "-", lines.saturating_add(1), read, answers))
 }
 
 /// Standard output, where answers wait for the next read.
@@ -163,21 +161,27 @@ fn play_script<'a>(
 ) -> io::Result<u8> {
     // On a terminal the answers themselves show how far it is.
     let is_silent = !rt.stdout().is_terminal();
-    let watch = Watch {
-        progress: Progress::new(rt, is_silent, source.size()),
-        loads: Some(Loads::new(rt, name_of(script), 1)),
-    };
+    let progress = RefCell::new(Progress::new(rt, is_silent, source.size()));
+    let notices = RefusedLoads::new(rt, name_of(script), 0, Some(&progress));
     let incoming = Incoming {
         source,
         answers,
-        watch: Some(watch),
+        progress: Some(&progress),
     };
     let mut input = ahead(incoming);
     let mut output = outlet(answers);
-    let ended = play(rt.alloc(), settings.config, &mut input, &mut output);
+    let mut left = READS;
+    let ended = play_within(
+        rt.alloc(),
+        settings.config,
+        &mut input,
+        &mut output,
+        &notices,
+        &mut left,
+    );
     let ended = answers.end(ended);
-    if let Some(watch) = &mut input.input.reader.watch {
-        watch.progress.clear();
+    if let Ok(mut progress) = progress.try_borrow_mut() {
+        progress.clear();
     }
     let read = input.input.reader.source.failure();
     Ok(status_of(rt, ended, script, 1, read, answers))

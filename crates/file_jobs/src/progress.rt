@@ -1,5 +1,4 @@
 //! How far long work is: one line on standard error that is renewed, where standard error is a terminal.
-use crate::loads::Loads;
 use memchr::memchr_iter;
 use std::io::{IsTerminal, Stderr, Write};
 use std::time::Instant;
@@ -24,7 +23,7 @@ pub struct Progress<'a> {
 }
 
 impl<'a> Progress<'a> {
-    /// Tells where there is somebody to read it.
+    /// Shown only if it is wanted and standard error is a terminal.
     pub fn new(rt: &'a HostRuntime, is_wanted: bool, size: Option<u64>) -> Self {
         let errors = rt.stderr();
         let is_shown = is_wanted && errors.is_terminal();
@@ -42,10 +41,13 @@ impl<'a> Progress<'a> {
         }
     }
 
-    /// Counts the lines that end in these bytes, where there is somebody to tell.
-    fn count(&mut self, bytes: &[u8]) {
+    /// Looks at what a read gave, in order: nothing at the end. Counts the lines that end in it, if anybody sees it.
+    pub fn see(&mut self, bytes: &[u8]) {
         if self.to.is_none() {
             return;
+        }
+        if bytes.is_empty() {
+            self.say_end();
         }
         self.bytes = self.bytes.wrapping_add(bytes.len() as u64);
         for _ in memchr_iter(b'\n', bytes) {
@@ -106,31 +108,11 @@ impl<'a> Progress<'a> {
     }
 }
 
-/// Looks at bytes as they are read: counts their lines, and tells of a script's refused loads.
-#[derive(Drop)]
-pub struct Watch<'a> {
-    pub progress: Progress<'a>,
-    pub loads: Option<Loads<'a>>,
-}
-
-impl Watch<'_> {
-    /// Looks at what a read gave, in order: nothing at the end.
-    pub fn see(&mut self, bytes: &[u8]) {
-        if bytes.is_empty() {
-            self.progress.say_end();
-        }
-        self.progress.count(bytes);
-        if let Some(loads) = &mut self.loads {
-            loads.see(bytes, &mut self.progress);
-        }
-    }
-}
-
 /// A source of bytes that are looked at as they are read.
 #[derive(Drop)]
 pub struct Watched<'a, I: LineIn> {
     pub input: I,
-    pub watch: Watch<'a>,
+    pub progress: Progress<'a>,
 }
 
 impl<I: LineIn + Drop> LineIn for Watched<'_, I> {
@@ -144,7 +126,7 @@ impl<I: LineIn + Drop> LineIn for Watched<'_, I> {
 
     fn read(&mut self, buffer: &mut [u8]) -> Result<usize, DeviceFault> {
         let count = self.input.read(buffer)?;
-        self.watch.see(&buffer[..count]);
+        self.progress.see(&buffer[..count]);
         Ok(count)
     }
 }

@@ -2,7 +2,7 @@
 use crate::audits::tell_journal_fault;
 use crate::faults::{once_printed, out_of_memory};
 use crate::kept::refuse_history;
-use crate::progress::{Progress, Watch, Watched};
+use crate::progress::{Progress, Watched};
 use crate::settings::settings_and;
 use crate::statuses::DONE;
 use day_page::Page;
@@ -18,10 +18,7 @@ pub fn report_files(rt: &HostRuntime, config: &str, journal: &str) -> io::Result
         Ok(both) => both,
         Err(status) => return Ok(status),
     };
-    let watch = Watch {
-        progress: Progress::new(rt, true, source.size()),
-        loads: None,
-    };
+    let progress = Progress::new(rt, true, source.size());
     let mut input = Watched {
         input: StreamIn {
             reader: source,
@@ -29,10 +26,10 @@ pub fn report_files(rt: &HostRuntime, config: &str, journal: &str) -> io::Result
             failures: 0,
             asked: 0,
         },
-        watch,
+        progress,
     };
     let read = read_entries(rt.alloc(), &mut input);
-    input.watch.progress.clear();
+    input.progress.clear();
     let entries = match read {
         Ok(entries) => entries,
         Err(fault) => return tell_journal_fault(rt, journal, fault, input.input.reader.failure()),

@@ -13,8 +13,8 @@ use Rattle.bpf_asm.specs.Text.{canon}
 use Rattle.bpf_asm.specs.Numbered.{numbered_from}
 use Rattle.reg_types.specs.declared.refusal.Refusal.TheVariants.{Decode}
 use Rattle.reg_types.specs.Refusals.{shown_by}
-use Rattle.program_file.specs.declared.ProgramFileFault.{ProgramFileFault}
-use Rattle.program_file.specs.Digits.{program_in, unit_lines}
+use Rattle.bpf_asm.specs.declared.program_file.ProgramFileFault.{ProgramFileFault}
+use Rattle.bpf_asm.specs.ProgramFile.{program_in, unit_lines}
 use Rattle.till_request.specs.declared.act.Answer.TheVariants.{Program}
 use Rattle.till_request.specs.Answer.{answer_line}
 use Rattle.job_texts.specs.declared.told.Told.{Told}

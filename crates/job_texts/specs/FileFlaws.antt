@@ -8,8 +8,8 @@ use Rattle.bpf_decode.specs.Faults.{IsRefusedFor}
 use Rattle.bpf_decode.specs.declared.DecodeFault.{DecodeFault}
 use Rattle.bpf_decode.specs.declared.DecodeFault.TheVariants.{OutOfMemory}
 use Rattle.reg_types.specs.declared.refusal.Refusal.TheVariants.{Decode}
-use Rattle.program_file.specs.declared.ProgramFileFault.{ProgramFileFault}
-use Rattle.program_file.specs.Digits.{program_in}
+use Rattle.bpf_asm.specs.declared.program_file.ProgramFileFault.{ProgramFileFault}
+use Rattle.bpf_asm.specs.ProgramFile.{program_in}
 use Rattle.job_texts.specs.declared.reasons.RefusedProgram.{RefusedProgram}
 use Rattle.job_texts.specs.declared.file_flaws.ProgramFlaw.{ProgramFlaw}
 use Rattle.job_texts.specs.declared.file_flaws.ProgramFlaw.TheVariants.{File, Program}

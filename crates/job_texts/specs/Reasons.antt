@@ -14,7 +14,7 @@ use Rattle.reg_types.specs.declared.refusal.Refusal.TheVariants.{«Type» as OfT
 use Rattle.reg_types.specs.declared.refusal.TypeFault.TheVariants.{BadArgument}
 use Rattle.reg_types.specs.Refusals.{shown_by}
 use Rattle.reg_types.specs.Shown.{IsRefused, refusal_of}
-use Rattle.program_file.specs.Digits.{line_at}
+use Rattle.bpf_asm.specs.ProgramFile.{line_at}
 use Rattle.job_texts.specs.declared.reasons.RefusedProgram.{RefusedProgram}
 
 -- the V number among a refusal's numbers, 0 where it has none

@@ -3,9 +3,9 @@ use Rattle.std.specs.Prelude.{◌≡◌, ◌⊎◌, ℕ, ◌/◌, List, [], ◌+
 use Rattle.std.specs.Fmt.{decimal}
 use Rattle.bpf_model.specs.declared.context.Layout.{Layout}
 use Rattle.bpf_model.specs.Program.{ProgramText, IsGood, as_loaded}
-use Rattle.program_file.specs.declared.ProgramFileFault.{ProgramFileFault}
-use Rattle.program_file.specs.declared.ProgramFileFault.TheVariants.{TooLong, BadDigits, OutOfMemory}
-use Rattle.program_file.specs.Digits.{program_in}
+use Rattle.bpf_asm.specs.declared.program_file.ProgramFileFault.{ProgramFileFault}
+use Rattle.bpf_asm.specs.declared.program_file.ProgramFileFault.TheVariants.{TooLong, BadDigits, OutOfMemory}
+use Rattle.bpf_asm.specs.ProgramFile.{program_in}
 use Rattle.till_request.specs.declared.act.Answer.TheVariants.{Program}
 use Rattle.till_request.specs.Answer.{answer_line}
 use Rattle.reg_types.specs.declared.refusal.Refusal.{Refusal}

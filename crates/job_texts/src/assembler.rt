@@ -4,15 +4,17 @@ ghost use Rattle.bpf_decode.specs.Faults.{IsRefusedFor};
 ghost use Rattle.bpf_decode.specs.Encoded.{encoded};
 ghost use Rattle.bpf_asm.specs.Text.{canon};
 ghost use Rattle.bpf_asm.specs.Numbered.{numbered_from};
-ghost use Rattle.program_file.specs.Digits.{unit_lines};
+ghost use Rattle.bpf_asm.specs.ProgramFile.{unit_lines};
 ghost use Rattle.job_texts.specs.Told.{IsSaid};
 ghost use Rattle.job_texts.specs.Assembler.{asm_fault_text, AsmTells, ToldUnits, ToldAsmFault, ToldText, ToldNumbered};
 ghost use Rattle.job_texts.specs.Assembler.{ToldDecodeFault, DisTells, DisUnitsTells};
 
 use crate::told::{REFUSED, Told, refused};
-use bpf_asm::{AsmFault, assemble, disassemble, disassemble_numbered};
+use bpf_asm::{
+    AsmFault, MOST_BYTES, ProgramFileFault, assemble, disassemble, disassemble_numbered, read_program,
+    unit_lines,
+};
 use bpf_decode::{Code, DecodeFault, decode, encode};
-use program_file::{MOST_BYTES, ProgramFileFault, read_program, unit_lines};
 use reg_types::Refusal;
 use std::alloc::{AllocError, Global};
 use till_request::Answer;

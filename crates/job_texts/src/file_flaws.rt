@@ -4,7 +4,7 @@ ghost use Rattle.job_texts.specs.FileFlaws.{IsAccepted, IsShown, IsVerifyFlaw, I
 
 use crate::reasons::{RefusedProgram, explain_refusal, refused_program};
 use bpf_decode::{DecodeFault, decode};
-use program_file::{ProgramFileFault, read_program};
+use bpf_asm::{ProgramFileFault, read_program};
 use reg_types::{Layout, Refusal};
 use std::alloc::{AllocError, Global};
 use thiserror::Error;

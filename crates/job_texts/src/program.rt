@@ -6,7 +6,7 @@ ghost use Rattle.reg_types.specs.Shown.{IsRefused, IsRefusal, refusal_of};
 ghost use Rattle.job_texts.specs.Told.{IsSaid, Accepted, Refused, VerifyTells};
 
 use crate::told::{REFUSED, Told, refused};
-use program_file::{ProgramFileFault, read_program};
+use bpf_asm::{ProgramFileFault, read_program};
 use reg_types::{Layout, Program, Refusal, verify};
 use std::alloc::{AllocError, Global};
 use till_request::Answer;

@@ -9,10 +9,9 @@ ghost use Rattle.job_texts.specs.Told.{Passes};
 ghost use Rattle.job_texts.specs.Reasons.{IsSpelling, IsExplained, number_in, unit_in, kind_wanted, wanted_at, wanted_in};
 ghost use Rattle.job_texts.specs.Reasons.{digits_line, line_named};
 
-use bpf_asm::{AsmFault, AsmFlaw, assemble, explain, instruction_line};
+use bpf_asm::{AsmFault, AsmFlaw, assemble, explain, instruction_line, unit_lines};
 use bpf_decode::{Code, DecodeFault, Unit, decode};
 use helpers::{Kind, arguments};
-use program_file::unit_lines;
 use reg_types::{Layout, Refusal, TypeFault, verify};
 use std::alloc::{AllocError, Global};
 use std::fmt;

@@ -1,8 +1,6 @@
 //! Files of programs: hexadecimal digits with blanks between them.
-#![tactic(auto)]
-
 ghost use Rattle.std.specs.Prelude.{◌≡◌, ◌*◌, ◌+◌, ◌≤◌, length, filter, not, IfOk, OnOk, ◌++◌, string_bytes};
-ghost use Rattle.program_file.specs.Digits.{Gives, program_in, is_blank, line_at, unit_lines};
+ghost use Rattle.bpf_asm.specs.ProgramFile.{Gives, program_in, is_blank, line_at, unit_lines};
 
 use hex::FromHexError;
 use std::alloc::{AllocError, Global};
@@ -25,7 +23,7 @@ pub enum ProgramFileFault {
 }
 
 impl From<AllocError> for ProgramFileFault {
-    ghost use Rattle.program_file.specs.declared.ProgramFileFault.TheVariants.{OutOfMemory};
+    ghost use Rattle.bpf_asm.specs.declared.program_file.ProgramFileFault.TheVariants.{OutOfMemory};
 
     ghost from_gives = { λ _ e. e ≡ OutOfMemory };
 
@@ -53,7 +51,7 @@ fn without_blanks(alloc: Global, text: &[u8]) -> Result<Vec<u8>, AllocError>
 
 /// The bytes of a program file: at most 65,536 bytes of hexadecimal digits in either case; spaces, tabs, CR
 /// and LF are skipped. A file that is too long is refused before its digits are looked at.
-#[tactic(auto, unfolding(crate::specs::Digits::program_in))]
+#[tactic(auto, unfolding(crate::specs::ProgramFile::program_in))]
 pub fn read_program(alloc: Global, text: &[u8]) -> Result<Vec<u8>, ProgramFileFault>
     ensures { Gives (λ bytes. bytes.items) result (program_in text.now) }
 {

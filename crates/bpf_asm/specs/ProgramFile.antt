@@ -3,8 +3,8 @@ use Rattle.std.specs.Prelude.{◌≡◌, ℕ, zero, suc, ◌*◌, ◌/◌, ◌==
 use Rattle.std.specs.Prelude.{Result, Ok, Err, ⊤}
 use Rattle.hex.specs.Hex.{decode_of, encode_lower}
 use Rattle.hex.specs.declared.error.FromHexError.{FromHexError}
-use Rattle.program_file.specs.declared.ProgramFileFault.{ProgramFileFault}
-use Rattle.program_file.specs.declared.ProgramFileFault.TheVariants.{TooLong, BadDigits, OutOfMemory}
+use Rattle.bpf_asm.specs.declared.program_file.ProgramFileFault.{ProgramFileFault}
+use Rattle.bpf_asm.specs.declared.program_file.ProgramFileFault.TheVariants.{TooLong, BadDigits, OutOfMemory}
 
 -- space, tab, CR, LF
 abbrev pub is_blank : ℕ → Bool

@@ -1,6 +1,6 @@
 use Rattle.std.proofs.Common.{◌≡◌, string_bytes}
-use Rattle.program_file.specs.Digits.{lines_below}
-use Rattle.program_file.proofs.unit_lines.Given as goal
+use Rattle.bpf_asm.specs.ProgramFile.{lines_below}
+use Rattle.bpf_asm.proofs.program_file.unit_lines.Given as goal
 
 -- the lines so far
 abbrev pub invariant-loop-unit : goal.invariant-loop-unit

@@ -1,0 +1,25 @@
+//! What whoever plays a script is told beside its answers.
+use reg_types::Refusal;
+use till_request::Act;
+
+/// Whom a play tells what its answers have no room for.
+pub trait PlayNotices {
+    ghost use Rattle.console.specs.Loading.{IsRefusedAct};
+
+    /// The next line of the script is to be answered.
+    fn line_begins(&self);
+
+    /// The program of this load is refused.
+    fn refused_load(&self, load: &Act, refusal: Refusal)
+        requires { IsRefusedAct load.now refusal };
+}
+
+/// Nobody is told anything.
+#[derive(Clone, Copy, Drop)]
+pub struct NoNotices;
+
+impl PlayNotices for NoNotices {
+    fn line_begins(&self) {}
+
+    fn refused_load(&self, _load: &Act, _refusal: Refusal) {}
+}

@@ -1,0 +1,159 @@
+#!/usr/bin/env python3
+"""Proves the crates of a program side by side, and builds the program.
+
+usage: tools/build.py FOLDER NAME    FOLDER: crates.txt and crates/, a copy that is this call's to change
+                                     NAME: the program's crate, whose program is then FOLDER/crates/NAME/out/NAME
+
+Two calls of `rt` in one tree wait for each other, so each crate is proved in a tree of its own. What was proved is
+linked into the trees of the crates above it. Of the crates that can begin, the one with most lines of code behind it
+comes first. It and others with nearly as many get more processes, and these go before the rest's. FC_JOBS is the most
+processes; left out, they are two for each processor at most, as memory allows. What `rt` says goes to standard output,
+with a line 'rt: NAME proved' at the end of each crate.
+"""
+import os
+import shutil
+import subprocess
+import sys
+import threading
+from concurrent.futures import FIRST_COMPLETED, ThreadPoolExecutor, wait
+
+MOST_JOBS = 4  # processes that one crate's proof can use well
+MEMORY = 2_500_000_000  # bytes that a process may need
+NEARLY = 0.8  # of the longest chain: a crate with so much behind it goes first too
+PATIENT = 10  # the niceness of the others
+
+
+class Crate:
+    """A crate: what it stands on, its lines of code, and the most lines in a chain from it up to the program."""
+
+    def __init__(self, folder, name, line, deps):
+        self.name, self.line, self.deps = name, line, deps
+        self.lines, self.chain = 0, 0
+        for path, _, names in os.walk(os.path.join(folder, "crates", name, "src")):
+            for one in names:
+                with open(os.path.join(path, one), "rb") as file:
+                    self.lines += file.read().count(b"\n")
+
+
+def crates_of(folder, top):
+    """The crates that the top one consists of, by name, with their chains."""
+    lines = {}
+    with open(os.path.join(folder, "crates.txt"), encoding="utf-8") as file:
+        for line in file:
+            name, colon, deps = line.partition("#")[0].partition(":")
+            if colon:
+                lines[name.split()[0]] = line, deps.split()
+    crates = {}
+
+    def add(name, chain):
+        if name not in crates:
+            line, deps = lines[name]
+            crates[name] = Crate(folder, name, line, [dep for dep in deps if dep in lines])
+        crate = crates[name]
+        if chain + crate.lines > crate.chain:
+            crate.chain = chain + crate.lines
+            for dep in crate.deps:
+                add(dep, crate.chain)
+
+    add(top, 0)
+    return crates
+
+
+class Build:
+    """The trees of a build, below one folder, and who is being proved in them."""
+
+    def __init__(self, folder, top):
+        self.folder, self.top, self.crates = folder, top, crates_of(folder, top)
+        self.printing = threading.Lock()
+
+    def below(self, name):
+        found = set(self.crates[name].deps)
+        return found.union(*(self.below(dep) for dep in self.crates[name].deps))
+
+    def path(self, tree, name):
+        return os.path.join(self.folder, "trees", tree, "crates", name)
+
+    def make_tree(self, name):
+        """A repository of the crate and of those below it, with what was proved of these."""
+        tree = os.path.join(self.folder, "trees", name)
+        os.makedirs(os.path.join(tree, ".git"))
+        shutil.copy(os.path.join(self.folder, "HANDLES"), tree)
+        names = [name, *sorted(self.below(name))]
+        with open(os.path.join(tree, "crates.txt"), "w", encoding="utf-8") as file:
+            file.writelines(self.crates[one].line for one in names)
+        for one in names:
+            shutil.copytree(os.path.join(self.folder, "crates", one), self.path(name, one))
+        proved = os.path.join("out", "rlib")
+        for one in names[1:]:
+            made = os.path.join(self.path(one, one), proved)
+            shutil.copytree(made, os.path.join(self.path(name, one), proved), copy_function=os.link)
+
+    def forget(self, name):
+        """Takes away what the tree of a proved crate has beside that: it is some hundred times as large."""
+        for one in self.below(name):
+            shutil.rmtree(self.path(name, one))
+        shutil.rmtree(os.path.join(self.path(name, name), "out", "incremental"), ignore_errors=True)
+
+    def prove(self, name, jobs, niceness):
+        """Whether a crate is proved. The program is built too, and asked for its version."""
+        self.make_tree(name)
+        words = ["rt", "lib", "--jobs", str(jobs)]
+        if name == self.top:
+            words = ["rt", "run", "--jobs", str(jobs), "--", "--version"]
+        ran = subprocess.run(
+            ["nice", "-n", str(niceness), *words], cwd=self.path(name, name), stdin=subprocess.DEVNULL,
+            stdout=subprocess.PIPE, stderr=subprocess.STDOUT, text=True, errors="replace", check=False,
+        )
+        is_proved = ran.returncode == 0
+        with self.printing:
+            print(f"== {name}\n{ran.stdout}rt: {name} {'proved' if is_proved else 'NOT PROVED'}", flush=True)
+        if is_proved:
+            self.forget(name)
+        return is_proved
+
+    def run(self, processors, most):
+        """Proves all on these processors, by at most this many processes, until one isn't; whether all were."""
+        left = sorted(self.crates.values(), key=lambda it: -it.chain)
+        done, running = set(), {}
+        with ThreadPoolExecutor(len(left)) as pool:
+            while left or running:
+                longest = max([it.chain for it in left] + [it.chain for it, _ in running.values()])
+                for crate in [it for it in left if done.issuperset(it.deps)]:
+                    busy = sum(jobs for _, jobs in running.values())
+                    is_first = crate.chain >= NEARLY * longest
+                    if busy >= (most if is_first else min(processors, most)):
+                        break
+                    others = sum(it.chain >= NEARLY * longest for it, _ in running.values())
+                    jobs = max(1, min(MOST_JOBS, most - busy, processors // (1 + others))) if is_first else 1
+                    left.remove(crate)
+                    running[pool.submit(self.prove, crate.name, jobs, 0 if is_first else PATIENT)] = crate, jobs
+                for one in wait(running, return_when=FIRST_COMPLETED).done:
+                    crate, _ = running.pop(one)
+                    if not one.result():
+                        left = []
+                        continue
+                    done.add(crate.name)
+        return len(done) == len(self.crates)
+
+
+def most_processes(processors):
+    asked = os.environ.get("FC_JOBS", "")
+    if asked.isdigit() and int(asked) > 0:
+        return int(asked)
+    with open("/proc/meminfo", encoding="ascii") as file:
+        free = next(int(line.split()[1]) * 1024 for line in file if line.startswith("MemAvailable"))
+    return max(1, min(2 * processors, free // MEMORY))
+
+
+def main():
+    folder, top = sys.argv[1:]
+    build = Build(os.path.realpath(folder), top)
+    processors = len(os.sched_getaffinity(0))
+    if not build.run(processors, most_processes(processors)):
+        sys.exit(1)
+    out = os.path.join(build.folder, "crates", top, "out")
+    os.makedirs(out, exist_ok=True)
+    shutil.copy(os.path.join(build.path(top, top), "out", top), out)
+
+
+main()
