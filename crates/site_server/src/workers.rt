@@ -1,7 +1,6 @@
 //! The workers of a served site.
 ghost use Rattle.std.specs.Prelude.{◌≡◌, ℕ};
-ghost use Rattle.line_session.specs.Session.{desk_says, desk_drops, desk_fails};
-ghost use Rattle.line_session.specs.Serving.{Serves, Sits, Visits};
+ghost use Rattle.line_session.specs.Serving.{Serves, SitsAtDesk, Visits};
 ghost use Rattle.site_server.specs.Collecting.{RunsWorker};
 ghost use Rattle.site_server.specs.Tasks.{Worked, pass_answers, tells};
 
@@ -61,9 +60,7 @@ impl<L: SiteLedger, J: Journal, N: Notices, A: Release, R: Wait + Clock> Workers
     fn serve<S: Doors>(&self, pass: Pass<L>, role: Role, doors: &mut S) -> (Pass<L>, u64)
         ensures served { (moment : ℕ)
             × Serves (Visits S.opens S.fails
-            (Sits (desk_says (pass_answers L.config J.may_fail) tells role)
-            (desk_drops (pass_answers L.config J.may_fail) tells role)
-            (desk_fails (pass_answers L.config J.may_fail) tells role) S.In.remaining S.In.reads S.In.failures
+            (SitsAtDesk (pass_answers L.config J.may_fail) tells role S.In.remaining S.In.reads S.In.failures
             S.Out.written S.Out.failures))
             self.now.connections result.1 doors.old (0, pass) doors.new (moment, result.0) }
         ensures worked { Worked L.config J.may_fail role self.now.connections result.1 pass result.0 }
