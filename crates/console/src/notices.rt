@@ -1,8 +1,8 @@
-//! What whoever plays a script is told beside its answers.
+//! What a play reports beside its answers.
 use reg_types::Refusal;
 use till_request::Act;
 
-/// Whom a play tells what its answers have no room for.
+/// Hears what a play's answers have no room for.
 pub trait PlayNotices {
     ghost use Rattle.console.specs.Loading.{IsRefusedAct};
 
@@ -14,7 +14,7 @@ pub trait PlayNotices {
         requires { IsRefusedAct load.now refusal };
 }
 
-/// Nobody is told anything.
+/// Drops all reports.
 #[derive(Clone, Copy, Drop)]
 pub struct NoNotices;
 

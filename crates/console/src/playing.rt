@@ -13,7 +13,7 @@ use std::alloc::Global;
 use till_request::{LineIn, LineOut};
 
 /// Answers a script line by line, as `play` does, with at most `left` reads of one byte each. `left` becomes how many
-/// reads remain. The notices are told of each line and of each load that is refused.
+/// reads remain. `notices` hears of each line and of each load that is refused.
 pub fn play_within<I: LineIn, O: LineOut, N: PlayNotices>(
     alloc: Global,
     config: Config,

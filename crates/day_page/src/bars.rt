@@ -162,7 +162,7 @@ fn decided(totals: &Totals, loads: &[Load]) -> (u128, u128) {
 
 /// Where one of this many columns begins, and how wide it is.
 fn column_at(place: usize, columns: usize) -> (usize, usize) {
-    // A few columns stand side by side, and do not spread over the whole width.
+    // A few columns are side by side, and do not spread over the whole width.
     let room = 1000usize.min(scaled(columns as u128, 12, 1000));
     let left = scaled(place as u128, columns as u128, room);
     let next = scaled((place as u128).saturating_add(1), columns as u128, room);

@@ -185,7 +185,7 @@ pub(crate) fn write_versions<W: fmt::Write>(
     f.write_str(FOOT)
 }
 
-/// Writes what a version granted and denied to each till that asked it, behind so many rows. Answers how many rows there
+/// Writes what a version granted and denied to each till that asked it, behind `rows` rows. Returns how many rows there
 /// are then, of which those past the most are left out.
 fn write_tills<W: fmt::Write>(
     f: &mut fmt::Formatter<W>,

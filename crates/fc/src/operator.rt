@@ -38,7 +38,7 @@ fn code_of(failure: SessionFailure) -> &'static str {
 }
 
 impl<'a, H: Wait + Clock> Operator<'a, H> {
-    /// Who was told nothing yet. `host` is the same runtime as `rt`.
+    /// Nothing was reported yet. `host` is the same runtime as `rt`.
     pub fn new(rt: &'a HostRuntime, host: &'a H) -> Operator<'a, H> {
         Operator {
             rt,
@@ -47,7 +47,7 @@ impl<'a, H: Wait + Clock> Operator<'a, H> {
         }
     }
 
-    /// The second of now. Where the clock can't be read, or stands before 1970, all lines are of one second.
+    /// The second of now. Where the clock can't be read, or is before 1970, all lines are of one second.
     fn second(&self) -> u64 {
         match SystemTime::now(self.host) {
             Ok(time) => match time.duration_since(UNIX_EPOCH) {
@@ -58,7 +58,7 @@ impl<'a, H: Wait + Clock> Operator<'a, H> {
         }
     }
 
-    /// Whether one more line may be told now; those that were held back are named before it.
+    /// Whether one more line may be written now; those that were held back are named before it.
     fn is_admitted(&self) -> bool {
         let admitted = self.limiter.lock(self.host).admit(self.second());
         match admitted {

@@ -119,13 +119,13 @@ pub record Ends {S : Type 0} (says : S → List ℕ → List ℕ → S → Type 
 abbrev pub IsUpToLine : List ℕ → Type 0
 IsUpToLine rest = IsLine rest ⊎ ((line : List ℕ) × IsLine line × (rest ≡ with_lf line))
 
--- what was taken behind the last line that was answered: at most the line that stands next; a cut that is answered, be it by a front of
+-- what was taken behind the last line that was answered: at most the next line; a cut that is answered, be it by a front of
 -- the answer, is one
 abbrev pub AnswersCut : Option LineFault → Option (List ℕ) → List ℕ → Type 0
 AnswersCut None in_new rest = IsUpToLine rest
 AnswersCut (Some fault) in_new rest = IsCut (Some fault) in_new rest
 
--- no line more was taken up, or the one that stands next was dropped
+-- no line more was taken up, or the next one was dropped
 abbrev pub DropsNext : {S : Type 0} → (S → List ℕ → S → Type 0) → S → S → List ℕ → Type 0
 DropsNext drops s s' rest = (s' ≡ s) ⊎ ((line : List ℕ) × IsLine line × (rest ≡ with_lf line) × drops s line s')
 
@@ -147,13 +147,13 @@ pub record Breaks {S : Type 0} (says : S → List ℕ → List ℕ → S → Typ
   pub written : Appends out_old out_new front
   pub begins : all_texts texts ++ cut_line cut ≡ front ++ after
 
--- what wanted memory: the line that stands next, as it was read; or its answer, for a line that takes memory; or the line was dropped
+-- what memory was refused to: the next line, as it was read; or its answer, for a line that takes memory; or the line was dropped
 abbrev pub WantsNext : {S : Type 0} → (S → List ℕ → S → Type 0) → (List ℕ → Type 0) → S → S → List ℕ → Type 0
 WantsNext drops takes s s' rest = ((s' ≡ s) × IsLine rest)
     ⊎ ((line : List ℕ) × IsLine line × (rest ≡ with_lf line) × (((s' ≡ s) × takes line) ⊎ drops s line s'))
 
 -- It broke off though no write failed: the whole answers to the lines so far are out, and a cut is not answered. If that was for want of
--- memory, then something wanted memory.
+-- memory, then something was refused memory.
 abbrev pub Stops : {S : Type 0} → (S → List ℕ → List ℕ → S → Type 0) → (S → List ℕ → S → Type 0) → (List ℕ → Type 0) → SessionFault → S → S
     → Option (List ℕ) → Option (List ℕ) → Option (List ℕ) → Option (List ℕ) → Type 0
 Stops says drops takes fault s s' in_old in_new out_old out_new =
@@ -194,7 +194,7 @@ is_write_fault (Err error.Journal) = false
 abbrev pub session_reads : ℕ
 session_reads = 67108864
 
--- So many reads at most were made, each for one byte; where they ran out, just so many. By the counts of the input's reads and of the bytes asked.
+-- At most this many reads were made, each for one byte; where they ran out, just this many. By the counts of the input's reads and of the bytes asked.
 abbrev pub SpendsReads : {T : Type 0} → ℕ → Result T SessionFault → ℕ → ℕ → ℕ → ℕ → Type 0
 SpendsReads most result reads_old reads_new asked_old asked_new =
     (k : ℕ) × (k ≤ most) × RoseBy k reads_old reads_new × (result ≡ Err session.ReadsSpent → k ≡ most) × RoseBy k asked_old asked_new

@@ -16,7 +16,7 @@ pub record Waits (said : Option (List ℕ) → Option (List ℕ) → Type 0) (ou
   pub as_if_out : said (Some []) (Some (sent ++ waiting))
   pub out : Appends out_old out_new sent
 
--- the line was answered, and the answer stands behind what waited
+-- the line was answered, and the answer follows what waited
 pub record SaysOn {S : Type 0} (says : S → List ℕ → List ℕ → S → Type 0) (line : List ℕ) (s s' : S) (waiting after : List ℕ)
     (out_old out_new : Option (List ℕ)) : Type 0 where
   pub text : List ℕ

@@ -1,5 +1,5 @@
--- Promises: what is said to an input doesn't depend on how the input is cut. What a session took and wrote is told of the bytes that its
--- input has (`Ends`), whatever its reads gave; so two sessions over the same bytes, from the same state, go on alike, want of memory aside.
+-- Promises: what is said to an input doesn't depend on how the input is cut. What a session took and wrote is said of the bytes that its
+-- input has (`Ends`), whatever its reads gave; so two sessions over the same bytes, from the same state, go on alike, unless memory runs out.
 use Rattle.std.specs.Prelude.{◌≡◌, ℕ, List, Option, Some}
 use Rattle.std.specs.List.{AllByRecursion}
 use Rattle.till_request.specs.declared.act.Act.{Act}
@@ -9,7 +9,7 @@ use Rattle.till_request.specs.declared.act.Answer.TheVariants.{OutOfMemory}
 use Rattle.till_request.specs.Answer.{answer_line}
 use Rattle.line_session.specs.Answering.{Ends}
 
--- the text tells that memory was refused to the line
+-- the text says that memory was refused to the line
 abbrev pub IsWantTold : List ℕ → Type 0
 IsWantTold text = text ≡ answer_line OutOfMemory
 
@@ -17,7 +17,7 @@ IsWantTold text = text ≡ answer_line OutOfMemory
 abbrev pub NoWantTold : List (List ℕ) → Type 0
 NoWantTold texts = AllByRecursion (λ text. ¬ IsWantTold text) texts
 
--- from one state one text is said to a line, and one state follows, want of memory aside
+-- from one state one text is said to a line, and one state follows, unless memory runs out
 abbrev pub IsDetermined : {S : Type 0} → (S → List ℕ → List ℕ → S → Type 0) → Type 0
 IsDetermined {S} says =
     (s : S) (line text other : List ℕ) (m n : S) → says s line text m → says s line other n → ¬ IsWantTold text → ¬ IsWantTold other → (text ≡ other) × (m ≡ n)
@@ -38,11 +38,11 @@ CutsAlike {S} says =
     → NoWantTold one.answering.texts → NoWantTold other.answering.texts
     → EndAlike t u out_t out_u count_t count_u cut_t cut_u
 
--- a clock that tells one moment from one state
+-- a clock that gives one moment from one state
 abbrev pub TellsOne : {C : Type 0} → (C → ℕ → C → Type 0) → Type 0
 TellsOne {C} tick = (c d e : C) (m n : ℕ) → tick c m d → tick c n e → (m ≡ n) × (d ≡ e)
 
--- a desk that answers an act at a moment in one way, want of memory aside
+-- a desk that answers an act at a moment in one way, unless memory runs out
 abbrev pub AnswersOne : {D : Type 0} → (D → Act → ℕ → Answer → D → Type 0) → Type 0
 AnswersOne {D} step =
     (d e f : D) (act : Act) (moment : ℕ) (a b : Answer) → step d act moment a e → step d act moment b f → ¬ (a ≡ OutOfMemory)

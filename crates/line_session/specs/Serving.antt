@@ -28,7 +28,7 @@ good (outcome ∷ outcomes) = one_good outcome + good outcomes
 
 -- a session that ended so at this input and output: all was said, or a beginning of it is out, in whole answers where no device failed. It failed
 -- by a device only where that failed, for its reads only where they ran out, by the journal only at a line at which this failed, and for want of
--- memory only where something wanted memory.
+-- memory only where something takes memory.
 pub record Sits {S I O : Type 0} (says : S → List ℕ → List ℕ → S → Type 0) (drops fails : S → List ℕ → S → Type 0) (takes : List ℕ → Type 0)
     (remaining : I → Option (List ℕ)) (reads read_failures : I → ℕ) (written : O → Option (List ℕ)) (write_failures : O → ℕ)
     (result : Result Ended SessionFault) (i : I) (o : O) (s s' : S) : Type 0 where
@@ -62,7 +62,7 @@ abbrev pub VisitsAll : {D S : Type 0} → (Outcome → D → S → D → S → T
 VisitsAll visits [] d s d' s' = (d' ≡ d) × (s' ≡ s)
 VisitsAll {D} {S} visits (outcome ∷ outcomes) d s d' s' = (m : D) × (t : S) × visits outcome d s m t × VisitsAll visits outcomes m t d' s'
 
--- so many connections, and so many of them good
+-- this many connections, and how many of them were good
 pub record Serves {D S : Type 0} (visits : Outcome → D → S → D → S → Type 0) (asked clean : ℕ) (d : D) (s : S) (d' : D) (s' : S) : Type 0 where
   pub outcomes : List Outcome
   pub each : VisitsAll visits outcomes d s d' s'

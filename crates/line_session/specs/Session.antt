@@ -1,6 +1,6 @@
 -- Definitions: what a desk says to a line (this profile). The act of the line is answered at the moment that the clock
--- tells for it; a line that stands for no act is answered by its fault, and then neither clock nor desk is asked.
--- Where the desk tells want of memory at a line, or that the journal failed, the line has no answer: the session ends.
+-- gives for it; a line that asks no act is answered by its fault, and then neither clock nor desk is asked.
+-- Where the desk's answer is out of memory at a line, or that the journal failed, the line has no answer: the session ends.
 use Rattle.std.specs.Prelude.{◌≡◌, ℕ, List, take, Option, Result, Ok, Err, Bool, true, false}
 use Rattle.std.specs.Io.KnownBytes.{Appends}
 use Rattle.till_request.specs.declared.act.Act.{Act}
@@ -14,7 +14,7 @@ use Rattle.till_request.specs.Answer.{answer_line}
 use Rattle.line_session.specs.declared.line_handler.HandlerError.{HandlerError}
 use Rattle.line_session.specs.declared.line_handler.HandlerError.TheVariants as error
 
--- What is answered to an act: what the desk may answer at the moment that the clock may tell. A fault is answered as it is.
+-- What is answered to an act: what the desk may answer at the moment that the clock may give. A fault is answered as it is.
 abbrev pub AnswersAct : {C D : Type 0} → (D → Act → ℕ → Answer → D → Type 0) → (C → ℕ → C → Type 0) → Result Act LineFault → C → D → Answer → C → D → Type 0
 AnswersAct step tick (Ok act) c d a c' d' = (moment : ℕ) × tick c moment c' × step d act moment a d'
 AnswersAct step tick (Err why) c d a c' d' = (a ≡ Line why) × (c' ≡ c) × (d' ≡ d)
@@ -60,13 +60,13 @@ pub record SpeaksAt {C D : Type 0} (step : D → Act → ℕ → Answer → D �
 abbrev pub desk_says : {C D : Type 0} → (D → Act → ℕ → Answer → D → Type 0) → (C → ℕ → C → Type 0) → Role → C × D → List ℕ → List ℕ → C × D → Type 0
 desk_says step tick role s line text s' = SpeaksAt step tick role line text s.0 s.1 s'.0 s'.1
 
--- a line that has no answer: what the desk told has no line
+-- a line that has no answer: what the desk answered has no line
 abbrev pub desk_drops : {C D : Type 0} → (D → Act → ℕ → Answer → D → Type 0) → (C → ℕ → C → Type 0) → Role → C × D → List ℕ → C × D → Type 0
 desk_drops step tick role s line s' =
     (act : Act) × (moment : ℕ) × (answer : Answer) × (ends_unsaid answer ≡ true) × (line_read role line ≡ Ok act) × tick s.0 moment s'.0
     × step s.1 act moment answer s'.1
 
--- a line at which the journal failed: the desk told so
+-- a line at which the journal failed: the desk answered so
 abbrev pub desk_fails : {C D : Type 0} → (D → Act → ℕ → Answer → D → Type 0) → (C → ℕ → C → Type 0) → Role → C × D → List ℕ → C × D → Type 0
 desk_fails step tick role s line s' =
     (act : Act) × (moment : ℕ) × (line_read role line ≡ Ok act) × tick s.0 moment s'.0 × step s.1 act moment JournalFailed s'.1

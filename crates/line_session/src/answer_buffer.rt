@@ -30,7 +30,7 @@ impl AnswerBuffer {
         }
     }
 
-    /// Whether so much waits that it has to be written before more comes.
+    /// Whether what waits has to be written before more comes.
     pub fn is_full(&self) -> bool {
         self.held.bytes.len() >= MOST_WAITING
     }
@@ -53,8 +53,8 @@ impl AnswerBuffer {
         }
     }
 
-    /// Puts an answer's line behind what waits, and tells whether it waits now. Where memory is refused to it all is as
-    /// it was.
+    /// Puts an answer's line behind what waits, and returns whether it waits now. Where memory is refused to it, all is
+    /// as it was.
     fn hold(&mut self, alloc: Global, answer: &Answer) -> bool
         ensures waits { result ≡ true
             → self.new.held.bytes.items ≡ self.old.held.bytes.items ++ answer_line answer.now }

@@ -88,7 +88,7 @@ fn write_cut<O: LineOut>(
     }
 }
 
-/// Answers the lines of an input in order, within so many reads.
+/// Answers the lines of an input in order, within `left` reads.
 ///
 /// A line that is too long or cut is answered by its fault, and is the last. Only a failed write leaves an answer in
 /// part, or ends a session behind an answered cut.

@@ -19,7 +19,7 @@ pub trait Desk {
 pub trait Clock {
     ghost use Rattle.std.specs.Prelude.{ℕ};
 
-    /// What it may tell, and what it goes on to.
+    /// The moment that it may give, and what it goes on to.
     ghost tick: { Self → ℕ → Self → Type 0 };
 
     /// The moment of now.

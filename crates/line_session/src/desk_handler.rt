@@ -48,7 +48,7 @@ pub fn unsaid(answer: &Answer) -> Option<HandlerError>
     }
 }
 
-// Writes an answer. Want of memory at a line has no line, whoever tells it, nor has a failed journal.
+// Writes an answer. Out of memory at a line has no line, whoever met it, nor has a failed journal.
 fn say<O: LineOut>(alloc: Global, output: &mut O, answer: &Answer) -> Result<(), HandlerError>
     ensures ok { OnOk result (Writes O.written answer.now output.old output.new) }
     ensures err { IfErr result (λ fault. StaysUnsaid O.written fault answer.now output.old output.new) }

@@ -27,6 +27,6 @@ pub trait Doors {
         false
     }
 
-    /// Is told how a session at one of its doors ended. It is free to do nothing.
+    /// Hears how a session at one of its doors ended. It is free to do nothing.
     fn ended(&self, _outcome: &Result<Ended, SessionFault>) {}
 }

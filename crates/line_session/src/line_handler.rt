@@ -16,7 +16,7 @@ pub enum HandlerError {
     Journal,
 }
 
-/// Answers lines by text, and changes by it what tells moments, a clock, and what answers, a desk.
+/// Answers lines by text, and changes by it a clock, which gives moments, and a desk, which answers acts.
 pub trait LineHandler<C, D> {
     ghost use Rattle.std.specs.Prelude.{◌≡◌, List, ℕ, OnOk, IfErr, Err};
     ghost use Rattle.till_request.specs.Count.{RoseBy, one_if};
@@ -25,7 +25,7 @@ pub trait LineHandler<C, D> {
     /// What it may say to a line, and what clock and desk go on to.
     ghost says: { Self → (C × D) → List ℕ → List ℕ → (C × D) → Type 0 };
 
-    /// What clock and desk go on to at a line that has no answer, for want of memory or since the journal failed.
+    /// What clock and desk go on to at a line that has no answer, since memory ran out or the journal failed.
     ghost drops: { Self → (C × D) → List ℕ → (C × D) → Type 0 };
 
     /// What clock and desk go on to at a line at which the journal failed.

@@ -44,7 +44,7 @@ fn one_if_good(outcome: Option<Result<Ended, SessionFault>>) -> u64
     }
 }
 
-/// Serves so many connections for somebody of a role, one after another, and answers how many
+/// Serves `connections` connections for somebody of a role, one after another, and returns how many
 /// ended without fault.
 ///
 /// A door that does not open counts as a connection, and not as a good one.

@@ -36,7 +36,7 @@ impl Field {
     }
 }
 
-/// Returns the number that stands for a kind in the context.
+/// Returns the number of a kind in the context.
 pub fn kind_number(kind: Kind) -> u32
     ensures { result ≡ kind_number kind }
 {

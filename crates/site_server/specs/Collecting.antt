@@ -1,4 +1,4 @@
--- Promises: what stands in the workers' tasks, before they serve and after it.
+-- Promises: what the workers' tasks hold, before they serve and after it.
 use Rattle.std.specs.Prelude.{◌≡◌, ℕ, ◌+◌, ◌<◌, List, [], ◌∷◌, length, slice_index_or, Option, Some, None}
 use Rattle.site_core.specs.Limits.{ConfigValue}
 use Rattle.site_lock.specs.Passes.{PassView, new_pass}

@@ -1,8 +1,8 @@
--- Definitions: how many lines an operator is told in a second (this profile): at most ten; the others are counted, and their number is
--- told with the first line of a later second.
+-- Definitions: how many lines an operator gets in a second (this profile): at most ten; the others are counted, and their number comes
+-- with the first line of a later second.
 use Rattle.std.specs.Prelude.{ℕ, ◌+◌, ◌==◌, nat_lt, if◌then◌else◌, Option, Some, None}
 
--- The second in which lines were told last, how many, and how many were held back since.
+-- The second in which lines went through last, how many, and how many were held back since.
 pub record LimiterValue : Type 0 where
   pub second : ℕ
   pub told : ℕ

@@ -1,4 +1,4 @@
--- Definitions: how long a worker waits when its doors don't open, and what an operator is told of a session that ended (this profile).
+-- Definitions: how long a worker waits when its doors don't open, and what an operator hears of a session that ended (this profile).
 use Rattle.std.specs.Prelude.{ℕ, ◌*◌, zero, suc, nat_le, if◌then◌else◌, Option, Some, Result, Ok, Err}
 use Rattle.std.specs.Option.{option_map}
 use Rattle.line_session.specs.declared.answering.Ended.{Ended}

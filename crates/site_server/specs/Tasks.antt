@@ -1,4 +1,4 @@
--- Definitions: what a worker's desk and clock do, as a caller sees them (this profile): the pass that answers, and the moment told last.
+-- Definitions: what a worker's desk and clock do, as a caller sees them (this profile): the pass that answers, and the moment given last.
 use Rattle.std.specs.Prelude.{◌≡◌, ◌⊎◌, ℕ, List, [], ◌∷◌, length, Some, None, Err}
 use Rattle.std.specs.List.{AllByRecursion}
 use Rattle.till_request.specs.Line.{IsLine}
@@ -17,7 +17,7 @@ use Rattle.site_lock.specs.Desks.{DeskAnswers}
 abbrev pub pass_answers : ConfigValue → Type 0 → PassView → Act → ℕ → Answer → PassView → Type 0
 pass_answers config may_fail before act moment answer now = DeskAnswers config may_fail before now act moment answer
 
--- the moment told is the one told last
+-- the moment given is the one given last
 abbrev pub tells : ℕ → ℕ → ℕ → Type 0
 tells before moment now = now ≡ moment
 
@@ -40,7 +40,7 @@ TalkedAll config may_fail role [] s s' = s' ≡ s
 TalkedAll config may_fail role (outcome ∷ outcomes) s s' =
     (m : ℕ × PassView) × Talked config may_fail role outcome s m × TalkedAll config may_fail role outcomes m s'
 
--- The pass served so many connections in this role, and so many of them ended without fault.
+-- The pass served this many connections in this role, and this is how many of them ended without fault.
 pub record Worked (config : ConfigValue) (may_fail : Type 0) (role : Role) (connections clean : ℕ) (before now : PassView) : Type 0 where
   pub moment : ℕ
   pub outcomes : List Outcome

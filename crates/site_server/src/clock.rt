@@ -5,8 +5,8 @@ use line_session::Clock;
 use std::time;
 use std::time::{SystemTime, UNIX_EPOCH};
 
-/// Tells whole seconds since the start of 1970. Where the machine's clock can't be read, or stands before 1970, the
-/// moment told last is told again; at first that is 0.
+/// Gives whole seconds since the start of 1970. Where the machine's clock can't be read, or is before 1970, the
+/// moment given last is given again; at first that is 0.
 #[derive(Drop)]
 pub struct MachineClock<'a, R: time::Clock> {
     rt: &'a R,
@@ -14,7 +14,7 @@ pub struct MachineClock<'a, R: time::Clock> {
 }
 
 impl<'a, R: time::Clock> MachineClock<'a, R> {
-    /// A clock that has told nothing yet.
+    /// A clock that has given no moment yet.
     pub fn new(rt: &'a R) -> MachineClock<'a, R>
         ensures { result.last ≡ 0 }
     {

@@ -16,7 +16,7 @@ type Connection = (Ahead<StreamIn<TcpStream>>, StreamOut<TcpStream>);
 /// The connections of a listener, which other workers may share.
 ///
 /// A connection's lines are read ahead, in blocks of 4,096 bytes, and its answers leave at once, without a delay that
-/// gathers them. Where a connection can't be opened, as for want of descriptors, an operator is told the first time,
+/// gathers them. Where a connection can't be opened, as without descriptors, an operator hears of it the first time,
 /// and the worker waits before it asks again: 10 milliseconds at first, then twice as long each time, at most a second.
 #[derive(Drop)]
 pub struct TcpDoors<'a, R: Clock, N: Notices> {
@@ -29,7 +29,7 @@ pub struct TcpDoors<'a, R: Clock, N: Notices> {
     pause: u64,
 }
 
-/// How long to wait, in milliseconds, after a wait of so many.
+/// How long to wait, in milliseconds, after a wait of `pause`.
 fn longer(pause: u64) -> u64
     ensures { result ≡ longer_pause pause }
 {
@@ -42,7 +42,7 @@ fn longer(pause: u64) -> u64
     }
 }
 
-/// What an operator is told of how a session ended: nothing where its peer ended it behind a line.
+/// What an operator hears of how a session ended: nothing where its peer ended it behind a line.
 fn failure_of(outcome: &Result<Ended, SessionFault>) -> Option<SessionFailure>
     ensures { result ≡ told_of outcome.now }
 {

@@ -1,10 +1,10 @@
-//! How much an operator is told at once.
+//! How many lines an operator gets at once.
 ghost use Rattle.std.specs.Prelude.{◌≡◌, ◌+◌, ◌<◌, ◌^◌};
 ghost use Rattle.site_server.specs.Limits.{admitted, after_line};
 
 use std::marker::Model;
 
-/// Lets at most ten lines a second be told, and counts the others.
+/// Lets at most ten lines a second through, and counts the others.
 #[derive(Drop)]
 pub struct Limiter {
     second: u64,
@@ -24,7 +24,7 @@ impl Model for Limiter {
 }
 
 impl Limiter {
-    /// Nothing was told yet.
+    /// No line came yet.
     pub fn new() -> Limiter
         ensures second { result.second ≡ 0 }
         ensures told { result.told ≡ 0 }
@@ -37,7 +37,7 @@ impl Limiter {
         }
     }
 
-    /// Whether a line may be told in this second, and how many were held back before it. Their count stops at 2^64 - 1.
+    /// Whether a line may go through in this second, and how many were held back before it, at most 2^64 - 1.
     pub fn admit(&mut self, second: u64) -> Option<u64>
         ensures admitted { result ≡ admitted self.old second }
         ensures after { self.old.held + 1 < 2 ^ 64 → self.new ≡ after_line self.old second }

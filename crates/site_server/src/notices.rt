@@ -1,4 +1,4 @@
-//! What an operator is told while a site is served.
+//! What an operator hears while a site is served.
 use line_session::SessionFault;
 use std::{fmt, io};
 use till_request::{LineFault, Role};
@@ -8,7 +8,7 @@ use till_request::{LineFault, Role};
 pub enum SessionFailure {
     /// A line that ended it: L1 or L4.
     Line(LineFault),
-    /// A device that failed, reads that ran out, or want of memory.
+    /// A device that failed, reads that ran out, or out of memory.
     Session(SessionFault),
 }
 

@@ -1,4 +1,4 @@
--- Definitions: the texts of answers (this profile). A number of the entry stands before the reply; a refusal is S, L or
+-- Definitions: the texts of answers (this profile). The entry's number comes before the reply; a refusal is S, L or
 -- V with its number and then what it names.
 use Rattle.std.specs.Prelude.{ℕ, List, [], ◌∷◌, ◌++◌, codes, Option, Some, None}
 use Rattle.std.specs.Fmt.{decimal}

@@ -7,7 +7,7 @@ use Rattle.till_request.specs.declared.block.Piece.TheVariants.{Ended, TooLong, 
 use Rattle.till_request.specs.declared.line.InputFault.{InputFault}
 use Rattle.till_request.specs.declared.line.InputFault.TheVariants.{Read, ReadsSpent, OutOfMemory}
 
--- no fewer bytes than can still be taken within so many reads of at most 4,096 bytes
+-- no fewer bytes than can still be taken within this many reads of at most 4,096 bytes
 abbrev pub most_ahead : ℕ → List ℕ → ℕ
 most_ahead left unread = 4096 * left + length unread
 
@@ -17,7 +17,7 @@ EmptyAfter Read unread = unread ≡ []
 EmptyAfter ReadsSpent unread = unread ≡ []
 EmptyAfter OutOfMemory unread = Unit {0}
 
--- the first LF stands behind so many bytes
+-- the first LF comes after this many bytes
 abbrev pub EndsBehind : ℕ → List ℕ → Type 0
 EndsBehind count bytes = (count < length bytes) × HasNoLf (take count bytes) × (bytes ≡ take count bytes ++ 10 ∷ drop (count + 1) bytes)
 
@@ -31,16 +31,16 @@ LineGrows there line left grown More = (left ≡ []) × (grown ≡ line ++ there
 abbrev pub LosesPart : List ℕ → List ℕ → List ℕ → Type 0
 LosesPart there line left = (bytes : List ℕ) × (there ≡ bytes ++ left) × IsLine (line ++ bytes) × (0 < length bytes)
 
--- so many bytes at the front have no LF, and there is room for them; no more go on: there is no room, or no byte, or an LF
+-- this many bytes at the front have no LF, and there is room for them; no more go on: there is no room, or no byte, or an LF
 abbrev pub Belongs : List ℕ → ℕ → ℕ → Type 0
 Belongs bytes room count =
     (count ≤ length bytes) × HasNoLf (take count bytes) × (count ≤ room)
     × ((count ≡ room) ⊎ (drop count bytes ≡ []) ⊎ (drop count bytes ≡ 10 ∷ drop (count + 1) bytes))
 
--- a line grew by so many bytes that were there
+-- a line grew by this many bytes that were there
 abbrev pub GivesHeld : List ℕ → List ℕ → List ℕ → List ℕ → ℕ → Type 0
 GivesHeld there line left grown count = (bytes : List ℕ) × (there ≡ bytes ++ left) × (grown ≡ line ++ bytes) × IsLine grown × (length bytes ≡ count)
 
--- a line can't go on by what is left: it is as long as a line may be, or nothing is left, or an LF stands next
+-- a line can't go on by what is left: it is as long as a line may be, or nothing is left, or an LF comes next
 abbrev pub CannotGoOn : List ℕ → List ℕ → Type 0
 CannotGoOn left grown = (length grown ≡ 8400) ⊎ (left ≡ []) ⊎ ((rest : List ℕ) × (left ≡ 10 ∷ rest))

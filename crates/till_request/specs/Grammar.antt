@@ -1,4 +1,4 @@
--- Definitions: what a line stands for (this profile). A line is words with one space between them. It has a form,
+-- Definitions: what a line asks (this profile). A line is words with one space between them. It has a form,
 -- which is a list of fixed words and of places for values; a line without a form is a bad line, and only then are
 -- the values read, from left to right.
 use Rattle.std.specs.Prelude.{◌≡◌, ◌==◌, ◌&&◌, not, nat_lt, ℕ, ◌^◌, List, [], ◌∷◌, length, slice_index, codes, Bool, true, false, Option, Some, None, Result, Ok}
@@ -110,7 +110,7 @@ abbrev pub is_some_word : List ℕ → Bool
 is_some_word [] = false
 is_some_word (b ∷ word) = true
 
--- the word may stand there: a fixed word as it is spelled, for a value any word that isn't empty
+-- the word fits there: a fixed word as it is spelled, for a value any word that isn't empty
 abbrev pub part_fits : Part → List ℕ → Bool
 part_fits (Word keyword) word = bytes_eq word (text keyword)
 part_fits Value word = is_some_word word
@@ -175,7 +175,7 @@ report_event reports.Fault = events.Fault
 report_event reports.Repaired = events.Repaired
 report_event reports.Order = events.TakeOrder
 
--- what the values of each form stand for: amounts, prices and volumes have 64 bits, other numbers 32
+-- what the values of each form are: amounts, prices and volumes have 64 bits, other numbers 32
 unfoldable pub amount_of : AmountVerb → List ℕ → List ℕ → List ℕ → Result Act LineFault
 amount_of verb till point amount = do
   till' ← number 32 till
@@ -241,10 +241,10 @@ act_by (Some form) ws = act_in form ws
 abbrev pub act_of_words : Role → List (List ℕ) → Result Act LineFault
 act_of_words role ws = act_by (find (suits role ws) all_forms) ws
 
--- what a line stands for that somebody of this role sends
+-- what a line asks that somebody of this role sends
 abbrev pub act_of_line : Role → List ℕ → Result Act LineFault
 act_of_line role line = act_of_words role (words line)
 
--- what a line of any length is read as: one of more than 8,400 bytes is too long, whatever stands in it
+-- what a line of any length is read as: one of more than 8,400 bytes is too long, whatever is in it
 abbrev pub line_read : Role → List ℕ → Result Act LineFault
 line_read role line = if nat_lt 8400 (length line) then Err TooLong else act_of_line role line

@@ -41,7 +41,7 @@ TakesPart old new = (bytes : List ℕ) × Consumes old new bytes × IsLine bytes
 abbrev pub TakesUpTo : Option (List ℕ) → Option (List ℕ) → Type 0
 TakesUpTo old new = TakesPart old new ⊎ ((line : List ℕ) × Consumes old new (line ++ 10 ∷ []) × IsLine line)
 
--- bytes that belong to a line were taken, and stand behind those that it had
+-- bytes that belong to a line were taken, and follow those that it had
 abbrev pub TakesHeld : Option (List ℕ) → Option (List ℕ) → List ℕ → List ℕ → Type 0
 TakesHeld old new line grown = (bytes : List ℕ) × Consumes old new bytes × (grown ≡ line ++ bytes) × IsLine grown
 
@@ -72,7 +72,7 @@ Finds old new line found.TooLong = TakesTooLong old new
 Finds old new line found.Cut = TakesCut old new
 Finds old new line found.End = Consumes old new [] × IsAtEnd new
 
--- a line was taken with its LF, and it stands for this
+-- a line was taken with its LF, and it asks this
 abbrev pub TakesLine : Option (List ℕ) → Option (List ℕ) → Role → Result Act LineFault → Type 0
 TakesLine old new role given = (line : List ℕ) × Consumes old new (line ++ 10 ∷ []) × IsLine line × (line_read role line ≡ given)
 
@@ -104,7 +104,7 @@ is_read_fault (Err reading.ReadsSpent) = false
 is_read_fault (Err (reading.Line fault)) = false
 is_read_fault (Ok x) = false
 
--- a fault of the input, told of a line
+-- a fault of the input, as a line's
 abbrev pub read_fault : InputFault → LineReadFault
 read_fault input.Read = reading.Read
 read_fault input.ReadsSpent = reading.ReadsSpent

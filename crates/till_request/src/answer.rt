@@ -12,7 +12,7 @@ impl fmt::Display for Reply {
     fn fmt<W: fmt::Write>(&self, f: &mut fmt::Formatter<W>) -> fmt::Result {
         let mut text = ShortText::new();
         put_reply(&mut text, self);
-        // A space stands before the first word too.
+        // A space comes before the first word too.
         match text.as_str().strip_prefix(' ') {
             Some(words) => f.write_str(words),
             None => Ok(()),

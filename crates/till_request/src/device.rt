@@ -14,7 +14,7 @@ pub struct DeviceFault;
 
 /// A source of bytes.
 pub trait LineIn {
-    /// The bytes that reads will give from here on, where the source tells.
+    /// The bytes that reads will give from here on, where they are known.
     ghost remaining: { Self → Option (List ℕ) };
 
     /// How many reads were made, modulo 2^64.
@@ -36,7 +36,7 @@ pub trait LineIn {
 
     /// Takes into a line bytes that are there already and belong to it, for as many of the reads that are left: each
     /// counts as a read of one byte that gave it. It takes no LF, and a line grows to 8,400 bytes at most. A source
-    /// that holds nothing back takes none. The error is want of memory, and then nothing was taken.
+    /// that holds nothing back takes none. The error is out of memory, and then nothing was taken.
     fn read_held(&mut self, line: &mut Vec<u8>, left: &mut u32) -> Result<(), AllocError>
         requires { IsLine line.old.items }
         ensures taken { OnOk result
@@ -54,7 +54,7 @@ pub trait LineIn {
 
 /// A sink of bytes.
 pub trait LineOut {
-    /// The bytes that it took, where it tells.
+    /// The bytes that it took, where they are known.
     ghost written: { Self → Option (List ℕ) };
 
     /// How many writes failed, modulo 2^64.

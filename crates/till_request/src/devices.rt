@@ -1,4 +1,4 @@
-//! Readers and writers in memory, which cut and fail as they are told to, and those of the system.
+//! Readers and writers in memory, which cut and fail as they are asked to, and those of the system.
 ghost use Rattle.std.specs.Prelude.{◌≡◌, ◌↔◌, ◌<◌, ◌≤◌, ◌-◌, ◌^◌};
 ghost use Rattle.std.specs.Prelude.{min, [], Some, IfOk, IsTrue, is_err, drop, take, length, true, false, ℕ};
 ghost use Rattle.std.specs.Io.KnownBytes.{ReadConsumes, WriteAppends, prepend_known};
@@ -64,7 +64,7 @@ fn size_at(sizes: &[usize], each: usize, call: u64) -> usize
     }
 }
 
-/// Copies at most so many bytes, and answers how many.
+/// Copies at most `most` bytes, and returns how many.
 fn give(from: &[u8], most: usize, buffer: &mut [u8]) -> usize
     requires { 0 < most }
     ensures count { result ≡ min (min (length from.now) (length buffer.new)) most }

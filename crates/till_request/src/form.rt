@@ -36,7 +36,7 @@ pub enum TransactionVerb {
     Clear,
 }
 
-/// What a dispenser tells without a number: `disp P down`.
+/// What a dispenser reports without a number: `disp P down`.
 #[derive(Clone, Copy)]
 pub enum ReportVerb {
     Down,
@@ -297,7 +297,7 @@ pub fn request_of_transaction(verb: TransactionVerb, point: u32, number: u32) ->
     }
 }
 
-/// What a dispenser tells by a verb alone.
+/// What a dispenser reports by a verb alone.
 pub fn event_of_report(verb: ReportVerb) -> DispenserEvent
     ensures { result ≡ report_event verb }
 {
