@@ -1,10 +1,10 @@
-//! A served site that can't be closed.
-use file_jobs::{Place, complain, refuse};
-use site_server::CloseRefusal;
+//! A served site that wasn't closed.
+use file_jobs::{FAILED, Place, complain, out_of_memory, refuse};
+use site_server::{CloseRefusal, ServeFault};
 use std::io;
 
 /// Refuses to close a site of a configuration, and answers the exit status.
-pub fn refuse_close(rt: &HostRuntime, word: &str, why: CloseRefusal) -> io::Result<u8> {
+fn refuse_close(rt: &HostRuntime, word: &str, why: CloseRefusal) -> io::Result<u8> {
     let code = match why {
         CloseRefusal::PassMissing => "C1",
         CloseRefusal::NotInHistory(_, _) => "C2",
@@ -17,5 +17,15 @@ pub fn refuse_close(rt: &HostRuntime, word: &str, why: CloseRefusal) -> io::Resu
             Ok(refuse(rt, &told))
         }
         CloseRefusal::PassMissing | CloseRefusal::OtherConfig => Ok(refuse(rt, code)),
+    }
+}
+
+/// Says why serving left no closed site of a configuration, and answers the exit status.
+pub fn tell_unclosed(rt: &HostRuntime, word: &str, why: ServeFault) -> io::Result<u8> {
+    match why {
+        ServeFault::NotClosed(why) => refuse_close(rt, word, why),
+        ServeFault::OutOfMemory => Ok(out_of_memory(rt)),
+        // A journal says itself why it failed.
+        ServeFault::Journal => Ok(FAILED),
     }
 }

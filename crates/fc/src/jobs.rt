@@ -1,8 +1,8 @@
 //! What the program does for its words.
-use crate::serve::{JournalTo, serve_settings};
+use crate::kept::{serve_kept, serve_synced};
+use crate::printed::serve_printed;
 use file_jobs::{
-    DONE, FAILED, Job, Tell, USAGE, audit_files, is_input, play_files, play_input, report_files,
-    say, settings_of, tell_file,
+    DONE, FAILED, Job, Tell, audit_files, play_files, play_input, report_files, say, tell_file,
 };
 use std::io;
 use std::net::{Net, TcpListener, TcpStream};
@@ -32,13 +32,9 @@ pub fn do_job<H: Net<Listener = TcpListener, Stream = TcpStream> + Threads + Wai
         Job::Play { config, script } => play_files(rt, &config, &script),
         Job::Audit { config, journal } => audit_files(rt, &config, &journal),
         Job::Report { config, journal } => report_files(rt, &config, &journal),
-        Job::Serve(config) => serve_file(rt, host, &config, JournalTo::Output),
-        Job::ServeKept { config, journal } => {
-            serve_file(rt, host, &config, JournalTo::File(journal))
-        }
-        Job::ServeSynced { config, journal } => {
-            serve_file(rt, host, &config, JournalTo::SyncedFile(journal))
-        }
+        Job::Serve(config) => serve_printed(rt, host, &config),
+        Job::ServeKept { config, journal } => serve_kept(rt, host, &config, &journal),
+        Job::ServeSynced { config, journal } => serve_synced(rt, host, &config, &journal),
     };
     match done {
         Ok(status) => status,
@@ -47,21 +43,4 @@ pub fn do_job<H: Net<Listener = TcpListener, Stream = TcpStream> + Threads + Wai
             FAILED
         }
     }
-}
-
-fn serve_file<H: Net<Listener = TcpListener, Stream = TcpStream> + Threads + Wait + Clock + Sync>(
-    rt: &HostRuntime,
-    host: &H,
-    config: &str,
-    journal: JournalTo,
-) -> io::Result<u8> {
-    if journal.word().is_some_and(is_input) {
-        let _ = eprintln!(rt; "fc: a kept journal needs a file, and - is standard input");
-        return Ok(USAGE);
-    }
-    let settings = match settings_of(rt, config)? {
-        Ok(settings) => settings,
-        Err(status) => return Ok(status),
-    };
-    serve_settings(rt, host, config, settings, journal)
 }

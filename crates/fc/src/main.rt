@@ -4,9 +4,10 @@
 mod closing;
 mod jobs;
 mod journal_file;
+mod kept;
 mod operator;
+mod printed;
 mod serve;
-mod synced;
 
 use file_jobs::{CommandFault, Job, USAGE, command, out_of_memory};
 use jobs::do_job;

@@ -2,8 +2,7 @@
 use crate::servers::{Addresses, Peer, Silent, opened};
 use site_core::Site;
 use site_server::{
-    CountedOut, Crew, GroupSync, LineJournal, Listeners, MemoryDisk, ServeFault, Shared,
-    resume_site,
+    CountedOut, Crew, GroupSync, LineJournal, Listeners, MemoryDisk, ServeFault, Serving, Shared,
 };
 use std::alloc::Global;
 use std::io;
@@ -55,12 +54,14 @@ fn serve<R: Net<Listener = TcpListener, Stream = TcpStream> + Threads + Wait + C
 ) -> Result<Vec<u8>, ServeFault> {
     let output = MemoryOut::new(alloc, Vec::new(alloc), None);
     let counted = CountedOut::new(output, Shared { rt, group });
-    let journal = LineJournal::new(alloc, counted)?;
-    let release = Shared { rt, group };
-    let served = resume_site(
-        rt, alloc, site, journal, crew, listeners, &Silent, &release, 1,
-    );
-    match served {
+    let serving = Serving {
+        site,
+        journal: LineJournal::new(alloc, counted)?,
+        crew,
+        listeners,
+        connections: 1,
+    };
+    match serving.run(rt, alloc, &Silent, &Shared { rt, group }) {
         Ok(served) => Ok(served.journal.into_output().into_output().bytes),
         Err(unclosed) => Err(unclosed.why),
     }

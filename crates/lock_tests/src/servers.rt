@@ -3,8 +3,8 @@ use decision_journal::write_entries;
 use line_session::Doors;
 use site_core::{Config, Site};
 use site_server::{
-    CloseRefusal, Crew, Limiter, ListenFault, Listeners, Notices, ServeFault, Served,
-    SessionFailure, SessionFault, TcpDoors, serve_site,
+    AtOnce, CloseRefusal, Crew, Limiter, ListenFault, Listeners, NoJournal, Notices, ServeFault,
+    Served, Serving, SessionFailure, SessionFault, TcpDoors,
 };
 use std::alloc::Global;
 use std::fmt::Display;
@@ -132,9 +132,16 @@ fn one_of_each<R: Net<Listener = TcpListener, Stream = TcpStream> + Threads + Wa
 ) -> Result<(Served, String), Fail> {
     let crew = Crew::new(1, 1).ok_or("a crew")?;
     let (site, listeners, at) = opened(rt, alloc)?;
+    let serving = Serving {
+        site,
+        journal: NoJournal,
+        crew,
+        listeners,
+        connections: 1,
+    };
     let (served, heard) = join(
         rt,
-        || serve_site(rt, alloc, site, crew, listeners, &Silent, 1),
+        || serving.run(rt, alloc, &Silent, &AtOnce),
         || in_turn(rt, alloc, at),
     );
     match served {

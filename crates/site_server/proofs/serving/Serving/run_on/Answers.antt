@@ -1,4 +1,4 @@
-use Rattle.std.proofs.Common.{rules, arith, ◌≡◌, length, map}
+use Rattle.std.proofs.Common.{rules, arith, ◌≡◌, map}
 use Rattle.site_server.specs.Crews.{passes_of}
 use Rattle.site_server.specs.Plans.{plan_of}
 use Rattle.site_server.proofs.Closing.{if_err_more, if_ok_both, leaves_so, spoils_so}
