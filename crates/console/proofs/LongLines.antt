@@ -4,7 +4,7 @@ use Rattle.till_request.specs.declared.act.LineFault.TheVariants.{BadLine}
 use Rattle.till_request.specs.declared.act.Role.TheVariants.{All}
 use Rattle.till_request.specs.Grammar.{◌>>=◌}
 use Rattle.till_request.proofs.Told.{too_many}
-use Rattle.console.specs.Script.{line_of_words}
+use Rattle.console.specs.Script.{act_line, line_of_words}
 use Rattle.console.specs.declared.script.ScriptLine.TheVariants as lines
 
 pub long_line : (ws : List (List ℕ)) → 5 < length ws → line_of_words ws ≡ Err BadLine
