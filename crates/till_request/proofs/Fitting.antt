@@ -1,5 +1,5 @@
 -- Words that have a form.
-use Rattle.std.proofs.Common.{◌≡◌, ℕ, List, [], ◌∷◌, length, true, refl, ◌∙◌, sym, arith, map, Bor, get_or}
+use Rattle.std.proofs.Common.{◌≡◌, Bool, false, ◌&&◌, ℕ, List, [], ◌∷◌, length, true, refl, ◌∙◌, sym, arith, map, Bor, get_or}
 use Rattle.std.proofs.lemmas.Bool.{and_parts}
 use Rattle.std.proofs.lemmas.Grind.{common_steps}
 use Rattle.bpf_model.specs.declared.context.Layout.{Layout}
@@ -39,6 +39,22 @@ pub in_five : (ws : List (Bor (List ℕ))) (d : Bor (List ℕ)) → length ws �
     → map (λ w. w.now) ws ≡ (get_or ws 0 d).now ∷ (get_or ws 1 d).now ∷ (get_or ws 2 d).now ∷ (get_or ws 3 d).now ∷ (get_or ws 4 d).now ∷ []
 in_five (a ∷ b ∷ c ∷ v ∷ w ∷ []) d e = refl
 in_five ws d e = absurd (omega (arith, e))
+
+-- whether all tests hold, whichever comes first
+pub third_first : (a b c d : Bool) → (a && (b && (c && d))) ≡ (c && (a && (b && d)))
+third_first true true c d = refl
+third_first true false true d = refl
+third_first true false false d = refl
+third_first false b true d = refl
+third_first false b false d = refl
+
+pub third_last : (a b c : Bool) → (a && (b && c)) ≡ (c && (a && b))
+third_last true true true = refl
+third_last true true false = refl
+third_last true false true = refl
+third_last true false false = refl
+third_last false b true = refl
+third_last false b false = refl
 
 pub load_text : (layout : Layout) → text (Load layout) ≡ load_word layout
 load_text layouts.One = refl

@@ -106,6 +106,7 @@ pub const FORMS: [Form; 21] = [
 ];
 
 /// How a fixed word is spelled.
+#[inline(always)]
 pub fn text_of(keyword: Keyword) -> &'static str
     ensures { result.now ≡ text keyword }
 {
@@ -137,6 +138,7 @@ pub fn text_of(keyword: Keyword) -> &'static str
 }
 
 /// Whether the role may send what `by` sends.
+#[inline(always)]
 pub fn may_send(role: Role, by: Role) -> bool
     ensures { result ≡ allows role by }
 {
@@ -149,6 +151,7 @@ pub fn may_send(role: Role, by: Role) -> bool
 }
 
 /// Who sends lines of this form, beside those who may send all.
+#[inline(always)]
 pub fn sender_of(form: Form) -> Role
     ensures { result ≡ sender form }
 {
@@ -160,6 +163,7 @@ pub fn sender_of(form: Form) -> Role
 }
 
 /// Whether the word is this fixed one.
+#[inline(always)]
 fn is_word(word: &[u8], keyword: Keyword) -> bool
     ensures { result ≡ part_fits (Word keyword) word.now }
 {
@@ -167,45 +171,54 @@ fn is_word(word: &[u8], keyword: Keyword) -> bool
 }
 
 /// Whether a value may be there.
+#[inline(always)]
 fn is_value(word: &[u8]) -> bool
     ensures { result ≡ part_fits Value word.now }
 {
     !word.is_empty()
 }
 
-/// Whether the words are these fixed ones with a value between them.
+/// Whether the words are these fixed ones with a value between them. The verb is compared first, since most forms differ
+/// in it.
+#[tactic(auto, using(crate::proofs::Fitting::third_first, crate::proofs::Fitting::third_last))]
+#[inline(always)]
 fn three_fit(first: Keyword, third: Keyword, words: &[&[u8]]) -> bool
     ensures { result ≡ fits (Word first ∷ Value ∷ Word third ∷ []) (map (λ w. w.now) words.now) }
 {
     match words {
-        [a, b, c] => is_word(a, first) && is_value(b) && is_word(c, third),
+        [a, b, c] => is_word(c, third) && is_word(a, first) && is_value(b),
         _ => false,
     }
 }
 
 /// Whether the words are these fixed ones with a value between them, and a value.
+#[tactic(auto, using(crate::proofs::Fitting::third_first))]
+#[inline(always)]
 fn four_fit(first: Keyword, third: Keyword, words: &[&[u8]]) -> bool
     ensures { result ≡ fits (Word first ∷ Value ∷ Word third ∷ Value ∷ []) (map (λ w. w.now) words.now) }
 {
     match words {
-        [a, b, c, d] => is_word(a, first) && is_value(b) && is_word(c, third) && is_value(d),
+        [a, b, c, d] => is_word(c, third) && is_word(a, first) && is_value(b) && is_value(d),
         _ => false,
     }
 }
 
 /// Whether the words are these fixed ones with a value between them, and two values.
+#[tactic(auto, using(crate::proofs::Fitting::third_first))]
+#[inline(always)]
 fn five_fit(first: Keyword, third: Keyword, words: &[&[u8]]) -> bool
     ensures { result ≡ fits (Word first ∷ Value ∷ Word third ∷ Value ∷ Value ∷ []) (map (λ w. w.now) words.now) }
 {
     match words {
         [a, b, c, d, e] => {
-            is_word(a, first) && is_value(b) && is_word(c, third) && is_value(d) && is_value(e)
+            is_word(c, third) && is_word(a, first) && is_value(b) && is_value(d) && is_value(e)
         }
         _ => false,
     }
 }
 
 /// Whether the words are a load's for this layout.
+#[inline(always)]
 fn load_fits(layout: Layout, words: &[&[u8]]) -> bool
     ensures { result ≡ fits (template (forms.Load layout)) (map (λ w. w.now) words.now) }
 {
@@ -218,6 +231,7 @@ fn load_fits(layout: Layout, words: &[&[u8]]) -> bool
 }
 
 /// Whether the words have this form.
+#[inline(always)]
 fn has_form(form: Form, words: &[&[u8]]) -> bool
     ensures { result ≡ fits (template form) (map (λ w. w.now) words.now) }
 {
@@ -233,6 +247,7 @@ fn has_form(form: Form, words: &[&[u8]]) -> bool
 }
 
 /// Whether the role may send the form, and the words have it.
+#[inline(always)]
 fn is_suited(role: Role, words: &[&[u8]], form: Form) -> bool
     ensures { result ≡ suits role (map (λ w. w.now) words.now) form }
 {
@@ -240,6 +255,7 @@ fn is_suited(role: Role, words: &[&[u8]], form: Form) -> bool
 }
 
 /// The first of these forms that the role may send and the words have.
+#[inline(always)]
 fn first_suited(role: Role, words: &[&[u8]], forms: &[Form]) -> Option<Form>
     ensures found { result ≡ find (suits role (map (λ w. w.now) words.now)) forms.now }
     ensures suited { IfSome result (λ form. suits role (map (λ w. w.now) words.now) form ≡ true) }
