@@ -1,40 +1,20 @@
 -- A line with more words than any form has is a bad line.
-use Rattle.std.proofs.Common.{◌≡◌, ℕ, ◌<◌, ◌≤◌, List, [], ◌∷◌, length, Bool, true, false, None, Ok, Err, refl, ap, arith, lit≤, find}
+use Rattle.std.proofs.Common.{◌≡◌, ℕ, ◌<◌, List, [], ◌∷◌, length, Ok, Err, ap, arith}
 use Rattle.std.proofs.lemmas.Bool.{and_parts}
 use Rattle.till_request.specs.declared.act.LineFault.TheVariants.{BadLine}
 use Rattle.till_request.specs.declared.act.Role.{Role}
 use Rattle.till_request.specs.declared.act.Role.TheVariants.{All}
-use Rattle.till_request.specs.declared.form.Form.{Form}
-use Rattle.till_request.specs.declared.form.Form.TheVariants as forms
 use Rattle.till_request.specs.Grammar.{◌>>=◌, template, fits, suits, allows, sender, all_forms, act_by, act_of_words}
-use Rattle.till_request.proofs.Fitting.{fits_count}
+use Rattle.till_request.proofs.Fitting.{fits_count, not_true, find_none, between}
 use Rattle.console.specs.Script.{act_line, line_of_words}
 use Rattle.console.specs.declared.script.ScriptLine.TheVariants as lines
-
--- no form has more than five words
-few : (form : Form) → length (template form) ≤ 5
-few (forms.Amount verb) = lit≤ tt
-few (forms.Point verb) = lit≤ tt
-few (forms.Transaction verb) = lit≤ tt
-few (forms.Report verb) = lit≤ tt
-few forms.Up = lit≤ tt
-few forms.Flow = lit≤ tt
-few (forms.Load layout) = lit≤ tt
-
-not_true : (b : Bool) → (b ≡ true → ⊥) → b ≡ false
-not_true true h = absurd (h refl)
-not_true false h = refl
-
-find_none : {X : Type 0} (p : X → Bool) (xs : List X) → ((x : X) → p x ≡ false) → find p xs ≡ None
-find_none p [] h = refl
-find_none p (x ∷ xs) h = rw (h x) (find_none p xs h)
 
 too_many : (role : Role) (ws : List (List ℕ)) → 5 < length ws → act_of_words role ws ≡ Err BadLine
 too_many role ws many =
     ap (λ form. act_by form ws)
     (find_none (suits role ws) all_forms (λ form. not_true (suits role ws form) (λ h.
     let count : length (template form) ≡ length ws = fits_count (template form) ws (and_parts (allows role (sender form)) (fits (template form) ws) h).1 in
-    omega (arith, many, count, few form))))
+    omega (arith, many, count, between form))))
 
 pub long_line : (ws : List (List ℕ)) → 5 < length ws → line_of_words ws ≡ Err BadLine
 long_line [] many = absurd (omega arith)

@@ -1,14 +1,17 @@
 -- Words that have a form.
-use Rattle.std.proofs.Common.{◌≡◌, Bool, false, ◌&&◌, ℕ, List, [], ◌∷◌, length, true, refl, ◌∙◌, sym, arith, map, Bor, get_or}
+use Rattle.std.proofs.Common.{◌≡◌, ◌≢◌, ◌≤◌, Bool, false, ◌&&◌, cond, eqb, ℕ, List, [], ◌∷◌, length, true, refl, ◌∙◌, sym, ap, arith, map, Bor, get_or}
+use Rattle.std.proofs.Common.{Some, None, find, lit≤}
+use Rattle.std.proofs.lemmas.Bool.{eq-eqb}
 use Rattle.std.proofs.lemmas.Bool.{and_parts}
 use Rattle.std.proofs.lemmas.Grind.{common_steps}
 use Rattle.bpf_model.specs.declared.context.Layout.{Layout}
 use Rattle.bpf_model.specs.declared.context.Layout.TheVariants as layouts
 use Rattle.till_request.specs.declared.act.Role.{Role}
 use Rattle.till_request.specs.declared.form.Form.{Form}
+use Rattle.till_request.specs.declared.form.Form.TheVariants as forms
 use Rattle.till_request.specs.declared.form.Part.{Part}
 use Rattle.till_request.specs.declared.form.Keyword.TheVariants.{Load}
-use Rattle.till_request.specs.Grammar.{text, template, part_fits, fits, suits, allows, sender}
+use Rattle.till_request.specs.Grammar.{text, template, part_fits, fits, suits, allows, sender, all_forms}
 use Rattle.till_request.specs.Spelling.{load_word}
 
 -- words that fit are as many as the parts
@@ -23,6 +26,56 @@ suited_count role form ws h =
     let now : List (List ℕ) = map (λ w. w.now) ws in
     let many : length now ≡ length ws = grind (arith, common_steps) in
     sym many ∙ sym (fits_count (template form) now (and_parts (allows role (sender form)) (fits (template form) now) h).1)
+
+pub not_true : (b : Bool) → (b ≡ true → ⊥) → b ≡ false
+not_true true h = absurd (h refl)
+not_true false h = refl
+
+-- what is found is found among those that may pass the test
+abbrev pub only : {X : Type 0} → (X → Bool) → List X → List X
+only may [] = []
+only may (x ∷ xs) = cond (may x) (x ∷ only may xs) (only may xs)
+
+find_by : {X : Type 0} (p may : X → Bool) (x : X) (xs : List X) (b : Bool) → may x ≡ b → ((x : X) → may x ≡ false → p x ≡ false)
+    → find p xs ≡ find p (only may xs) → find p (x ∷ xs) ≡ find p (cond b (x ∷ only may xs) (only may xs))
+find_by p may x xs true e h more = ap (λ r. cond (p x) (Some x) r) more
+find_by p may x xs false e h more = rw (h x e) more
+
+find_only : {X : Type 0} (p may : X → Bool) (xs : List X) → ((x : X) → may x ≡ false → p x ≡ false) → find p xs ≡ find p (only may xs)
+find_only p may [] h = refl
+find_only p may (x ∷ xs) h = find_by p may x xs (may x) refl h (find_only p may xs h)
+
+true_false : (b : Bool) → b ≡ true → b ≡ false → ⊥
+true_false b h k = cc
+
+-- a form that the words have is one of as many words
+pub by_count : (role : Role) (ws : List (Bor (List ℕ))) (n : ℕ) → length ws ≡ n
+    → find (suits role (map (λ w. w.now) ws)) all_forms
+    ≡ find (suits role (map (λ w. w.now) ws)) (only (λ form. eqb (length (template form)) n) all_forms)
+by_count role ws n many =
+    find_only (suits role (map (λ w. w.now) ws)) (λ form. eqb (length (template form)) n) all_forms
+    (λ form other. not_true (suits role (map (λ w. w.now) ws) form) (λ h.
+    true_false (eqb (length (template form)) n) (eq-eqb _ _ (sym (suited_count role form ws h) ∙ many)) other))
+
+pub between : (form : Form) → (3 ≤ length (template form)) × (length (template form) ≤ 5)
+between (forms.Amount verb) = (lit≤ tt, lit≤ tt)
+between (forms.Point verb) = (lit≤ tt, lit≤ tt)
+between (forms.Transaction verb) = (lit≤ tt, lit≤ tt)
+between (forms.Report verb) = (lit≤ tt, lit≤ tt)
+between forms.Up = (lit≤ tt, lit≤ tt)
+between forms.Flow = (lit≤ tt, lit≤ tt)
+between (forms.Load layout) = (lit≤ tt, lit≤ tt)
+
+pub find_none : {X : Type 0} (p : X → Bool) (xs : List X) → ((x : X) → p x ≡ false) → find p xs ≡ None
+find_none p [] h = refl
+find_none p (x ∷ xs) h = rw (h x) (find_none p xs h)
+
+pub other_count : (role : Role) (ws : List (Bor (List ℕ))) → length ws ≢ 3 → length ws ≢ 4 → length ws ≢ 5
+    → find (suits role (map (λ w. w.now) ws)) all_forms ≡ None
+other_count role ws a b c =
+    find_none (suits role (map (λ w. w.now) ws)) all_forms (λ form. not_true (suits role (map (λ w. w.now) ws) form) (λ h.
+    let count : length ws ≡ length (template form) = suited_count role form ws h in
+    omega (arith, count, between form, a, b, c)))
 
 -- the words of a slice, one by one
 pub in_three : (ws : List (Bor (List ℕ))) (d : Bor (List ℕ)) → length ws ≡ 3

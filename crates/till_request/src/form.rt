@@ -80,29 +80,37 @@ pub enum Part {
     Value,
 }
 
-/// The forms, a row for each verb, in the order in which words are compared with them.
-pub const FORMS: [Form; 21] = [
-    Form::Amount(AmountVerb::Release),
-    Form::Amount(AmountVerb::Preset),
-    Form::Amount(AmountVerb::Price),
+/// The forms of three words, a row for each verb, in the order in which words are compared with them.
+const THREE: [Form; 5] = [
+    Form::Report(ReportVerb::Down),
+    Form::Report(ReportVerb::Started),
+    Form::Report(ReportVerb::Fault),
+    Form::Report(ReportVerb::Repaired),
+    Form::Report(ReportVerb::Order),
+];
+
+/// The forms of four words.
+const FOUR: [Form; 9] = [
     Form::Point(PointVerb::Open),
     Form::Point(PointVerb::Close),
     Form::Point(PointVerb::Show),
     Form::Point(PointVerb::Suspend),
     Form::Point(PointVerb::Resume),
     Form::Point(PointVerb::Stop),
+    Form::Up,
+    Form::Load(Layout::One),
+    Form::Load(Layout::Two),
+];
+
+/// The forms of five words.
+const FIVE: [Form; 7] = [
+    Form::Amount(AmountVerb::Release),
+    Form::Amount(AmountVerb::Preset),
+    Form::Amount(AmountVerb::Price),
     Form::Transaction(TransactionVerb::Lock),
     Form::Transaction(TransactionVerb::Unlock),
     Form::Transaction(TransactionVerb::Clear),
-    Form::Report(ReportVerb::Down),
-    Form::Report(ReportVerb::Started),
-    Form::Report(ReportVerb::Fault),
-    Form::Report(ReportVerb::Repaired),
-    Form::Report(ReportVerb::Order),
-    Form::Up,
     Form::Flow,
-    Form::Load(Layout::One),
-    Form::Load(Layout::Two),
 ];
 
 /// How a fixed word is spelled.
@@ -269,12 +277,16 @@ fn first_suited(role: Role, words: &[&[u8]], forms: &[Form]) -> Option<Form>
 }
 
 /// The form that the role may send and the words have.
-#[tactic(auto, unfolding(crate::specs::Grammar::all_forms))]
 pub fn form_of(role: Role, words: &[&[u8]]) -> Option<Form>
     ensures found { result ≡ find (suits role (map (λ w. w.now) words.now)) all_forms }
     ensures suited { IfSome result (λ form. suits role (map (λ w. w.now) words.now) form ≡ true) }
 {
-    first_suited(role, words, &FORMS)
+    match words.len() {
+        3 => first_suited(role, words, &THREE),
+        4 => first_suited(role, words, &FOUR),
+        5 => first_suited(role, words, &FIVE),
+        _ => None,
+    }
 }
 
 /// The request of a verb with an amount or a price.
