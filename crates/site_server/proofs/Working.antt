@@ -1,8 +1,8 @@
 -- What a worker did at doors is also what its pass did.
 use Rattle.std.proofs.Common.{ℕ, List, [], ◌∷◌, Option, Some, None, Ok, Err, refl, inl, inr}
 use Rattle.till_request.specs.declared.act.Role.{Role}
-use Rattle.line_session.specs.Session.{desk_says, desk_drops, desk_fails}
-use Rattle.line_session.specs.Serving.{Outcome, Sits, Visits, VisitsAll, Serves}
+use Rattle.line_session.specs.Session.{desk_drops}
+use Rattle.line_session.specs.Serving.{Outcome, SitsAtDesk, Visits, VisitsAll, Serves}
 use Rattle.line_session.specs.Answering.{DropsNext}
 use Rattle.site_core.specs.Limits.{ConfigValue}
 use Rattle.site_lock.specs.Passes.{PassView}
@@ -16,8 +16,8 @@ module _ (config : ConfigValue) (may_fail : Type 0) (role : Role) {I O D : Type 
   dropped s t rest (inr d) = inr (d.0, d.1, d.3)
 
   talked : (outcome : Outcome) (d : D) (s : ℕ × PassView) (e : D) (t : ℕ × PassView)
-      → Visits opens fails (Sits (desk_says (pass_answers config may_fail) tells role) (desk_drops (pass_answers config may_fail) tells role)
-      (desk_fails (pass_answers config may_fail) tells role) remaining reads read_failures written write_failures) outcome d s e t → Talked config may_fail role outcome s t
+      → Visits opens fails (SitsAtDesk (pass_answers config may_fail) tells role remaining reads read_failures written write_failures) outcome d s e t
+      → Talked config may_fail role outcome s t
   talked None d s e t v = v.1
   talked (Some (Ok ended)) d s e t v = let answering = v.3.said.answering in (answering.lines, answering.texts, t, answering.each, answering.said, inl refl, λ e. (v.3.journal e).2.4.1)
   talked (Some (Err fault)) d s e t v = let breaks =
@@ -32,14 +32,15 @@ module _ (config : ConfigValue) (may_fail : Type 0) (role : Role) {I O D : Type 
       )
 
   all_talked : (outcomes : List Outcome) (d : D) (s : ℕ × PassView) (e : D) (t : ℕ × PassView)
-      → VisitsAll (Visits opens fails (Sits (desk_says (pass_answers config may_fail) tells role) (desk_drops (pass_answers config may_fail) tells role)
-      (desk_fails (pass_answers config may_fail) tells role) remaining reads read_failures written write_failures)) outcomes d s e t → TalkedAll config may_fail role outcomes s t
+      → VisitsAll (Visits opens fails (SitsAtDesk (pass_answers config may_fail) tells role remaining reads read_failures written
+      write_failures)) outcomes d s e t
+      → TalkedAll config may_fail role outcomes s t
   all_talked [] d s e t h = h.1
   all_talked (outcome ∷ outcomes) d s e t h = (h.1, talked outcome d s h.0 h.1 h.2, all_talked outcomes h.0 h.1 e t h.3)
 
   pub worked : (asked clean : ℕ) (d : D) (p : PassView) (e : D) (moment : ℕ) (q : PassView)
-      → Serves (Visits opens fails (Sits (desk_says (pass_answers config may_fail) tells role) (desk_drops (pass_answers config may_fail) tells role)
-      (desk_fails (pass_answers config may_fail) tells role) remaining reads read_failures written write_failures)) asked clean d (0, p) e (moment, q)
+      → Serves (Visits opens fails (SitsAtDesk (pass_answers config may_fail) tells role remaining reads read_failures written
+      write_failures)) asked clean d (0, p) e (moment, q)
       → Worked config may_fail role asked clean p q
   worked asked clean d p e moment q h = record {
     moment = moment;

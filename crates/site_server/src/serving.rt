@@ -1,8 +1,7 @@
 //! Serving a site.
 ghost use Rattle.std.specs.Prelude.{◌≡◌, ◌≢◌, ◌≤◌, ℕ, [], Err, IfErr, IfOk, Some, length, map};
 ghost use Rattle.std.specs.Prelude.{option_map, vec_capacity};
-ghost use Rattle.line_session.specs.Session.{desk_says, desk_drops, desk_fails};
-ghost use Rattle.line_session.specs.Serving.{Serves, Sits, Visits};
+ghost use Rattle.line_session.specs.Serving.{Serves, SitsAtDesk, Visits};
 ghost use Rattle.site_server.specs.Crews.{passes_of};
 ghost use Rattle.site_server.specs.Ending.{Leaves, LeavesSince, Spoils, SpoilsSince, fault_of_close, from_site};
 ghost use Rattle.site_server.specs.Collecting.{AreWaiting, RunsWorker, waits};
@@ -85,9 +84,7 @@ pub fn serve_pass<L: SiteLedger, J: Journal, S: Doors, R: Wait + Clock>(
 ) -> (Pass<L>, u64)
     ensures served { (moment : ℕ)
         × Serves (Visits S.opens S.fails
-        (Sits (desk_says (pass_answers L.config J.may_fail) tells role)
-        (desk_drops (pass_answers L.config J.may_fail) tells role)
-        (desk_fails (pass_answers L.config J.may_fail) tells role) S.In.remaining S.In.reads S.In.failures
+        (SitsAtDesk (pass_answers L.config J.may_fail) tells role S.In.remaining S.In.reads S.In.failures
         S.Out.written S.Out.failures))
         connections result.1 doors.old (0, pass) doors.new (moment, result.0) }
     ensures worked { Worked L.config J.may_fail role connections result.1 pass result.0 }
