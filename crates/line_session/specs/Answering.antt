@@ -160,7 +160,7 @@ Stops says drops takes fault s s' in_old in_new out_old out_new =
     (b : Breaks says drops s s' in_old in_new out_old out_new) × (b.cut ≡ None) × (b.after ≡ [])
     × (fault ≡ session.OutOfMemory → WantsNext drops takes b.answered s' b.rest)
 
--- The same at a door, where answers may wait for a line that is said to be there: those that wait where a read fails are not out.
+-- The same where answers may wait for a line that doors say is there: those that wait where a read fails are not out.
 abbrev pub StopsAtDoor : {S : Type 0} → (S → List ℕ → List ℕ → S → Type 0) → (S → List ℕ → S → Type 0) → (List ℕ → Type 0) → SessionFault → S → S
     → Option (List ℕ) → Option (List ℕ) → Option (List ℕ) → Option (List ℕ) → Type 0
 StopsAtDoor says drops takes fault s s' in_old in_new out_old out_new =

@@ -15,7 +15,7 @@ abbrev pub DecidesAct : {C D : Type 0} → (D → Act → ℕ → Answer → D �
 DecidesAct step tick role line c d answer c' d' =
     (act : Act) × (moment : ℕ) × (line_read role line ≡ Ok act) × tick c moment c' × step d act moment answer d'
 
--- the line has a fault, and nobody was asked; only for a load may that be out of memory
+-- the line has a fault, and nobody was asked; only a load may be out of memory
 abbrev pub DecidesFault : {C D : Type 0} → Role → List ℕ → C → D → Answer → C → D → Type 0
 DecidesFault role line c d answer c' d' =
     (fault : LineFault) × (answer ≡ Line fault) × Fails fault (line_read role line) × (fault ≡ OutOfMemory → desk_takes role line) × (c' ≡ c) × (d' ≡ d)

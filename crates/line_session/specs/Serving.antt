@@ -27,8 +27,8 @@ good [] = 0
 good (outcome ∷ outcomes) = one_good outcome + good outcomes
 
 -- a session that ended so at this input and output: all was said, or a beginning of it is out, in whole answers where no device failed. It failed
--- by a device only where that failed, for its reads only where they ran out, by the journal only at a line at which this failed, and for want of
--- memory only where something takes memory.
+-- by a device only where that failed, for its reads only where they ran out, by the journal only at a line at which this failed, and out of memory
+-- only where something took memory.
 pub record Sits {S I O : Type 0} (says : S → List ℕ → List ℕ → S → Type 0) (drops fails : S → List ℕ → S → Type 0) (takes : List ℕ → Type 0)
     (remaining : I → Option (List ℕ)) (reads read_failures : I → ℕ) (written : O → Option (List ℕ)) (write_failures : O → ℕ)
     (result : Result Ended SessionFault) (i : I) (o : O) (s s' : S) : Type 0 where

@@ -10,7 +10,7 @@ use std::alloc::Global;
 use till_request::devices::MemoryOut;
 use till_request::{Answer, DeviceFault, LineOut, WriteFault, write_all, write_answer};
 
-/// From how many bytes on answers wait no longer.
+/// Where this many bytes wait, they are written before a further line is read.
 const MOST_WAITING: usize = 16_384;
 
 /// Answers that wait in memory, to be written to a device together. An answer to which memory is refused doesn't wait:
@@ -53,8 +53,7 @@ impl AnswerBuffer {
         }
     }
 
-    /// Puts an answer's line behind what waits, and returns whether it waits now. Where memory is refused to it, all is
-    /// as it was.
+    /// Whether an answer's line was put behind what waits. It isn't where memory is refused to it: then all is as it was.
     fn hold(&mut self, alloc: Global, answer: &Answer) -> bool
         ensures waits { result ≡ true
             → self.new.held.bytes.items ≡ self.old.held.bytes.items ++ answer_line answer.now }

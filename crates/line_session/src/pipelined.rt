@@ -140,8 +140,8 @@ impl Progress {
                     });
                 }
                 Found::TooLong => {
-                    let cut = Answer::Line(LineFault::TooLong);
-                    self.waiting.put(alloc, &mut connection.output, &cut)?;
+                    let too_long = Answer::Line(LineFault::TooLong);
+                    self.waiting.put(alloc, &mut connection.output, &too_long)?;
                     return Ok(Ended {
                         lines: count + 1,
                         cut: Some(LineFault::TooLong),
