@@ -78,20 +78,20 @@ other_count role ws a b c =
     omega (arith, count, between form, a, b, c)))
 
 -- the words of a slice, one by one
-pub three : (ws : List (Bor (List ℕ))) (d : Bor (List ℕ)) → length ws ≡ 3
+pub in_three : (ws : List (Bor (List ℕ))) (d : Bor (List ℕ)) → length ws ≡ 3
     → map (λ w. w.now) ws ≡ (get_or ws 0 d).now ∷ (get_or ws 1 d).now ∷ (get_or ws 2 d).now ∷ []
-three (a ∷ b ∷ c ∷ []) d e = refl
-three ws d e = absurd (omega (arith, e))
+in_three (a ∷ b ∷ c ∷ []) d e = refl
+in_three ws d e = absurd (omega (arith, e))
 
-pub four : (ws : List (Bor (List ℕ))) (d : Bor (List ℕ)) → length ws ≡ 4
+pub in_four : (ws : List (Bor (List ℕ))) (d : Bor (List ℕ)) → length ws ≡ 4
     → map (λ w. w.now) ws ≡ (get_or ws 0 d).now ∷ (get_or ws 1 d).now ∷ (get_or ws 2 d).now ∷ (get_or ws 3 d).now ∷ []
-four (a ∷ b ∷ c ∷ v ∷ []) d e = refl
-four ws d e = absurd (omega (arith, e))
+in_four (a ∷ b ∷ c ∷ v ∷ []) d e = refl
+in_four ws d e = absurd (omega (arith, e))
 
-pub five : (ws : List (Bor (List ℕ))) (d : Bor (List ℕ)) → length ws ≡ 5
+pub in_five : (ws : List (Bor (List ℕ))) (d : Bor (List ℕ)) → length ws ≡ 5
     → map (λ w. w.now) ws ≡ (get_or ws 0 d).now ∷ (get_or ws 1 d).now ∷ (get_or ws 2 d).now ∷ (get_or ws 3 d).now ∷ (get_or ws 4 d).now ∷ []
-five (a ∷ b ∷ c ∷ v ∷ w ∷ []) d e = refl
-five ws d e = absurd (omega (arith, e))
+in_five (a ∷ b ∷ c ∷ v ∷ w ∷ []) d e = refl
+in_five ws d e = absurd (omega (arith, e))
 
 -- whether all tests hold, whichever comes first
 pub third_first : (a b c d : Bool) → (a && (b && (c && d))) ≡ (c && (a && (b && d)))
