@@ -186,9 +186,9 @@ fn is_value(word: &[u8]) -> bool
     !word.is_empty()
 }
 
-/// Whether the words are these fixed ones with a value between them. The verb is compared first, since most forms differ
-/// in it.
-#[tactic(auto, using(crate::proofs::Fitting::third_first, crate::proofs::Fitting::third_last))]
+/// Whether the words are these fixed ones with a value between them. The verb is compared first, since forms differ
+/// most in it.
+#[tactic(auto, using(crate::proofs::Fitting::third_last))]
 #[inline(always)]
 fn three_fit(first: Keyword, third: Keyword, words: &[&[u8]]) -> bool
     ensures { result ≡ fits (Word first ∷ Value ∷ Word third ∷ []) (map (λ w. w.now) words.now) }
