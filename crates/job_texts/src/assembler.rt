@@ -11,8 +11,8 @@ ghost use Rattle.job_texts.specs.Assembler.{ToldDecodeFault, DisTells, DisUnitsT
 
 use crate::told::{REFUSED, Told, refused};
 use bpf_asm::{
-    AsmFault, MOST_BYTES, ProgramFileFault, assemble, disassemble, disassemble_numbered, read_program,
-    unit_lines,
+    AsmFault, MOST_BYTES, ProgramFileFault, assemble, disassemble, disassemble_numbered,
+    read_program, unit_lines,
 };
 use bpf_decode::{Code, DecodeFault, decode, encode};
 use reg_types::Refusal;

@@ -3,8 +3,8 @@ ghost use Rattle.std.specs.Prelude.{◌≡◌, ◌≢◌, IfOk, OnOk, MatchOptio
 ghost use Rattle.job_texts.specs.FileFlaws.{IsAccepted, IsShown, IsVerifyFlaw, IsDisFlaw};
 
 use crate::reasons::{RefusedProgram, explain_refusal, refused_program};
-use bpf_decode::{DecodeFault, decode};
 use bpf_asm::{ProgramFileFault, read_program};
+use bpf_decode::{DecodeFault, decode};
 use reg_types::{Layout, Refusal};
 use std::alloc::{AllocError, Global};
 use thiserror::Error;
