@@ -86,14 +86,14 @@ impl Write for Outgoing<'_, '_> {
 
 /// A script, of which no more is read before its answers have left.
 #[derive(Drop)]
-pub struct Incoming<'a, 'b> {
+pub struct Incoming<'a, 'b, 'c> {
     pub source: Source,
     pub answers: &'b Answers<'a>,
     /// How far it is, if that is shown.
-    pub progress: Option<&'b RefCell<Progress<'a>>>,
+    pub progress: Option<&'c RefCell<Progress<'a>>>,
 }
 
-impl Read for Incoming<'_, '_> {
+impl Read for Incoming<'_, '_, '_> {
     fn read(&mut self, buf: &mut [u8]) -> io::Result<usize> {
         // Where answers can't leave, no more is asked; the play's end says why.
         if self.answers.flush().is_err() {

@@ -92,7 +92,7 @@ pub fn play_input(rt: &HostRuntime) -> io::Result<u8> {
 }
 
 /// A script, whose bytes are taken one by one and read in blocks.
-fn ahead<'a, 'b>(incoming: Incoming<'a, 'b>) -> Ahead<StreamIn<Incoming<'a, 'b>>> {
+fn ahead<'a, 'b, 'c>(incoming: Incoming<'a, 'b, 'c>) -> Ahead<StreamIn<Incoming<'a, 'b, 'c>>> {
     Ahead::new(StreamIn {
         reader: incoming,
         reads: 0,
@@ -110,7 +110,7 @@ fn lines_in(bytes: &[u8]) -> u64 {
 fn play_rest(
     rt: &HostRuntime,
     settings: Settings,
-    input: Ahead<StreamIn<Incoming<'_, '_>>>,
+    input: Ahead<StreamIn<Incoming<'_, '_, '_>>>,
     answers: &Answers<'_>,
     lines: u64,
     mut left: u32,
@@ -162,11 +162,12 @@ fn play_script<'a>(
     // On a terminal the answers themselves show how far it is.
     let is_silent = !rt.stdout().is_terminal();
     let progress = RefCell::new(Progress::new(rt, is_silent, source.size()));
-    let notices = RefusedLoads::new(rt, name_of(script), 0, Some(&progress));
+    let shown = Some(&progress);
+    let notices = RefusedLoads::new(rt, name_of(script), 0, shown);
     let incoming = Incoming {
         source,
         answers,
-        progress: Some(&progress),
+        progress: shown,
     };
     let mut input = ahead(incoming);
     let mut output = outlet(answers);
