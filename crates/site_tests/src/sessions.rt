@@ -1,6 +1,8 @@
 //! Sessions at doors that fail, with a desk that numbers what it is asked; what is written at once. What peers hear is
 //! `cases/serve/lines_of_roles` and those beside it.
-use line_session::{Clock, Desk, Doors, Ended, SessionFault, pipelined_session, worker};
+use line_session::{
+    Clock, Connection, Desk, Doors, Ended, SessionFault, pipelined_session, worker,
+};
 use std::alloc::Global;
 use till_request::devices::{MemoryIn, MemoryOut};
 use till_request::{Act, Answer, DeviceFault, Reply, Role};
@@ -158,8 +160,9 @@ struct Left {
 /// A session over three lines, of which this many bytes have come when the first one is read.
 fn written_ahead(alloc: Global, arrived: usize, good_writes: Option<u64>) -> Option<Left> {
     let bytes = Vec::from_slice(alloc, THREE).ok()?;
-    let mut input = MemoryIn::new(bytes, Vec::new(alloc), None);
-    let mut output = MemoryOut::new(alloc, Vec::new(alloc), good_writes);
+    let input = MemoryIn::new(bytes, Vec::new(alloc), None);
+    let output = MemoryOut::new(alloc, Vec::new(alloc), good_writes);
+    let mut connection = Connection { input, output };
     let mut clock = Ticks { moment: 0 };
     let mut desk = Numbers { entries: 0 };
     let doors = Arrived { bytes: arrived };
@@ -167,15 +170,14 @@ fn written_ahead(alloc: Global, arrived: usize, good_writes: Option<u64>) -> Opt
         alloc,
         Role::Till,
         &doors,
-        &mut input,
-        &mut output,
+        &mut connection,
         &mut clock,
         &mut desk,
     );
     Some(Left {
         ended,
-        text: output.bytes,
-        writes: output.writes,
+        text: connection.output.bytes,
+        writes: connection.output.writes,
         entries: desk.entries,
     })
 }
