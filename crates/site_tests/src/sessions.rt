@@ -174,10 +174,11 @@ fn written_ahead(alloc: Global, arrived: usize, good_writes: Option<u64>) -> Opt
         &mut clock,
         &mut desk,
     );
+    let output = connection.output;
     Some(Left {
         ended,
-        text: connection.output.bytes,
-        writes: connection.output.writes,
+        text: output.bytes,
+        writes: output.writes,
         entries: desk.entries,
     })
 }
