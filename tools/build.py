@@ -5,10 +5,10 @@ usage: tools/build.py FOLDER NAME    FOLDER: crates.txt and crates/, a copy that
                                      NAME: the program's crate, whose program is then FOLDER/crates/NAME/out/NAME
 
 Two calls of `rt` in one tree wait for each other, so each crate is proved in a tree of its own. What was proved is
-linked into the trees of the crates above it. Of the crates that can begin, the one with most lines of code behind it
-comes first. It and others with nearly as many get more processes, and these go before the rest's. FC_JOBS is the most
-processes; left out, they are two for each processor at most, as memory allows. What `rt` says goes to standard output,
-with a line 'rt: NAME proved' at the end of each crate.
+linked into the trees of the crates above it. Of the crates that can begin, the one with the longest chain up to the
+program comes first. It gets several processes, and so do others with nearly as long a chain; the rest run behind them,
+by `nice`. FC_JOBS is the most processes; left out, they are at most two for each processor, as memory allows. What `rt`
+says goes to standard output, with a line 'rt: NAME proved' at the end of each crate.
 """
 import os
 import shutil
