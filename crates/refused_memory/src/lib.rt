@@ -1,26 +1,11 @@
-//! Refused memory: tests that take all memory that the process can get, give back a measured room, and see that a call
-//! which finds too little of it changes nothing. They are a crate of their own, since they leave no memory to others.
+//! Refused memory: a test that takes all memory that the process can get, gives back a measured room, and sees that a
+//! line of a play which finds too little of it changes nothing. It is a crate of its own, since it leaves no memory to
+//! others.
 #![tactic(auto)]
 
 #[cfg(test)]
-mod calls;
-#[cfg(test)]
-mod desks;
-#[cfg(test)]
-mod forecourts;
-#[cfg(test)]
 mod hoarding;
-#[cfg(test)]
-mod many;
 #[cfg(test)]
 mod narrow;
 #[cfg(test)]
 mod plays;
-#[cfg(test)]
-mod programs;
-#[cfg(test)]
-mod sites;
-#[cfg(test)]
-mod texts;
-#[cfg(test)]
-mod workers;

@@ -1,17 +1,11 @@
-//! Tests of the site and of what it stands on, as far as no word of the program reaches it: drafts, runs of events,
-//! facts and jumps of programs, doors that fail, and words of faults. They are a crate of their own, so that the
-//! gate proves each of these once and not once more with its tests.
+//! Tests of the site and of what it stands on, as far as no word of the program reaches it: drafts, runs of events, a
+//! line by itself, and words of faults. They are a crate of their own, so that the gate proves each of these once and not once more with its
+//! tests.
 #![tactic(auto)]
 
 #[cfg(test)]
 mod drafts;
 #[cfg(test)]
 mod lines;
-#[cfg(test)]
-mod machine;
-#[cfg(test)]
-mod scripts;
-#[cfg(test)]
-mod sessions;
 #[cfg(test)]
 mod words;
