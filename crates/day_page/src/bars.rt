@@ -1,11 +1,11 @@
 //! Pictures made of bars and of columns.
 ghost use Rattle.std.specs.Prelude.{◌<◌};
 
-use crate::pictures::{COLUMNS_END, END, write_head, write_label, write_rect};
+use crate::pictures::{COLUMNS_END, END, add_head, add_label, add_rect};
+use crate::sheet::Sheet;
 use crate::tables::outcome_of;
-use crate::texts::{Text, scaled};
+use crate::texts::{Text, number, numbered, scaled};
 use day_report::{FIRST_REFUSAL, Load, REFUSALS, Sum, Totals};
-use std::fmt;
 
 /// How far a bar lies below the one before it.
 const APART: usize = 28;
@@ -13,126 +13,167 @@ const APART: usize = 28;
 /// The room behind the longest bar, for its value.
 const VALUE: usize = 140;
 
-/// Writes the bar at a place, with its name before it and its value behind it.
-fn write_bar<W: fmt::Write>(
-    f: &mut fmt::Formatter<W>,
-    place: usize,
-    left: usize,
-    width: usize,
-    name: Text,
-    value: Text,
-) -> fmt::Result {
+/// Adds the head of a picture of this many bars.
+fn add_bars_head(sheet: &mut Sheet, bars: usize, title: &'static str, text: &'static str) {
+    add_head(
+        sheet,
+        bars.saturating_mul(APART).saturating_add(4),
+        title,
+        text,
+    );
+}
+
+/// Adds the bar at a place, with its name before it and its value behind it.
+fn add_bar(sheet: &mut Sheet, place: usize, left: usize, width: usize, name: Text, value: Text) {
     let over = place.saturating_mul(APART);
     let (top, foot) = (over.saturating_add(4), over.saturating_add(20));
     let behind = left.saturating_add(width).saturating_add(8);
-    write_label(f, left.saturating_sub(10), foot, "end", name)?;
-    write_rect(f, "sold", left, top, width, 20)?;
-    f.write_str(" rx=\"3\"/>")?;
-    writeln!(f, "<text x=\"{behind}\" y=\"{foot}\">{value}</text>")
+    add_label(sheet, left.saturating_sub(10), foot, "end", name);
+    add_rect(sheet, "sold", left, top, width, 20);
+    sheet.fill(
+        " rx=\"3\"/><text x=\"{}\" y=\"{}\">{}</text>\n",
+        &[number(behind), number(foot), value],
+    );
 }
 
 /// Where the bars of points begin.
 const POINTS: usize = 90;
 
-/// Writes a bar for each point.
-pub(crate) fn write_points<W: fmt::Write>(f: &mut fmt::Formatter<W>, sums: &[Sum]) -> fmt::Result {
-    write_head(
-        f,
-        sums.len().saturating_mul(APART).saturating_add(4),
+/// The money of the part of the sales that has the most.
+fn most_sold(sums: &[Sum]) -> u128 {
+    let mut most = 0;
+    for sum in sums {
+        most = most.max(sum.cents);
+    }
+    most
+}
+
+/// Adds a bar for each point.
+pub(crate) fn add_points(sheet: &mut Sheet, sums: &[Sum]) {
+    add_bars_head(
+        sheet,
+        sums.len(),
         "Sales by point",
         "A bar for each point, as long as the money of its sales. The table below has the figures.",
-    )?;
-    let most = sums.iter().map(|sum| sum.cents).max().unwrap_or(0);
+    );
+    let most = most_sold(sums);
     for (place, sum) in sums.iter().enumerate() {
         let width = scaled(sum.cents, most, 1000 - POINTS - VALUE);
         let name = Text::Point((place as u64).saturating_add(1));
-        write_bar(f, place, POINTS, width, name, Text::Hundredths(sum.cents))?;
+        add_bar(
+            sheet,
+            place,
+            POINTS,
+            width,
+            name,
+            Text::Hundredths(sum.cents),
+        );
     }
-    f.write_str(END)
+    sheet.add(END);
 }
 
 /// Where the bars of refusals begin, behind their names in words.
 const NUMBERS: usize = 440;
 
-/// Writes a bar for each refusal that there was.
-pub(crate) fn write_refusals<W: fmt::Write>(
-    f: &mut fmt::Formatter<W>,
-    counts: &[usize],
-) -> fmt::Result {
-    let bars = counts.iter().filter(|count| **count > 0).count();
-    write_head(
-        f,
-        bars.saturating_mul(APART).saturating_add(4),
+/// How many refusals there were of those with the most, and how many have a bar.
+fn most_refused(counts: &[usize]) -> (usize, usize) {
+    let (mut most, mut bars) = (0usize, 0usize);
+    for count in counts {
+        if *count > 0 {
+            most = most.max(*count);
+            bars = bars.saturating_add(1);
+        }
+    }
+    (most, bars)
+}
+
+/// Adds a bar for each refusal that there was.
+pub(crate) fn add_refusals(sheet: &mut Sheet, counts: &[usize]) {
+    let (most, bars) = most_refused(counts);
+    add_bars_head(
+        sheet,
+        bars,
         "Refusals by number",
         "A bar for each number that was answered, as long as it was answered often. Its name in \
             words stands before it.",
-    )?;
-    let most = counts.iter().copied().max().unwrap_or(0) as u128;
+    );
     let mut bar = 0usize;
     for place in 0..REFUSALS {
         let count = counts.get(place as usize).copied().unwrap_or(0) as u128;
         if count > 0 {
-            let width = scaled(count, most, 1000 - NUMBERS - VALUE);
+            let width = scaled(count, most as u128, 1000 - NUMBERS - VALUE);
             let name = Text::Refusal(FIRST_REFUSAL + place);
-            write_bar(f, bar, NUMBERS, width, name, Text::Thousands(count))?;
+            add_bar(sheet, bar, NUMBERS, width, name, Text::Thousands(count));
             bar = bar.saturating_add(1);
         }
     }
-    f.write_str(END)
+    sheet.add(END);
 }
 
-/// Writes what was sold in each hour of the day, as columns.
-pub(crate) fn write_hours<W: fmt::Write>(f: &mut fmt::Formatter<W>, sums: &[Sum]) -> fmt::Result {
-    write_head(
-        f,
+/// Adds what was sold in each hour of the day, as columns.
+pub(crate) fn add_hours(sheet: &mut Sheet, sums: &[Sum]) {
+    add_head(
+        sheet,
         236,
         "Sales by hour",
         "A column for each hour of the day in UTC, as high as the money of the sales in it. The \
             table below has the figures.",
-    )?;
-    let most = sums.iter().map(|sum| sum.cents).max().unwrap_or(0);
+    );
+    let most = most_sold(sums);
     for (hour, sum) in sums.iter().enumerate() {
-        write_hour(f, hour, scaled(sum.cents, most, 190))?;
+        add_hour(sheet, hour, scaled(sum.cents, most, 190));
     }
-    f.write_str(COLUMNS_END)
+    sheet.add(COLUMNS_END);
 }
 
-/// Writes the column of an hour, of this height.
-fn write_hour<W: fmt::Write>(f: &mut fmt::Formatter<W>, hour: usize, height: usize) -> fmt::Result {
+/// Adds the column of an hour, of this height.
+fn add_hour(sheet: &mut Sheet, hour: usize, height: usize) {
     let left = hour.saturating_mul(41).saturating_add(8);
-    let top = 206usize.saturating_sub(height);
-    write_rect(f, "sold", left, top, 34, height)?;
-    f.write_str(" rx=\"2\"/>")?;
-    let name = Text::Number(hour as u64);
-    write_label(f, left.saturating_add(17), 226, "middle", name)?;
-    f.write_str("\n")
+    add_rect(
+        sheet,
+        "sold",
+        left,
+        206usize.saturating_sub(height),
+        34,
+        height,
+    );
+    sheet.add(" rx=\"2\"/>");
+    add_label(sheet, left.saturating_add(17), 226, "middle", number(hour));
+    sheet.add("\n");
 }
 
 /// The most columns of versions: each is two steps of a picture, which has 2,000.
 const COLUMNS: usize = 1000;
 
-/// Writes how many decisions the versions granted and denied, in the order of their loads: a stacked column for each,
+/// Adds how many decisions the versions granted and denied, in the order of their loads: a stacked column for each,
 /// or for as many neighbours as make 1,000 columns.
-pub(crate) fn write_versions<W: fmt::Write>(
-    f: &mut fmt::Formatter<W>,
-    totals: &Totals,
-) -> fmt::Result {
-    write_head(
-        f,
+pub(crate) fn add_versions(sheet: &mut Sheet, totals: &Totals) {
+    add_head(
+        sheet,
         226,
         "Decisions by version",
         "A column for each version in the order of their loads: below what it granted, above what \
             it denied. The table below has the figures.",
-    )?;
-    let together = (totals.loads.len() / COLUMNS).saturating_add(1);
+    );
+    add_columns(
+        sheet,
+        totals,
+        (totals.loads.len() / COLUMNS).saturating_add(1),
+    );
+    sheet.add(COLUMNS_END);
+}
+
+/// Adds a column for each so many neighbours.
+fn add_columns(sheet: &mut Sheet, totals: &Totals, together: usize)
+    requires { 0 < together }
+{
     let columns = totals.loads.len().div_ceil(together);
     let most = most_decided(totals, together);
     for (place, chunk) in totals.loads.chunks(together).enumerate() {
         let (granted, denied) = decided(totals, chunk);
         let (low, high) = (scaled(granted, most, 190), scaled(denied, most, 190));
-        write_column(f, place, columns, low, high)?;
+        add_column(sheet, place, columns, low, high);
     }
-    f.write_str(COLUMNS_END)
 }
 
 /// The most that this many neighbours decided together.
@@ -147,17 +188,26 @@ fn most_decided(totals: &Totals, together: usize) -> u128
     most
 }
 
+/// What a version granted and denied.
+fn decided_by(totals: &Totals, version: u32) -> (u128, u128) {
+    let releases = outcome_of(&totals.releases, version);
+    let presets = outcome_of(&totals.presets, version);
+    let prices = outcome_of(&totals.price_requests, version);
+    (
+        releases.0 as u128 + presets.0 as u128 + prices.0 as u128,
+        releases.1 as u128 + presets.1 as u128 + prices.1 as u128,
+    )
+}
+
 /// What these versions granted and denied together.
 fn decided(totals: &Totals, loads: &[Load]) -> (u128, u128) {
-    let mut both = (0u128, 0u128);
+    let (mut granted, mut denied) = (0u128, 0u128);
     for load in loads {
-        for outcomes in [&totals.releases, &totals.presets, &totals.price_requests] {
-            let (granted, denied) = outcome_of(outcomes, load.version);
-            both.0 = both.0.saturating_add(granted as u128);
-            both.1 = both.1.saturating_add(denied as u128);
-        }
+        let outcome = decided_by(totals, load.version);
+        granted = granted.saturating_add(outcome.0);
+        denied = denied.saturating_add(outcome.1);
     }
-    both
+    (granted, denied)
 }
 
 /// Where one of this many columns begins, and how wide it is.
@@ -171,24 +221,17 @@ fn column_at(place: usize, columns: usize) -> (usize, usize) {
     (left, width)
 }
 
-/// Writes one of this many columns of versions, whose two parts have these heights.
-fn write_column<W: fmt::Write>(
-    f: &mut fmt::Formatter<W>,
-    place: usize,
-    columns: usize,
-    low: usize,
-    high: usize,
-) -> fmt::Result {
+/// Adds one of this many columns of versions, whose two parts have these heights.
+fn add_column(sheet: &mut Sheet, place: usize, columns: usize, low: usize, high: usize) {
     let (left, width) = column_at(place, columns);
     let top = 206usize.saturating_sub(low);
-    write_rect(f, "granted", left, top, width, low)?;
-    f.write_str("/>")?;
-    write_rect(f, "denied", left, top.saturating_sub(high), width, high)?;
-    f.write_str("/>")?;
+    add_rect(sheet, "granted", left, top, width, low);
+    sheet.add("/>");
+    add_rect(sheet, "denied", left, top.saturating_sub(high), width, high);
+    sheet.add("/>");
     if columns <= 24 {
         let middle = left.saturating_add(width / 2);
-        let version = Text::Number((place as u64).saturating_add(1));
-        write_label(f, middle, 224, "middle", version)?;
+        add_label(sheet, middle, 224, "middle", numbered(place, 1));
     }
-    f.write_str("\n")
+    sheet.add("\n");
 }

@@ -7,6 +7,7 @@ mod names;
 mod page;
 mod pictures;
 mod prices;
+mod sheet;
 mod style;
 mod tables;
 mod texts;

@@ -1,5 +1,6 @@
 //! The page: what a day was, in figures and pictures.
 
+use crate::sheet::Sheet;
 use crate::style::START;
 use crate::texts::Text;
 use crate::{bars, drawn, prices, tables};
@@ -12,6 +13,28 @@ use std::fmt;
 /// file and has no script.
 #[derive(Drop)]
 pub struct Page {
+    text: String,
+}
+
+impl Page {
+    /// Makes the page of a site. The error is out of memory.
+    pub fn of(alloc: Global, site: &Site) -> Result<Page, AllocError> {
+        let day = Day::of(alloc, site)?;
+        Ok(Page {
+            text: text_of(alloc, &day)?,
+        })
+    }
+}
+
+impl fmt::Display for Page {
+    fn fmt<W: fmt::Write>(&self, f: &mut fmt::Formatter<W>) -> fmt::Result {
+        f.write_str(&self.text)
+    }
+}
+
+/// What a page shows of a site.
+#[derive(Drop)]
+struct Day {
     totals: Totals,
     /// The counters' values and bounds.
     counters: [(u64, u64); 32],
@@ -32,14 +55,13 @@ fn counters_of(site: &Site) -> [(u64, u64); 32] {
     counters
 }
 
-impl Page {
-    /// Makes the page of a site. The error is out of memory.
-    pub fn of(alloc: Global, site: &Site) -> Result<Page, AllocError> {
+impl Day {
+    fn of(alloc: Global, site: &Site) -> Result<Day, AllocError> {
         let entries = site.history();
         let points = site.config().points().len();
         let axis = axis_of(entries);
         let bands = follow_states(alloc, points, entries, axis)?;
-        Ok(Page {
+        Ok(Day {
             totals: add_up(alloc, points, entries)?,
             counters: counters_of(site),
             opening: site.config().prices(),
@@ -49,180 +71,179 @@ impl Page {
     }
 }
 
+/// The text of the page of a day. The error is out of memory.
+fn text_of(alloc: Global, day: &Day) -> Result<String, AllocError> {
+    let mut sheet = Sheet::new(alloc);
+    add_day(&mut sheet, day);
+    sheet.finish()
+}
+
+fn add_day(sheet: &mut Sheet, day: &Day) {
+    sheet.add(START);
+    add_headline(sheet, &day.totals, day.axis);
+    add_sales(sheet, &day.totals);
+    add_rules(sheet, &day.totals, &day.counters);
+    add_points(sheet, &day.bands, day.axis);
+    add_refusals(sheet, &day.totals.refused);
+    add_prices(sheet, &day.opening, &day.totals.prices, day.axis);
+    sheet.add("</main></body></html>\n");
+}
+
 /// The end of a section.
 const SECTION_END: &str = "</section>\n";
 
-/// Writes the head of a section.
-fn write_section<W: fmt::Write>(f: &mut fmt::Formatter<W>, id: &str, title: &str) -> fmt::Result {
-    writeln!(f, "<section id=\"{id}\"><h2>{title}</h2>")
-}
-
-/// Writes a remark.
-fn write_note<W: fmt::Write>(f: &mut fmt::Formatter<W>, words: &str) -> fmt::Result {
-    writeln!(f, "<p class=\"note\">{words}</p>")
-}
-
-impl fmt::Display for Page {
-    fn fmt<W: fmt::Write>(&self, f: &mut fmt::Formatter<W>) -> fmt::Result {
-        f.write_str(START)?;
-        write_headline(f, &self.totals, self.axis)?;
-        write_sales(f, &self.totals)?;
-        write_rules(f, &self.totals, &self.counters)?;
-        write_points(f, &self.bands, self.axis)?;
-        write_refusals(f, &self.totals.refused)?;
-        write_prices(f, &self.opening, &self.totals.prices, self.axis)?;
-        f.write_str("</main></body></html>\n")
-    }
-}
-
-/// The figures of the headline, with their names.
-fn figures_of(totals: &Totals) -> [(&'static str, Text); 6] {
-    [
-        ("Sold", Text::Hundredths(totals.sold.cents)),
-        ("Sales", Text::Thousands(totals.sold.count as u128)),
-        ("Litres sold", Text::Hundredths(totals.sold.centilitres)),
-        ("Unpaid at the end", Text::Hundredths(totals.unpaid_cents)),
-        ("Granted by rules", Text::Thousands(totals.granted as u128)),
-        ("Denied by rules", Text::Thousands(totals.denied as u128)),
-    ]
-}
-
-/// Writes what the day was, in figures.
-fn write_headline<W: fmt::Write>(
-    f: &mut fmt::Formatter<W>,
-    totals: &Totals,
-    axis: Axis,
-) -> fmt::Result {
-    let entries = Text::Thousands(totals.entries as u128);
-    writeln!(f, "<p class=\"audited\">{entries} entries, audited</p>")?;
-    f.write_str("<h1>The day in a picture</h1>\n")?;
+/// Adds what the day was, in figures.
+fn add_headline(sheet: &mut Sheet, totals: &Totals, axis: Axis) {
+    sheet.fill(
+        "<p class=\"audited\">{} entries, audited</p>\n<h1>The day in a picture</h1>\n",
+        &[Text::Thousands(totals.entries as u128)],
+    );
     if let Axis::Time(first, last) = axis {
-        let (first, last) = (Text::Moment(first), Text::Moment(last));
-        writeln!(f, "<p>From {first} to {last}, UTC.</p>")?;
+        sheet.fill(
+            "<p>From {} to {}, UTC.</p>\n",
+            &[Text::Moment(first), Text::Moment(last)],
+        );
     }
-    write_figures(f, totals)
+    add_figures(sheet, totals);
 }
 
-fn write_figures<W: fmt::Write>(f: &mut fmt::Formatter<W>, totals: &Totals) -> fmt::Result {
-    f.write_str("<ul class=\"figures\">\n")?;
-    for (name, value) in figures_of(totals) {
-        writeln!(f, "<li><span>{name}</span> <b>{value}</b></li>")?;
-    }
-    f.write_str("</ul>\n")
+fn add_figures(sheet: &mut Sheet, totals: &Totals) {
+    sheet.add("<ul class=\"figures\">\n");
+    add_figure(sheet, "Sold", Text::Hundredths(totals.sold.cents));
+    add_figure(sheet, "Sales", Text::Thousands(totals.sold.count as u128));
+    add_figure(
+        sheet,
+        "Litres sold",
+        Text::Hundredths(totals.sold.centilitres),
+    );
+    add_figure(
+        sheet,
+        "Unpaid at the end",
+        Text::Hundredths(totals.unpaid_cents),
+    );
+    add_figure(
+        sheet,
+        "Granted by rules",
+        Text::Thousands(totals.granted as u128),
+    );
+    add_figure(
+        sheet,
+        "Denied by rules",
+        Text::Thousands(totals.denied as u128),
+    );
+    sheet.add("</ul>\n");
 }
 
-fn write_sales<W: fmt::Write>(f: &mut fmt::Formatter<W>, totals: &Totals) -> fmt::Result {
-    write_section(f, "sales", "Sales")?;
-    bars::write_points(f, &totals.by_point)?;
-    write_sums(f, totals)?;
-    write_hours(f, &totals.by_hour)?;
-    write_unpaid(f, &totals.unpaid)?;
-    f.write_str(SECTION_END)
+/// Adds a figure of the headline.
+fn add_figure(sheet: &mut Sheet, name: &'static str, value: Text) {
+    sheet.fill(
+        "<li><span>{}</span> <b>{}</b></li>\n",
+        &[Text::Words(name), value],
+    );
 }
 
-/// Writes what was sold by point, and by the till that cleared.
-fn write_sums<W: fmt::Write>(f: &mut fmt::Formatter<W>, totals: &Totals) -> fmt::Result {
-    f.write_str("<div class=\"side\"><div><h3>By point</h3>")?;
-    tables::write_points(f, totals)?;
+fn add_sales(sheet: &mut Sheet, totals: &Totals) {
+    sheet.add("<section id=\"sales\"><h2>Sales</h2>\n");
+    bars::add_points(sheet, &totals.by_point);
+    add_sums(sheet, totals);
+    add_hours(sheet, &totals.by_hour);
+    add_unpaid(sheet, &totals.unpaid);
+    sheet.add(SECTION_END);
+}
+
+/// Adds what was sold by point, and by the till that cleared.
+fn add_sums(sheet: &mut Sheet, totals: &Totals) {
+    sheet.add("<div class=\"side\"><div><h3>By point</h3>");
+    tables::add_points(sheet, totals);
     if totals.sold.count > 0 {
-        f.write_str("</div><div><h3>By the till that cleared</h3>")?;
-        tables::write_parts(f, "by-till", "Till", &totals.by_till, 1)?;
+        sheet.add("</div><div><h3>By the till that cleared</h3>");
+        tables::add_parts(sheet, tables::BY_TILL, &totals.by_till, 1);
     }
-    f.write_str("</div></div>\n")
+    sheet.add("</div></div>\n");
 }
 
-/// Writes what was sold by hour, where the sales have moments.
-fn write_hours<W: fmt::Write>(f: &mut fmt::Formatter<W>, sums: &[Sum]) -> fmt::Result {
+/// Adds what was sold by hour, where the sales have moments.
+fn add_hours(sheet: &mut Sheet, sums: &[Sum]) {
     if !sums.iter().any(|sum| sum.count > 0) {
-        return write_note(f, "No sale tells its moment, so there are no hours.");
+        return sheet.add(
+            "<p class=\"note\">No sale tells its moment, so there are no hours.</p>\n",
+        );
     }
-    f.write_str("<h3>By hour of the day, in UTC</h3>")?;
-    bars::write_hours(f, sums)?;
-    tables::write_parts(f, "by-hour", "Hour", sums, 0)?;
-    f.write_str("\n")
+    sheet.add("<h3>By hour of the day, in UTC</h3>");
+    bars::add_hours(sheet, sums);
+    tables::add_parts(sheet, tables::BY_HOUR, sums, 0);
+    sheet.add("\n");
 }
 
-fn write_unpaid<W: fmt::Write>(f: &mut fmt::Formatter<W>, unpaid: &[Unpaid]) -> fmt::Result {
-    if unpaid.is_empty() {
-        return Ok(());
+fn add_unpaid(sheet: &mut Sheet, unpaid: &[Unpaid]) {
+    if !unpaid.is_empty() {
+        sheet.add("<h3>Unpaid at the end</h3>");
+        tables::add_unpaid(sheet, unpaid);
+        sheet.add("\n");
     }
-    f.write_str("<h3>Unpaid at the end</h3>")?;
-    tables::write_unpaid(f, unpaid)?;
-    f.write_str("\n")
 }
 
-fn write_rules<W: fmt::Write>(
-    f: &mut fmt::Formatter<W>,
-    totals: &Totals,
-    counters: &[(u64, u64)],
-) -> fmt::Result {
-    write_section(f, "rules", "Rules")?;
+fn add_rules(sheet: &mut Sheet, totals: &Totals, counters: &[(u64, u64)]) {
+    sheet.add("<section id=\"rules\"><h2>Rules</h2>\n");
     if totals.loads.is_empty() {
-        write_note(f, "No rule was loaded.")?;
+        sheet.add("<p class=\"note\">No rule was loaded.</p>\n");
     } else {
-        write_versions(f, totals)?;
+        add_versions(sheet, totals);
     }
     if counters.iter().any(|(_value, bound)| *bound > 0) {
-        f.write_str("<h3>Counters</h3>")?;
-        tables::write_counters(f, counters)?;
+        sheet.add("<h3>Counters</h3>");
+        tables::add_counters(sheet, counters);
     }
-    f.write_str(SECTION_END)
+    sheet.add(SECTION_END);
 }
 
-fn write_versions<W: fmt::Write>(f: &mut fmt::Formatter<W>, totals: &Totals) -> fmt::Result {
-    f.write_str("<ul class=\"legend\"><li><i class=\"granted\">&#160;</i>granted</li>")?;
-    f.write_str("<li><i class=\"denied\">&#160;</i>denied</li></ul>\n")?;
-    bars::write_versions(f, totals)?;
-    tables::write_versions(f, totals)?;
+/// What the colours of the columns of versions are.
+const VERSIONS_LEGEND: &str = "<ul class=\"legend\"><li><i class=\"granted\">&#160;</i>granted</li>\
+<li><i class=\"denied\">&#160;</i>denied</li></ul>
+";
+
+fn add_versions(sheet: &mut Sheet, totals: &Totals) {
+    sheet.add(VERSIONS_LEGEND);
+    bars::add_versions(sheet, totals);
+    tables::add_versions(sheet, totals);
     if totals.granted > 0 || totals.denied > 0 {
-        f.write_str("<h3>By till</h3>")?;
-        tables::write_versions_by_till(f, totals)?;
+        sheet.add("<h3>By till</h3>");
+        tables::add_versions_by_till(sheet, totals);
     }
-    Ok(())
 }
 
-fn write_points<W: fmt::Write>(
-    f: &mut fmt::Formatter<W>,
-    bands: &Bands,
-    axis: Axis,
-) -> fmt::Result {
-    write_section(f, "points", "Points")?;
-    drawn::write_legend(f)?;
-    drawn::write_bands(f, bands, axis)?;
-    let along = match axis {
-        Axis::Entries(_) => "Drawn along the entries.",
-        Axis::Time(_, _) => "Drawn along time in UTC, as tills told it.",
-    };
-    writeln!(f, "\n<p class=\"note\">{along}</p>")?;
-    f.write_str(SECTION_END)
+fn add_points(sheet: &mut Sheet, bands: &Bands, axis: Axis) {
+    sheet.add("<section id=\"points\"><h2>Points</h2>\n");
+    drawn::add_legend(sheet);
+    drawn::add_bands(sheet, bands, axis);
+    sheet.add(match axis {
+        Axis::Entries(_) => "\n<p class=\"note\">Drawn along the entries.</p>\n",
+        Axis::Time(_, _) => "\n<p class=\"note\">Drawn along time in UTC, as tills told it.</p>\n",
+    });
+    sheet.add(SECTION_END);
 }
 
-fn write_refusals<W: fmt::Write>(f: &mut fmt::Formatter<W>, counts: &[usize]) -> fmt::Result {
-    write_section(f, "refusals", "Refusals")?;
+fn add_refusals(sheet: &mut Sheet, counts: &[usize]) {
+    sheet.add("<section id=\"refusals\"><h2>Refusals</h2>\n");
     if counts.iter().any(|count| *count > 0) {
-        bars::write_refusals(f, counts)?;
-        f.write_str("\n")?;
+        bars::add_refusals(sheet, counts);
+        sheet.add("\n");
     } else {
-        write_note(f, "Nothing was refused.")?;
+        sheet.add("<p class=\"note\">Nothing was refused.</p>\n");
     }
-    f.write_str(SECTION_END)
+    sheet.add(SECTION_END);
 }
 
-fn write_prices<W: fmt::Write>(
-    f: &mut fmt::Formatter<W>,
-    opening: &[u32; 8],
-    changes: &[PriceChange],
-    axis: Axis,
-) -> fmt::Result {
-    write_section(f, "price-part", "Prices")?;
-    prices::write_legend(f, opening, changes)?;
-    f.write_str("\n")?;
+fn add_prices(sheet: &mut Sheet, opening: &[u32; 8], changes: &[PriceChange], axis: Axis) {
+    sheet.add("<section id=\"price-part\"><h2>Prices</h2>\n");
+    prices::add_legend(sheet, opening, changes);
+    sheet.add("\n");
     if changes.is_empty() {
-        write_note(f, "No price was changed.")?;
+        sheet.add("<p class=\"note\">No price was changed.</p>\n");
     } else {
-        prices::write_lines(f, opening, changes, axis)?;
-        tables::write_prices(f, changes)?;
-        f.write_str("\n")?;
+        prices::add_lines(sheet, opening, changes, axis);
+        tables::add_prices(sheet, changes);
+        sheet.add("\n");
     }
-    f.write_str(SECTION_END)
+    sheet.add(SECTION_END);
 }

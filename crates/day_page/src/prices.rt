@@ -1,9 +1,9 @@
 //! What the prices were through the day.
-use crate::drawn::{LEFT, WIDTH, write_axis};
-use crate::pictures::{END, write_head, write_label};
-use crate::texts::{Text, scaled};
+use crate::drawn::{LEFT, WIDTH, add_axis};
+use crate::pictures::{END, add_head, add_label};
+use crate::sheet::Sheet;
+use crate::texts::{Text, number, scaled};
 use day_report::{Axis, PriceChange};
-use std::fmt;
 
 /// The places along a line where it may rise or fall: eight lines have 1,800 together.
 const PLACES: usize = 225;
@@ -28,53 +28,61 @@ impl Range {
         let span = self.greatest.saturating_sub(self.least).max(1) as u128;
         (HIGH + 10).saturating_sub(scaled(above, span, HIGH))
     }
+
+    /// This range with one price more.
+    fn with(self, price: u64) -> Range {
+        Range {
+            least: self.least.min(price),
+            greatest: self.greatest.max(price),
+        }
+    }
 }
 
 fn range_of(opening: &[u32; 8], changes: &[PriceChange]) -> Range {
-    let mut least = u64::MAX;
-    let mut greatest = 0;
+    let mut range = Range {
+        least: u64::MAX,
+        greatest: 0,
+    };
     for price in opening {
         if *price > 0 {
-            least = least.min(*price as u64);
-            greatest = greatest.max(*price as u64);
+            range = range.with(*price as u64);
         }
     }
     for change in changes {
-        least = least.min(change.price);
-        greatest = greatest.max(change.price);
+        range = range.with(change.price);
     }
-    Range { least, greatest }
+    range
 }
 
-/// Writes a line for each product that has a price.
-pub(crate) fn write_lines<W: fmt::Write>(
-    f: &mut fmt::Formatter<W>,
+/// Adds a line for each product that has a price.
+pub(crate) fn add_lines(
+    sheet: &mut Sheet,
     opening: &[u32; 8],
     changes: &[PriceChange],
     axis: Axis,
-) -> fmt::Result {
-    write_head(
-        f,
+) {
+    add_head(
+        sheet,
         208,
         "Prices through the day",
         "A line for each product that has a price, which steps where a new price was granted. The \
             table below has the changes.",
-    )?;
+    );
     let range = range_of(opening, changes);
-    write_range(f, range)?;
+    add_range(sheet, range);
     for (place, price) in opening.iter().enumerate() {
         let product = (place as u32).saturating_add(1);
-        write_line(f, product, *price as u64, changes, axis, range)?;
+        add_line(sheet, product, *price as u64, changes, axis, range);
     }
-    write_axis(f, axis, 180)?;
-    f.write_str(END)
+    add_axis(sheet, axis, 180);
+    sheet.add(END);
 }
 
-/// Writes the prices beside the top and the foot of a drawing.
-fn write_range<W: fmt::Write>(f: &mut fmt::Formatter<W>, range: Range) -> fmt::Result {
-    write_label(f, 80, 16, "end", Text::Thousandths(range.greatest))?;
-    write_label(f, 80, 174, "end", Text::Thousandths(range.least))?;
-    f.write_str("\n")
+/// Adds the prices beside the top and the foot of a drawing.
+fn add_range(sheet: &mut Sheet, range: Range) {
+    add_label(sheet, 80, 16, "end", Text::Thousandths(range.greatest));
+    add_label(sheet, 80, 174, "end", Text::Thousandths(range.least));
+    sheet.add("\n");
 }
 
 /// Where a change is drawn.
@@ -89,15 +97,32 @@ fn x_of(change: &PriceChange, axis: Axis) -> usize {
     LEFT + place * APART
 }
 
-/// Writes the line of one product.
-fn write_line<W: fmt::Write>(
-    f: &mut fmt::Formatter<W>,
+/// Adds the next step of a product's line: from `x` at a depth to `next`. The first step begins the line.
+fn add_step(sheet: &mut Sheet, product: u32, is_begun: bool, x: usize, depth: usize, next: usize) {
+    if is_begun {
+        sheet.fill("V{}H{}", &[number(depth), number(next)]);
+    } else {
+        sheet.fill(
+            "<path class=\"price p{}\" d=\"M{} {}H{}",
+            &[
+                Text::Number(product as u64),
+                number(x),
+                number(depth),
+                number(next),
+            ],
+        );
+    }
+}
+
+/// Adds the line of one product.
+fn add_line(
+    sheet: &mut Sheet,
     product: u32,
     opening: u64,
     changes: &[PriceChange],
     axis: Axis,
     range: Range,
-) -> fmt::Result {
+) {
     let mut price = opening;
     let mut x = LEFT;
     let mut is_begun = false;
@@ -105,63 +130,51 @@ fn write_line<W: fmt::Write>(
         if change.product == product {
             let next = x_of(change, axis);
             if next != x && price > 0 {
-                let y = range.depth(price);
-                if is_begun {
-                    write!(f, "V{y}H{next}")?;
-                } else {
-                    write!(f, "<path class=\"price p{product}\" d=\"M{x} {y}H{next}")?;
-                }
+                add_step(sheet, product, is_begun, x, range.depth(price), next);
                 is_begun = true;
             }
             x = next;
             price = change.price;
         }
     }
-    if price == 0 {
-        return Ok(());
-    }
-    let (y, end) = (range.depth(price), LEFT + WIDTH);
-    if is_begun {
-        writeln!(f, "V{y}H{end}\"/>")
-    } else {
-        writeln!(f, "<path class=\"price p{product}\" d=\"M{x} {y}H{end}\"/>")
+    if price > 0 {
+        add_step(
+            sheet,
+            product,
+            is_begun,
+            x,
+            range.depth(price),
+            LEFT + WIDTH,
+        );
+        sheet.add("\"/>\n");
     }
 }
 
-/// Writes what the colours of the lines are: the products that have a price, with the first and the last.
-pub(crate) fn write_legend<W: fmt::Write>(
-    f: &mut fmt::Formatter<W>,
-    opening: &[u32; 8],
-    changes: &[PriceChange],
-) -> fmt::Result {
-    f.write_str("<ul class=\"legend\">\n")?;
+/// Adds what the colours of the lines are: the products that have a price, with the first and the last.
+pub(crate) fn add_legend(sheet: &mut Sheet, opening: &[u32; 8], changes: &[PriceChange]) {
+    sheet.add("<ul class=\"legend\">\n");
     for (place, price) in opening.iter().enumerate() {
         let product = (place as u32).saturating_add(1);
         let opening = *price as u64;
         let last = last_price(changes, product, opening);
         if opening > 0 || last > 0 {
-            write_product(f, product, opening, last)?;
+            add_product(sheet, product, opening, last);
         }
     }
-    f.write_str("</ul>\n")
+    sheet.add("</ul>\n");
 }
 
-/// Writes what the colour of a product's line is.
-fn write_product<W: fmt::Write>(
-    f: &mut fmt::Formatter<W>,
-    product: u32,
-    opening: u64,
-    last: u64,
-) -> fmt::Result {
-    let (first, now) = (Text::Thousandths(opening), Text::Thousandths(last));
-    write!(
-        f,
-        "<li><i class=\"p{product}\">&#160;</i>product {product}: "
-    )?;
+/// Adds what the colour of a product's line is.
+fn add_product(sheet: &mut Sheet, product: u32, opening: u64, last: u64) {
+    let product = Text::Number(product as u64);
+    sheet.fill(
+        "<li><i class=\"p{}\">&#160;</i>product {}: ",
+        &[product, product],
+    );
     if opening != last {
-        write!(f, "{first}, at the end ")?;
+        sheet.fill("{}, at the end ", &[Text::Thousandths(opening)]);
     }
-    writeln!(f, "{now}</li>")
+    sheet.fill("{}</li>\n", &[Text::Thousandths(last)]);
 }
 
 /// The price of a product after the changes.

@@ -1,291 +1,270 @@
 //! The tables of a page.
 use crate::names::state_name;
-use crate::texts::Text;
-use day_report::{Outcomes, PriceChange, Sum, Totals, Unpaid};
-use std::fmt;
+use crate::sheet::Sheet;
+use crate::texts::{Text, number, numbered};
+use day_report::{Load, Outcomes, PriceChange, Sum, Totals, Unpaid};
+use fuelling_point::Point;
 
 /// The most rows of a table.
 const ROWS: usize = 1000;
 
-/// Writes the head of a table: its name, and its columns.
-fn write_head<W: fmt::Write>(
-    f: &mut fmt::Formatter<W>,
-    id: &str,
-    columns: &[&'static str],
-) -> fmt::Result {
-    write!(f, "<div class=\"wide rows\"><table id=\"{id}\"><thead><tr>")?;
-    for column in columns {
-        let words = Text::Words(*column);
-        write!(f, "<th scope=\"col\">{words}</th>")?;
-    }
-    f.write_str("</tr></thead><tbody>\n")
+/// The head of a table: its name, and the names of its columns.
+macro_rules! head {
+    ($id:literal; $($column:literal),+) => {
+        concat!(
+            "<div class=\"wide rows\"><table id=\"", $id, "\"><thead><tr>",
+            $("<th scope=\"col\">", $column, "</th>",)+
+            "</tr></thead><tbody>\n"
+        )
+    };
 }
 
-/// Writes a row, by its name and its other cells.
-fn write_row<W: fmt::Write>(f: &mut fmt::Formatter<W>, name: Text, cells: &[Text]) -> fmt::Result {
-    write!(f, "<tr><th scope=\"row\">{name}</th>")?;
+/// Adds a row, by its name and its other cells.
+fn add_row(sheet: &mut Sheet, name: Text, cells: &[Text]) {
+    sheet.fill("<tr><th scope=\"row\">{}</th>", &[name]);
     for cell in cells {
-        write!(f, "<td>{cell}</td>")?;
+        sheet.fill("<td>{}</td>", &[*cell]);
     }
-    f.write_str("</tr>\n")
+    sheet.add("</tr>\n");
 }
 
 const FOOT: &str = "</tbody></table></div>\n";
 
-/// A sum's number of sales, its money and its litres.
-fn cells_of(sum: &Sum) -> [Text; 3] {
-    [
+/// Adds a row of what was sold: the number of sales, their money and their litres.
+fn add_sum(sheet: &mut Sheet, name: Text, sum: &Sum) {
+    let cells = [
         Text::Thousands(sum.count as u128),
         Text::Hundredths(sum.cents),
         Text::Hundredths(sum.centilitres),
-    ]
+    ];
+    add_row(sheet, name, &cells);
 }
 
-/// Writes a row of what was sold, of how many transactions are unpaid, and of a state at the end.
-fn write_point<W: fmt::Write>(
-    f: &mut fmt::Formatter<W>,
-    name: Text,
-    sum: &Sum,
-    unpaid: u64,
-    state: &'static str,
-) -> fmt::Result {
-    let [sales, money, litres] = cells_of(sum);
-    let (unpaid, state) = (Text::Number(unpaid), Text::Words(state));
-    write_row(f, name, &[sales, money, litres, unpaid, state])
+/// Adds a row of what was sold, of how many transactions are unpaid, and of a state at the end.
+fn add_point(sheet: &mut Sheet, name: Text, sum: &Sum, unpaid: usize, state: &'static str) {
+    let cells = [
+        Text::Thousands(sum.count as u128),
+        Text::Hundredths(sum.cents),
+        Text::Hundredths(sum.centilitres),
+        number(unpaid),
+        Text::Words(state),
+    ];
+    add_row(sheet, name, &cells);
 }
 
-const POINTS: [&str; 6] = [
-    "Point",
-    "Sales",
-    "Money",
-    "Litres",
-    "Unpaid at the end",
-    "State at the end",
-];
-
-/// Writes what was sold at each point, and its state at the end.
-pub(crate) fn write_points<W: fmt::Write>(
-    f: &mut fmt::Formatter<W>,
-    totals: &Totals,
-) -> fmt::Result {
-    write_head(f, "by-point", &POINTS)?;
-    for (place, point) in totals.points.iter().enumerate() {
-        if let Some(sum) = totals.by_point.get(place) {
-            let name = Text::Number((place as u64).saturating_add(1));
-            write_point(
-                f,
-                name,
-                sum,
-                point.unpaid() as u64,
-                state_name(point.state()),
-            )?;
-        }
+/// Adds the row of the point at a place.
+fn add_place(sheet: &mut Sheet, totals: &Totals, place: usize, point: &Point) {
+    if let Some(sum) = totals.by_point.get(place) {
+        let state = state_name(point.state());
+        add_point(
+            sheet,
+            numbered(place, 1),
+            sum,
+            point.unpaid() as usize,
+            state,
+        );
     }
-    write_point(
-        f,
+}
+
+const BY_POINT: &str =
+    head!("by-point"; "Point", "Sales", "Money", "Litres", "Unpaid at the end", "State at the end");
+
+/// Adds what was sold at each point, and its state at the end.
+pub(crate) fn add_points(sheet: &mut Sheet, totals: &Totals) {
+    sheet.add(BY_POINT);
+    for (place, point) in totals.points.iter().enumerate() {
+        add_place(sheet, totals, place, point);
+    }
+    add_point(
+        sheet,
         Text::Words("All"),
         &totals.sold,
-        totals.unpaid.len() as u64,
+        totals.unpaid.len(),
         "",
-    )?;
-    f.write_str(FOOT)
+    );
+    sheet.add(FOOT);
 }
 
-/// Writes what was sold in parts that have sales, as tills and hours, by the number of the first part.
-pub(crate) fn write_parts<W: fmt::Write>(
-    f: &mut fmt::Formatter<W>,
-    id: &str,
-    part: &'static str,
-    sums: &[Sum],
-    first: u64,
-) -> fmt::Result {
-    write_head(f, id, &[part, "Sales", "Money", "Litres"])?;
+/// The head of what tills cleared.
+pub(crate) const BY_TILL: &str = head!("by-till"; "Till", "Sales", "Money", "Litres");
+
+/// The head of what was sold in hours.
+pub(crate) const BY_HOUR: &str = head!("by-hour"; "Hour", "Sales", "Money", "Litres");
+
+/// Adds what was sold in parts that have sales, as tills and hours, by the number of the first part.
+pub(crate) fn add_parts(sheet: &mut Sheet, head: &str, sums: &[Sum], first: u64) {
+    sheet.add(head);
     for (place, sum) in sums.iter().enumerate() {
         if sum.count > 0 {
-            let name = Text::Number(first.saturating_add(place as u64));
-            write_row(f, name, &cells_of(sum))?;
+            add_sum(sheet, numbered(place, first), sum);
         }
     }
-    f.write_str(FOOT)
+    sheet.add(FOOT);
 }
 
-/// Writes the transactions that are unpaid at the end.
-pub(crate) fn write_unpaid<W: fmt::Write>(
-    f: &mut fmt::Formatter<W>,
-    unpaid: &[Unpaid],
-) -> fmt::Result {
-    write_head(
-        f,
-        "unpaid",
-        &["Point", "Transaction", "Money", "Litres", "Held by till"],
-    )?;
-    for row in unpaid {
-        let number = Text::Number(row.number as u64);
-        let money = Text::Hundredths(row.amount as u128);
-        let litres = Text::Hundredths(row.volume as u128);
-        let holder = match row.holder {
-            0 => Text::Words("nobody"),
-            till => Text::Number(till as u64),
-        };
-        write_row(
-            f,
-            Text::Number(row.point as u64),
-            &[number, money, litres, holder],
-        )?;
+/// Adds the row of an unpaid transaction.
+fn add_transaction(sheet: &mut Sheet, unpaid: &Unpaid) {
+    let holder = match unpaid.holder {
+        0 => Text::Words("nobody"),
+        till => Text::Number(till as u64),
+    };
+    let cells = [
+        Text::Number(unpaid.number as u64),
+        Text::Hundredths(unpaid.amount as u128),
+        Text::Hundredths(unpaid.volume as u128),
+        holder,
+    ];
+    add_row(sheet, number(unpaid.point), &cells);
+}
+
+const UNPAID: &str = head!("unpaid"; "Point", "Transaction", "Money", "Litres", "Held by till");
+
+/// Adds the transactions that are unpaid at the end.
+pub(crate) fn add_unpaid(sheet: &mut Sheet, unpaid: &[Unpaid]) {
+    sheet.add(UNPAID);
+    for transaction in unpaid {
+        add_transaction(sheet, transaction);
     }
-    f.write_str(FOOT)
+    sheet.add(FOOT);
+}
+
+/// How often a version did what is counted by version.
+fn count_at(counts: &[u64], version: u32) -> u64 {
+    counts.get(version as usize).copied().unwrap_or(0)
 }
 
 /// What a version granted and denied.
 pub(crate) fn outcome_of(outcomes: &Outcomes, version: u32) -> (u64, u64) {
-    let version = version as usize;
-    let granted = outcomes.granted.get(version).copied().unwrap_or(0);
-    let denied = outcomes.denied.get(version).copied().unwrap_or(0);
-    (granted, denied)
+    (
+        count_at(&outcomes.granted, version),
+        count_at(&outcomes.denied, version),
+    )
 }
 
-/// Writes the versions, with what they decided.
-pub(crate) fn write_versions<W: fmt::Write>(
-    f: &mut fmt::Formatter<W>,
-    totals: &Totals,
-) -> fmt::Result {
-    write_head(
-        f,
-        "versions",
-        &[
-            "Version",
-            "Slot",
-            "Entry",
-            "Loaded after",
-            "Releases granted",
-            "denied",
-            "Presets granted",
-            "denied",
-            "Prices granted",
-            "denied",
-        ],
-    )?;
+/// Adds the row of a version, with what it decided.
+fn add_version(sheet: &mut Sheet, totals: &Totals, load: &Load) {
+    let releases = outcome_of(&totals.releases, load.version);
+    let presets = outcome_of(&totals.presets, load.version);
+    let prices = outcome_of(&totals.price_requests, load.version);
+    let cells = [
+        Text::Number(load.slot as u64),
+        Text::Number(load.number as u64),
+        Text::Moment(load.moment),
+        Text::Number(releases.0),
+        Text::Number(releases.1),
+        Text::Number(presets.0),
+        Text::Number(presets.1),
+        Text::Number(prices.0),
+        Text::Number(prices.1),
+    ];
+    add_row(sheet, Text::Number(load.version as u64), &cells);
+}
+
+const VERSIONS: &str = head!(
+    "versions";
+    "Version", "Slot", "Entry", "Loaded after", "Releases granted", "denied", "Presets granted", "denied",
+    "Prices granted", "denied"
+);
+
+/// Adds the versions, with what they decided.
+pub(crate) fn add_versions(sheet: &mut Sheet, totals: &Totals) {
+    sheet.add(VERSIONS);
     for load in &totals.loads {
-        let releases = outcome_of(&totals.releases, load.version);
-        let presets = outcome_of(&totals.presets, load.version);
-        let prices = outcome_of(&totals.price_requests, load.version);
-        let cells = [
-            Text::Number(load.slot as u64),
-            Text::Number(load.number as u64),
-            Text::Moment(load.moment),
-            Text::Number(releases.0),
-            Text::Number(releases.1),
-            Text::Number(presets.0),
-            Text::Number(presets.1),
-            Text::Number(prices.0),
-            Text::Number(prices.1),
-        ];
-        write_row(f, Text::Number(load.version as u64), &cells)?;
+        add_version(sheet, totals, load);
     }
-    f.write_str(FOOT)
+    sheet.add(FOOT);
 }
 
-/// Writes what a version granted and denied to each till that asked it, behind `rows` rows. Returns how many rows there
+/// Adds what a version granted and denied to each till that asked it, behind `rows` rows. Returns how many rows there
 /// are then, of which those past the most are left out.
-fn write_tills<W: fmt::Write>(
-    f: &mut fmt::Formatter<W>,
-    tills: &[Outcomes],
-    version: u32,
-    rows: usize,
-) -> Result<usize, fmt::Error> {
+fn add_tills(sheet: &mut Sheet, tills: &[Outcomes], version: u32, rows: usize) -> usize {
     let mut rows = rows;
     for (place, outcomes) in tills.iter().enumerate() {
         let (granted, denied) = outcome_of(outcomes, version);
         if granted > 0 || denied > 0 {
             if rows < ROWS {
-                let till = Text::Number((place as u64).saturating_add(1));
-                let cells = [till, Text::Number(granted), Text::Number(denied)];
-                write_row(f, Text::Number(version as u64), &cells)?;
+                let cells = [
+                    numbered(place, 1),
+                    Text::Number(granted),
+                    Text::Number(denied),
+                ];
+                add_row(sheet, Text::Number(version as u64), &cells);
             }
             rows = rows.saturating_add(1);
         }
     }
-    Ok(rows)
+    rows
 }
 
-/// Writes what each version granted and denied to each till that asked it.
-pub(crate) fn write_versions_by_till<W: fmt::Write>(
-    f: &mut fmt::Formatter<W>,
-    totals: &Totals,
-) -> fmt::Result {
-    write_head(
-        f,
-        "versions-by-till",
-        &["Version", "Till", "Granted", "Denied"],
-    )?;
+const BY_VERSION_AND_TILL: &str = head!("versions-by-till"; "Version", "Till", "Granted", "Denied");
+
+/// Adds what each version granted and denied to each till that asked it.
+pub(crate) fn add_versions_by_till(sheet: &mut Sheet, totals: &Totals) {
+    sheet.add(BY_VERSION_AND_TILL);
     let mut rows = 0;
     for load in &totals.loads {
-        rows = write_tills(f, &totals.tills, load.version, rows)?;
+        rows = add_tills(sheet, &totals.tills, load.version, rows);
     }
-    f.write_str(FOOT)?;
-    if rows > ROWS {
-        let left = Text::Thousands(rows.saturating_sub(ROWS) as u128);
-        writeln!(
-            f,
-            "<p class=\"note\">The first {ROWS} rows; {left} more are left out.</p>"
-        )?;
-    }
-    Ok(())
+    sheet.add(FOOT);
+    let remark = "<p class=\"note\">The first {} rows; {} more are left out.</p>\n";
+    add_remark(sheet, remark, rows.saturating_sub(ROWS));
 }
 
-/// Writes the counters that can count, with their values at the end and their bounds.
-pub(crate) fn write_counters<W: fmt::Write>(
-    f: &mut fmt::Formatter<W>,
-    counters: &[(u64, u64)],
-) -> fmt::Result {
-    write_head(f, "counters", &["Counter", "Value at the end", "Bound"])?;
-    for (place, (value, bound)) in counters.iter().enumerate() {
-        if *bound > 0 {
-            let cells = [
-                Text::Thousands(*value as u128),
-                Text::Thousands(*bound as u128),
-            ];
-            write_row(f, Text::Number(place as u64), &cells)?;
-        }
+/// Adds a remark on how many rows are left out, if any are.
+fn add_remark(sheet: &mut Sheet, remark: &str, left: usize) {
+    if left > 0 {
+        sheet.fill(remark, &[number(ROWS), Text::Thousands(left as u128)]);
     }
-    f.write_str(FOOT)
 }
 
-/// Writes the prices that were changed: the last of them, where there are many.
-pub(crate) fn write_prices<W: fmt::Write>(
-    f: &mut fmt::Formatter<W>,
-    changes: &[PriceChange],
-) -> fmt::Result {
-    write_head(
-        f,
-        "price-changes",
-        &[
-            "Entry",
-            "Moment",
-            "Product",
-            "New price",
-            "Asked by till",
-            "Granted by version",
-        ],
-    )?;
+/// Adds the row of a counter, if it can count.
+fn add_counter(sheet: &mut Sheet, place: usize, counter: &(u64, u64)) {
+    let (value, bound) = *counter;
+    if bound > 0 {
+        let cells = [
+            Text::Thousands(value as u128),
+            Text::Thousands(bound as u128),
+        ];
+        add_row(sheet, number(place), &cells);
+    }
+}
+
+const COUNTERS: &str = head!("counters"; "Counter", "Value at the end", "Bound");
+
+/// Adds the counters that can count, with their values at the end and their bounds.
+pub(crate) fn add_counters(sheet: &mut Sheet, counters: &[(u64, u64)]) {
+    sheet.add(COUNTERS);
+    for (place, counter) in counters.iter().enumerate() {
+        add_counter(sheet, place, counter);
+    }
+    sheet.add(FOOT);
+}
+
+/// Adds the row of a price that was changed.
+fn add_change(sheet: &mut Sheet, change: &PriceChange) {
+    let cells = [
+        Text::Moment(change.moment),
+        Text::Number(change.product as u64),
+        Text::Thousandths(change.price),
+        Text::Number(change.till as u64),
+        Text::Number(change.version as u64),
+    ];
+    add_row(sheet, Text::Number(change.number as u64), &cells);
+}
+
+const PRICES: &str = head!(
+    "price-changes";
+    "Entry", "Moment", "Product", "New price", "Asked by till", "Granted by version"
+);
+
+/// Adds the prices that were changed: the last of them, where there are many.
+pub(crate) fn add_prices(sheet: &mut Sheet, changes: &[PriceChange]) {
+    sheet.add(PRICES);
     let left = changes.len().saturating_sub(ROWS);
     for change in changes.iter().skip(left) {
-        let cells = [
-            Text::Moment(change.moment),
-            Text::Number(change.product as u64),
-            Text::Thousandths(change.price),
-            Text::Number(change.till as u64),
-            Text::Number(change.version as u64),
-        ];
-        write_row(f, Text::Number(change.number as u64), &cells)?;
+        add_change(sheet, change);
     }
-    f.write_str(FOOT)?;
-    if left > 0 {
-        let left = Text::Thousands(left as u128);
-        writeln!(
-            f,
-            "<p class=\"note\">The last {ROWS} changes; {left} earlier ones are left out.</p>"
-        )?;
-    }
-    Ok(())
+    sheet.add(FOOT);
+    let remark = "<p class=\"note\">The last {} changes; {} earlier ones are left out.</p>\n";
+    add_remark(sheet, remark, left);
 }

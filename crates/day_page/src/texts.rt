@@ -2,10 +2,6 @@
 
 ghost use Rattle.std.specs.Prelude.{◌≤◌};
 
-use crate::names::refusal_name;
-use html_text::Escaped;
-use std::fmt;
-
 /// A text of a page.
 #[derive(Clone, Copy, Drop)]
 pub(crate) enum Text {
@@ -30,62 +26,14 @@ pub(crate) enum Text {
     Words(&'static str),
 }
 
-impl fmt::Display for Text {
-    fn fmt<W: fmt::Write>(&self, f: &mut fmt::Formatter<W>) -> fmt::Result {
-        match *self {
-            Text::Number(number) => write!(f, "{number}"),
-            Text::Thousands(number) => write_thousands(f, number),
-            Text::Hundredths(number) => write_hundredths(f, number),
-            Text::Thousandths(number) => write_thousandths(f, number),
-            Text::Moment(moment) => write_moment(f, moment),
-            Text::Clock(moment) => write_clock(f, moment),
-            Text::Point(number) => write!(f, "Point {number}"),
-            Text::Entry(number) => write!(f, "entry {number}"),
-            Text::Refusal(number) => write_refusal(f, number),
-            Text::Words(words) => write_words(f, words),
-        }
-    }
+/// A place or a length as a text.
+pub(crate) fn number(length: usize) -> Text {
+    Text::Number(length as u64)
 }
 
-/// The groups of three digits that a number of 128 bits can have.
-const GROUPS: u32 = 13;
-
-fn write_thousands<W: fmt::Write>(f: &mut fmt::Formatter<W>, number: u128) -> fmt::Result {
-    let mut power = 1_000_000_000_000_000_000_000_000_000_000_000_000u128;
-    let mut is_begun = false;
-    for place in 0..GROUPS {
-        let group = number.checked_div(power).unwrap_or(0) % 1000;
-        if is_begun {
-            write!(f, ",{group:03}")?;
-        } else if group > 0 || place == GROUPS - 1 {
-            write!(f, "{group}")?;
-            is_begun = true;
-        }
-        power /= 1000;
-    }
-    Ok(())
-}
-
-fn write_hundredths<W: fmt::Write>(f: &mut fmt::Formatter<W>, number: u128) -> fmt::Result {
-    let part = number % 100;
-    write_thousands(f, number / 100)?;
-    write!(f, ".{part:02}")
-}
-
-fn write_thousandths<W: fmt::Write>(f: &mut fmt::Formatter<W>, number: u64) -> fmt::Result {
-    let part = number % 1000;
-    write_thousands(f, (number / 1000) as u128)?;
-    write!(f, ".{part:03}")
-}
-
-fn write_words<W: fmt::Write>(f: &mut fmt::Formatter<W>, words: &str) -> fmt::Result {
-    let words = Escaped(words);
-    write!(f, "{words}")
-}
-
-fn write_refusal<W: fmt::Write>(f: &mut fmt::Formatter<W>, number: u32) -> fmt::Result {
-    let words = Escaped(refusal_name(number));
-    write!(f, "S{number} {words}")
+/// The number of a place that is counted from 0, where the first has this number.
+pub(crate) fn numbered(place: usize, first: u64) -> Text {
+    Text::Number((place as u64).saturating_add(first))
 }
 
 /// A date of the calendar that is in use, in UTC.
@@ -117,22 +65,6 @@ pub(crate) fn date_of(moment: u64) -> Date {
         month,
         day,
     }
-}
-
-fn write_moment<W: fmt::Write>(f: &mut fmt::Formatter<W>, moment: u64) -> fmt::Result {
-    if moment == 0 {
-        return write!(f, "not told");
-    }
-    let Date { year, month, day } = date_of(moment);
-    write!(f, "{year}-{month:02}-{day:02} ")?;
-    write_clock(f, moment)?;
-    let second = moment % 60;
-    write!(f, ":{second:02}")
-}
-
-fn write_clock<W: fmt::Write>(f: &mut fmt::Formatter<W>, moment: u64) -> fmt::Result {
-    let (hour, minute) = (moment / 3600 % 24, moment / 60 % 60);
-    write!(f, "{hour:02}:{minute:02}")
 }
 
 /// How far `value` is of `most`, on a length.

@@ -7,15 +7,22 @@ use bpf_asm::{ProgramFileFault, read_program};
 use bpf_decode::{DecodeFault, decode};
 use reg_types::{Layout, Refusal};
 use std::alloc::{AllocError, Global};
-use thiserror::Error;
+use std::fmt;
 
 /// Why a program file is refused.
-#[derive(Debug, Drop, Error)]
+#[derive(Drop)]
 pub enum ProgramFlaw {
-    #[error("{0}")]
     File(ProgramFileFault),
-    #[error("{0}")]
     Program(RefusedProgram),
+}
+
+impl fmt::Display for ProgramFlaw {
+    fn fmt<W: fmt::Write>(&self, f: &mut fmt::Formatter<W>) -> fmt::Result {
+        match self {
+            ProgramFlaw::File(fault) => write!(f, "{fault}"),
+            ProgramFlaw::Program(refused) => write!(f, "{refused}"),
+        }
+    }
 }
 
 /// A file's own fault; out of memory is none.

@@ -13,27 +13,36 @@ use decision_journal::{Entry, JournalFault, read_entries};
 use reg_types::Refusal;
 use site_core::{AuditFault, CallFault, Config, Event, Site, audit, event_of};
 use std::alloc::{AllocError, Global};
-use thiserror::Error;
+use std::fmt;
 use till_request::{Act, LineIn};
 
 /// Why a journal is refused.
-#[derive(Debug, Drop, Error)]
+#[derive(Drop)]
 pub enum JournalFlaw {
     /// J1 and J2.
-    #[error("{0}")]
     Text(JournalFault),
     /// F1: the entry's number, and its place.
-    #[error("the entry's number is {0}, its place {1}")]
     Number(u32, u32),
     /// F2: the slot of the load.
-    #[error("slot {0}: {1}")]
     Program(u32, RefusedProgram),
     /// F3.
-    #[error("{0}")]
     Entry(Difference),
     /// F3.
-    #[error("the site enters no such entry")]
     NoEntry,
+}
+
+impl fmt::Display for JournalFlaw {
+    fn fmt<W: fmt::Write>(&self, f: &mut fmt::Formatter<W>) -> fmt::Result {
+        match self {
+            JournalFlaw::Text(fault) => write!(f, "{fault}"),
+            JournalFlaw::Number(number, place) => {
+                write!(f, "the entry's number is {number}, its place {place}")
+            }
+            JournalFlaw::Program(slot, refused) => write!(f, "slot {slot}: {refused}"),
+            JournalFlaw::Entry(difference) => write!(f, "{difference}"),
+            JournalFlaw::NoEntry => f.write_str("the site enters no such entry"),
+        }
+    }
 }
 
 /// The site of a configuration after these entries and the event of a further one; none where it takes no entry more.

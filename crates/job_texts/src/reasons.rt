@@ -18,7 +18,7 @@ use std::fmt;
 
 /// Why a program is refused: the refusal, the line of the instruction that it is about, and of an argument of a
 /// helper what it has to be.
-#[derive(Debug, Drop)]
+#[derive(Drop)]
 pub struct RefusedProgram {
     pub refusal: Refusal,
     /// The line as `dis` has it, or of a unit that is no instruction its 16 digits; with its LF.

@@ -1,8 +1,10 @@
 //! Reads bytes as a TOML document.
-ghost use Rattle.std.specs.Prelude.{◌≡◌, ◌<◌, IfErr};
+ghost use Rattle.std.specs.Prelude.{◌≡◌, ◌<◌, ◌≤◌, Err, IfErr, Result, length};
+ghost use Rattle.toml.specs.Data.{Members};
 ghost use Rattle.toml.specs.View.{table_view};
-ghost use Rattle.site_config.specs.Document.{document_of};
-ghost use Rattle.site_config.specs.Flaws.{Finds, StandsAt};
+ghost use Rattle.site_config.specs.Document.{Fails, document_of};
+ghost use Rattle.site_config.specs.Flaws.{Finds, StandsAt, fault_of};
+ghost use Rattle.site_config.specs.declared.fault.ConfigFault.{ConfigFault};
 ghost use Rattle.site_config.specs.Positions.{past, position_behind, position_at};
 
 use crate::flaw::ConfigFlaw;
@@ -40,6 +42,23 @@ fn position_at(bytes: &[u8], at: usize) -> (usize, usize)
     position_behind(bytes.get(..at).unwrap_or(bytes))
 }
 
+/// Returns the flaw of bytes that aren't TOML at this place, with the message of the reader.
+fn not_toml(alloc: Global, bytes: &[u8], at: usize, message: &str) -> ConfigFlaw
+    requires { at ≤ length bytes.now }
+    ensures fault { (read : Result Members ConfigFault) → read ≡ Err ConfigFault.K1 → Fails (fault_of result) read }
+    ensures position { StandsAt bytes.now result }
+{
+    let (line, column) = position_at(bytes, at);
+    match String::from_str(alloc, message) {
+        Ok(message) => ConfigFlaw::NotToml {
+            line,
+            column,
+            message,
+        },
+        Err(_) => ConfigFlaw::OutOfMemory,
+    }
+}
+
 /// Reads the bytes as a document. The error is `NotUtf8` or `NotToml` with its position (K1), or that memory ran out.
 #[tactic(auto, unfolding(crate::specs::Document::document_of))]
 pub fn read_document(alloc: Global, bytes: &[u8]) -> Result<Table, ConfigFlaw>
@@ -53,16 +72,10 @@ pub fn read_document(alloc: Global, bytes: &[u8]) -> Result<Table, ConfigFlaw>
         }
         Ok(text) => match toml::table_from_str(alloc, text) {
             Ok(table) => Ok(table),
-            Err(error) if error.is_memory() => Err(ConfigFlaw::OutOfMemory),
-            Err(error) => {
-                let (line, column) = position_at(bytes, error.span().map_or(0, |span| span.start));
-                let message = String::from_str(alloc, error.message())?;
-                Err(ConfigFlaw::NotToml {
-                    line,
-                    column,
-                    message,
-                })
-            }
+            Err(error) => match error.span() {
+                Some(span) => Err(not_toml(alloc, bytes, span.start, error.message())),
+                None => Err(ConfigFlaw::OutOfMemory),
+            },
         },
     }
 }

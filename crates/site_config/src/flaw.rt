@@ -2,10 +2,9 @@
 use crate::fault::ConfigFault;
 use std::alloc::{AllocError, AllocFailed};
 use std::fmt;
-use thiserror::Error;
 
 /// A key of a configuration.
-#[derive(Clone, Copy, Debug)]
+#[derive(Clone, Copy)]
 pub enum Key {
     Tills,
     PriceSlot,
@@ -60,9 +59,19 @@ impl fmt::Display for Key {
     }
 }
 
+/// Writes an item of a list, by its number, and what follows it.
+fn write_item<W: fmt::Write>(
+    f: &mut fmt::Formatter<W>,
+    list: &str,
+    number: usize,
+    end: &str,
+) -> fmt::Result {
+    write!(f, "{list}[{number}]{end}")
+}
+
 /// A table of a configuration: the whole document, one of its points or counters, by its place counted from 0, or
 /// `[serve]`.
-#[derive(Clone, Copy, Debug)]
+#[derive(Clone, Copy)]
 pub enum Section {
     Top,
     Point(usize),
@@ -73,17 +82,17 @@ pub enum Section {
 impl fmt::Display for Section {
     /// Writes what comes before a key. Points are counted from 1 and counters from 0, as the site counts them.
     fn fmt<W: fmt::Write>(&self, f: &mut fmt::Formatter<W>) -> fmt::Result {
-        match self {
+        match *self {
             Section::Top => Ok(()),
-            Section::Point(place) => write!(f, "point[{}].", place.saturating_add(1)),
-            Section::Counter(place) => write!(f, "counter[{place}]."),
-            Section::Serve => write!(f, "serve."),
+            Section::Point(place) => write_item(f, "point", place.saturating_add(1), "."),
+            Section::Counter(place) => write_item(f, "counter", place, "."),
+            Section::Serve => f.write_str("serve."),
         }
     }
 }
 
 /// A value of a configuration: the value of a key, or an item of a list, by its place counted from 0.
-#[derive(Clone, Copy, Debug)]
+#[derive(Clone, Copy)]
 pub enum Place {
     At(Section, Key),
     Price(usize),
@@ -94,80 +103,106 @@ pub enum Place {
 impl fmt::Display for Place {
     /// Writes the place. Prices and points are counted from 1 and counters from 0, as the site counts them.
     fn fmt<W: fmt::Write>(&self, f: &mut fmt::Formatter<W>) -> fmt::Result {
-        match self {
+        match *self {
             Place::At(section, key) => write!(f, "{section}{key}"),
-            Place::Price(place) => write!(f, "prices[{}]", place.saturating_add(1)),
-            Place::Point(place) => write!(f, "point[{}]", place.saturating_add(1)),
-            Place::Counter(place) => write!(f, "counter[{place}]"),
+            Place::Price(place) => write_item(f, "prices", place.saturating_add(1), ""),
+            Place::Point(place) => write_item(f, "point", place.saturating_add(1), ""),
+            Place::Counter(place) => write_item(f, "counter", place, ""),
         }
     }
 }
 
 /// The type that a value must have.
-#[derive(Clone, Copy, Debug, Error)]
+#[derive(Clone, Copy)]
 pub enum Type {
-    #[error("a whole number")]
     Integer,
-    #[error("an array")]
     Array,
-    #[error("a table")]
     Table,
 }
 
-/// A list, how many items it has, and the least and the most that it may have.
-#[derive(Clone, Copy)]
-struct Counted(Place, usize, usize, usize);
-
-impl fmt::Display for Counted {
+impl fmt::Display for Type {
     fn fmt<W: fmt::Write>(&self, f: &mut fmt::Formatter<W>) -> fmt::Result {
-        let Counted(place, count, low, high) = *self;
-        write!(f, "'{place}' has {count} items, and not {low}")?;
-        if low < high {
-            write!(f, " to {high}")?;
-        }
+        f.write_str(match self {
+            Type::Integer => "a whole number",
+            Type::Array => "an array",
+            Type::Table => "a table",
+        })
+    }
+}
+
+/// Writes how many items a list has, and the least and the most that it may have.
+fn write_count<W: fmt::Write>(
+    f: &mut fmt::Formatter<W>,
+    list: Place,
+    count: usize,
+    low: usize,
+    high: usize,
+) -> fmt::Result {
+    write!(f, "'{list}' has {count} items, and not {low}")?;
+    if low < high {
+        write!(f, " to {high}")
+    } else {
         Ok(())
     }
 }
 
 /// What is wrong in the text of a configuration: the first flaw in the order in which the text is checked.
-#[derive(Debug, Drop, Error)]
+#[derive(Drop)]
 pub enum ConfigFlaw {
     /// K1, at this line and column, both counted from 1.
-    #[error("the text isn't UTF-8")]
     NotUtf8 {
         line: usize,
         column: usize,
     },
     /// K1, at this line and column, both counted from 1, with the message of the TOML reader.
-    #[error("{message}")]
     NotToml {
         line: usize,
         column: usize,
         message: String,
     },
     /// K2: a table has a key that isn't one of its keys.
-    #[error("unknown key '{0}{1}'")]
     UnknownKey(Section, String),
     /// K2: a key or a value that has to be there is missing.
-    #[error("'{0}' is missing")]
     Missing(Place),
     /// K2: a value isn't of the type that it must have.
-    #[error("'{0}' is not {1}")]
     WrongType(Place, Type),
     /// K3: a value, and the least and the most that it may be.
-    #[error("{0} = {1} is not {2} to {3}")]
     OutOfRange(Place, i64, u64, u64),
     /// K3: how many items a list has, and the least and the most that it may have.
-    #[error("{}", Counted(*.0, *.1, *.2, *.3))]
     WrongCount(Place, usize, usize, usize),
     /// K3: a counter, by its place counted from 0, with its value and its bound.
-    #[error("counter[{0}].value = {1} is over its bound, {2}")]
     OverBound(usize, u64, u64),
     /// K3: two keys of `[serve]` that name the same port.
-    #[error("serve.{0} and serve.{1} are both {2}")]
     SamePort(Key, Key, u32),
-    #[error("out of memory")]
     OutOfMemory,
+}
+
+impl fmt::Display for ConfigFlaw {
+    fn fmt<W: fmt::Write>(&self, f: &mut fmt::Formatter<W>) -> fmt::Result {
+        match self {
+            ConfigFlaw::NotUtf8 { .. } => f.write_str("the text isn't UTF-8"),
+            ConfigFlaw::NotToml { message, .. } => f.write_str(message),
+            ConfigFlaw::UnknownKey(section, name) => write!(f, "unknown key '{section}{name}'"),
+            ConfigFlaw::Missing(place) => write!(f, "'{place}' is missing"),
+            ConfigFlaw::WrongType(place, kind) => write!(f, "'{place}' is not {kind}"),
+            ConfigFlaw::OutOfRange(place, value, low, high) => {
+                write!(f, "{place} = {value} is not {low} to {high}")
+            }
+            ConfigFlaw::WrongCount(list, count, low, high) => {
+                write_count(f, *list, *count, *low, *high)
+            }
+            ConfigFlaw::OverBound(counter, value, bound) => {
+                write!(
+                    f,
+                    "counter[{counter}].value = {value} is over its bound, {bound}"
+                )
+            }
+            ConfigFlaw::SamePort(first, second, port) => {
+                write!(f, "serve.{first} and serve.{second} are both {port}")
+            }
+            ConfigFlaw::OutOfMemory => f.write_str("out of memory"),
+        }
+    }
 }
 
 impl ConfigFlaw {

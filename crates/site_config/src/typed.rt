@@ -11,7 +11,7 @@ ghost use Rattle.site_config.specs.declared.fault.ConfigFault.TheVariants.{K2};
 ghost use Rattle.site_config.specs.Typed.{is_top_key, is_point_key, is_counter_key, is_serve_key, has_only, integer_at};
 ghost use Rattle.site_config.specs.Typed.{integers, pair_in, point_in, counter_in, each_in, integers_at, points_at};
 ghost use Rattle.site_config.specs.Typed.{counters_from, counters_at, served_in, served_from, served_at, typed_of};
-ghost use Rattle.site_config.specs.Typed.{seen};
+ghost use Rattle.site_config.specs.Typed.{seen, require};
 
 use crate::flaw::{ConfigFlaw, Key, Place, Section, Type};
 use crate::raw::{Raw, Served};
@@ -95,18 +95,6 @@ fn is_top(key: &str) -> bool
         || key == "serve"
 }
 
-fn all_top(table: &Table) -> bool
-    ensures { result ≡ list_all (λ k. is_top_key (string_bytes k)) (keys table.now) }
-{
-    table.keys().all(|key| is_top(key.as_str()))
-}
-
-fn has_top_keys(table: &Table) -> bool
-    ensures { result ≡ has_only is_top_key (table_view table.now) }
-{
-    all_top(table)
-}
-
 #[tactic(auto, unfolding(crate::specs::Typed::is_point_key))]
 fn is_point(key: &str) -> bool
     ensures { result ≡ is_point_key key.now }
@@ -114,35 +102,11 @@ fn is_point(key: &str) -> bool
     key == "release" || key == "preset"
 }
 
-fn all_point(table: &Table) -> bool
-    ensures { result ≡ list_all (λ k. is_point_key (string_bytes k)) (keys table.now) }
-{
-    table.keys().all(|key| is_point(key.as_str()))
-}
-
-fn has_point_keys(table: &Table) -> bool
-    ensures { result ≡ has_only is_point_key (table_view table.now) }
-{
-    all_point(table)
-}
-
 #[tactic(auto, unfolding(crate::specs::Typed::is_counter_key))]
 fn is_counter(key: &str) -> bool
     ensures { result ≡ is_counter_key key.now }
 {
     key == "value" || key == "bound"
-}
-
-fn all_counter(table: &Table) -> bool
-    ensures { result ≡ list_all (λ k. is_counter_key (string_bytes k)) (keys table.now) }
-{
-    table.keys().all(|key| is_counter(key.as_str()))
-}
-
-fn has_counter_keys(table: &Table) -> bool
-    ensures { result ≡ has_only is_counter_key (table_view table.now) }
-{
-    all_counter(table)
 }
 
 #[tactic(auto, unfolding(crate::specs::Typed::is_serve_key))]
@@ -157,16 +121,28 @@ fn is_serve(key: &str) -> bool
         || key == "connections"
 }
 
-fn all_serve(table: &Table) -> bool
-    ensures { result ≡ list_all (λ k. is_serve_key (string_bytes k)) (keys table.now) }
+fn all_known(table: &Table, section: Section) -> bool
+    ensures { result ≡ list_all (λ k. is_key_of section (string_bytes k)) (keys table.now) }
 {
-    table.keys().all(|key| is_serve(key.as_str()))
+    table.keys().all(|key| is_known(section, key.as_str()))
 }
 
-fn has_serve_keys(table: &Table) -> bool
-    ensures { result ≡ has_only is_serve_key (table_view table.now) }
+/// Returns whether a section has each key of its table.
+fn has_known_keys(table: &Table, section: Section) -> bool
+    ensures { result ≡ has_only (is_key_of section) (table_view table.now) }
 {
-    all_serve(table)
+    all_known(table, section)
+}
+
+/// Checks that a section has each key of its table. The error is `UnknownKey`.
+fn check_keys(alloc: Global, table: &Table, section: Section) -> Result<(), ConfigFlaw>
+    ensures { Finds (λ x. x) result (require (has_only (is_key_of section) (table_view table.now))) }
+{
+    if has_known_keys(table, section) {
+        return Ok(());
+    }
+    let name = String::from_str(alloc, unknown_key(table, section))?;
+    Err(ConfigFlaw::UnknownKey(section, name))
 }
 
 /// Returns the prices of a list as numbers.
@@ -180,34 +156,51 @@ fn read_integers(alloc: Global, values: &[Value]) -> Result<Vec<i64>, ConfigFlaw
     Ok(numbers)
 }
 
-#[tactic(auto, unfolding(crate::specs::Typed::pair_in, crate::specs::Typed::point_in))]
+/// Returns the numbers of the two keys of a table.
+#[tactic(auto, unfolding(crate::specs::Typed::pair_in))]
+fn read_pair(
+    alloc: Global,
+    value: &Value,
+    place: Place,
+    section: Section,
+    keys: (Key, Key),
+) -> Result<(i64, i64), ConfigFlaw>
+    ensures { Finds (λ x. x) result
+        (pair_in (is_key_of section) (name_of keys.0) (name_of keys.1) (view value.now)) }
+{
+    let table = table_of(value, place)?;
+    check_keys(alloc, table, section)?;
+    let first = read_integer(table, section, keys.0)?;
+    let second = read_integer(table, section, keys.1)?;
+    Ok((first, second))
+}
+
+#[tactic(auto, unfolding(crate::specs::Typed::point_in))]
 fn read_point(alloc: Global, value: &Value, place: usize) -> Result<(i64, i64), ConfigFlaw>
     ensures { Finds (λ x. x) result (point_in (view value.now)) }
 {
-    let section = Section::Point(place);
-    let table = table_of(value, Place::Point(place))?;
-    if !has_point_keys(table) {
-        let name = String::from_str(alloc, unknown_key(table, section))?;
-        return Err(ConfigFlaw::UnknownKey(section, name));
-    }
-    let release = read_integer(table, section, Key::Release)?;
-    let preset = read_integer(table, section, Key::Preset)?;
-    Ok((release, preset))
+    let keys = (Key::Release, Key::Preset);
+    read_pair(
+        alloc,
+        value,
+        Place::Point(place),
+        Section::Point(place),
+        keys,
+    )
 }
 
-#[tactic(auto, unfolding(crate::specs::Typed::pair_in, crate::specs::Typed::counter_in))]
+#[tactic(auto, unfolding(crate::specs::Typed::counter_in))]
 fn read_counter(alloc: Global, value: &Value, place: usize) -> Result<(i64, i64), ConfigFlaw>
     ensures { Finds (λ x. x) result (counter_in (view value.now)) }
 {
-    let section = Section::Counter(place);
-    let table = table_of(value, Place::Counter(place))?;
-    if !has_counter_keys(table) {
-        let name = String::from_str(alloc, unknown_key(table, section))?;
-        return Err(ConfigFlaw::UnknownKey(section, name));
-    }
-    let value = read_integer(table, section, Key::Value)?;
-    let bound = read_integer(table, section, Key::Bound)?;
-    Ok((value, bound))
+    let keys = (Key::Value, Key::Bound);
+    read_pair(
+        alloc,
+        value,
+        Place::Counter(place),
+        Section::Counter(place),
+        keys,
+    )
 }
 
 #[tactic(auto, unfolding(crate::specs::Typed::served_in))]
@@ -216,10 +209,7 @@ fn read_served(alloc: Global, value: &Value) -> Result<Served, ConfigFlaw>
 {
     let section = Section::Serve;
     let table = table_of(value, Place::At(Section::Top, Key::Serve))?;
-    if !has_serve_keys(table) {
-        let name = String::from_str(alloc, unknown_key(table, section))?;
-        return Err(ConfigFlaw::UnknownKey(section, name));
-    }
+    check_keys(alloc, table, section)?;
     let till_port = read_integer(table, section, Key::TillPort)?;
     let dispenser_port = read_integer(table, section, Key::DispenserPort)?;
     let owner_port = read_integer(table, section, Key::OwnerPort)?;
@@ -317,10 +307,7 @@ pub fn read_typed(alloc: Global, table: &Table) -> Result<Raw, ConfigFlaw>
     ensures { Finds seen result (typed_of (table_view table.now)) }
 {
     let section = Section::Top;
-    if !has_top_keys(table) {
-        let name = String::from_str(alloc, unknown_key(table, section))?;
-        return Err(ConfigFlaw::UnknownKey(section, name));
-    }
+    check_keys(alloc, table, section)?;
     let tills = read_integer(table, section, Key::Tills)?;
     let price_slot = read_integer(table, section, Key::PriceSlot)?;
     let prices = find_prices(alloc, table)?;

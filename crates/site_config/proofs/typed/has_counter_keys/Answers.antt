@@ -1,7 +1,0 @@
-use Rattle.std.proofs.Common.{◌∙◌}
-use Rattle.site_config.specs.Typed.{is_counter_key}
-use Rattle.site_config.proofs.Keys.{has_only_keys}
-use Rattle.site_config.proofs.typed.has_counter_keys.Goals as goal
-
-pub returns : goal.returns
-returns c = c.all_counter.ensures ∙ has_only_keys is_counter_key c.args.table.now
