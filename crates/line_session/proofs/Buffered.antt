@@ -1,14 +1,16 @@
 -- Answers that wait in a buffer until they are written together.
-use Rattle.std.proofs.Common.{◌≡◌, ◌≢◌, ◌⊎◌, ℕ, ◌+◌, List, [], ◌∷◌, ◌++◌, Option, Some, None, refl, sym, ◌∙◌, ap, subst, arith, append_assoc, append-nil}
+use Rattle.std.proofs.Common.{◌≡◌, ◌≢◌, ◌⊎◌, ℕ, ◌+◌, List, [], ◌∷◌, ◌++◌, Option, Some, None, Result, Ok, Err, IfOk, IfErr, OnErr, refl, sym, ◌∙◌, ap, subst, append_assoc, append-nil}
 use Rattle.std.proofs.Common.{inl, inr}
 use Rattle.std.specs.List.{flat_map}
-use Rattle.std.specs.Io.KnownBytes.{Consumes, Appends, IsAtEnd}
+use Rattle.std.specs.Io.KnownBytes.{Consumes, Appends}
 use Rattle.till_request.proofs.Taken.{consumes_more, appends_more}
 use Rattle.till_request.specs.declared.act.LineFault.{LineFault}
 use Rattle.till_request.specs.declared.act.Answer.TheVariants.{Line}
 use Rattle.till_request.specs.Answer.{answer_line}
 use Rattle.till_request.specs.Line.{IsLine}
+use Rattle.line_session.specs.Found.{IsEnd}
 use Rattle.line_session.specs.Answering.{with_lf, cut_line, cut_count, all_texts, AnswersLines, IsCut, AnswersCut, IsUpToLine, Ends, Breaks, Stops, StopsAtDoor}
+use Rattle.line_session.specs.declared.answering.Ended.{Ended}
 use Rattle.line_session.specs.declared.answering.SessionFault.{SessionFault}
 use Rattle.line_session.specs.declared.answering.SessionFault.TheVariants as session
 use Rattle.line_session.specs.Buffering.{Sends, Waits, SaysOn, LosesSome, StaysOff}
@@ -80,19 +82,38 @@ module _ {C D : Type 0} (says : C × D → List ℕ → List ℕ → C × D → 
     out = w.out;
   }
 
-  pub ends_here : (s m : C × D) (i j k o p : Option (List ℕ)) (waiting : List ℕ) (count : ℕ) → Waits (Answers s m i j count) o p waiting → Consumes j k []
-      → IsAtEnd k → Waits (λ a b. Ends says s m i k a b count None) o p waiting
-  ends_here s m i j k o p waiting count w taken at_end =
-      let P : ℕ → List ℕ → Type 0 = λ n t. Waits (λ a b. Ends says s m i k a b n None) o p t in
-      subst (λ (n : ℕ). P n waiting) (omega arith)
-      (subst (λ (t : List ℕ). P (count + 0) t) (append-nil waiting) (ends_so s m i j k o p waiting count None [] w taken (refl, at_end)))
+  pub ends_all : (s m : C × D) (i j k o p q : Option (List ℕ)) (waiting after : List ℕ) (count : ℕ) (cut : Option LineFault) (more : List ℕ)
+      (r : Result Ended SessionFault) → Waits (Answers s m i j count) o p waiting → Consumes j k more → IsCut cut k more
+      → IfOk r (λ e. IsEnd count cut e × Sends (waiting ++ cut_line cut) after p q)
+      → IfOk r (λ e. Waits (λ a b. Ends says s m i k a b e.lines e.cut) o q after)
+  ends_all s m i j k o p q waiting after count cut more (Err fault) w taken is h = tt
+  ends_all s m i j k o p q waiting after count cut more (Ok ended) w taken is h =
+      let P : ℕ → Type 0 = λ n. Waits (λ a b. Ends says s m i k a b n ended.cut) o q after in
+      let Q : Option LineFault → Type 0 = λ c. Waits (λ a b. Ends says s m i k a b (count + cut_count cut) c) o q after in
+      subst P (sym h.0.lines_are) (subst Q (sym h.0.cut_is)
+      (waits_on (λ a b. Ends says s m i k a b (count + cut_count cut) cut) o p q (waiting ++ cut_line cut) after
+      (ends_so s m i j k o p waiting count cut more w taken is) h.1))
 
-  pub ends_cut : (s m : C × D) (i j k o p q : Option (List ℕ)) (waiting after : List ℕ) (count : ℕ) (fault : LineFault) (more : List ℕ)
-      → Waits (Answers s m i j count) o p waiting → Consumes j k more → IsCut (Some fault) k more → Sends (waiting ++ answer_line (Line fault)) after p q
-      → Waits (λ a b. Ends says s m i k a b (count + 1) (Some fault)) o q after
-  ends_cut s m i j k o p q waiting after count fault more w taken is sends =
-      waits_on (λ a b. Ends says s m i k a b (count + 1) (Some fault)) o p q (waiting ++ answer_line (Line fault)) after
-      (ends_so s m i j k o p waiting count (Some fault) more w taken is) sends
+  -- it ended, and what waited is out
+  pub ends_out : (s m : C × D) (i k o p q : Option (List ℕ)) (waiting : List ℕ) (count : ℕ) (cut : Option LineFault)
+      → Waits (λ a b. Ends says s m i k a b count cut) o p waiting → Sends waiting [] p q → Ends says s m i k o q count cut
+  ends_out s m i k o p q waiting count cut w sends =
+      let x = waits_on (λ a b. Ends says s m i k a b count cut) o p q waiting [] w sends in
+      let t = x.as_if_out.answering in record {
+        answered = x.as_if_out.answered;
+        rest = x.as_if_out.rest;
+        answering = record {
+          lines = t.lines;
+          texts = t.texts;
+          each = t.each;
+          said = t.said;
+          taken = t.taken;
+          written = subst (λ (bytes : List ℕ). Appends o q bytes) (sym (append-nil x.sent) ∙ t.written) x.out;
+          counted = t.counted;
+        };
+        is_cut = x.as_if_out.is_cut;
+        counted = x.as_if_out.counted;
+      }
 
   module _ (drops : C × D → List ℕ → C × D → Type 0) where
     -- what was said is broken off where a beginning of it is out
@@ -169,11 +190,15 @@ module _ {C D : Type 0} (says : C × D → List ℕ → List ℕ → C × D → 
         breaks_part s m i k o p q waiting e.0
         (record { sent = w.sent; as_if_out = ends_broken s m i k (Some []) (Some (w.sent ++ waiting)) count cut w.as_if_out; out = w.out }) e.1
 
-    pub breaks_cut_off : (s m : C × D) (i j k o p q : Option (List ℕ)) (waiting : List ℕ) (count : ℕ) (fault : LineFault) (more : List ℕ)
-        → Waits (Answers s m i j count) o p waiting → Consumes j k more → IsCut (Some fault) k more
-        → (lost : List ℕ) × Sends (waiting ++ answer_line (Line fault)) lost p q → Breaks says drops s m i k o q
-    breaks_cut_off s m i j k o p q waiting count fault more w taken is e =
-        ends_part s m i k o p q (waiting ++ answer_line (Line fault)) (count + 1) (Some fault) (ends_so s m i j k o p waiting count (Some fault) more w taken is) e
+    pub breaks_cut_off : (s m : C × D) (i j k o p q : Option (List ℕ)) (waiting : List ℕ) (count : ℕ) (cut : Option LineFault) (more : List ℕ)
+        (r : Result Ended SessionFault) → Waits (Answers s m i j count) o p waiting → Consumes j k more → IsCut cut k more
+        → OnErr r ((fault : LineFault) × (cut ≡ Some fault) × (lost : List ℕ) × Sends (waiting ++ answer_line (Line fault)) lost p q)
+        → IfErr r (λ e. e ≡ session.Write → Breaks says drops s m i k o q)
+    breaks_cut_off s m i j k o p q waiting count cut more (Ok ended) w taken is h = tt
+    breaks_cut_off s m i j k o p q waiting count cut more (Err e) w taken is h = λ _.
+        let P : Option LineFault → Type 0 = λ c. IsCut c k more in
+        ends_part s m i k o p q (waiting ++ answer_line (Line h.0)) (count + 1) (Some h.0)
+        (ends_so s m i j k o p waiting count (Some h.0) more w taken (subst P h.1 is)) (h.2, h.3)
 
     module _ (takes : List ℕ → Type 0) where
       -- no write failed

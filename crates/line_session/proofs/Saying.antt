@@ -1,5 +1,5 @@
 -- Line by line.
-use Rattle.std.proofs.Common.{◌≡◌, ℕ, ◌+◌, List, [], ◌∷◌, ◌++◌, take, drop, Option, Some, None, refl, sym, ◌∙◌, ap, arith, append_assoc, append-nil}
+use Rattle.std.proofs.Common.{◌≡◌, ℕ, ◌+◌, List, [], ◌∷◌, ◌++◌, take, drop, Option, Some, None, Result, Ok, Err, IfOk, OnErr, refl, sym, ◌∙◌, ap, subst, arith, append_assoc, append-nil}
 use Rattle.std.proofs.Common.{length-append, inl, inr}
 use Rattle.std.specs.List.{flat_map, AllByRecursion}
 use Rattle.std.specs.Io.KnownBytes.{Consumes, Appends}
@@ -11,10 +11,12 @@ use Rattle.till_request.specs.declared.act.Answer.TheVariants.{Line}
 use Rattle.till_request.specs.Answer.{answer_line}
 use Rattle.line_session.specs.declared.line_handler.HandlerError.{HandlerError}
 use Rattle.line_session.specs.declared.line_handler.HandlerError.TheVariants as error
+use Rattle.line_session.specs.declared.answering.Ended.{Ended}
 use Rattle.line_session.specs.declared.answering.SessionFault.{SessionFault}
 use Rattle.line_session.specs.declared.answering.SessionFault.TheVariants as session
 use Rattle.line_session.specs.Faults.{fault_of_handler}
-use Rattle.line_session.specs.Answering.{FallsShort, Half, Dropped, with_lf, Said, SaysAll, AnswersLines, IsCut, IsUpToLine, Breaks, Stops}
+use Rattle.line_session.specs.Found.{IsEnd}
+use Rattle.line_session.specs.Answering.{FallsShort, Half, Dropped, with_lf, Said, SaysAll, AnswersLines, IsCut, IsUpToLine, Ends, Breaks, Stops, cut_line, cut_count}
 
 pub is_line_empty : IsLine []
 is_line_empty = (tt, omega arith)
@@ -61,6 +63,30 @@ module _ {C D : Type 0} (says : C × D → List ℕ → List ℕ → C × D → 
     written = rw (append-nil, flat_more same t.texts a.text) (appends_more o p q (flat_map same t.texts) a.text (rw append-nil at t.written) a.written);
     counted = omega (arith, length-append t.texts (a.text ∷ []), t.counted);
   }
+
+  -- the session ended
+  pub ends_said : (s m : C × D) (i j k o p q : Option (List ℕ)) (count : ℕ) (cut : Option LineFault) (more : List ℕ) (r : Result Ended SessionFault)
+      → AnswersLines says s m i j o p count [] [] → Consumes j k more → IsCut cut k more → IfOk r (λ e. IsEnd count cut e × Appends p q (cut_line cut))
+      → IfOk r (λ e. Ends says s m i k o q e.lines e.cut)
+  ends_said s m i j k o p q count cut more (Err fault) t taken is h = tt
+  ends_said s m i j k o p q count cut more (Ok ended) t taken is h =
+      let P : ℕ → Type 0 = λ n. Ends says s m i k o q n ended.cut in
+      let Q : Option LineFault → Type 0 = λ c. Ends says s m i k o q (count + cut_count cut) c in
+      subst P (sym h.0.lines_are) (subst Q (sym h.0.cut_is) record {
+        answered = count;
+        rest = more;
+        answering = record {
+          lines = t.lines;
+          texts = t.texts;
+          each = t.each;
+          said = t.said;
+          taken = consumes_more i j k (flat_map with_lf t.lines) more (rw append-nil at t.taken) taken;
+          written = appends_more o p q (flat_map same t.texts) (cut_line cut) (rw append-nil at t.written) h.1;
+          counted = t.counted;
+        };
+        is_cut = is;
+        counted = refl;
+      })
 
   module _ (drops : C × D → List ℕ → C × D → Type 0) where
     pub breaks_here : (s m : C × D) (i j o p : Option (List ℕ)) (count : ℕ) (k : Option (List ℕ)) (more : List ℕ)
@@ -138,7 +164,7 @@ module _ {C D : Type 0} (says : C × D → List ℕ → List ℕ → C × D → 
     breaks_line out s m s' i j k o p q count l t whole taken takes error.Journal a = breaks_dropped out s m s' i j k o p q count l t whole taken a
     breaks_line out s m s' i j k o p q count l t whole taken takes error.Write a = breaks_half s m s' i j k o (out p) (out q) count l t whole taken a
 
-    pub breaks_cut : (s m : C × D) (i j k o p q : Option (List ℕ)) (count : ℕ) (more : List ℕ) (fault : LineFault) (kept : ℕ)
+    breaks_cut : (s m : C × D) (i j k o p q : Option (List ℕ)) (count : ℕ) (more : List ℕ) (fault : LineFault) (kept : ℕ)
         → AnswersLines says s m i j o p count [] [] → Consumes j k more → IsCut (Some fault) k more → Appends p q (take kept (answer_line (Line fault)))
         → Breaks says drops s m i k o q
     breaks_cut s m i j k o p q count more fault kept t taken is w = record {
@@ -157,6 +183,15 @@ module _ {C D : Type 0} (says : C × D → List ℕ → List ℕ → C × D → 
       written = appends_more o p q (flat_map same t.texts) (take kept (answer_line (Line fault))) (rw append-nil at t.written) w;
       begins = rw append_assoc (ap (λ x. flat_map same t.texts ++ x) (sym (take-append-drop kept (answer_line (Line fault)))));
     }
+
+    pub breaks_end : (s m : C × D) (i j k o p q : Option (List ℕ)) (count : ℕ) (cut : Option LineFault) (more : List ℕ) (r : Result Ended SessionFault)
+        → AnswersLines says s m i j o p count [] [] → Consumes j k more → IsCut cut k more
+        → OnErr r ((fault : LineFault) × (cut ≡ Some fault) × (n : ℕ) × Appends p q (take n (answer_line (Line fault))))
+        → OnErr r (Breaks says drops s m i k o q)
+    breaks_end s m i j k o p q count cut more (Ok ended) t taken is h = tt
+    breaks_end s m i j k o p q count cut more (Err e) t taken is h =
+        let P : Option LineFault → Type 0 = λ c. IsCut c k more in
+        breaks_cut s m i j k o p q count more h.0 h.2 t taken (subst P h.1 is) h.3
 
     -- no write failed
     pub stops_here : (takes : List ℕ → Type 0) (fault : SessionFault) (s m : C × D) (i j o p : Option (List ℕ)) (count : ℕ) (k : Option (List ℕ))

@@ -1,5 +1,6 @@
 pub mod Cut
 pub mod Faults
+pub mod Found
 pub mod Buffering
 pub mod Deciding
 pub mod Serving

@@ -1,9 +1,12 @@
 //! The loop over the lines of an input.
-ghost use Rattle.std.specs.Prelude.{◌≡◌, ◌≢◌, ◌⊎◌, ◌+◌, ◌-◌, ◌<◌, ◌≤◌, ℕ, List, take, IfOk, IfErr, OnErr, OnOk, Err};
+ghost use Rattle.std.specs.Prelude.{◌≡◌, ◌≢◌, ◌⊎◌, ◌+◌, ◌-◌, ◌<◌, ◌≤◌, ℕ, List, take, IfOk, IfErr, OnErr, OnOk, Err, Some};
 ghost use Rattle.std.specs.Io.KnownBytes.{Appends};
 ghost use Rattle.till_request.specs.Count.{RoseBy, one_if};
 ghost use Rattle.till_request.specs.Answer.{answer_line};
+ghost use Rattle.till_request.specs.declared.act.LineFault.{LineFault};
 ghost use Rattle.line_session.specs.Answering.{Ends, Breaks, FailsAt, SpendsReads, Stops, is_read, is_write, session_reads};
+ghost use Rattle.line_session.specs.Answering.{cut_line};
+ghost use Rattle.line_session.specs.Found.{IsEnd, cut_by};
 
 use crate::line_handler::{HandlerError, LineHandler};
 use std::alloc::Global;
@@ -16,7 +19,7 @@ use till_request::{
 pub const READS: u32 = 67_108_864;
 
 /// How a session ended: the number of its answers, and the L1 or L4 that ended it.
-#[derive(Clone, Copy, Debug, PartialEq, Eq, Drop)]
+#[derive(Clone, Copy, PartialEq, Eq, Drop)]
 pub struct Ended {
     pub lines: u64,
     pub cut: Option<LineFault>,
@@ -69,20 +72,40 @@ impl From<HandlerError> for SessionFault {
     }
 }
 
-/// Answers the fault that ends a session.
-fn write_cut<O: LineOut>(
+/// What cuts a session behind which no line was found.
+pub(crate) fn cut_of(found: Found) -> Option<LineFault>
+    ensures { result ≡ cut_by found }
+{
+    match found {
+        Found::Line | Found::End => None,
+        Found::TooLong => Some(LineFault::TooLong),
+        Found::Cut => Some(LineFault::CutLine),
+    }
+}
+
+/// Ends a session behind this many answers: what cut it is answered.
+fn end<O: LineOut>(
     alloc: Global,
     output: &mut O,
-    fault: LineFault,
-) -> Result<(), SessionFault>
-    ensures ok { OnOk result (Appends (O.written output.old) (O.written output.new) (answer_line (Answer.Line fault))) }
-    ensures err { OnErr result
-        ((k : ℕ) × Appends (O.written output.old) (O.written output.new) (take k (answer_line (Answer.Line fault)))) }
+    lines: u64,
+    cut: Option<LineFault>,
+) -> Result<Ended, SessionFault>
+    requires { lines ≤ READS }
+    ensures ok { IfOk result (λ ended. IsEnd lines cut ended
+        × Appends (O.written output.old) (O.written output.new) (cut_line cut)) }
+    ensures err { OnErr result ((fault : LineFault) × (cut ≡ Some fault)
+        × (k : ℕ) × Appends (O.written output.old) (O.written output.new) (take k (answer_line (Answer.Line fault)))) }
     ensures failed { RoseBy (one_if (is_write result)) (O.failures output.old) (O.failures output.new) }
     ensures cause { IfErr result (λ e. e ≡ SessionFault.Write) }
 {
+    let Some(fault) = cut else {
+        return Ok(Ended { lines, cut: None });
+    };
     match write_answer(alloc, output, &Answer::Line(fault)) {
-        Ok(()) => Ok(()),
+        Ok(()) => Ok(Ended {
+            lines: lines + 1,
+            cut: Some(fault),
+        }),
         Err(WriteFault::Write) => Err(SessionFault::Write),
         Err(WriteFault::OutOfMemory) => Err(SessionFault::OutOfMemory),
     }
@@ -125,26 +148,7 @@ pub fn answer_lines_within<I: LineIn, O: LineOut, C, D, S: LineHandler<C, D>>(
     'turns: loop {
         match find_line(input, &mut line, left)? {
             Found::Line => handler.handle_line(alloc, &line, clock, desk, output)?,
-            Found::End => {
-                return Ok(Ended {
-                    lines: count,
-                    cut: None,
-                });
-            }
-            Found::TooLong => {
-                write_cut(alloc, output, LineFault::TooLong)?;
-                return Ok(Ended {
-                    lines: count + 1,
-                    cut: Some(LineFault::TooLong),
-                });
-            }
-            Found::Cut => {
-                write_cut(alloc, output, LineFault::CutLine)?;
-                return Ok(Ended {
-                    lines: count + 1,
-                    cut: Some(LineFault::CutLine),
-                });
-            }
+            found => return end(alloc, output, count, cut_of(found)),
         }
         count += 1;
     }

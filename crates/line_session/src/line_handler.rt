@@ -1,18 +1,14 @@
 //! Who answers lines.
 use std::alloc::Global;
-use thiserror::Error;
 use till_request::LineOut;
 
 /// Why a line was not answered, or its answer is not out.
-#[derive(Clone, Copy, Debug, Drop, Error)]
+#[derive(Clone, Copy, Drop)]
 pub enum HandlerError {
     /// N2: the device failed.
-    #[error("a write failed")]
     Write,
-    #[error("out of memory")]
     OutOfMemory,
     /// The line has no answer, since the site takes no further event.
-    #[error("the journal failed")]
     Journal,
 }
 

@@ -1,13 +1,16 @@
 //! The loop over the lines of a connection. Answers that are ready together are written together.
-ghost use Rattle.std.specs.Prelude.{◌≡◌, ◌≢◌, ◌⊎◌, ◌++◌, ◌-◌, ◌≤◌, ℕ, List, [], true, false, IfOk, IfErr, OnErr, OnOk, Err};
+ghost use Rattle.std.specs.Prelude.{◌≡◌, ◌≢◌, ◌⊎◌, ◌++◌, ◌-◌, ◌≤◌, ℕ, List, [], true, false, IfOk, IfErr, OnErr, OnOk, Err, Some};
+ghost use Rattle.till_request.specs.Answer.{answer_line};
 ghost use Rattle.till_request.specs.Count.{RoseBy, one_if};
+ghost use Rattle.till_request.specs.declared.act.LineFault.{LineFault};
 ghost use Rattle.line_session.specs.Buffering.{SaysOn, Sends, StaysOff, Waits};
 ghost use Rattle.line_session.specs.Session.{desk_says, desk_drops, desk_fails, desk_takes};
 ghost use Rattle.line_session.specs.Answering.{Ends, Breaks, FailsAt, SpendsReads, Stops, StopsAtDoor};
-ghost use Rattle.line_session.specs.Answering.{is_read, is_write, session_reads};
+ghost use Rattle.line_session.specs.Answering.{cut_line, is_read, is_write, session_reads};
+ghost use Rattle.line_session.specs.Found.{IsEnd};
 
 use crate::answer_buffer::AnswerBuffer;
-use crate::answering::{Ended, READS, SessionFault};
+use crate::answering::{Ended, READS, SessionFault, cut_of};
 use crate::connection::Connection;
 use crate::desk::{Clock, Desk};
 use crate::desk_handler::{answer_to, unsaid};
@@ -87,6 +90,36 @@ impl Progress {
         self.waiting.put(alloc, output, &answer)
     }
 
+    /// Ends a session behind this many answers: what cut it is answered. The answer is written, or waits.
+    fn end<O: LineOut>(
+        &mut self,
+        output: &mut O,
+        lines: u64,
+        cut: Option<LineFault>,
+    ) -> Result<Ended, SessionFault>
+        requires { lines ≤ READS }
+        ensures ok { IfOk result (λ ended. IsEnd lines cut ended
+            × Sends (self.old.waiting.held.bytes.items ++ cut_line cut) self.new.waiting.held.bytes.items
+            (O.written output.old) (O.written output.new)) }
+        ensures err { OnErr result ((fault : LineFault) × (cut ≡ Some fault) × (lost : List ℕ)
+            × Sends (self.old.waiting.held.bytes.items ++ answer_line (Answer.Line fault)) lost (O.written output.old)
+            (O.written output.new)) }
+        ensures failed { RoseBy (one_if (is_write result)) (O.failures output.old) (O.failures output.new) }
+        ensures cause { IfErr result (λ e. e ≡ SessionFault.Write) }
+        ensures left { self.new.left ≡ self.old.left }
+    {
+        let Some(fault) = cut else {
+            return Ok(Ended { lines, cut: None });
+        };
+        match self.waiting.put(self.alloc, output, &Answer::Line(fault)) {
+            Ok(()) => Ok(Ended {
+                lines: lines + 1,
+                cut: Some(fault),
+            }),
+            Err(fault) => Err(fault),
+        }
+    }
+
     /// Answers the lines of a connection in order. What isn't written at the end waits.
     fn answer_lines<S: Doors, C: Clock, D: Desk>(
         &mut self,
@@ -133,28 +166,7 @@ impl Progress {
             self.flush_unless_more(doors, connection)?;
             match find_line(&mut connection.input, &mut line, &mut self.left)? {
                 Found::Line => self.answer_line(role, &line, &mut connection.output, clock, desk)?,
-                Found::End => {
-                    return Ok(Ended {
-                        lines: count,
-                        cut: None,
-                    });
-                }
-                Found::TooLong => {
-                    let too_long = Answer::Line(LineFault::TooLong);
-                    self.waiting.put(alloc, &mut connection.output, &too_long)?;
-                    return Ok(Ended {
-                        lines: count + 1,
-                        cut: Some(LineFault::TooLong),
-                    });
-                }
-                Found::Cut => {
-                    let cut = Answer::Line(LineFault::CutLine);
-                    self.waiting.put(alloc, &mut connection.output, &cut)?;
-                    return Ok(Ended {
-                        lines: count + 1,
-                        cut: Some(LineFault::CutLine),
-                    });
-                }
+                found => return self.end(&mut connection.output, count, cut_of(found)),
             }
             count += 1;
         }

@@ -3,7 +3,6 @@ use super::halted::Halted;
 use super::journal::{Journal, NoJournal};
 use super::pass::{Pass, SiteLedger};
 use site_core::Site;
-use std::fmt;
 use thiserror::Error;
 
 /// Why a forecourt was not closed.
@@ -27,12 +26,6 @@ pub struct CloseFault<L: SiteLedger, J: Journal = NoJournal> {
     pub why: CloseRefusal,
     pub forecourt: Halted<L, J>,
     pub passes: Vec<Pass<L>>,
-}
-
-impl<L: SiteLedger, J: Journal> fmt::Display for CloseFault<L, J> {
-    fn fmt<W: fmt::Write>(&self, f: &mut fmt::Formatter<W>) -> fmt::Result {
-        write!(f, "{}", self.why)
-    }
 }
 
 /// What a closed forecourt leaves.

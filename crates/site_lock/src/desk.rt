@@ -74,15 +74,11 @@ impl<L: SiteLedger, R: Wait, G: Gate + Drop, J: Journal> Desk for PassDesk<'_, L
         × DeskDecides G.makes L.config desk.pass.id moment desk.gate after.gate answer act };
 
     fn answer(&mut self, act: Act, moment: u64) -> Answer {
-        let PassDesk {
-            rt,
-            alloc,
-            forecourt,
-            pass,
-            gate,
-        } = self;
-        match event_of(*alloc, &act) {
-            Ok(what) => call(*rt, forecourt, pass, gate, moment, act, what),
+        match event_of(self.alloc, &act) {
+            Ok(what) => {
+                let (pass, gate) = (&mut self.pass, &mut self.gate);
+                call(self.rt, self.forecourt, pass, gate, moment, act, what)
+            }
             Err(refusal) => refused::<G, J>(refusal),
         }
     }
@@ -111,11 +107,12 @@ fn call<L: SiteLedger, R: Wait, G: Gate, J: Journal>(
     match what {
         What::Till { till, request } => said(forecourt.ask(rt, pass, gate, till, moment, request)),
         What::Dispenser { point, event } => {
-            said(forecourt.enter_event(rt, pass, act, What::Dispenser { point, event }))
+            said(forecourt.enter_event(rt, pass, 0, act, What::Dispenser { point, event }))
         }
         What::Load { slot, program } => said(forecourt.enter_event(
             rt,
             pass,
+            0,
             act,
             What::Load { slot, program },
         )),

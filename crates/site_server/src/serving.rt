@@ -90,7 +90,7 @@ fn prepare<L: SiteLedger>(
     config: &Config,
     blank: Blank,
     crew: Crew,
-    listeners: Listeners,
+    listeners: &Listeners,
 ) -> Result<Prepared<L>, AllocError>
     requires name { blank.name ≡ L.name }
     requires parts { blank.parts ≡ L.parts }
@@ -104,8 +104,8 @@ fn prepare<L: SiteLedger>(
         (λ p. AreWaiting (passes_of crew.tills crew.dispensers) (map (λ q. waits q.waiting) p.tasks.items)) }
     ensures room { IfOk result (λ p. (p.room.items ≡ []) × (length p.tasks.items ≤ vec_capacity p.room)) }
 {
+    let room = Vec::with_capacity(alloc, crew.passes() as usize)?;
     let (builder, passes) = ForecourtBuilder::new(alloc, config, crew.passes(), blank)?;
-    let room = Vec::with_capacity(alloc, passes.len())?;
     let tasks = tasks_of(alloc, passes, listeners, crew)?;
     Ok(Prepared {
         builder,
@@ -210,12 +210,14 @@ impl<J: Journal + Send> Serving<J> {
             listeners,
             connections,
         } = self;
-        let Ok(prepared) = prepare::<L>(alloc, site.config(), blank, crew, listeners) else {
+        let Ok(prepared) = prepare::<L>(alloc, site.config(), blank, crew, &listeners) else {
             return Err(Unclosed {
                 why: ServeFault::OutOfMemory,
                 back: Some((site, journal)),
             });
         };
+        // Each task has its own share of its port, which so is closed with its last worker.
+        drop(listeners);
         let (mut tasks, mut passes) = (prepared.tasks, prepared.room);
         let workers = Workers {
             rt,

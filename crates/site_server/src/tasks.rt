@@ -20,28 +20,45 @@ pub struct WorkerTask<L: SiteLedger> {
     pub done: Option<(Pass<L>, u64)>,
 }
 
+/// The task of a pass, at the port of its role.
+fn task_of<L: SiteLedger>(
+    pass: Pass<L>,
+    listeners: &Listeners,
+    crew: Crew,
+) -> Result<WorkerTask<L>, AllocError>
+    ensures pass { IfOk result (λ task. waits task.waiting ≡ Some pass) }
+    ensures port { IfOk result (λ task. waits_at arc_value task.waiting ≡ Some (
+      pass,
+      arc_value (port_of listeners.now.till listeners.now.dispenser listeners.now.owner
+          (role_of crew.tills crew.dispensers pass.id)),
+    )) }
+{
+    let port = Arc::try_clone(listeners.of(crew.role(pass.id())))?;
+    Ok(WorkerTask {
+        waiting: Some((pass, port)),
+        done: None,
+    })
+}
+
 /// A task for each pass, at the port of its role.
-pub fn tasks_of<L: SiteLedger>(
+pub(crate) fn tasks_of<L: SiteLedger>(
     alloc: Global,
     passes: Vec<Pass<L>>,
-    listeners: Listeners,
+    listeners: &Listeners,
     crew: Crew,
 ) -> Result<Vec<WorkerTask<L>>, AllocError>
     ensures passes { IfOk result (λ tasks. map (λ p. waits p.waiting) tasks.items ≡ map (λ p. Some p) passes.items) }
     ensures ports { IfOk result (λ tasks. map (λ p. waits_at arc_value p.waiting) tasks.items
         ≡ map (λ p. Some (
           p,
-          arc_value (port_of listeners.till listeners.dispenser listeners.owner
+          arc_value (port_of listeners.now.till listeners.now.dispenser listeners.now.owner
               (role_of crew.tills crew.dispensers p.id)),
         )) passes.items) }
 {
     let mut tasks = Vec::with_capacity(alloc, passes.len())?;
     for pass in passes {
-        let port = Arc::try_clone(listeners.of(crew.role(pass.id())))?;
-        tasks.push(WorkerTask {
-            waiting: Some((pass, port)),
-            done: None,
-        })?;
+        let task = task_of(pass, listeners, crew)?;
+        tasks.push(task)?;
     }
     Ok(tasks)
 }

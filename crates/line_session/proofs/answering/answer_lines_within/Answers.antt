@@ -1,9 +1,9 @@
 use Rattle.std.proofs.Common.{arith, rules, inl}
 use Rattle.till_request.proofs.Taken.{on_err_always}
 use Rattle.till_request.proofs.Counts.{rose_more, rose_left}
-use Rattle.till_request.specs.declared.act.LineFault.TheVariants.{TooLong, CutLine}
 use Rattle.line_session.proofs.Failing.{spoke, if_handed}
-use Rattle.line_session.proofs.Saying.{talks_none, talks_more, breaks_here, breaks_line, breaks_cut, stops_here, stops_line}
+use Rattle.line_session.proofs.Found.{cut_found, write_alone, write_no_read, write_no_spent, write_no_journal}
+use Rattle.line_session.proofs.Saying.{talks_none, talks_more, ends_said, breaks_here, breaks_line, breaks_end, stops_here, stops_line}
 use Rattle.line_session.proofs.answering.answer_lines_within.Goals as goal
 
 pub turns-init : goal.turns-init
@@ -16,43 +16,51 @@ turns-init g c = record {
   write = search rules;
 }
 
-pub returns-in_err-find_line-clause-broken : goal.returns-in_err-find_line-clause-broken
-returns-in_err-find_line-clause-broken g c =
-    on_err_always _ (breaks_here _ _ _ _ _ _ _ _ c.turns.count _ c.in_err-find_line.ensures.given.0 c.turns.invariant.answering c.in_err-find_line.ensures.given.1
-    (inl c.in_err-find_line.ensures.given.2))
+pub returns-in_err-found-clause-broken : goal.returns-in_err-found-clause-broken
+returns-in_err-found-clause-broken g c =
+    on_err_always _ (breaks_here _ _ _ _ _ _ _ _ c.turns.count _ c.in_err-found.ensures.given.0 c.turns.invariant.answering c.in_err-found.ensures.given.1
+    (inl c.in_err-found.ensures.given.2))
 
 pub returns-in_err-handle_line-in-Line-clause-broken :
     goal.returns-in_err-handle_line-in-Line-clause-broken
 returns-in_err-handle_line-in-Line-clause-broken g c =
-    let t = rw c.in-Line.is at c.in_ok-find_line.ensures.taken in
+    let t = rw c.in-Line.is at c.in_ok-found.ensures.taken in
     on_err_always _ (breaks_line _ _ g.O.LineOut.written _ _ _ _ _ _ _ _ _ c.turns.count c.find_line.new.line.items c.turns.invariant.answering t.1 t.0
     _ _ (rw c.deref.ensures.value at c.in_err-handle_line-in-Line.ensures.err))
 
-pub returns-in_err-write_cut-in-TooLong-clause-broken :
-    goal.returns-in_err-write_cut-in-TooLong-clause-broken
-returns-in_err-write_cut-in-TooLong-clause-broken g c =
-    let t = rw c.in-TooLong.is at c.in_ok-find_line.ensures.taken in
-    let w = c.in_err-write_cut-in-TooLong.ensures.err in
-    on_err_always _ (breaks_cut _ _ _ _ _ _ _ _ _ _ c.turns.count t.0 TooLong w.0 c.turns.invariant.answering t.1 (t.2, t.3) w.1)
+pub returns-in_default-clause-said : goal.returns-in_default-clause-said
+returns-in_default-clause-said g c =
+    let t = cut_found c.in_ok-found.found _ _ _ c.in_default.not-Line c.in_ok-found.ensures.taken in
+    ends_said _ _ _ _ _ _ _ _ _ c.turns.count c.cut_of.result t.0 c.end.result c.turns.invariant.answering t.1 (rw c.cut_of.ensures t.2) c.end.ensures.ok
 
-pub returns-in_err-write_cut-in-Cut-clause-broken :
-    goal.returns-in_err-write_cut-in-Cut-clause-broken
-returns-in_err-write_cut-in-Cut-clause-broken g c =
-    let t = rw c.in-Cut.is at c.in_ok-find_line.ensures.taken in
-    let w = c.in_err-write_cut-in-Cut.ensures.err in
-    on_err_always _ (breaks_cut _ _ _ _ _ _ _ _ _ _ c.turns.count t.0 CutLine w.0 c.turns.invariant.answering t.1 (t.2, t.3, t.4) w.1)
+pub returns-in_default-clause-broken : goal.returns-in_default-clause-broken
+returns-in_default-clause-broken g c =
+    let t = cut_found c.in_ok-found.found _ _ _ c.in_default.not-Line c.in_ok-found.ensures.taken in
+    breaks_end _ _ _ _ _ _ _ _ _ _ c.turns.count c.cut_of.result t.0 c.end.result c.turns.invariant.answering t.1 (rw c.cut_of.ensures t.2) c.end.ensures.err
+
+pub returns-in_default-clause-read_fault : goal.returns-in_default-clause-read_fault
+returns-in_default-clause-read_fault g c = rw (write_no_read c.end.result c.end.ensures.cause) (rose_more c.turns.invariant.read c.in_ok-found.ensures.failed)
+
+pub returns-in_default-clause-spent : goal.returns-in_default-clause-spent
+returns-in_default-clause-spent g c = λ is. absurd (write_no_spent c.end.result c.end.ensures.cause is)
+
+pub returns-in_default-clause-journal : goal.returns-in_default-clause-journal
+returns-in_default-clause-journal g c = λ is. absurd (write_no_journal c.end.result c.end.ensures.cause is)
+
+pub returns-in_default-clause-stopped : goal.returns-in_default-clause-stopped
+returns-in_default-clause-stopped g c = write_alone c.end.result _ c.end.ensures.cause
 
 pub turns-preserved : goal.turns-preserved
 turns-preserved g c =
-    let t = rw c.in-Line.is at c.in_ok-find_line.ensures.taken in record {
+    let t = rw c.in-Line.is at c.in_ok-found.ensures.taken in record {
       answering = talks_more _ _ _ _ _ _ _ _ _ _ c.turns.count c.find_line.new.line.items c.turns.invariant.answering t.1 t.0
           (rw c.deref.ensures.value at c.in_ok-handle_line-in-Line.ensures.ok);
-      within = omega (arith, c.in_ok-find_line.ensures.used);
-      reads = rose_left c.args.left.now c.turns.left c.find_line.new.left (omega arith) (omega (arith, c.in_ok-find_line.ensures.left)) c.turns.invariant.reads
-          c.in_ok-find_line.ensures.counted;
-      asked = rose_left c.args.left.now c.turns.left c.find_line.new.left (omega arith) (omega (arith, c.in_ok-find_line.ensures.left)) c.turns.invariant.asked
-          c.in_ok-find_line.ensures.asked;
-      read = rose_more c.turns.invariant.read c.in_ok-find_line.ensures.failed;
+      within = omega (arith, c.in_ok-found.ensures.used);
+      reads = rose_left c.args.left.now c.turns.left c.find_line.new.left (omega arith) (omega (arith, c.in_ok-found.ensures.left)) c.turns.invariant.reads
+          c.in_ok-found.ensures.counted;
+      asked = rose_left c.args.left.now c.turns.left c.find_line.new.left (omega arith) (omega (arith, c.in_ok-found.ensures.left)) c.turns.invariant.asked
+          c.in_ok-found.ensures.asked;
+      read = rose_more c.turns.invariant.read c.in_ok-found.ensures.failed;
       write = rose_more c.turns.invariant.write c.in_ok-handle_line-in-Line.ensures.failed;
     }
 
@@ -64,15 +72,15 @@ returns-in_err-handle_line-in-Line-clause-journal g c = λ e. (
       (spoke c.from_residual-in_err-handle_line-in-Line.result c.in_err-handle_line-in-Line.field-0.0 c.from_residual-in_err-handle_line-in-Line.ensures e),
 )
 
-pub returns-in_err-find_line-clause-stopped : goal.returns-in_err-find_line-clause-stopped
-returns-in_err-find_line-clause-stopped g c =
+pub returns-in_err-found-clause-stopped : goal.returns-in_err-found-clause-stopped
+returns-in_err-found-clause-stopped g c =
     if_handed _ _ c.from_residual.ensures _
-    (λ _. stops_here _ _ _ _ _ _ _ _ _ _ c.turns.count _ c.in_err-find_line.ensures.given.0 c.turns.invariant.answering c.in_err-find_line.ensures.given.1
-    c.in_err-find_line.ensures.given.2)
+    (λ _. stops_here _ _ _ _ _ _ _ _ _ _ c.turns.count _ c.in_err-found.ensures.given.0 c.turns.invariant.answering c.in_err-found.ensures.given.1
+    c.in_err-found.ensures.given.2)
 
 pub returns-in_err-handle_line-in-Line-clause-stopped : goal.returns-in_err-handle_line-in-Line-clause-stopped
 returns-in_err-handle_line-in-Line-clause-stopped g c =
-    let t = rw c.in-Line.is at c.in_ok-find_line.ensures.taken in
+    let t = rw c.in-Line.is at c.in_ok-found.ensures.taken in
     if_handed _ _ c.from_residual-in_err-handle_line-in-Line.ensures _
     (stops_line _ _ g.O.LineOut.written _ _ _ _ _ _ _ _ _ c.turns.count c.find_line.new.line.items c.turns.invariant.answering t.1 t.0 _ _
     (rw c.deref.ensures.value at c.in_err-handle_line-in-Line.ensures.err))

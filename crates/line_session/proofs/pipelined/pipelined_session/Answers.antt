@@ -1,6 +1,6 @@
 use Rattle.till_request.proofs.Taken.{on_err_always}
 use Rattle.line_session.specs.Session.{desk_says, desk_drops, desk_takes}
-use Rattle.line_session.proofs.Buffered.{breaks_off, ends_part, stops_off, stops_out, stops_part}
+use Rattle.line_session.proofs.Buffered.{breaks_off, ends_out, ends_part, stops_off, stops_out, stops_part}
 use Rattle.line_session.proofs.pipelined.pipelined_session.Goals as goal
 
 pub returns-in_err-flush-in-Ok-clause-broken : goal.returns-in_err-flush-in-Ok-clause-broken
@@ -34,3 +34,7 @@ pub returns-clause-stopped : goal.returns-clause-stopped
 returns-clause-stopped g c = λ other.
     stops_out (desk_says g.D.Desk.step g.C.Clock.tick c.args.role) (desk_drops g.D.Desk.step g.C.Clock.tick c.args.role) (desk_takes c.args.role) c.in-Err.fault
     _ _ _ _ _ _ _ _ (c.in-Err.ensures.stopped other) c.in_ok-flush-in-Err.ensures.ok
+
+pub returns-in-Ok-clause-said : goal.returns-in-Ok-clause-said
+returns-in-Ok-clause-said g c =
+    ends_out (desk_says g.D.Desk.step g.C.Clock.tick c.args.role) _ _ _ _ _ _ _ _ _ _ c.in-Ok.ensures.said c.in_ok-flush-in-Ok.ensures.ok

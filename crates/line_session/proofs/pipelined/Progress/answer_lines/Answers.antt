@@ -1,9 +1,9 @@
 use Rattle.std.proofs.Common.{arith, rules}
 use Rattle.till_request.proofs.Counts.{rose_more, rose_left}
-use Rattle.till_request.specs.declared.act.LineFault.TheVariants.{TooLong, CutLine}
 use Rattle.line_session.specs.Session.{desk_says, desk_drops, desk_takes}
 use Rattle.line_session.proofs.Failing.{handed, if_handed}
-use Rattle.line_session.proofs.Buffered.{waits_none, waits_on, waits_more, breaks_gone, breaks_said, breaks_cut_off, stops_read, stops_said, ends_here, ends_cut}
+use Rattle.line_session.proofs.Found.{cut_found, write_alone, write_no_spent, write_no_journal}
+use Rattle.line_session.proofs.Buffered.{waits_none, waits_on, waits_more, breaks_gone, breaks_said, breaks_cut_off, stops_read, stops_said, ends_all}
 use Rattle.line_session.proofs.pipelined.Progress.answer_lines.Goals as goal
 
 pub turns-init : goal.turns-init
@@ -21,18 +21,18 @@ returns-in_err-flush_unless_more-clause-broken g c =
     if_handed _ _ c.from_residual.ensures _ (λ _. rw c.in_err-flush_unless_more.ensures.input (breaks_gone (desk_says g.D.Desk.step g.C.Clock.tick c.args.role) (desk_drops g.D.Desk.step g.C.Clock.tick c.args.role)
     _ _ _ _ _ _ _ _ c.turns.count c.turns.invariant.answering c.in_err-flush_unless_more.ensures.err))
 
-pub returns-in_err-find_line-clause-stopped : goal.returns-in_err-find_line-clause-stopped
-returns-in_err-find_line-clause-stopped g c =
+pub returns-in_err-found-clause-stopped : goal.returns-in_err-found-clause-stopped
+returns-in_err-found-clause-stopped g c =
     let way = waits_on _ _ _ _ _ _ c.turns.invariant.answering c.in_ok-flush_unless_more.ensures.ok in
-    let t = rw c.in_ok-flush_unless_more.ensures.input at c.in_err-find_line.ensures.given in
-    if_handed _ _ c.from_residual-in_err-find_line.ensures _
+    let t = rw c.in_ok-flush_unless_more.ensures.input at c.in_err-found.ensures.given in
+    if_handed _ _ c.from_residual-in_err-found.ensures _
     (λ _. stops_read (desk_says g.D.Desk.step g.C.Clock.tick c.args.role) (desk_drops g.D.Desk.step g.C.Clock.tick c.args.role) (desk_takes c.args.role) _ _ _ _ _ _ _ _ _
     c.turns.count t.0 way t.1 t.2)
 
 pub returns-in_err-answer_line-in-Line-clause-broken : goal.returns-in_err-answer_line-in-Line-clause-broken
 returns-in_err-answer_line-in-Line-clause-broken g c =
     let way = waits_on _ _ _ _ _ _ c.turns.invariant.answering c.in_ok-flush_unless_more.ensures.ok in
-    let t = rw (c.in-Line.is, c.in_ok-flush_unless_more.ensures.input) at c.in_ok-find_line.ensures.taken in
+    let t = rw (c.in-Line.is, c.in_ok-flush_unless_more.ensures.input) at c.in_ok-found.ensures.taken in
     if_handed _ _ c.from_residual-in_err-answer_line-in-Line.ensures _
     (breaks_said (desk_says g.D.Desk.step g.C.Clock.tick c.args.role) (desk_drops g.D.Desk.step g.C.Clock.tick c.args.role) (desk_takes c.args.role) _ _ _ _ _ _ _ _ _ _
     _ _ c.turns.count c.find_line.new.line.items way t.1 t.0 (rw c.deref.ensures.value at c.in_err-answer_line-in-Line.ensures.err))
@@ -40,7 +40,7 @@ returns-in_err-answer_line-in-Line-clause-broken g c =
 pub returns-in_err-answer_line-in-Line-clause-stopped : goal.returns-in_err-answer_line-in-Line-clause-stopped
 returns-in_err-answer_line-in-Line-clause-stopped g c =
     let way = waits_on _ _ _ _ _ _ c.turns.invariant.answering c.in_ok-flush_unless_more.ensures.ok in
-    let t = rw (c.in-Line.is, c.in_ok-flush_unless_more.ensures.input) at c.in_ok-find_line.ensures.taken in
+    let t = rw (c.in-Line.is, c.in_ok-flush_unless_more.ensures.input) at c.in_ok-found.ensures.taken in
     if_handed _ _ c.from_residual-in_err-answer_line-in-Line.ensures _
     (stops_said (desk_says g.D.Desk.step g.C.Clock.tick c.args.role) (desk_drops g.D.Desk.step g.C.Clock.tick c.args.role) (desk_takes c.args.role) _ _ _ _ _ _ _ _ _ _ _ _
     c.turns.count c.find_line.new.line.items way t.1 t.0 (rw c.deref.ensures.value at c.in_err-answer_line-in-Line.ensures.err))
@@ -54,56 +54,43 @@ returns-in_err-answer_line-in-Line-clause-journal g c = λ e. (
       c.from_residual-in_err-answer_line-in-Line.ensures e),
 )
 
-pub returns-in-End-clause-said : goal.returns-in-End-clause-said
-returns-in-End-clause-said g c =
+pub returns-in_default-clause-said : goal.returns-in_default-clause-said
+returns-in_default-clause-said g c =
     let way = waits_on _ _ _ _ _ _ c.turns.invariant.answering c.in_ok-flush_unless_more.ensures.ok in
-    let t = rw (c.in-End.is, c.in_ok-flush_unless_more.ensures.input) at c.in_ok-find_line.ensures.taken in
-    ends_here (desk_says g.D.Desk.step g.C.Clock.tick c.args.role) _ _ _ _ _ _ _ _ c.turns.count way t.0 t.1
+    let t = cut_found c.in_ok-found.found _ _ _ c.in_default.not-Line (rw c.in_ok-flush_unless_more.ensures.input at c.in_ok-found.ensures.taken) in
+    ends_all (desk_says g.D.Desk.step g.C.Clock.tick c.args.role) _ _ _ _ _ _ _ _ _ _ c.turns.count c.cut_of.result t.0 c.end.result way t.1 (rw c.cut_of.ensures t.2)
+    c.end.ensures.ok
 
-pub returns-in_err-put-in-TooLong-clause-broken : goal.returns-in_err-put-in-TooLong-clause-broken
-returns-in_err-put-in-TooLong-clause-broken g c =
+pub returns-in_default-clause-broken : goal.returns-in_default-clause-broken
+returns-in_default-clause-broken g c =
     let way = waits_on _ _ _ _ _ _ c.turns.invariant.answering c.in_ok-flush_unless_more.ensures.ok in
-    let t = rw (c.in-TooLong.is, c.in_ok-flush_unless_more.ensures.input) at c.in_ok-find_line.ensures.taken in
-    if_handed _ _ c.from_residual-in_err-put-in-TooLong.ensures _
-    (λ _. breaks_cut_off (desk_says g.D.Desk.step g.C.Clock.tick c.args.role) (desk_drops g.D.Desk.step g.C.Clock.tick c.args.role) _ _ _ _ _ _ _ _ _ c.turns.count TooLong
-    t.0 way t.1 (t.2, t.3) c.in_err-put-in-TooLong.ensures.err)
+    let t = cut_found c.in_ok-found.found _ _ _ c.in_default.not-Line (rw c.in_ok-flush_unless_more.ensures.input at c.in_ok-found.ensures.taken) in
+    breaks_cut_off (desk_says g.D.Desk.step g.C.Clock.tick c.args.role) (desk_drops g.D.Desk.step g.C.Clock.tick c.args.role) _ _ _ _ _ _ _ _ _ c.turns.count
+    c.cut_of.result t.0 c.end.result way t.1 (rw c.cut_of.ensures t.2) c.end.ensures.err
 
-pub returns-in-TooLong-clause-said : goal.returns-in-TooLong-clause-said
-returns-in-TooLong-clause-said g c =
-    let way = waits_on _ _ _ _ _ _ c.turns.invariant.answering c.in_ok-flush_unless_more.ensures.ok in
-    let t = rw (c.in-TooLong.is, c.in_ok-flush_unless_more.ensures.input) at c.in_ok-find_line.ensures.taken in
-    ends_cut (desk_says g.D.Desk.step g.C.Clock.tick c.args.role) _ _ _ _ _ _ _ _ _ _ c.turns.count TooLong t.0 way t.1 (t.2, t.3)
-    c.in_ok-put-in-TooLong.ensures.ok
+pub returns-in_default-clause-spent : goal.returns-in_default-clause-spent
+returns-in_default-clause-spent g c = λ is. absurd (write_no_spent c.end.result c.end.ensures.cause is)
 
-pub returns-in_err-put-in-Cut-clause-broken : goal.returns-in_err-put-in-Cut-clause-broken
-returns-in_err-put-in-Cut-clause-broken g c =
-    let way = waits_on _ _ _ _ _ _ c.turns.invariant.answering c.in_ok-flush_unless_more.ensures.ok in
-    let t = rw (c.in-Cut.is, c.in_ok-flush_unless_more.ensures.input) at c.in_ok-find_line.ensures.taken in
-    if_handed _ _ c.from_residual-in_err-put-in-Cut.ensures _
-    (λ _. breaks_cut_off (desk_says g.D.Desk.step g.C.Clock.tick c.args.role) (desk_drops g.D.Desk.step g.C.Clock.tick c.args.role) _ _ _ _ _ _ _ _ _ c.turns.count CutLine
-    t.0 way t.1 (t.2, t.3, t.4) c.in_err-put-in-Cut.ensures.err)
+pub returns-in_default-clause-journal : goal.returns-in_default-clause-journal
+returns-in_default-clause-journal g c = λ is. absurd (write_no_journal c.end.result c.end.ensures.cause is)
 
-pub returns-in-Cut-clause-said : goal.returns-in-Cut-clause-said
-returns-in-Cut-clause-said g c =
-    let way = waits_on _ _ _ _ _ _ c.turns.invariant.answering c.in_ok-flush_unless_more.ensures.ok in
-    let t = rw (c.in-Cut.is, c.in_ok-flush_unless_more.ensures.input) at c.in_ok-find_line.ensures.taken in
-    ends_cut (desk_says g.D.Desk.step g.C.Clock.tick c.args.role) _ _ _ _ _ _ _ _ _ _ c.turns.count CutLine t.0 way t.1 (t.2, t.3, t.4)
-    c.in_ok-put-in-Cut.ensures.ok
+pub returns-in_default-clause-stopped : goal.returns-in_default-clause-stopped
+returns-in_default-clause-stopped g c = write_alone c.end.result _ c.end.ensures.cause
 
 pub turns-preserved : goal.turns-preserved
 turns-preserved g c =
     let way = waits_on _ _ _ _ _ _ c.turns.invariant.answering c.in_ok-flush_unless_more.ensures.ok in
-    let t = rw (c.in-Line.is, c.in_ok-flush_unless_more.ensures.input) at c.in_ok-find_line.ensures.taken in
+    let t = rw (c.in-Line.is, c.in_ok-flush_unless_more.ensures.input) at c.in_ok-found.ensures.taken in
     record {
       answering = waits_more (desk_says g.D.Desk.step g.C.Clock.tick c.args.role) _ _ _ _ _ _ _ _ _ _ _ c.turns.count c.find_line.new.line.items way t.1 t.0
           (rw c.deref.ensures.value at c.in_ok-answer_line-in-Line.ensures.ok);
-      within = omega (arith, c.turns.invariant.within, c.in_ok-flush_unless_more.ensures.left, c.in_ok-find_line.ensures.used, c.in_ok-answer_line-in-Line.ensures.left);
+      within = omega (arith, c.turns.invariant.within, c.in_ok-flush_unless_more.ensures.left, c.in_ok-found.ensures.used, c.in_ok-answer_line-in-Line.ensures.left);
       reads = rw c.in_ok-answer_line-in-Line.ensures.left (rose_left c.args.self.now.left c.turns.self.left c.find_line.new.left (omega (arith, c.turns.invariant.within))
-          (omega (arith, c.in_ok-find_line.ensures.left, c.in_ok-flush_unless_more.ensures.left)) c.turns.invariant.reads
-          (rw (c.in_ok-flush_unless_more.ensures.left, c.in_ok-flush_unless_more.ensures.input) at c.in_ok-find_line.ensures.counted));
+          (omega (arith, c.in_ok-found.ensures.left, c.in_ok-flush_unless_more.ensures.left)) c.turns.invariant.reads
+          (rw (c.in_ok-flush_unless_more.ensures.left, c.in_ok-flush_unless_more.ensures.input) at c.in_ok-found.ensures.counted));
       asked = rw c.in_ok-answer_line-in-Line.ensures.left (rose_left c.args.self.now.left c.turns.self.left c.find_line.new.left (omega (arith, c.turns.invariant.within))
-          (omega (arith, c.in_ok-find_line.ensures.left, c.in_ok-flush_unless_more.ensures.left)) c.turns.invariant.asked
-          (rw (c.in_ok-flush_unless_more.ensures.left, c.in_ok-flush_unless_more.ensures.input) at c.in_ok-find_line.ensures.asked));
-      read = rose_more c.turns.invariant.read (rw c.in_ok-flush_unless_more.ensures.input at c.in_ok-find_line.ensures.failed);
+          (omega (arith, c.in_ok-found.ensures.left, c.in_ok-flush_unless_more.ensures.left)) c.turns.invariant.asked
+          (rw (c.in_ok-flush_unless_more.ensures.left, c.in_ok-flush_unless_more.ensures.input) at c.in_ok-found.ensures.asked));
+      read = rose_more c.turns.invariant.read (rw c.in_ok-flush_unless_more.ensures.input at c.in_ok-found.ensures.failed);
       write = rose_more c.turns.invariant.write (rose_more c.in_ok-flush_unless_more.ensures.failed c.in_ok-answer_line-in-Line.ensures.failed);
     }

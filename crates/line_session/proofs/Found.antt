@@ -1,0 +1,46 @@
+-- Behind the lines: what was found there ends a session.
+use Rattle.std.proofs.Common.{◌≡◌, ◌≢◌, ◌≤◌, ◌-◌, arith, ℕ, List, [], Option, false, Result, Ok, Err, IfErr, refl}
+use Rattle.std.specs.Io.KnownBytes.{Consumes}
+use Rattle.till_request.specs.declared.line.Found.{Found}
+use Rattle.till_request.specs.declared.line.Found.TheVariants.{Line, TooLong, Cut, End}
+use Rattle.till_request.specs.Line.{Finds}
+use Rattle.line_session.specs.declared.answering.SessionFault.{SessionFault}
+use Rattle.line_session.specs.declared.answering.SessionFault.TheVariants as session
+use Rattle.till_request.specs.Count.{RoseBy}
+use Rattle.line_session.specs.Answering.{IsCut, SpendsReads, is_read, session_reads}
+use Rattle.line_session.specs.Found.{cut_by}
+
+pub cut_found : (found : Found) (old now : Option (List ℕ)) (line : List ℕ) → (found ≡ Line → ⊥) → Finds old now line found
+    → (more : List ℕ) × Consumes old now more × IsCut (cut_by found) now more
+cut_found Line old now line other h = absurd (other refl)
+cut_found TooLong old now line other h = (h.0, h.1, (h.2, h.3))
+cut_found Cut old now line other h = (h.0, h.1, (h.2, h.3, h.4))
+cut_found End old now line other h = ([], h.0, (refl, h.1))
+
+-- a fault that is a failed write is none of the others
+module _ {T : Type 0} where
+  pub write_alone : (r : Result T SessionFault) (P : SessionFault → Type 0) → IfErr r (λ e. e ≡ session.Write)
+      → IfErr r (λ e. e ≢ session.Write → P e)
+  write_alone (Ok x) P h = tt
+  write_alone (Err e) P h = λ other. absurd (other h)
+
+  pub write_no_read : (r : Result T SessionFault) → IfErr r (λ e. e ≡ session.Write) → is_read r ≡ false
+  write_no_read (Ok x) h = refl
+  write_no_read (Err session.Read) h = absurd (cc)
+  write_no_read (Err session.Write) h = refl
+  write_no_read (Err session.ReadsSpent) h = absurd (cc)
+  write_no_read (Err session.OutOfMemory) h = absurd (cc)
+  write_no_read (Err session.Journal) h = absurd (cc)
+
+  pub write_no_spent : (r : Result T SessionFault) → IfErr r (λ e. e ≡ session.Write) → r ≡ Err session.ReadsSpent → ⊥
+  write_no_spent (Ok x) h is = absurd (cc)
+  write_no_spent (Err e) h is = absurd (cc)
+
+  pub write_no_journal : (r : Result T SessionFault) → IfErr r (λ e. e ≡ session.Write) → r ≡ Err session.Journal → ⊥
+  write_no_journal (Ok x) h is = absurd (cc)
+  write_no_journal (Err e) h is = absurd (cc)
+
+-- the reads that a session made, by those that are left
+pub spends : {T : Type 0} (r : Result T SessionFault) (left : ℕ) {a b x y : ℕ} → left ≤ session_reads → (r ≡ Err session.ReadsSpent → left ≡ 0)
+    → RoseBy (session_reads - left) a b → RoseBy (session_reads - left) x y → SpendsReads session_reads r a b x y
+spends r left few spent reads asked = (session_reads - left, omega arith, reads, λ e. omega (arith, spent e), asked)

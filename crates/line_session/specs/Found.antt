@@ -1,0 +1,20 @@
+-- Promises: how a session ends behind its lines.
+use Rattle.std.specs.Prelude.{◌≡◌, ℕ, ◌+◌, Option, Some, None}
+use Rattle.till_request.specs.declared.act.LineFault.{LineFault}
+use Rattle.till_request.specs.declared.act.LineFault.TheVariants.{TooLong, CutLine}
+use Rattle.till_request.specs.declared.line.Found.{Found}
+use Rattle.till_request.specs.declared.line.Found.TheVariants as found
+use Rattle.line_session.specs.declared.answering.Ended.{Ended}
+use Rattle.line_session.specs.Answering.{cut_count}
+
+-- what cuts a session behind which this was found, and no line
+abbrev pub cut_by : Found → Option LineFault
+cut_by found.Line = None
+cut_by found.TooLong = Some TooLong
+cut_by found.Cut = Some CutLine
+cut_by found.End = None
+
+-- A session ended so behind this many answers; what cut it was answered too.
+pub record IsEnd (lines : ℕ) (cut : Option LineFault) (ended : Ended) : Type 0 where
+  pub lines_are : ended.lines ≡ lines + cut_count cut
+  pub cut_is : ended.cut ≡ cut
