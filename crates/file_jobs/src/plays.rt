@@ -155,5 +155,12 @@ fn play_script<'a>(
     if let Some(progress) = progress {
         progress.clear();
     }
-    status_of(rt, ended, word, lines, input.input.reader.source.failure(), answers)
+    status_of(
+        rt,
+        ended,
+        word,
+        lines,
+        input.input.reader.source.failure(),
+        answers,
+    )
 }

@@ -48,7 +48,8 @@ impl<'a> Progress<'a> {
         if bytes.is_empty() {
             self.say_end();
         }
-        self.bytes.set(self.bytes.get().wrapping_add(bytes.len() as u64));
+        self.bytes
+            .set(self.bytes.get().wrapping_add(bytes.len() as u64));
         for _ in memchr_iter(b'\n', bytes) {
             self.count_line();
         }

@@ -26,7 +26,10 @@ pub fn settings_and(
     other: &str,
 ) -> Result<(Settings, Source), Stop> {
     if is_input(config) && is_input(other) {
-        tell(rt, &"- is standard input, which is read once: name one of the two files");
+        tell(
+            rt,
+            &"- is standard input, which is read once: name one of the two files",
+        );
         return Err(Stop::Said(USAGE));
     }
     let settings = settings_of(rt, config)?;
