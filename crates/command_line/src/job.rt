@@ -3,7 +3,6 @@ ghost use Rattle.std.specs.Prelude.{◌≡◌};
 
 use bpf_model::context::Layout;
 use std::alloc::AllocError;
-use thiserror::Error;
 
 /// What the words ask for. Files are named as the words name them.
 #[derive(Drop)]
@@ -54,12 +53,10 @@ pub enum Job {
 }
 
 /// Why there is no job.
-#[derive(Debug, Drop, Error)]
+#[derive(Drop)]
 pub enum CommandFault {
     /// The words are no use of the program; the text says how it is used.
-    #[error("{0}")]
     Usage(String),
-    #[error("out of memory")]
     OutOfMemory,
 }
 

@@ -10,11 +10,7 @@ mod script;
 pub use bpf_asm::{AsmFault, AsmFlaw, ProgramFileFault};
 pub use command_line::{CommandFault, Job, command};
 pub use entering::{Entered, enter};
-pub use job_texts::{
-    JournalFlaw, ProgramFlaw, RefusedProgram, Told, asm_file, asm_flaw, audit_entries,
-    audit_journal, dis_file, dis_flaw, dis_units_file, entries_flaw, explain_refusal,
-    journal_fault_line, journal_flaw, verify_file, verify_flaw,
-};
+pub use job_texts::audit_journal;
 pub use line_session::{Ended, READS, SessionFault};
 pub use notices::{NoNotices, PlayNotices};
 pub use player::Player;

@@ -1,10 +1,10 @@
 //! What the program does for its words.
 use crate::kept::{serve_kept, serve_synced};
 use crate::printed::serve_printed;
+use command_line::Job;
 use file_jobs::{
-    DONE, FAILED, Job, Tell, audit_files, play_files, play_input, report_files, say, tell_file,
+    DONE, Stop, Tell, audit_files, play_files, play_input, report_files, say, tell_file,
 };
-use std::io;
 use std::net::{Net, TcpListener, TcpStream};
 use std::sync::Wait;
 use std::thread::Threads;
@@ -16,31 +16,24 @@ use std::time::Clock;
 pub fn do_job<H: Net<Listener = TcpListener, Stream = TcpStream> + Threads + Wait + Clock + Sync>(
     rt: &HostRuntime,
     host: &H,
-    job: Job,
-) -> u8 {
-    let done = match job {
+    job: &Job,
+) -> Result<u8, Stop> {
+    match job {
         Job::NoWords => play_input(rt),
-        Job::Show(text) => Ok(say(rt, &text, DONE)),
-        Job::Asm(file) => tell_file(rt, &file, Tell::Asm),
-        Job::Dis(file) => tell_file(rt, &file, Tell::Dis),
-        Job::DisUnits(file) => tell_file(rt, &file, Tell::DisUnits),
+        Job::Show(text) => Ok(say(rt, text, DONE)),
+        Job::Asm(file) => tell_file(rt, file, Tell::Asm),
+        Job::Dis(file) => tell_file(rt, file, Tell::Dis),
+        Job::DisUnits(file) => tell_file(rt, file, Tell::DisUnits),
         Job::Verify {
             counters,
             context,
             file,
-        } => tell_file(rt, &file, Tell::Verify(counters, context)),
-        Job::Play { config, script } => play_files(rt, &config, &script),
-        Job::Audit { config, journal } => audit_files(rt, &config, &journal),
-        Job::Report { config, journal } => report_files(rt, &config, &journal),
-        Job::Serve(config) => serve_printed(rt, host, &config),
-        Job::ServeKept { config, journal } => serve_kept(rt, host, &config, &journal),
-        Job::ServeSynced { config, journal } => serve_synced(rt, host, &config, &journal),
-    };
-    match done {
-        Ok(status) => status,
-        Err(error) => {
-            let _ = eprintln!(rt; "fc: {error}");
-            FAILED
-        }
+        } => tell_file(rt, file, Tell::Verify(*counters, *context)),
+        Job::Play { config, script } => play_files(rt, config, script),
+        Job::Audit { config, journal } => audit_files(rt, config, journal),
+        Job::Report { config, journal } => report_files(rt, config, journal),
+        Job::Serve(config) => serve_printed(rt, host, config),
+        Job::ServeKept { config, journal } => serve_kept(rt, host, config, journal),
+        Job::ServeSynced { config, journal } => serve_synced(rt, host, config, journal),
     }
 }

@@ -9,42 +9,54 @@ mod operator;
 mod printed;
 mod serve;
 
-use file_jobs::{CommandFault, Job, USAGE, command, out_of_memory};
+use command_line::{CommandFault, Job, command};
+use file_jobs::{FAILED, Stop, USAGE, out_of_memory, tell};
 use jobs::do_job;
 use std::io::{self, ErrorKind};
 use std::process::ExitCode;
 
 /// The words of the command line, the program's name first.
 fn words_of(rt: &HostRuntime) -> io::Result<Vec<String>> {
-    std::env::args(rt)?
-        .collect(rt.alloc())
-        .map_err(io::Error::from)
+    let words = std::env::args(rt)?.collect(rt.alloc())?;
+    Ok(words)
 }
 
-/// What the words ask for, or the exit status where they ask for nothing.
-fn job_of(rt: &HostRuntime) -> Result<Job, u8> {
+/// What the words ask for.
+fn job_of(rt: &HostRuntime) -> Result<Job, Stop> {
     let words = match words_of(rt) {
         Ok(words) => words,
-        Err(error) if error.kind() == ErrorKind::OutOfMemory => return Err(out_of_memory(rt)),
+        Err(error) if error.kind() == ErrorKind::OutOfMemory => return Err(Stop::Failed(error)),
         // The only other cause.
         Err(_) => {
-            let _ = eprintln!(rt; "fc: the words are not text; see fc --help");
-            return Err(USAGE);
+            tell(rt, &"the words are not text; see fc --help");
+            return Err(Stop::Said(USAGE));
         }
     };
     match command(rt.alloc(), words) {
         Ok(job) => Ok(job),
         Err(CommandFault::Usage(text)) => {
             let _ = eprint!(rt; "{text}");
-            Err(USAGE)
+            Err(Stop::Said(USAGE))
         }
-        Err(CommandFault::OutOfMemory) => Err(out_of_memory(rt)),
+        Err(CommandFault::OutOfMemory) => Err(Stop::Said(out_of_memory(rt))),
+    }
+}
+
+/// The exit status of a job that was done, or that stopped.
+fn status_of(rt: &HostRuntime, done: Result<u8, Stop>) -> u8 {
+    match done {
+        Ok(status) | Err(Stop::Said(status)) => status,
+        Err(Stop::Failed(error)) => {
+            tell(rt, &error);
+            FAILED
+        }
     }
 }
 
 fn main(rt: HostRuntime) -> ExitCode {
-    ExitCode::from(match job_of(&rt) {
-        Ok(job) => do_job(&rt, &rt, job),
-        Err(status) => status,
-    })
+    let done = match job_of(&rt) {
+        Ok(job) => do_job(&rt, &rt, &job),
+        Err(stop) => Err(stop),
+    };
+    ExitCode::from(status_of(&rt, done))
 }

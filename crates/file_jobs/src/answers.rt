@@ -20,9 +20,9 @@ pub struct Answers<'a> {
 impl<'a> Answers<'a> {
     /// None waits yet.
     pub fn new(rt: &'a HostRuntime) -> io::Result<Answers<'a>> {
-        let outlet = Outlet::new(io::writer(rt));
+        let waiting = BufWriter::new(rt.alloc(), Outlet::new(io::writer(rt)))?;
         Ok(Answers {
-            waiting: RefCell::new(BufWriter::new(rt.alloc(), outlet)?),
+            waiting: RefCell::new(waiting),
         })
     }
 
@@ -90,7 +90,7 @@ pub struct Incoming<'a, 'b, 'c> {
     pub source: Source,
     pub answers: &'b Answers<'a>,
     /// How far it is, if that is shown.
-    pub progress: Option<&'c RefCell<Progress<'a>>>,
+    pub progress: Option<&'c Progress<'a>>,
 }
 
 impl Read for Incoming<'_, '_, '_> {
@@ -100,9 +100,7 @@ impl Read for Incoming<'_, '_, '_> {
             return Ok(0);
         }
         let count = self.source.read(buf)?;
-        if let Some(progress) = self.progress
-            && let Ok(mut progress) = progress.try_borrow_mut()
-        {
+        if let Some(progress) = self.progress {
             progress.see(&buf[..count]);
         }
         Ok(count)

@@ -1,63 +1,54 @@
 //! Audits of a journal.
-use crate::faults::{Place, cannot_read, complain, out_of_memory, say, tell_journal};
-use crate::files::Source;
-use crate::progress::{Progress, Watched};
+use crate::faults::{Place, complain, out_of_memory, say, tell_journal};
+use crate::files::{Source, source_of, stream};
+use crate::progress::{Watched, watch};
 use crate::settings::settings_and;
 use crate::statuses::{FAILED, REFUSED};
-use console::{JournalFlaw, audit_journal, journal_fault_line, journal_flaw};
+use crate::stop::Stop;
 use decision_journal::JournalFault;
+use job_texts::{JournalFlaw, Told, audit_journal, journal_fault_line, journal_flaw};
 use site_core::Config;
 use std::io;
 use till_request::devices::StreamIn;
 
 /// Audits a journal against a configuration, both files that words name, and answers the exit status.
-pub fn audit_files(rt: &HostRuntime, config: &str, journal: &str) -> io::Result<u8> {
-    let (settings, source) = match settings_and(rt, config, journal)? {
-        Ok(both) => both,
-        Err(status) => return Ok(status),
-    };
-    let again = settings.config.copied(rt.alloc())?;
+pub fn audit_files(rt: &HostRuntime, config: &str, journal: &str) -> Result<u8, Stop> {
+    let (settings, source) = settings_and(rt, config, journal)?;
     let size = source.size();
-    let mut input = Watched {
-        input: StreamIn {
-            reader: source,
-            reads: 0,
-            failures: 0,
-            asked: 0,
-        },
-        progress: Progress::new(rt, true, size),
-    };
-    let told = audit_journal(rt.alloc(), settings.config, &mut input);
+    let told = audited(rt, &settings.config, journal, watch(rt, source, size))?;
+    // Only a file can be read once more.
+    if told.status == REFUSED && size.is_some() {
+        explain_journal(rt, journal, settings.config);
+    }
+    Ok(say(rt, &told.text, told.status))
+}
+
+/// What the audit of a journal says.
+fn audited(
+    rt: &HostRuntime,
+    config: &Config,
+    journal: &str,
+    mut input: Watched<'_, StreamIn<Source>>,
+) -> Result<Told, Stop> {
+    let told = audit_journal(rt.alloc(), config.copied(rt.alloc())?, &mut input);
     input.progress.clear();
     match told {
-        Ok(told) => {
-            // Only a file can be read once more.
-            if told.status == REFUSED && size.is_some() {
-                explain_journal(rt, journal, again);
-            }
-            Ok(say(rt, &told.text, told.status))
-        }
-        Err(fault) => tell_journal_fault(rt, journal, fault, input.input.reader.failure()),
+        Ok(told) => Ok(told),
+        Err(fault) => Err(tell_journal_fault(rt, journal, fault, input.input.reader.failure())),
     }
 }
 
 /// Says why a journal is refused, which is read once more for that. Where it can't be, that is said: refused it is all
 /// the same.
 fn explain_journal(rt: &HostRuntime, word: &str, config: Config) {
-    let reader = match Source::open(rt, word) {
-        Ok(source) => source,
-        Err(error) => {
-            cannot_read(rt, word, &error);
-            return;
-        }
-    };
-    let mut input = StreamIn {
-        reader,
-        reads: 0,
-        failures: 0,
-        asked: 0,
-    };
-    match journal_flaw(rt.alloc(), config, &mut input) {
+    if let Ok(source) = source_of(rt, word) {
+        explain_source(rt, word, config, &mut stream(source));
+    }
+}
+
+/// The same of the journal that is read from here.
+fn explain_source(rt: &HostRuntime, word: &str, config: Config, input: &mut StreamIn<Source>) {
+    match journal_flaw(rt.alloc(), config, input) {
         Ok(Some((line, flaw))) => tell_journal(rt, word, line, &flaw),
         // It was changed meanwhile.
         Ok(None) => (),
@@ -80,16 +71,17 @@ fn tell_unread(rt: &HostRuntime, word: &str, fault: JournalFault, failure: Optio
     }
 }
 
-/// Says why a journal can't be read, and answers the status; a text that is none has its line on standard output too.
+/// Says why a journal can't be read; a text that is none has its line on standard output too.
 pub fn tell_journal_fault(
     rt: &HostRuntime,
     word: &str,
     fault: JournalFault,
     failure: Option<&io::Error>,
-) -> io::Result<u8> {
+) -> Stop {
     tell_unread(rt, word, fault, failure);
-    match journal_fault_line(rt.alloc(), fault)? {
-        Some(told) => Ok(say(rt, &told.text, told.status)),
-        None => Ok(FAILED),
+    match journal_fault_line(rt.alloc(), fault) {
+        Ok(Some(told)) => Stop::Said(say(rt, &told.text, told.status)),
+        Ok(None) => Stop::Said(FAILED),
+        Err(refused) => Stop::from(refused),
     }
 }

@@ -2,10 +2,9 @@
 //! place. Whether anybody reads it changes no exit status.
 use crate::files::name_of;
 use crate::statuses::{FAILED, REFUSED};
-use console::{
-    AsmFault, ConfigFault, ConfigFlaw, JournalFlaw, ProgramFileFault, ProgramFlaw, asm_flaw,
-};
+use console::{AsmFault, AsmFlaw, ConfigFault, ConfigFlaw, ProgramFileFault};
 use decision_journal::JournalFault;
+use job_texts::{JournalFlaw, ProgramFlaw, asm_flaw};
 use std::alloc::AllocError;
 use std::fmt::{self, Display};
 use std::io::{self, ErrorKind};
@@ -66,6 +65,16 @@ impl Display for Place<'_> {
     }
 }
 
+/// Says a line of words.
+pub fn tell<D: Display>(rt: &HostRuntime, words: &D) {
+    let _ = eprintln!(rt; "fc: {words}");
+}
+
+/// Says it of a place.
+pub fn tell_at<D: Display>(rt: &HostRuntime, place: Place<'_>, words: &D) {
+    let _ = eprintln!(rt; "fc: {place}: {words}");
+}
+
 /// Says what is wrong at a place, with the fault's number.
 pub fn complain<D: Display>(rt: &HostRuntime, place: Place<'_>, words: &D, code: &str) {
     let _ = eprintln!(rt; "fc: {place}: {words} ({code})");
@@ -119,14 +128,13 @@ pub fn cannot_read(rt: &HostRuntime, word: &str, error: &io::Error) -> u8 {
     if error.kind() == ErrorKind::OutOfMemory && error.raw_os_error().is_none() {
         return out_of_memory(rt);
     }
-    let place = Place::of(word);
-    let _ = eprintln!(rt; "fc: {place}: {error}");
+    tell_at(rt, Place::of(word), error);
     FAILED
 }
 
 /// Says that memory was refused.
 fn tell_want(rt: &HostRuntime) {
-    let _ = eprintln!(rt; "fc: out of memory");
+    tell(rt, &"out of memory");
 }
 
 /// Says that memory was refused, and answers the status.
@@ -167,17 +175,27 @@ pub fn tell_program(rt: &HostRuntime, word: &str, flaw: &ProgramFlaw) {
 
 /// Says why a text of the assembler is refused, if it is.
 pub fn tell_text(rt: &HostRuntime, word: &str, text: &[u8]) -> Result<(), AllocError> {
-    let Some((fault, flaw)) = asm_flaw(rt.alloc(), text)? else {
-        return Ok(());
-    };
+    match asm_flaw(rt.alloc(), text)? {
+        Some((fault, flaw)) => tell_asm(rt, Place::of(word), fault, &flaw),
+        None => Ok(()),
+    }
+}
+
+/// Says what is wrong with a text of the assembler.
+fn tell_asm(
+    rt: &HostRuntime,
+    text: Place<'_>,
+    fault: AsmFault,
+    flaw: &AsmFlaw<'_>,
+) -> Result<(), AllocError> {
     let (place, code) = match fault {
-        AsmFault::BadLine(line) => (Place::of(word).line(line), "A1"),
-        AsmFault::BadLabel(line) => (Place::of(word).line(line), "A2"),
-        AsmFault::OutOfRange(line) => (Place::of(word).line(line), "A3"),
-        AsmFault::Length => (Place::of(word), "A4"),
+        AsmFault::BadLine(line) => (text.line(line), "A1"),
+        AsmFault::BadLabel(line) => (text.line(line), "A2"),
+        AsmFault::OutOfRange(line) => (text.line(line), "A3"),
+        AsmFault::Length => (text, "A4"),
         AsmFault::OutOfMemory => return Err(AllocError),
     };
-    complain(rt, place, &flaw, code);
+    complain(rt, place, flaw, code);
     Ok(())
 }
 

@@ -13,10 +13,14 @@ mod refused_loads;
 mod report;
 mod settings;
 mod statuses;
+mod stop;
 
 pub use audits::audit_files;
-pub use console::{CommandFault, Job, Serve, Settings, command};
-pub use faults::{Place, cannot_read, complain, out_of_memory, refuse, say, tell_loss};
+pub use console::{Serve, Settings};
+pub use faults::{
+    Place, cannot_read, complain, once_printed, out_of_memory, refuse, say, tell, tell_at,
+    tell_loss,
+};
 pub use files::{Outlet, is_input};
 pub use kept::{Kept, open_journal};
 pub use plays::{play_files, play_input};
@@ -24,3 +28,4 @@ pub use programs::{Tell, tell_file};
 pub use report::report_files;
 pub use settings::settings_of;
 pub use statuses::{DONE, FAILED, REFUSED, USAGE};
+pub use stop::Stop;

@@ -2,135 +2,119 @@
 ghost use Rattle.std.specs.Prelude.{◌≤◌};
 
 use crate::answers::{Answers, Incoming, Outgoing};
-use crate::faults::{Place, complain, out_of_memory, refuse_config, refuse_length, tell_cut};
-use crate::files::{Source, name_of};
+use crate::faults::{Place, complain, out_of_memory, refuse_length, tell, tell_cut};
+use crate::files::{Source, name_of, stream};
 use crate::progress::Progress;
 use crate::refused_loads::RefusedLoads;
-use crate::settings::settings_and;
+use crate::settings::{settings_and, settings_in};
 use crate::statuses::{DONE, FAILED, REFUSED};
-use console::{
-    Ended, READS, SessionFault, Settings, config_part, play_within, read_head, read_settings,
-};
-use std::cell::RefCell;
+use crate::stop::Stop;
+use console::{Ended, READS, SessionFault, Settings, config_part, play_within, read_head};
+use site_core::Config;
 use std::io::{self, IsTerminal};
 use till_request::devices::{Ahead, StreamIn, StreamOut};
 
-/// The status of a play of the script that a word names, whose first line has this number, by how it ended; what cut
-/// it off is said on standard error, with the failures of its devices.
+/// What is said to who types the input.
+const AWAITED: &str =
+    "reading a configuration, a line --- and a script from standard input; fc --help tells more";
+
+/// A script, whose bytes are taken one by one and read in blocks.
+type Script<'a, 'b, 'c> = Ahead<StreamIn<Incoming<'a, 'b, 'c>>>;
+
+/// The status of a play of the script that a word names, before which there are `lines` lines, by how it ended; what
+/// cut it off is said on standard error, with the failures of its devices.
 fn status_of(
     rt: &HostRuntime,
     ended: Result<Ended, SessionFault>,
     word: &str,
-    first: u64,
+    lines: u64,
     read: Option<&io::Error>,
     answers: &Answers<'_>,
 ) -> u8 {
-    let place = Place::of(word);
     match ended {
-        Ok(
-            Ended {
-                lines: _,
-                cut: None,
-            },
-        ) => return DONE,
-        Ok(
-            Ended {
-                lines,
-                cut: Some(fault),
-            },
-        ) => {
-            let line = first.saturating_add(lines).saturating_sub(1);
-            tell_cut(rt, word, line, fault);
-            return REFUSED;
-        }
-        Err(SessionFault::Read) => match read {
-            Some(error) => complain(rt, place, error, "N1"),
-            None => complain(rt, place, &SessionFault::Read, "N1"),
+        Ok(ended) => match ended.cut {
+            None => DONE,
+            Some(fault) => {
+                tell_cut(rt, word, lines.saturating_add(ended.lines), fault);
+                REFUSED
+            }
         },
-        Err(SessionFault::Write) => answers.tell_failure(rt),
-        Err(SessionFault::ReadsSpent) => complain(rt, place, &SessionFault::ReadsSpent, "N3"),
-        Err(SessionFault::OutOfMemory) => return out_of_memory(rt),
-        // A play keeps no journal.
-        Err(SessionFault::Journal) => answers.tell_failure(rt),
+        Err(SessionFault::OutOfMemory) => out_of_memory(rt),
+        Err(fault) => {
+            tell_broken(rt, word, fault, read, answers);
+            FAILED
+        }
     }
-    FAILED
+}
+
+/// Says which device broke a play off, with its failure.
+fn tell_broken(
+    rt: &HostRuntime,
+    word: &str,
+    fault: SessionFault,
+    read: Option<&io::Error>,
+    answers: &Answers<'_>,
+) {
+    let place = Place::of(word);
+    match (fault, read) {
+        (SessionFault::Read, Some(error)) => complain(rt, place, error, "N1"),
+        (SessionFault::Read, None) => complain(rt, place, &fault, "N1"),
+        (SessionFault::ReadsSpent, _) => complain(rt, place, &fault, "N3"),
+        // A play keeps no journal, and want of memory is no device's.
+        (SessionFault::Write | SessionFault::Journal | SessionFault::OutOfMemory, _) => {
+            answers.tell_failure(rt);
+        }
+    }
 }
 
 /// Plays the script of standard input against a site of the configuration before it, and answers the exit status.
-pub fn play_input(rt: &HostRuntime) -> io::Result<u8> {
+pub fn play_input(rt: &HostRuntime) -> Result<u8, Stop> {
     if rt.stdin().is_terminal() {
-        let _ = eprintln!(rt;
-            "fc: reading a configuration, a line --- and a script from standard input; fc --help tells more"
-        );
+        tell(rt, &AWAITED);
     }
     let answers = Answers::new(rt)?;
-    let incoming = Incoming {
-        source: Source::input(rt),
-        answers: &answers,
-        progress: None,
-    };
-    let mut input = ahead(incoming);
-    let mut left = READS;
-    let head = match read_head(rt.alloc(), &mut input, &mut left) {
-        Ok(head) => head,
-        Err(fault) => {
-            let (ended, read) = (
-                Err(SessionFault::from(fault)),
-                input.input.reader.source.failure(),
-            );
-            return Ok(status_of(rt, ended, "-", 1, read, &answers));
-        }
-    };
-    let Some(text) = config_part(&head) else {
-        return Ok(refuse_length(rt, "-"));
-    };
-    let settings = match read_settings(rt.alloc(), text) {
-        Ok(settings) => settings,
-        Err(flaw) => return Ok(refuse_config(rt, "-", &flaw)),
-    };
-    play_rest(rt, settings, input, &answers, lines_in(&head), left)
+    play_both(rt, &mut script_of(Source::input(rt), &answers, None))
 }
 
-/// A script, whose bytes are taken one by one and read in blocks.
-fn ahead<'a, 'b, 'c>(incoming: Incoming<'a, 'b, 'c>) -> Ahead<StreamIn<Incoming<'a, 'b, 'c>>> {
-    Ahead::new(StreamIn {
-        reader: incoming,
-        reads: 0,
-        failures: 0,
-        asked: 0,
-    })
+/// Plays a script that comes behind its configuration.
+fn play_both<'a>(rt: &'a HostRuntime, input: &mut Script<'a, '_, '_>) -> Result<u8, Stop> {
+    let mut left = READS;
+    match read_head(rt.alloc(), input, &mut left) {
+        Ok(head) => {
+            let settings = settings_before(rt, &head)?;
+            Ok(play_script(rt, settings.config, "-", lines_in(&head), input, left))
+        }
+        Err(fault) => {
+            let incoming = &input.input.reader;
+            let (ended, read) = (Err(SessionFault::from(fault)), incoming.source.failure());
+            Ok(status_of(rt, ended, "-", 0, read, incoming.answers))
+        }
+    }
+}
+
+/// The settings that stand before a script.
+fn settings_before(rt: &HostRuntime, head: &[u8]) -> Result<Settings, Stop> {
+    match config_part(head) {
+        Some(text) => settings_in(rt, "-", text),
+        None => Err(Stop::Said(refuse_length(rt, "-"))),
+    }
+}
+
+fn script_of<'a, 'b, 'c>(
+    source: Source,
+    answers: &'b Answers<'a>,
+    progress: Option<&'c Progress<'a>>,
+) -> Script<'a, 'b, 'c> {
+    Ahead::new(stream(Incoming {
+        source,
+        answers,
+        progress,
+    }))
 }
 
 /// How many lines end in these bytes.
 fn lines_in(bytes: &[u8]) -> u64 {
     bytes.iter().filter(|byte| **byte == b'\n').count() as u64
-}
-
-/// Plays the script after a configuration of this many lines.
-fn play_rest(
-    rt: &HostRuntime,
-    settings: Settings,
-    input: Ahead<StreamIn<Incoming<'_, '_, '_>>>,
-    answers: &Answers<'_>,
-    lines: u64,
-    mut left: u32,
-) -> io::Result<u8>
-    requires { left ≤ READS }
-{
-    let mut input = input;
-    let notices = RefusedLoads::new(rt, name_of("-"), lines, None);
-    let mut output = outlet(answers);
-    let ended = play_within(
-        rt.alloc(),
-        settings.config,
-        &mut input,
-        &mut output,
-        &notices,
-        &mut left,
-    );
-    let ended = answers.end(ended);
-    let read = input.input.reader.source.failure();
-    Ok(status_of(rt, ended, "-", lines.saturating_add(1), read, answers))
 }
 
 /// Standard output, where answers wait for the next read.
@@ -142,48 +126,41 @@ fn outlet<'a, 'b>(answers: &'b Answers<'a>) -> StreamOut<Outgoing<'a, 'b>> {
 }
 
 /// Plays a script against a site of a configuration, both files that words name, and answers the exit status.
-pub fn play_files(rt: &HostRuntime, config: &str, script: &str) -> io::Result<u8> {
-    let (settings, source) = match settings_and(rt, config, script)? {
-        Ok(both) => both,
-        Err(status) => return Ok(status),
-    };
+pub fn play_files(rt: &HostRuntime, config: &str, script: &str) -> Result<u8, Stop> {
     let answers = Answers::new(rt)?;
-    play_script(rt, settings, source, script, &answers)
-}
-
-/// The script that a word names.
-fn play_script<'a>(
-    rt: &'a HostRuntime,
-    settings: Settings,
-    source: Source,
-    script: &'a str,
-    answers: &Answers<'a>,
-) -> io::Result<u8> {
+    let (settings, source) = settings_and(rt, config, script)?;
     // On a terminal the answers themselves show how far it is.
     let is_silent = !rt.stdout().is_terminal();
-    let progress = RefCell::new(Progress::new(rt, is_silent, source.size()));
-    let shown = Some(&progress);
-    let notices = RefusedLoads::new(rt, name_of(script), 0, shown);
-    let incoming = Incoming {
-        source,
-        answers,
-        progress: shown,
-    };
-    let mut input = ahead(incoming);
+    let progress = Progress::new(rt, is_silent, source.size());
+    let mut input = script_of(source, &answers, Some(&progress));
+    Ok(play_script(rt, settings.config, script, 0, &mut input, READS))
+}
+
+/// Plays the script that a word names, before which there are `lines` lines, and answers the exit status.
+fn play_script<'a>(
+    rt: &'a HostRuntime,
+    config: Config,
+    word: &'a str,
+    lines: u64,
+    input: &mut Script<'a, '_, '_>,
+    mut left: u32,
+) -> u8
+    requires { left ≤ READS }
+{
+    let (answers, progress) = (input.input.reader.answers, input.input.reader.progress);
+    let notices = RefusedLoads::new(rt, name_of(word), lines, progress);
     let mut output = outlet(answers);
-    let mut left = READS;
-    let ended = play_within(
-        rt.alloc(),
-        settings.config,
-        &mut input,
-        &mut output,
-        &notices,
-        &mut left,
-    );
+    let ended = play_within(rt.alloc(), config, input, &mut output, &notices, &mut left);
     let ended = answers.end(ended);
-    if let Ok(mut progress) = progress.try_borrow_mut() {
+    if let Some(progress) = progress {
         progress.clear();
     }
-    let read = input.input.reader.source.failure();
-    Ok(status_of(rt, ended, script, 1, read, answers))
+    status_of(
+        rt,
+        ended,
+        word,
+        lines,
+        input.input.reader.source.failure(),
+        answers,
+    )
 }

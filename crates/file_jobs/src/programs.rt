@@ -1,10 +1,13 @@
 //! What the program says of one file: a rule's text or its units.
-use crate::faults::{cannot_read, refuse_length, say, tell_program, tell_text};
-use crate::files::{Text, read_file};
+use crate::faults::{say, tell_program, tell_text};
+use crate::files::text_of;
 use crate::statuses::REFUSED;
+use crate::stop::Stop;
 use bpf_model::context::Layout;
-use console::{MOST_BYTES, asm_file, dis_file, dis_flaw, dis_units_file, verify_file, verify_flaw};
-use std::io;
+use job_texts::{
+    ProgramFlaw, Told, asm_file, dis_file, dis_flaw, dis_units_file, verify_file, verify_flaw,
+};
+use std::alloc::{AllocError, Global};
 
 /// What is printed of one file.
 #[derive(Clone, Copy)]
@@ -16,36 +19,45 @@ pub enum Tell {
 }
 
 /// Says it of the file that a word names, and answers the exit status. Why a file is refused is said on standard error.
-pub fn tell_file(rt: &HostRuntime, word: &str, tell: Tell) -> io::Result<u8> {
-    let text = match read_file(rt, word, MOST_BYTES) {
-        Ok(Text::Bytes(bytes)) => bytes,
-        Ok(Text::TooLong) => return Ok(refuse_length(rt, word)),
-        Err(error) => return Ok(cannot_read(rt, word, &error)),
-    };
-    let told = match tell {
-        Tell::Asm => asm_file(rt.alloc(), &text)?,
-        Tell::Dis => dis_file(rt.alloc(), &text)?,
-        Tell::DisUnits => dis_units_file(rt.alloc(), &text)?,
-        Tell::Verify(counters, context) => verify_file(rt.alloc(), &text, counters, context)?,
-    };
+pub fn tell_file(rt: &HostRuntime, word: &str, tell: Tell) -> Result<u8, Stop> {
+    let text = text_of(rt, word)?;
+    tell_bytes(rt, word, tell, &text)
+}
+
+/// The same of the bytes that the file has.
+fn tell_bytes(rt: &HostRuntime, word: &str, tell: Tell, text: &[u8]) -> Result<u8, Stop> {
+    let told = told_of(rt.alloc(), tell, text)?;
     if told.status == REFUSED {
-        explain(rt, word, tell, &text)?;
+        explain(rt, word, tell, text)?;
     }
     Ok(say(rt, &told.text, told.status))
 }
 
+/// What is printed of the bytes of a file.
+fn told_of(alloc: Global, tell: Tell, text: &[u8]) -> Result<Told, AllocError> {
+    match tell {
+        Tell::Asm => asm_file(alloc, text),
+        Tell::Dis => dis_file(alloc, text),
+        Tell::DisUnits => dis_units_file(alloc, text),
+        Tell::Verify(counters, context) => verify_file(alloc, text, counters, context),
+    }
+}
+
 /// Says why a file is refused.
-fn explain(rt: &HostRuntime, word: &str, tell: Tell, text: &[u8]) -> io::Result<()> {
-    let flaw = match tell {
-        Tell::Asm => {
-            tell_text(rt, word, text)?;
-            None
-        }
-        Tell::Dis | Tell::DisUnits => dis_flaw(rt.alloc(), text)?,
-        Tell::Verify(counters, context) => verify_flaw(rt.alloc(), text, counters, context)?,
-    };
-    if let Some(flaw) = flaw {
+fn explain(rt: &HostRuntime, word: &str, tell: Tell, text: &[u8]) -> Result<(), AllocError> {
+    if let Tell::Asm = tell {
+        return tell_text(rt, word, text);
+    }
+    if let Some(flaw) = flaw_of(rt.alloc(), tell, text)? {
         tell_program(rt, word, &flaw);
     }
     Ok(())
+}
+
+/// Why the bytes of a file are no program that is accepted.
+fn flaw_of(alloc: Global, tell: Tell, text: &[u8]) -> Result<Option<ProgramFlaw>, AllocError> {
+    match tell {
+        Tell::Asm | Tell::Dis | Tell::DisUnits => dis_flaw(alloc, text),
+        Tell::Verify(counters, context) => verify_flaw(alloc, text, counters, context),
+    }
 }

@@ -1,9 +1,10 @@
 //! Why the program of a script's load is refused, in words on standard error. The answer is the V line in any case.
 use crate::progress::Progress;
-use console::{PlayNotices, explain_refusal};
+use console::PlayNotices;
+use job_texts::explain_refusal;
 use reg_types::Refusal;
 use std::alloc::AllocError;
-use std::cell::{Cell, RefCell};
+use std::cell::Cell;
 use till_request::Act;
 
 /// Says on standard error why a load is refused, with the number of its line.
@@ -14,7 +15,7 @@ pub struct RefusedLoads<'a, 'b> {
     /// How many lines have begun, those before the script too.
     lines: Cell<u64>,
     /// The line on standard error that has to make room, if there is one.
-    progress: Option<&'b RefCell<Progress<'a>>>,
+    progress: Option<&'b Progress<'a>>,
 }
 
 impl<'a, 'b> RefusedLoads<'a, 'b> {
@@ -23,7 +24,7 @@ impl<'a, 'b> RefusedLoads<'a, 'b> {
         rt: &'a HostRuntime,
         name: &'a str,
         lines: u64,
-        progress: Option<&'b RefCell<Progress<'a>>>,
+        progress: Option<&'b Progress<'a>>,
     ) -> Self {
         RefusedLoads {
             rt,
@@ -38,9 +39,7 @@ impl<'a, 'b> RefusedLoads<'a, 'b> {
             return Ok(());
         };
         let refused = explain_refusal(self.rt.alloc(), bytes.as_slice(), refusal)?;
-        if let Some(progress) = self.progress
-            && let Ok(mut progress) = progress.try_borrow_mut()
-        {
+        if let Some(progress) = self.progress {
             progress.clear();
         }
         let (name, line, number) = (self.name, self.lines.get(), refused.number());

@@ -1,0 +1,24 @@
+//! Why a job ends before it is done.
+use std::alloc::AllocError;
+use std::io;
+
+/// Why a job ends before it is done.
+#[derive(Clone, Copy, Drop)]
+pub enum Stop {
+    /// What is wrong was said, and this is the exit status.
+    Said(u8),
+    /// A call failed, of which nothing was said.
+    Failed(io::Error),
+}
+
+impl From<io::Error> for Stop {
+    fn from(error: io::Error) -> Self {
+        Stop::Failed(error)
+    }
+}
+
+impl From<AllocError> for Stop {
+    fn from(refused: AllocError) -> Self {
+        Stop::Failed(io::Error::from(refused))
+    }
+}
