@@ -238,7 +238,7 @@ fn judged(alloc: Global, bytes: &[u8]) -> Option<Verdict> {
     }
 }
 
-fn tally(alloc: Global) -> Result<Tally, AllocError> {
+fn tallied(alloc: Global) -> Result<Tally, AllocError> {
     let mut numbers = Numbers { state: 20_261_122 };
     let mut tally = Tally {
         decoded: 0,
@@ -255,7 +255,7 @@ fn tally(alloc: Global) -> Result<Tally, AllocError> {
 
 #[test]
 fn random_programs(rt: HostRuntime) -> Result<(), Fail> {
-    let tally = tally(rt.alloc())?;
+    let tally = tallied(rt.alloc())?;
     assert!(rt; tally.unnumbered == 0, "{} without a number", tally.unnumbered);
     assert!(rt; tally.decoded >= 3_334, "{} passed the decoder", tally.decoded);
     assert!(rt; tally.accepted >= 300, "{} were accepted", tally.accepted);

@@ -1,9 +1,7 @@
 //! Serving over loopback: the peers are a thread of the test.
 use line_session::Doors;
 use site_core::{Config, Site};
-use site_server::{
-    AtOnce, Crew, Listeners, NoJournal, Notices, Serving, SessionFailure, TcpDoors,
-};
+use site_server::{AtOnce, Crew, Listeners, NoJournal, Notices, Serving, SessionFailure, TcpDoors};
 use std::alloc::Global;
 use std::io;
 use std::io::{BufRead, BufReader, Write};

@@ -35,8 +35,8 @@ const ONE: Rule = Rule {
 /// It adds one to counter 0, where its bound allows, and answers 1, or else 0.
 const COUNTED: Rule = Rule {
     bytes: &[
-        0xb7, 1, 0, 0, 0, 0, 0, 0, 0xb7, 2, 0, 0, 1, 0, 0, 0, 0x85, 0, 0, 0, 2, 0, 0, 0, 0x95, 0, 0,
-        0, 0, 0, 0, 0,
+        0xb7, 1, 0, 0, 0, 0, 0, 0, 0xb7, 2, 0, 0, 1, 0, 0, 0, 0x85, 0, 0, 0, 2, 0, 0, 0, 0x95, 0,
+        0, 0, 0, 0, 0, 0,
     ],
     mask: 1,
     layout: Layout::One,
@@ -79,7 +79,10 @@ const ROWS: [Row; 8] = [
     Row {
         before: OPENED,
         asked: RELEASE,
-        between: &[Does::Load(1, ASKED), Does::Till(2, Request::Preset(1, 3000))],
+        between: &[
+            Does::Load(1, ASKED),
+            Does::Till(2, Request::Preset(1, 3000)),
+        ],
         told: Ok((5, Reply::Granted(3000, 1))),
     },
     Row {
