@@ -1,5 +1,4 @@
 //! Programs at random, from a fixed seed: each is refused by a number, or runs to a number.
-
 use counters::Counters;
 use helpers::{PointView, View};
 use interp::{Context, Layout, run};
@@ -32,7 +31,7 @@ impl Numbers {
 }
 
 /// What becomes of some bytes.
-#[derive(Drop)]
+#[derive(Clone, Copy)]
 enum Verdict {
     /// V and this number.
     Refused(u32),
@@ -40,66 +39,151 @@ enum Verdict {
     Answered(u64),
 }
 
-/// The opcodes of arithmetic, jumps, loads and stores by what else their units hold.
-const IMMEDIATE: [u8; 27] = [
-    0x04, 0x07, 0x14, 0x17, 0x24, 0x27, 0x34, 0x37, 0x44, 0x47, 0x54, 0x57, 0x64, 0x67, 0x74, 0x77,
-    0x94, 0x97, 0xa4, 0xa7, 0xb4, 0xb7, 0xc4, 0xc7, 0xb7, 0xb7, 0xb7,
-];
+/// What became of programs: how many passed the decoder, how many were accepted, what all answers come to, and how many
+/// were refused by no number of 1 to 20.
+#[derive(Clone, Copy)]
+struct Tally {
+    decoded: u32,
+    accepted: u32,
+    answers: u64,
+    unnumbered: u32,
+}
 
-const REGISTER: [u8; 24] = [
-    0x0c, 0x0f, 0x1c, 0x1f, 0x2c, 0x2f, 0x3c, 0x3f, 0x4c, 0x4f, 0x5c, 0x5f, 0x6c, 0x6f, 0x7c, 0x7f,
-    0x9c, 0x9f, 0xac, 0xaf, 0xbc, 0xbf, 0xcc, 0xcf,
-];
-
-const BRANCH: [u8; 22] = [
-    0x15, 0x16, 0x25, 0x26, 0x35, 0x36, 0x45, 0x46, 0x55, 0x56, 0x65, 0x66, 0x75, 0x76, 0xa5, 0xa6,
-    0xb5, 0xb6, 0xc5, 0xc6, 0xd5, 0xd6,
-];
-
-const LOAD: [u8; 7] = [0x71, 0x69, 0x61, 0x79, 0x91, 0x89, 0x81];
-
-const STORE: [u8; 8] = [0x72, 0x6a, 0x62, 0x7a, 0x73, 0x6b, 0x63, 0x7b];
-
-/// A unit with mostly what its form uses: numbers in r0, r6 and r7, the context at r1, the stack at r10.
-fn unit_of(numbers: &mut Numbers) -> [u8; 8] {
-    let register = numbers.pick(&[0, 0, 0, 6, 7]);
-    let other = numbers.pick(&[0, 0, 0, 0, 6, 7]) << 4;
-    let small = numbers.pick(&[0, 1, 2, 3, 8, 16, 31]);
-    match numbers.next() % 16 {
-        0..=6 => [numbers.pick(&IMMEDIATE), register, 0, 0, small, 0, 0, 0],
-        7..=9 => [numbers.pick(&REGISTER), register | other, 0, 0, 0, 0, 0, 0],
-        10 => [numbers.pick(&[0x84, 0x87]), register, 0, 0, 0, 0, 0, 0],
-        11 => {
-            let bits = numbers.pick(&[16, 32, 64]);
-            [
-                numbers.pick(&[0xd4, 0xdc, 0xd7]),
-                register,
-                0,
-                0,
-                bits,
-                0,
-                0,
-                0,
-            ]
+impl Tally {
+    fn count(&mut self, verdict: Option<Verdict>) {
+        match verdict {
+            Some(Verdict::Answered(answer)) => {
+                self.decoded = self.decoded.wrapping_add(1);
+                self.accepted = self.accepted.wrapping_add(1);
+                self.answers = self.answers.wrapping_add(answer);
+            }
+            Some(Verdict::Refused(6..=20)) => self.decoded = self.decoded.wrapping_add(1),
+            Some(Verdict::Refused(1..=5)) => {}
+            _ => self.unnumbered = self.unnumbered.wrapping_add(1),
         }
-        12 => [
-            numbers.pick(&BRANCH),
-            register,
-            small & 3,
-            0,
-            small,
-            0,
-            0,
-            0,
-        ],
-        13 => [numbers.pick(&LOAD), register | 0x10, small, 0, 0, 0, 0, 0],
-        14 => {
-            let opcode = numbers.pick(&STORE);
-            let source = if opcode & 1 == 1 { other } else { 0 };
-            [opcode, 10 | source, 240, 255, 0, 0, 0, 0]
-        }
-        _ => [0x85, 0, 0, 0, numbers.pick(&[4, 6, 99]), 0, 0, 0],
     }
+}
+
+/// What the units of a form hold: opcodes, registers (the source above the destination), offsets by their low and their
+/// high byte, and immediates. There are numbers in r0, r6 and r7, the context at r1, and the stack at r10.
+struct Form {
+    opcodes: &'static [u8],
+    registers: &'static [u8],
+    offsets: &'static [u8],
+    high: u8,
+    immediates: &'static [u8],
+}
+
+const NONE: &[u8] = &[0];
+
+const NUMBER: &[u8] = &[0, 0, 0, 6, 7];
+
+const TWO_NUMBERS: &[u8] = &[
+    0x00, 0x00, 0x00, 0x00, 0x60, 0x70, 0x06, 0x66, 0x76, 0x07, 0x67, 0x77,
+];
+
+const SMALL: &[u8] = &[0, 1, 2, 3, 8, 16, 31];
+
+const IMMEDIATE: Form = Form {
+    opcodes: &[
+        0x04, 0x07, 0x14, 0x17, 0x24, 0x27, 0x34, 0x37, 0x44, 0x47, 0x54, 0x57, 0x64, 0x67, 0x74,
+        0x77, 0x94, 0x97, 0xa4, 0xa7, 0xb4, 0xb7, 0xc4, 0xc7, 0xb7, 0xb7, 0xb7,
+    ],
+    registers: NUMBER,
+    offsets: NONE,
+    high: 0,
+    immediates: SMALL,
+};
+
+const REGISTER: Form = Form {
+    opcodes: &[
+        0x0c, 0x0f, 0x1c, 0x1f, 0x2c, 0x2f, 0x3c, 0x3f, 0x4c, 0x4f, 0x5c, 0x5f, 0x6c, 0x6f, 0x7c,
+        0x7f, 0x9c, 0x9f, 0xac, 0xaf, 0xbc, 0xbf, 0xcc, 0xcf,
+    ],
+    registers: TWO_NUMBERS,
+    offsets: NONE,
+    high: 0,
+    immediates: NONE,
+};
+
+const NEGATION: Form = Form {
+    opcodes: &[0x84, 0x87],
+    registers: NUMBER,
+    offsets: NONE,
+    high: 0,
+    immediates: NONE,
+};
+
+const BYTE_ORDER: Form = Form {
+    opcodes: &[0xd4, 0xdc, 0xd7],
+    registers: NUMBER,
+    offsets: NONE,
+    high: 0,
+    immediates: &[16, 32, 64],
+};
+
+const BRANCH: Form = Form {
+    opcodes: &[
+        0x15, 0x16, 0x25, 0x26, 0x35, 0x36, 0x45, 0x46, 0x55, 0x56, 0x65, 0x66, 0x75, 0x76, 0xa5,
+        0xa6, 0xb5, 0xb6, 0xc5, 0xc6, 0xd5, 0xd6,
+    ],
+    registers: NUMBER,
+    offsets: &[0, 1, 2, 3],
+    high: 0,
+    immediates: SMALL,
+};
+
+const LOAD: Form = Form {
+    opcodes: &[0x71, 0x69, 0x61, 0x79, 0x91, 0x89, 0x81],
+    registers: &[0x10, 0x10, 0x10, 0x16, 0x17],
+    offsets: SMALL,
+    high: 0,
+    immediates: NONE,
+};
+
+const STORE_IMMEDIATE: Form = Form {
+    opcodes: &[0x72, 0x6a, 0x62, 0x7a],
+    registers: &[0x0a],
+    offsets: &[240],
+    high: 255,
+    immediates: NONE,
+};
+
+const STORE_REGISTER: Form = Form {
+    opcodes: &[0x73, 0x6b, 0x63, 0x7b],
+    registers: &[0x0a, 0x0a, 0x6a, 0x7a],
+    offsets: &[240],
+    high: 255,
+    immediates: NONE,
+};
+
+const CALL: Form = Form {
+    opcodes: &[0x85],
+    registers: NONE,
+    offsets: NONE,
+    high: 0,
+    immediates: &[4, 6, 99],
+};
+
+const FORMS: [Form; 16] = [
+    IMMEDIATE, IMMEDIATE, IMMEDIATE, IMMEDIATE, IMMEDIATE, IMMEDIATE, REGISTER, REGISTER, REGISTER,
+    NEGATION, BYTE_ORDER, BRANCH, LOAD, STORE_IMMEDIATE, STORE_REGISTER, CALL,
+];
+
+/// A unit with mostly what its form uses.
+fn unit_of(numbers: &mut Numbers) -> [u8; 8] {
+    let place = numbers.next() % 16;
+    let form = &FORMS[place as usize];
+    [
+        numbers.pick(form.opcodes),
+        numbers.pick(form.registers),
+        numbers.pick(form.offsets),
+        form.high,
+        numbers.pick(form.immediates),
+        0,
+        0,
+        0,
+    ]
 }
 
 /// Bytes at random, 1 to 64 units.
@@ -154,35 +238,27 @@ fn judged(alloc: Global, bytes: &[u8]) -> Option<Verdict> {
     }
 }
 
+fn tallied(alloc: Global) -> Result<Tally, AllocError> {
+    let mut numbers = Numbers { state: 20_261_122 };
+    let mut tally = Tally {
+        decoded: 0,
+        accepted: 0,
+        answers: 0,
+        unnumbered: 0,
+    };
+    for _ in 0..5_000u32 {
+        tally.count(judged(alloc, &noise(alloc, &mut numbers)?));
+        tally.count(judged(alloc, &likeness(alloc, &mut numbers)?));
+    }
+    Ok(tally)
+}
+
 #[test]
 fn random_programs(rt: HostRuntime) -> Result<(), Fail> {
-    let mut numbers = Numbers { state: 20_261_122 };
-    let mut decoded = 0u32;
-    let mut accepted = 0u32;
-    let mut answers = 0u64;
-    for turn in 0..10_000 {
-        let bytes = if turn % 2 == 0 {
-            noise(rt.alloc(), &mut numbers)?
-        } else {
-            likeness(rt.alloc(), &mut numbers)?
-        };
-        match judged(rt.alloc(), bytes.as_slice()) {
-            Some(Verdict::Refused(number)) => {
-                assert!(rt; 1 <= number && number <= 20, "V{number}");
-                if number > 5 {
-                    decoded = decoded.saturating_add(1);
-                }
-            }
-            Some(Verdict::Answered(answer)) => {
-                decoded = decoded.saturating_add(1);
-                accepted = accepted.saturating_add(1);
-                answers = answers.wrapping_add(answer);
-            }
-            None => assert!(rt; false, "program {turn} has neither number"),
-        }
-    }
-    assert!(rt; decoded >= 3_334, "{decoded} passed the decoder");
-    assert!(rt; accepted >= 300, "{accepted} were accepted");
-    assert!(rt; answers != 0);
+    let tally = tallied(rt.alloc())?;
+    assert!(rt; tally.unnumbered == 0, "{} without a number", tally.unnumbered);
+    assert!(rt; tally.decoded >= 3_334, "{} passed the decoder", tally.decoded);
+    assert!(rt; tally.accepted >= 300, "{} were accepted", tally.accepted);
+    assert!(rt; tally.answers != 0);
     Ok(())
 }

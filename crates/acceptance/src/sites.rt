@@ -1,9 +1,15 @@
 //! A site, a delivery that is paid there, and its journal.
+use site_core::Config;
+use std::alloc::Global;
+use std::test::Fail;
 
-/// Two tills; two points whose releases go to slot 0 and presets to slot 1; prices in slot 2; counter 0 of at most 2.
-pub const STATION: &str =
-    "tills = 2\nprice_slot = 2\nprices = [1799, 1849, 0, 0, 0, 0, 0, 0]\n[[point]]\nrelease = 0\npreset = 1\n\
-        [[point]]\nrelease = 0\npreset = 1\n[[counter]]\nvalue = 0\nbound = 2\n";
+/// Two tills, and two points whose releases go to slot 0 and presets to slot 1; prices in slot 2.
+pub fn station(alloc: Global) -> Result<Config, Fail> {
+    let points = vec![in alloc; (0, 1), (0, 1)]?;
+    let prices = [1799, 1849, 0, 0, 0, 0, 0, 0];
+    let config = Config::new(2, 2, prices, points, [(0, 0); 32]);
+    Ok(config.ok_or("a configuration")?)
+}
 
 /// A delivery that is paid: 14 lines.
 pub const DELIVERY: &str =

@@ -35,8 +35,8 @@ const ONE: Rule = Rule {
 /// It adds one to counter 0, where its bound allows, and answers 1, or else 0.
 const COUNTED: Rule = Rule {
     bytes: &[
-        0xb7, 1, 0, 0, 0, 0, 0, 0, 0xb7, 2, 0, 0, 1, 0, 0, 0, 0x85, 0, 0, 0, 2, 0, 0, 0, 0x95, 0, 0,
-        0, 0, 0, 0, 0,
+        0xb7, 1, 0, 0, 0, 0, 0, 0, 0xb7, 2, 0, 0, 1, 0, 0, 0, 0x85, 0, 0, 0, 2, 0, 0, 0, 0x95, 0,
+        0, 0, 0, 0, 0, 0,
     ],
     mask: 1,
     layout: Layout::One,
@@ -79,7 +79,10 @@ const ROWS: [Row; 8] = [
     Row {
         before: OPENED,
         asked: RELEASE,
-        between: &[Does::Load(1, ASKED), Does::Till(2, Request::Preset(1, 3000))],
+        between: &[
+            Does::Load(1, ASKED),
+            Does::Till(2, Request::Preset(1, 3000)),
+        ],
         told: Ok((5, Reply::Granted(3000, 1))),
     },
     Row {
@@ -186,11 +189,26 @@ fn enter(alloc: Global, site: &mut Site, all: &[Does]) -> Option<()> {
     Some(())
 }
 
+/// Decides, enters what is entered between, and commits.
+fn late(alloc: Global, site: &mut Site, row: &Row) -> Option<Result<(u32, Reply), Why>> {
+    let ready = decide(site, row.asked)?;
+    enter(alloc, site, row.between)?;
+    commit(site, ready)
+}
+
 fn told(alloc: Global, row: &Row) -> Option<Result<(u32, Reply), Why>> {
     let mut site = played(alloc, row.before)?;
-    let ready = decide(&site, row.asked)?;
-    enter(alloc, &mut site, row.between)?;
-    commit(&mut site, ready)
+    late(alloc, &mut site, row)
+}
+
+/// The place of the first row that is told otherwise.
+fn first_unlike(alloc: Global) -> Option<usize> {
+    for (place, row) in ROWS.iter().enumerate() {
+        if told(alloc, row) != Some(row.told) {
+            return Some(place);
+        }
+    }
+    None
 }
 
 #[test]
@@ -198,7 +216,5 @@ fn a_decision_is_entered_or_stale(rt: HostRuntime) {
     fresh_differs_nowhere();
     one_difference_is_first();
     programs_alone_decide();
-    for (place, row) in ROWS.iter().enumerate() {
-        assert!(rt; told(rt.alloc(), row) == Some(row.told), "row {place}");
-    }
+    assert!(rt; first_unlike(rt.alloc()).is_none());
 }
