@@ -131,7 +131,7 @@ pub enum Role {
 }
 
 /// Why a line asks for nothing.
-#[derive(Clone, Copy, Debug, PartialEq, Eq, Drop)]
+#[derive(Clone, Copy, PartialEq, Eq, Drop)]
 pub enum LineFault {
     /// L1: over 8,400 bytes before its LF or the end.
     TooLong,

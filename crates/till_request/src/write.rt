@@ -9,15 +9,12 @@ use crate::act::Answer;
 use crate::device::{DeviceFault, LineOut};
 use crate::short_text::{ShortText, put_line};
 use std::alloc::Global;
-use thiserror::Error;
 
 /// Why an answer was not written.
-#[derive(Clone, Copy, Debug, PartialEq, Eq, Drop, Error)]
+#[derive(Clone, Copy, PartialEq, Eq, Drop)]
 pub enum WriteFault {
     /// N2: the device failed.
-    #[error("a write failed")]
     Write,
-    #[error("out of memory")]
     OutOfMemory,
 }
 
