@@ -12,8 +12,8 @@ use std::marker::Brand;
 use std::sync::Wait;
 use std::sync::ledger::Blank;
 use std::test::Fail;
-use till_request::devices::{MemoryIn, MemoryOut};
 use till_request::Role;
+use till_request::devices::{MemoryIn, MemoryOut};
 
 /// Tells 0.
 #[derive(Drop)]
@@ -165,7 +165,12 @@ fn failed(ended: SessionFault, entries: usize, lines: usize) -> Seen {
 
 /// How many lines end before this place of the delivery.
 fn lines_before(place: usize) -> usize {
-    lines_in(DELIVERY.as_bytes().get(..place).unwrap_or(DELIVERY.as_bytes()))
+    lines_in(
+        DELIVERY
+            .as_bytes()
+            .get(..place)
+            .unwrap_or(DELIVERY.as_bytes()),
+    )
 }
 
 /// After how many good reads a session that fails at the next one leaves anything else; the last has none that fails.

@@ -166,8 +166,22 @@ const CALL: Form = Form {
 };
 
 const FORMS: [Form; 16] = [
-    IMMEDIATE, IMMEDIATE, IMMEDIATE, IMMEDIATE, IMMEDIATE, IMMEDIATE, REGISTER, REGISTER, REGISTER,
-    NEGATION, BYTE_ORDER, BRANCH, LOAD, STORE_IMMEDIATE, STORE_REGISTER, CALL,
+    IMMEDIATE,
+    IMMEDIATE,
+    IMMEDIATE,
+    IMMEDIATE,
+    IMMEDIATE,
+    IMMEDIATE,
+    REGISTER,
+    REGISTER,
+    REGISTER,
+    NEGATION,
+    BYTE_ORDER,
+    BRANCH,
+    LOAD,
+    STORE_IMMEDIATE,
+    STORE_REGISTER,
+    CALL,
 ];
 
 /// A unit with mostly what its form uses.
@@ -256,8 +270,16 @@ fn tallied(alloc: Global) -> Result<Tally, AllocError> {
 #[test]
 fn random_programs(rt: HostRuntime) -> Result<(), Fail> {
     let tally = tallied(rt.alloc())?;
-    assert!(rt; tally.unnumbered == 0, "{} without a number", tally.unnumbered);
-    assert!(rt; tally.decoded >= 3_334, "{} passed the decoder", tally.decoded);
+    assert!(rt;
+        tally.unnumbered == 0,
+        "{} without a number",
+        tally.unnumbered
+    );
+    assert!(rt;
+        tally.decoded >= 3_334,
+        "{} passed the decoder",
+        tally.decoded
+    );
     assert!(rt; tally.accepted >= 300, "{} were accepted", tally.accepted);
     assert!(rt; tally.answers != 0);
     Ok(())
