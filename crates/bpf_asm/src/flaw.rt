@@ -118,8 +118,8 @@ fn out_of_range<'a>(alloc: Global, text: &'a [u8], number: u64) -> Result<AsmFla
     Ok(AsmFlaw::OutOfRange(line))
 }
 
-/// What a fault of a text names of it: the line or the label, and whether the line is none for its end or for a byte
-/// order mark. The error is out of memory, also where that is the fault.
+/// Returns a fault of a text with the line or the label that it names. For a bad line it says whether a CR at the end
+/// or a byte order mark is the cause. The error is out of memory, also where that is the fault.
 pub fn explain<'a>(
     alloc: Global,
     text: &'a [u8],

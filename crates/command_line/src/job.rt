@@ -13,7 +13,7 @@ pub enum Job {
     Asm(String),
     /// A program file to text of the assembler.
     Dis(String),
-    /// The same, with each unit's number before its line.
+    /// A program file to text of the assembler, with each unit's number before its line.
     DisUnits(String),
     /// Whether a program file is accepted, for contexts of this layout; bit c of `counters` declares counter c.
     Verify {
@@ -43,7 +43,7 @@ pub enum Job {
         config: String,
         journal: String,
     },
-    /// The same, and no answer leaves before its journal's line is synced.
+    /// A site served as by `ServeKept`, where no answer leaves before its journal's line is synced.
     ServeSynced {
         config: String,
         journal: String,

@@ -201,13 +201,13 @@ fn job_of(alloc: Global, matches: &ArgMatches) -> Result<Option<Job>, AllocError
     }
 }
 
-/// What is said of words that `clap` takes and that ask for nothing, where they ask to serve.
+/// The message for words that `clap` accepts, but that ask to sync a journal that isn't kept.
 const UNKEPT: &str = "error: --sync wants --journal FILE
 
 For more information, try '--help'.
 ";
 
-/// The same, where they ask for something else.
+/// The message for words that `clap` accepts, but whose layout isn't 1 or 2.
 const LAYOUTS: &str = "error: --context takes 1 or 2
 
 For more information, try '--help'.

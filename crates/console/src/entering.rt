@@ -42,7 +42,7 @@ pub struct Entered {
     pub refusal: Option<Refusal>,
 }
 
-/// Returns the answer to a load whose program the verifier refuses, and why it does unless memory ran out.
+/// Returns the answer to a load that the verifier refuses, with the refusal unless memory ran out.
 fn refuse_load(refusal: Refusal) -> Entered
     ensures answered { (old : SiteValue) (moment slot : ℕ) (p : ProgramText) → IsRefused p refusal
         → IsRefusal (refusal_of p) refusal → LoadAnswered old moment slot p result.answer old }

@@ -2,7 +2,7 @@
 use reg_types::Refusal;
 use till_request::Act;
 
-/// Hears what a play's answers have no room for.
+/// Takes the reports of a play that its answers have no room for.
 pub trait PlayNotices {
     ghost use Rattle.console.specs.Loading.{IsRefusedAct};
 

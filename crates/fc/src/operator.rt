@@ -5,7 +5,8 @@ use std::sync::{Mutex, Wait};
 use std::time::{Clock, SystemTime, UNIX_EPOCH};
 use till_request::{LineFault, Role};
 
-/// Tells an operator on standard error, at most ten lines a second. A site serves whether or not anybody reads it.
+/// Prints reports for an operator on standard error, at most ten lines a second. A site serves whether or not anybody
+/// reads them.
 #[derive(Drop)]
 pub struct Operator<'a, H: Wait + Clock> {
     rt: &'a HostRuntime,

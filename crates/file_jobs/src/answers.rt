@@ -26,7 +26,7 @@ impl<'a> Answers<'a> {
         })
     }
 
-    /// Lets all leave that wait, where none failed to leave before.
+    /// Writes all answers that wait, unless a write failed before.
     fn flush(&self) -> io::Result<()> {
         match self.waiting.try_borrow_mut() {
             Ok(mut waiting) => match waiting.flush() {
@@ -59,7 +59,7 @@ impl<'a> Answers<'a> {
         }
     }
 
-    /// Says why they couldn't leave.
+    /// Prints on standard error why the answers couldn't be written.
     pub fn tell_failure(&self, rt: &HostRuntime) {
         match self.waiting.try_borrow() {
             Ok(waiting) => tell_write(rt, waiting.get_ref().failure()),

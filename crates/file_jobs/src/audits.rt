@@ -38,8 +38,8 @@ fn audited(
     }
 }
 
-/// Says why a journal is refused, which is read once more for that. Where it can't be, that is said: refused it is all
-/// the same.
+/// Prints on standard error why a journal was refused. The journal is read once more for that; where it can't be, that
+/// is printed. It stays refused in any case.
 fn explain_journal(rt: &HostRuntime, word: &str, config: Config) {
     if let Ok(source) = source_of(rt, word) {
         explain_source(rt, word, config, &mut stream(source));

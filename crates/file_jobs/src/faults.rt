@@ -80,7 +80,7 @@ pub fn complain<D: Display>(rt: &HostRuntime, place: Place<'_>, words: &D, code:
     let _ = eprintln!(rt; "fc: {place}: {words} ({code})");
 }
 
-/// The status, once something was printed.
+/// Returns the status where printing succeeded. Where it failed, prints why on standard error, and returns `FAILED`.
 pub fn once_printed(rt: &HostRuntime, printed: io::Result<()>, status: u8) -> u8 {
     match printed {
         Ok(()) => status,
@@ -101,7 +101,7 @@ pub fn refuse(rt: &HostRuntime, fault: &str) -> u8 {
     once_printed(rt, println!(rt; "{fault}"), REFUSED)
 }
 
-/// Says why nothing can be written on standard output. Who closed the pipe wants no more.
+/// Prints on standard error why standard output can't be written. Prints nothing where its reader closed the pipe.
 pub fn tell_write(rt: &HostRuntime, failure: Option<&io::Error>) {
     match failure {
         Some(error) if error.kind() == ErrorKind::BrokenPipe => (),
@@ -109,7 +109,8 @@ pub fn tell_write(rt: &HostRuntime, failure: Option<&io::Error>) {
     }
 }
 
-/// The same of what is lost where nobody takes it.
+/// Prints on standard error why standard output can't be written, even where its reader closed the pipe: what was to be
+/// written is lost.
 pub fn tell_loss(rt: &HostRuntime, failure: Option<&io::Error>) {
     match failure {
         Some(error) => complain(rt, Place::output(), error, "N2"),

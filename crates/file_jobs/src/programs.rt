@@ -18,7 +18,8 @@ pub enum Tell {
     Verify(u32, Layout),
 }
 
-/// Says it of the file that a word names, and answers the exit status. Why a file is refused is said on standard error.
+/// Prints what `tell` asks for of the file that a word names, and returns the exit status. Why a file is refused is
+/// printed on standard error.
 pub fn tell_file(rt: &HostRuntime, word: &str, tell: Tell) -> Result<u8, Stop> {
     let text = text_of(rt, word)?;
     tell_bytes(rt, word, tell, &text)

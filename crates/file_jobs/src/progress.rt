@@ -80,7 +80,7 @@ impl<'a> Progress<'a> {
         }
     }
 
-    /// Takes the line away.
+    /// Erases the line.
     pub fn clear(&self) {
         if self.is_shown && self.lines.get() >= STEP {
             let _ = eprint!(self.rt; "\r\x1b[K");

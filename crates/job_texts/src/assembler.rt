@@ -133,7 +133,7 @@ fn dis_units(alloc: Global, bytes: &[u8]) -> Result<Told, AllocError>
     }
 }
 
-/// The same with the number of its first unit, a colon and a blank before each instruction.
+/// Returns what `dis_file` does, with the number of its first unit, a colon and a blank before each instruction.
 pub fn dis_units_file(alloc: Global, file: &[u8]) -> Result<Told, AllocError>
     ensures { IfOk result (DisUnitsTells file.now) }
 {

@@ -36,8 +36,7 @@ fn file_flaw(fault: ProgramFileFault) -> Result<ProgramFlaw, AllocError>
     }
 }
 
-/// Why a program file is refused, as `verify_file` does; none where its program is accepted. The error is want of
-/// memory.
+/// Returns why `verify_file` refuses a program file; none where the program is accepted. The error is out of memory.
 pub fn verify_flaw(
     alloc: Global,
     file: &[u8],

@@ -83,7 +83,7 @@ fn answered_after(
     }
 }
 
-/// In what an entry differs from what the site enters after those before it, which refuses this one.
+/// Returns how an entry that an audit refuses differs from what the site enters after the entries before it.
 fn entry_flaw(
     alloc: Global,
     config: Config,
@@ -120,7 +120,7 @@ fn load_flaw(alloc: Global, act: &Act, refusal: Refusal) -> Result<JournalFlaw, 
     }
 }
 
-/// What is wrong with the entry behind these, which an audit refuses.
+/// Returns what is wrong with an entry that an audit refuses after the entries `before`. The error is out of memory.
 fn fault_flaw(
     alloc: Global,
     config: Config,

@@ -63,7 +63,7 @@ fails_none s line s' = ⊥
 abbrev pub with_lf : List ℕ → List ℕ
 with_lf line = line ++ 10 ∷ []
 
--- the lines, each with its LF, and the texts, one behind the other
+-- the lines, each with its LF, and the texts, one after another
 abbrev pub all_lines : List (List ℕ) → List ℕ
 all_lines lines = flat_map with_lf lines
 
@@ -152,15 +152,16 @@ abbrev pub WantsNext : {S : Type 0} → (S → List ℕ → S → Type 0) → (L
 WantsNext drops takes s s' rest = ((s' ≡ s) × IsLine rest)
     ⊎ ((line : List ℕ) × IsLine line × (rest ≡ with_lf line) × (((s' ≡ s) × takes line) ⊎ drops s line s'))
 
--- It broke off though no write failed: the whole answers to the lines so far are out, and a cut is not answered. If that was for want of
--- memory, then something was refused memory.
+-- It broke off though no write failed: the whole answers to the lines so far are out, and a cut is not answered. If it
+-- was because memory ran out, then something was refused memory.
 abbrev pub Stops : {S : Type 0} → (S → List ℕ → List ℕ → S → Type 0) → (S → List ℕ → S → Type 0) → (List ℕ → Type 0) → SessionFault → S → S
     → Option (List ℕ) → Option (List ℕ) → Option (List ℕ) → Option (List ℕ) → Type 0
 Stops says drops takes fault s s' in_old in_new out_old out_new =
     (b : Breaks says drops s s' in_old in_new out_old out_new) × (b.cut ≡ None) × (b.after ≡ [])
     × (fault ≡ session.OutOfMemory → WantsNext drops takes b.answered s' b.rest)
 
--- The same where answers may wait for a line that doors say is there: those that wait where a read fails are not out.
+-- What `Stops` says, for a session whose answers may wait where its doors report a further line: those that wait where
+-- a read fails are not out.
 abbrev pub StopsAtDoor : {S : Type 0} → (S → List ℕ → List ℕ → S → Type 0) → (S → List ℕ → S → Type 0) → (List ℕ → Type 0) → SessionFault → S → S
     → Option (List ℕ) → Option (List ℕ) → Option (List ℕ) → Option (List ℕ) → Type 0
 StopsAtDoor says drops takes fault s s' in_old in_new out_old out_new =

@@ -13,8 +13,8 @@ use till_request::{Answer, DeviceFault, LineOut, WriteFault, write_all, write_an
 /// Where this many bytes wait, they are written before a further line is read.
 const MOST_WAITING: usize = 16_384;
 
-/// Answers that wait in memory, to be written to a device together. An answer to which memory is refused doesn't wait:
-/// it is written at once, behind those that did.
+/// Answers that wait in memory, to be written to a device together. An answer for which memory runs out doesn't wait:
+/// it is written at once, after those that waited.
 #[derive(Drop)]
 pub struct AnswerBuffer {
     held: MemoryOut,
@@ -53,7 +53,8 @@ impl AnswerBuffer {
         }
     }
 
-    /// Whether an answer's line was put behind what waits. It isn't where memory is refused to it: then all is as it was.
+    /// Appends an answer's line to those that wait, and returns true. Returns false, and changes nothing, where memory
+    /// runs out.
     fn hold(&mut self, alloc: Global, answer: &Answer) -> bool
         ensures waits { result ≡ true
             → self.new.held.bytes.items ≡ self.old.held.bytes.items ++ answer_line answer.now }
@@ -69,7 +70,7 @@ impl AnswerBuffer {
         }
     }
 
-    /// Puts an answer's line behind what waits. Where memory is refused to it, all is written.
+    /// Appends an answer's line to those that wait. Where memory runs out, writes all of them and then this line.
     pub fn put<O: LineOut>(
         &mut self,
         alloc: Global,

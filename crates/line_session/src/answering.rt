@@ -111,10 +111,10 @@ fn end<O: LineOut>(
     }
 }
 
-/// Answers the lines of an input in order, within `left` reads.
+/// Answers the lines of an input in order, with at most `left` reads.
 ///
-/// A line that is too long or cut is answered by its fault, and is the last. Only a failed write leaves an answer in
-/// part, or ends a session behind an answered cut.
+/// A line that is too long or cut is answered with its fault, and is the last. Only a failed write leaves part of an
+/// answer, or makes a session fail after such a line was answered.
 pub fn answer_lines_within<I: LineIn, O: LineOut, C, D, S: LineHandler<C, D>>(
     alloc: Global,
     input: &mut I,

@@ -7,7 +7,7 @@ pub trait Desk {
     ghost use Rattle.till_request.specs.declared.act.Act.{Act};
     ghost use Rattle.till_request.specs.declared.act.Answer.{Answer};
 
-    /// What it may answer to an act at a moment, and what it goes on to.
+    /// States what the desk may answer to an act at a moment, and which state it is then in.
     ghost step: { Self → Act → ℕ → Answer → Self → Type 0 };
 
     /// The answer to an act that is asked at a moment.
@@ -15,14 +15,14 @@ pub trait Desk {
         ensures { step self.old act moment result self.new };
 }
 
-/// Tells moments.
+/// Gives moments.
 pub trait Clock {
     ghost use Rattle.std.specs.Prelude.{ℕ};
 
     /// The moment that it may give, and what it goes on to.
     ghost tick: { Self → ℕ → Self → Type 0 };
 
-    /// The moment of now.
+    /// Returns the current moment.
     fn now(&mut self) -> u64
         ensures { tick self.old result self.new };
 }

@@ -2,7 +2,8 @@
 use crate::answering::{Ended, SessionFault};
 use till_request::{DeviceFault, LineIn, LineOut};
 
-/// Opens doors, one after another: what lines are read from, and what their answers go to.
+/// Opens connections, one after another: for each an input, from which lines are read, and an output, to which their
+/// answers are written.
 pub trait Doors {
     type In: LineIn + Drop;
 

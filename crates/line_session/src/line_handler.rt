@@ -12,7 +12,7 @@ pub enum HandlerError {
     Journal,
 }
 
-/// Answers lines by text, and changes by it a clock, which gives moments, and a desk, which answers acts.
+/// Answers each line with a text. This may change a clock, which gives moments, and a desk, which answers acts.
 pub trait LineHandler<C, D> {
     ghost use Rattle.std.specs.Prelude.{◌≡◌, List, ℕ, OnOk, IfErr, Err};
     ghost use Rattle.till_request.specs.Count.{RoseBy, one_if};
@@ -21,7 +21,8 @@ pub trait LineHandler<C, D> {
     /// What it may say to a line, and what clock and desk go on to.
     ghost says: { Self → (C × D) → List ℕ → List ℕ → (C × D) → Type 0 };
 
-    /// What clock and desk go on to at a line that has no answer, since memory ran out or the journal failed.
+    /// States which states the clock and the desk may be in after a line without an answer, where memory ran out or the
+    /// journal failed.
     ghost drops: { Self → (C × D) → List ℕ → (C × D) → Type 0 };
 
     /// What clock and desk go on to at a line at which the journal failed.

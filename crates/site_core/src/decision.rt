@@ -48,8 +48,8 @@ pub fn asked_at(point: &Point, question: Question) -> Result<Question, Reply>
     Ok(question)
 }
 
-/// Returns the question of a price change. The error is its refusal: S25, or else S22 with the state of the first busy
-/// point.
+/// Returns the question of a price change, if it isn't refused before a program is looked for. The error is its
+/// refusal: S25, or else S22 with the state of the first busy point.
 pub fn price_at(busy: Option<State>, question: Question) -> Result<Question, Reply>
     ensures question { result ≡ price_at busy question }
     ensures fits { IfOk result (λ q. (1 ≤ q.product) × (q.product ≤ PRODUCTS) × (q.asked ≤ GREATEST_PRICE)) }

@@ -60,7 +60,8 @@ HindersSince base v passes PassMissing = ⊥
 HindersSince base v passes (NotInHistory id number) = IsWrong v.stopped base v.site.history passes id number
 HindersSince base v passes OtherConfig = ⊥
 
--- These aren't all passes; or they are, have as many receipts as calls were answered, and the very history that is handed back has this fault.
+-- These aren't all passes; or they are, have as many receipts as calls were answered, and the returned history has this
+-- fault.
 abbrev pub RefusesSince : HaltedValue → List PassView → CloseRefusal → Type 0
 RefusesSince h passes PassMissing = ¬ AreAll h.opened.passes passes
 RefusesSince h passes (NotInHistory id number) =

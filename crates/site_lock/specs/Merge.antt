@@ -46,12 +46,12 @@ IsFault history passes id n =
     Any (λ p. (p.id ≡ id) × FailsFrom history p.id 0 p.receipts n) passes
     ⊎ Any (λ e. (e.pass ≡ id) × (e.number ≡ n) × ¬ Covered passes e) history
 
--- The same of a history that went on from its first `base` entries: the receipts' numbers are above them, and each
--- entry behind them is in the receipts of its pass.
+-- What `IsMerge` says, for a history whose first `base` entries no pass was answered: the receipts' numbers are above
+-- `base`, and each later entry is in the receipts of its pass.
 abbrev pub IsMergeSince : ℕ → List Entry → List PassView → Type 0
 IsMergeSince base history passes = All (λ p. StandsFrom history p.id base p.receipts) passes × All (Covered passes) (drop base history)
 
--- the same of a fault
+-- what `IsFault` says, for such a history
 abbrev pub IsFaultSince : ℕ → List Entry → List PassView → ℕ → ℕ → Type 0
 IsFaultSince base history passes id n =
     Any (λ p. (p.id ≡ id) × FailsFrom history p.id base p.receipts n) passes

@@ -144,9 +144,10 @@ fn uncovered_since<L: SiteLedger>(
     uncovered(behind(base, history), passes)
 }
 
-/// What keeps a history from being what the passes were answered: a pass and a number. Either the first receipt of the
-/// pass that is wrong has this number: it isn't the entry there by pass, event, moment and reply, or isn't above the
-/// receipt before it. Or the entry of this pass and number is in no receipt of that pass.
+/// Returns a fault of a history against the receipts of the passes, if there is one, as a pass and a number. Either the
+/// first wrong receipt of this pass has this number: it isn't the entry there by pass, event, moment and reply, or its
+/// number isn't above that of the receipt before it. Or the entry with this pass and number is in no receipt of that
+/// pass.
 pub fn fault<L: SiteLedger>(history: &[Entry], passes: &[Pass<L>]) -> Option<(u32, u32)>
     ensures none { IfNone result (IsMerge history.now passes.now) }
     ensures some { IfSome result (λ x. IsFault history.now passes.now x.0 x.1) }
@@ -154,8 +155,8 @@ pub fn fault<L: SiteLedger>(history: &[Entry], passes: &[Pass<L>]) -> Option<(u3
     fault_since(0, history, passes)
 }
 
-/// The same of a history that went on from its first `base` entries, which no pass was answered: a receipt's number is
-/// above them, and each entry behind them is in the receipts of its pass.
+/// Does what `fault` does for a history whose first `base` entries no pass was answered. A receipt's number must be
+/// above `base`, and each entry after those must be in the receipts of its pass.
 pub fn fault_since<L: SiteLedger>(
     base: u32,
     history: &[Entry],

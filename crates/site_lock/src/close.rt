@@ -20,7 +20,7 @@ pub enum CloseRefusal {
     OtherConfig,
 }
 
-/// A forecourt that was not closed, as it is, with the passes that were handed in.
+/// A forecourt that was not closed, and is unchanged, with the passes that it was to be closed with.
 #[derive(Drop)]
 pub struct CloseFault<L: SiteLedger, J: Journal = NoJournal> {
     pub why: CloseRefusal,

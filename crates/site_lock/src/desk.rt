@@ -22,9 +22,9 @@ use std::alloc::Global;
 use std::sync::Wait;
 use till_request::{Act, Answer};
 
-/// Answers acts by a forecourt, with one pass; a gate runs the programs that decide. A load's bytes are verified before
-/// the lock is taken: a refused program is answered by its V line and is no event. Once the journal has failed each
-/// event is answered by what ends a session without a line.
+/// Answers acts by calling a forecourt with one pass; a gate runs the programs that decide. A load's bytes are verified
+/// before the lock is taken: a refused program is answered with its V line and is no event. Once the journal has
+/// failed, each event is answered with `JournalFailed`, which ends the session without a line.
 #[derive(Drop)]
 pub struct PassDesk<'a, L: SiteLedger, R: Wait, G: Gate + Drop, J: Journal = NoJournal> {
     rt: &'a R,

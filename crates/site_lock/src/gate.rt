@@ -12,7 +12,7 @@ pub trait Gate {
     /// How often it was called.
     ghost calls: { Self → ℕ };
 
-    /// That a call made this run, and left it so.
+    /// States that a call made this run, and which state it left the gate in.
     ghost makes: { Self → ReadyValue → Self → Type 0 };
 
     /// Runs the draft of a till's request.

@@ -99,7 +99,8 @@ impl<L: SiteLedger, J: Journal> Halted<L, J> {
         Forecourt::over(alloc, config, passes, locked_site)
     }
 
-    /// The journal. It took the text of all that was answered, and where it failed a front of one line more.
+    /// Returns the journal. It took the text of all entries that were answered, and where it failed a beginning of one
+    /// more line.
     pub fn into_journal(self) -> J
         ensures written { J.written result ≡ self.locked_site.written }
         ensures stands { IsHalted J.may_fail self }

@@ -1,5 +1,5 @@
-//! A site under one lock. Each caller has a pass, which keeps what it was answered; when all is over the passes are
-//! held against the site's history.
+//! A site under one lock. Each caller has a pass, which keeps what the caller was answered. At the end the passes are
+//! compared with the site's history.
 #![tactic(auto)]
 
 mod builder;

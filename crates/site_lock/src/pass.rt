@@ -21,7 +21,7 @@ pub trait SiteLedger: Ledger {
     /// The history that it goes on from: that of an audited site, or none.
     ghost base: { List Entry };
 
-    /// The bytes that its journal had taken when it was started, where they are known.
+    /// The bytes that the journal had taken when the forecourt was started, where they are known.
     ghost taken: { Option (List ℕ) };
 }
 

@@ -27,9 +27,9 @@ fn places(alloc: Global, count: usize) -> Result<Vec<Result<Program, Refusal>>, 
     Ok(places)
 }
 
-/// What `verify` answers to each item, its bytes, mask and layout, in the items' order, worked out by at most
-/// `workers` threads, 1 to 16. An error means that there was no memory for the list of answers; an item for which
-/// memory is wanting is answered so in its place.
+/// Returns what `verify` returns for each item (its bytes, mask and layout), in the items' order. At most `workers`
+/// threads, 1 to 16, do the work. The error means that there was no memory for the list of results. An item for which
+/// memory runs out has that as its own result.
 pub fn verify_all<R: Threads + Sync>(
     rt: &R,
     alloc: Global,

@@ -42,7 +42,7 @@ fn longer(pause: u64) -> u64
     }
 }
 
-/// What an operator hears of how a session ended: nothing where its peer ended it behind a line.
+/// Returns the failure to report to an operator; none where the peer ended the session after a whole line.
 fn failure_of(outcome: &Result<Ended, SessionFault>) -> Option<SessionFailure>
     ensures { result ≡ told_of outcome.now }
 {
@@ -95,7 +95,7 @@ impl<'a, R: Clock, N: Notices> TcpDoors<'a, R, N> {
         Ok((input, output))
     }
 
-    /// Tells of the first of several failures, and waits.
+    /// Reports the first of several failures to an operator, and waits.
     fn hold(&mut self, error: &io::Error)
         ensures asked { self.new.asked ≡ self.old.asked }
         ensures pause { self.new.pause ≡ longer_pause self.old.pause }

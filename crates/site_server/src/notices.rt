@@ -25,11 +25,11 @@ impl fmt::Display for SessionFailure {
     }
 }
 
-/// Tells an operator what doesn't go as it should. All workers share it, and none of them waits for it to be read.
+/// Reports to an operator what went wrong. All workers share it, and none of them waits for a report to be read.
 pub trait Notices {
     /// A connection can't be opened for the worker of this role with this pass.
     fn accept_failed(&self, role: Role, pass: u32, error: &io::Error);
 
-    /// A session of the worker of this role with this pass ended so.
+    /// A session of the worker of this role with this pass ended with this failure.
     fn session_failed(&self, role: Role, pass: u32, failure: SessionFailure);
 }

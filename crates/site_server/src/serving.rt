@@ -72,7 +72,7 @@ impl From<AllocError> for ServeFault {
 #[derive(Drop)]
 pub struct Unclosed<J: Journal = NoJournal> {
     pub why: ServeFault,
-    /// After `OutOfMemory` the site and the journal as they were handed in: nothing was served.
+    /// After `OutOfMemory` the site and the journal, unchanged: nothing was served.
     pub back: Option<(Site, J)>,
 }
 
@@ -155,11 +155,11 @@ fn prove_few(connections: u32)
 {}
 
 impl<J: Journal + Send> Serving<J> {
-    /// Each worker of the crew serves its connections, one after another, and then the site is closed. Each entry's line
-    /// is handed to the journal before the entry is answered, and the answer leaves once `release` lets it. A role's
-    /// port is closed when its last worker ends.
+    /// Serves the site: each worker of the crew serves its connections, one after another, and then the site is closed.
+    /// Each entry's line is passed to the journal before the entry is answered, and the answer is sent once `release`
+    /// allows it. A role's port is closed when its last worker ends.
     ///
-    /// `OutOfMemory` comes only before anything is served, and hands site and journal back.
+    /// `OutOfMemory` comes only before anything is served, and returns the site and the journal.
     pub fn run<N: Notices + Sync, A: Release + Sync, R: Threads + Wait + Clock + Sync>(
         self,
         rt: &R,
@@ -177,7 +177,7 @@ impl<J: Journal + Send> Serving<J> {
         self.run_on::<Brand, N, A, R>(rt, alloc, blank, notices, release)
     }
 
-    /// The same, with the ledger of this blank. Once all is prepared, nothing here takes memory.
+    /// Does what `run` does, with the ledger of this blank. Once all is prepared, nothing here allocates memory.
     fn run_on<
         L: SiteLedger + Send + Sync,
         N: Notices + Sync,

@@ -63,7 +63,8 @@ pub(crate) fn tasks_of<L: SiteLedger>(
     Ok(tasks)
 }
 
-/// Moves the pass that a task handed back to the others, for which there is room.
+/// Moves the pass that a finished task holds into `passes`, where there is room for it, and returns the number of the
+/// task's connections that ended without fault.
 fn collect_pass<L: SiteLedger>(task: &mut WorkerTask<L>, passes: &mut Vec<Pass<L>>) -> u64
     requires { vec_len passes.old + 1 ≤ vec_capacity passes.old }
     ensures items { passes.new.items ≡ passes.old.items ++ collected (task.old.done ∷ []) }
@@ -80,8 +81,8 @@ fn collect_pass<L: SiteLedger>(task: &mut WorkerTask<L>, passes: &mut Vec<Pass<L
     }
 }
 
-/// Moves the passes that were handed back to others, for which there is room, and answers the number of connections that
-/// ended without fault.
+/// Moves the passes that finished tasks hold into `passes`, where there is room for them, and returns the number of
+/// connections that ended without fault.
 pub fn collect_passes<L: SiteLedger>(tasks: &mut [WorkerTask<L>], passes: &mut Vec<Pass<L>>) -> u64
     requires room { vec_len passes.old + length tasks.old ≤ vec_capacity passes.old }
     requires few { clean_in (map (λ p. p.done) tasks.old) < 2 ^ 64 }

@@ -20,7 +20,7 @@ pub trait LineIn {
     /// How many reads were made, modulo 2^64.
     ghost reads: { Self → ℕ };
 
-    /// How many of them failed, modulo 2^64.
+    /// How many reads failed, modulo 2^64.
     ghost failures: { Self → ℕ };
 
     /// How many bytes they asked for, which is the length of their buffers, modulo 2^64.
@@ -34,9 +34,9 @@ pub trait LineIn {
         ensures failed { RoseBy (one_if (is_err result)) (failures self.old) (failures self.new) }
         ensures asked_for { RoseBy (length buffer.new) (asked self.old) (asked self.new) };
 
-    /// Takes into a line bytes that are there already and belong to it, for as many of the reads that are left: each
-    /// counts as a read of one byte that gave it. It takes no LF, and a line grows to 8,400 bytes at most. A source
-    /// that holds nothing back takes none. The error is out of memory, and then nothing was taken.
+    /// Moves bytes of a line that the source already holds into `line`. Each counts as a read of one byte, and uses up
+    /// one of the `left` reads. It moves no LF, and a line grows to 8,400 bytes at most. A source that holds no bytes
+    /// moves none. The error is out of memory, and then nothing was moved.
     fn read_held(&mut self, line: &mut Vec<u8>, left: &mut u32) -> Result<(), AllocError>
         requires { IsLine line.old.items }
         ensures taken { OnOk result

@@ -217,11 +217,10 @@ impl<I: LineIn + Drop> LineIn for Ahead<I> {
     }
 }
 
-/// What was written, in memory.
+/// A sink that keeps in memory what was written.
 ///
-/// The nth write takes at most `sizes[n]` bytes, and at least one of a piece that isn't empty;
-/// writes past the list take at most `each`. After `good` more writes each write fails, as does one
-/// that memory is refused to.
+/// The nth write takes at most `sizes[n]` bytes, and at least one of a piece that isn't empty; writes past the list
+/// take at most `each`. After `good` more writes each write fails, as does one for which memory runs out.
 #[derive(Drop)]
 pub struct MemoryOut {
     pub bytes: Vec<u8>,

@@ -31,7 +31,7 @@ fn value_of(word: &[u8]) -> Option<u64>
     Some(value)
 }
 
-/// Whether there is something, and a zero in front only alone.
+/// Returns whether the word isn't empty, and begins with a zero only where that is all of it.
 fn is_canonical(word: &[u8]) -> bool
     ensures { result ≡ has_no_leading_zero word.now }
 {

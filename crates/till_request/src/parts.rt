@@ -11,7 +11,7 @@ fn place_of(text: &[u8], separator: u8) -> Option<usize>
     text.iter().position(|b| *b == separator)
 }
 
-/// The bytes before the first separator, and those behind it, if there is one.
+/// Returns the bytes before the first separator, and the bytes after it, if there is one.
 pub fn first_part(text: &[u8], separator: u8) -> (&[u8], Option<&[u8]>)
     ensures { MatchOption result.1 (slice_split (λ b. b == separator) text.now ≡ result.0.now ∷ [])
         (λ rest. (slice_split (λ b. b == separator) text.now

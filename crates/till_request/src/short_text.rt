@@ -15,7 +15,7 @@ const SHORT: usize = 192;
 /// A text of at most 192 bytes. An answer's line is shorter.
 pub type ShortText = ArrayString<SHORT>;
 
-/// Puts a number behind a text.
+/// Appends a number to a text.
 fn put_number(text: &mut ShortText, number: u64)
     requires { length text.old.bytes + 20 ≤ SHORT }
     ensures text { text.new.bytes ≡ text.old.bytes ++ decimal number }
@@ -25,7 +25,7 @@ fn put_number(text: &mut ShortText, number: u64)
     text.push_str(digits.format(number));
 }
 
-/// Puts a word behind a text.
+/// Appends a space and a word to a text.
 fn put_word(text: &mut ShortText, word: &str)
     requires { length text.old.bytes + length word.now + 1 ≤ SHORT }
     ensures text { text.new.bytes ≡ with_words text.old.bytes (word.now ∷ []) }
@@ -35,7 +35,7 @@ fn put_word(text: &mut ShortText, word: &str)
     text.push_str(word);
 }
 
-/// Puts a number behind a text, as a word.
+/// Appends a space and a number to a text.
 fn put_word_number(text: &mut ShortText, number: u64)
     requires { length text.old.bytes + 21 ≤ SHORT }
     ensures text { text.new.bytes ≡ with_words text.old.bytes (decimal number ∷ []) }
@@ -45,7 +45,7 @@ fn put_word_number(text: &mut ShortText, number: u64)
     put_number(text, number);
 }
 
-/// Puts a refusal's number behind a text, as a word.
+/// Appends a space and a refusal's number to a text.
 fn put_refusal(text: &mut ShortText, number: u32)
     requires { length text.old.bytes + 22 ≤ SHORT }
     ensures text { text.new.bytes ≡ with_words text.old.bytes ((83 ∷ decimal number) ∷ []) }
@@ -71,7 +71,7 @@ fn put_order(text: &mut ShortText, order: Order)
     }
 }
 
-/// Puts a reply's words behind a text, a space before each.
+/// Appends a reply's words to a text, a space before each.
 pub fn put_reply(text: &mut ShortText, reply: &Reply)
     requires { length text.old.bytes + 153 ≤ SHORT }
     ensures text { text.new.bytes ≡ with_words text.old.bytes (reply_words reply.now) }
@@ -133,7 +133,7 @@ pub fn fault_word(fault: LineFault) -> &'static str
     }
 }
 
-/// Puts a part of a program's refusal behind a text, if there is one.
+/// Appends a space and a part of a program's refusal to a text, if there is one.
 fn put_part(text: &mut ShortText, part: Option<u32>)
     requires { length text.old.bytes + 21 ≤ SHORT }
     ensures text { text.new.bytes ≡ with_words text.old.bytes (map decimal (option_to_list part)) }
