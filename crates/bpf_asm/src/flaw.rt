@@ -11,7 +11,7 @@ use std::alloc::{AllocError, Global};
 use std::fmt;
 use thiserror::Error;
 
-/// What is at fault in a text, with what it names of it.
+/// A fault of a text, with the line or the label that it names.
 #[derive(Clone, Copy, Debug, Error)]
 pub enum AsmFlaw<'a> {
     /// A1, in the first line.
@@ -99,7 +99,7 @@ fn formless<'a>(alloc: Global, text: &'a [u8], number: u64) -> Result<AsmFlaw<'a
     }
 }
 
-/// Which label a line defines again, or names where no line has it.
+/// Returns the label that a line defines again, or that it names and no line defines.
 fn label_of<'a>(alloc: Global, text: &'a [u8], number: u64) -> Result<AsmFlaw<'a>, AllocError>
     ensures { IfOk result (Explains text.now (AsmFault.BadLabel number)) }
 {

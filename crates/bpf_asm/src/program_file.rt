@@ -79,7 +79,7 @@ fn push_line(alloc: Global, text: &mut String, bytes: &[u8], unit: usize) -> Res
     Ok(())
 }
 
-/// The units of a program as lines: of each whole unit of 8 bytes 16 lower case digits and an LF.
+/// Returns the units of a program as lines: 16 lower case digits and an LF for each whole unit of 8 bytes.
 pub fn unit_lines(alloc: Global, bytes: &[u8]) -> Result<String, AllocError>
     ensures { IfOk result (λ text. string_bytes text ≡ unit_lines bytes.now) }
 {

@@ -48,14 +48,14 @@ pub enum Job {
         config: String,
         journal: String,
     },
-    /// The text that help or the version is answered with.
+    /// The text to print where the words ask for help or the version.
     Show(String),
 }
 
 /// Why there is no job.
 #[derive(Drop)]
 pub enum CommandFault {
-    /// The words are no use of the program; the text says how it is used.
+    /// The words aren't a valid use of the program; the text says how it is used.
     Usage(String),
     OutOfMemory,
 }

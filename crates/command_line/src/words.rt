@@ -213,14 +213,14 @@ const LAYOUTS: &str = "error: --context takes 1 or 2
 For more information, try '--help'.
 ";
 
-/// Why words of this subcommand, which `clap` takes, ask for nothing.
+/// Returns the message for words of this subcommand that `clap` accepts, but that are no job.
 fn unasked_by(name: &str) -> &'static str
     ensures { result.now ≡ unasked_by name.now }
 {
     if name == "serve" { UNKEPT } else { LAYOUTS }
 }
 
-/// Why words that `clap` takes ask for nothing.
+/// Returns the message for words that `clap` accepts, but that are no job.
 fn unasked(matches: &ArgMatches) -> &'static str
     ensures { result.now ≡ unasked_text (subcommand_rows_of matches.now) }
 {
@@ -249,8 +249,8 @@ fn is_asked_text(kind: ErrorKind) -> bool
     matches!(kind, ErrorKind::DisplayHelp | ErrorKind::DisplayVersion)
 }
 
-/// What an error of the words is answered with, by its kind and the text that was made of it: help and the version are
-/// shown, and else the text is the usage.
+/// Returns what an error of `clap` becomes, by its kind and its text: help and the version are shown, and any other
+/// text is the usage.
 fn told_of(kind: ErrorKind, made: Result<String, AllocError>) -> Result<Job, CommandFault>
     ensures none { IfOk result (λ job. asked job ≡ None) }
     ensures shown { OnOk result (IsShown kind) }

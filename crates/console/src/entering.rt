@@ -12,7 +12,7 @@ use std::alloc::Global;
 use std::sync::Arc;
 use till_request::{Act, Answer, Bytes};
 
-/// The pass by which a script asks everything.
+/// The pass of all acts of a script.
 const PASS: u32 = 1;
 
 /// Enters an event at a moment, and returns the answer to it.
@@ -83,7 +83,7 @@ fn enter_load(
     }
 }
 
-/// An answer to what the verifier doesn't refuse.
+/// Returns an answer with no refusal by the verifier.
 fn unrefused(answer: Answer) -> Entered
     ensures { result ≡ record { answer = answer; refusal = None } }
 {

@@ -21,7 +21,7 @@ fn refuse_close(rt: &HostRuntime, word: &str, why: CloseRefusal) -> u8 {
     }
 }
 
-/// Says why serving left no closed site of a configuration, and answers the exit status.
+/// Prints why a served site of a configuration wasn't closed, and returns the exit status.
 pub fn tell_unclosed(rt: &HostRuntime, word: &str, why: ServeFault) -> u8 {
     match why {
         ServeFault::NotClosed(why) => refuse_close(rt, word, why),

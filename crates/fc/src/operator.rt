@@ -48,7 +48,8 @@ impl<'a, H: Wait + Clock> Operator<'a, H> {
         }
     }
 
-    /// The second of now. Where the clock can't be read, or is before 1970, all lines are of one second.
+    /// Returns the current second. Where the clock can't be read, or is before 1970, it is 0, so all lines count for
+    /// one second.
     fn second(&self) -> u64 {
         match SystemTime::now(self.host) {
             Ok(time) => match time.duration_since(UNIX_EPOCH) {
@@ -59,7 +60,7 @@ impl<'a, H: Wait + Clock> Operator<'a, H> {
         }
     }
 
-    /// Whether one more line may be written now; those that were held back are named before it.
+    /// Returns whether one more line may be printed now. Where lines were held back before it, prints how many.
     fn is_admitted(&self) -> bool {
         let admitted = self.limiter.lock(self.host).admit(self.second());
         match admitted {

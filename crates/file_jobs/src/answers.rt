@@ -18,7 +18,7 @@ pub struct Answers<'a> {
 }
 
 impl<'a> Answers<'a> {
-    /// None waits yet.
+    /// Makes a buffer in which no answer waits.
     pub fn new(rt: &'a HostRuntime) -> io::Result<Answers<'a>> {
         let waiting = BufWriter::new(rt.alloc(), Outlet::new(io::writer(rt)))?;
         Ok(Answers {
@@ -51,7 +51,8 @@ impl<'a> Answers<'a> {
         }
     }
 
-    /// How a play ended, once its last answers have left.
+    /// Writes the last answers, and returns how the play ended: a play without a fault ends with `Write` where they
+    /// can't be written.
     pub fn end(&self, ended: Result<Ended, SessionFault>) -> Result<Ended, SessionFault> {
         match (ended, self.flush()) {
             (Ok(_), Err(_)) => Err(SessionFault::Write),

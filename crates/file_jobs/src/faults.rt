@@ -19,7 +19,7 @@ pub struct Place<'a> {
 }
 
 impl<'a> Place<'a> {
-    /// What a word names.
+    /// Makes the place of the file that a word names, without a line.
     pub fn of(word: &'a str) -> Place<'a> {
         Place {
             name: name_of(word),

@@ -40,7 +40,8 @@ impl<'a> Progress<'a> {
         }
     }
 
-    /// Looks at what a read gave, in order: nothing at the end. Counts the lines that end in it, if anybody sees it.
+    /// Takes the bytes of a read, in order; no bytes are the end. Counts the lines that end in them, if the progress is
+    /// shown.
     pub fn see(&self, bytes: &[u8]) {
         if !self.is_shown {
             return;

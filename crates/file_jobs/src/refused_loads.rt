@@ -14,12 +14,12 @@ pub struct RefusedLoads<'a, 'b> {
     name: &'a str,
     /// How many lines have begun, those before the script too.
     lines: Cell<u64>,
-    /// The line on standard error that has to make room, if there is one.
+    /// The progress line, which is erased first, if there is one.
     progress: Option<&'b Progress<'a>>,
 }
 
 impl<'a, 'b> RefusedLoads<'a, 'b> {
-    /// Of the script of this name, before which there are `lines` lines.
+    /// Makes the reporter for the script of this name, which comes after `lines` lines.
     pub fn new(
         rt: &'a HostRuntime,
         name: &'a str,

@@ -25,7 +25,7 @@ impl fmt::Display for ProgramFlaw {
     }
 }
 
-/// A file's own fault; out of memory is none.
+/// Returns a file's own fault as a flaw. Where the fault is out of memory, that is the error.
 fn file_flaw(fault: ProgramFileFault) -> Result<ProgramFlaw, AllocError>
     ensures flaw { IfOk result (λ flaw. flaw ≡ ProgramFlaw.File fault) }
     ensures fault { OnOk result (fault ≢ ProgramFileFault.OutOfMemory) }

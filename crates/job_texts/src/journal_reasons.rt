@@ -45,8 +45,8 @@ impl fmt::Display for JournalFlaw {
     }
 }
 
-/// The site of a configuration after these entries and the event of a further one; none where it takes no entry more.
-/// The error is out of memory.
+/// Returns the site of a configuration after the entries `before` and the event of `entry`; none where the site takes
+/// no more entries. The error is out of memory.
 fn answered_after(
     alloc: Global,
     config: Config,
@@ -151,7 +151,7 @@ fn place_of(fault: AuditFault) -> Option<u32>
     }
 }
 
-/// The place of the entry at fault where entries show a fault, and what is wrong. The error is out of memory.
+/// Returns the place of the entry that an audit refuses, and what is wrong with it. The error is out of memory.
 fn shown_flaw(
     alloc: Global,
     config: Config,
@@ -202,8 +202,8 @@ fn text_flaw(fault: JournalFault) -> Result<(Option<u32>, JournalFlaw), JournalF
     }
 }
 
-/// Why the journal that a device gives is none of a site of this configuration, with the line at fault, if one is;
-/// none where it is one.
+/// Returns why what a device gives is no journal of a site of this configuration, with the line at fault, if there is
+/// one; none where it is such a journal.
 ///
 /// The error is `Device` where a read failed or the reads ran out, else `OutOfMemory`.
 pub fn journal_flaw<I: LineIn>(

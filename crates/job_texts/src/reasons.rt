@@ -16,12 +16,13 @@ use reg_types::{Layout, Refusal, TypeFault, verify};
 use std::alloc::{AllocError, Global};
 use std::fmt;
 
-/// Why a program is refused: the refusal, the line of the instruction that it is about, and of an argument of a
-/// helper what it has to be.
+/// Why a program is refused: the refusal, the line of the instruction at fault, and what an argument of a helper must
+/// be where that is at fault.
 #[derive(Drop)]
 pub struct RefusedProgram {
     pub refusal: Refusal,
-    /// The line as `dis` has it, or of a unit that is no instruction its 16 digits; with its LF.
+    /// The instruction's line as `dis` prints it, or the unit's 16 digits where the bytes can't be decoded; with its
+    /// LF.
     pub line: Option<String>,
     pub wanted: Option<Kind>,
 }
@@ -134,8 +135,8 @@ fn units_of(alloc: Global, bytes: &[u8]) -> Result<Option<Code>, AllocError>
     }
 }
 
-/// Why bytes are no program, where they are refused so: the line is that of the instruction at the unit that the
-/// refusal names, or the unit's digits where the bytes are no units. The error is out of memory.
+/// Returns why bytes are refused. The line is that of the instruction at the unit that the refusal names, or that
+/// unit's digits where the bytes can't be decoded. The error is out of memory.
 pub fn explain_refusal(
     alloc: Global,
     bytes: &[u8],
@@ -199,8 +200,8 @@ pub fn refused_program(
     }
 }
 
-/// Why a text of the assembler is refused: its fault, and what that names of the text; none where it spells a
-/// program. The error is out of memory.
+/// Returns why a text of the assembler is refused: its fault, and the part of the text that the fault names; none where
+/// the text is a program. The error is out of memory.
 pub fn asm_flaw(alloc: Global, text: &[u8]) -> Result<Option<(AsmFault, AsmFlaw<'_>)>, AllocError>
     ensures { IfOk result
         (λ found. MatchOption found (IsSpelling text.now)

@@ -30,12 +30,12 @@ impl AnswerBuffer {
         }
     }
 
-    /// Whether what waits has to be written before more comes.
+    /// Returns whether the answers that wait must be written before the next line is read.
     pub fn is_full(&self) -> bool {
         self.held.bytes.len() >= MOST_WAITING
     }
 
-    /// Writes what waits, or a front of it. Then nothing waits.
+    /// Writes the answers that wait, or a beginning of them. After that no answer waits.
     pub fn flush<O: LineOut>(&mut self, output: &mut O) -> Result<(), SessionFault>
         ensures ok { OnOk result
             (Sends self.old.held.bytes.items [] (O.written output.old) (O.written output.new)) }

@@ -15,7 +15,7 @@ use till_request::{
     Answer, Found, InputFault, LineFault, LineIn, LineOut, WriteFault, find_line, write_answer,
 };
 
-/// The reads of one session.
+/// How many reads one session may make.
 pub const READS: u32 = 67_108_864;
 
 /// How a session ended: the number of its answers, and the L1 or L4 that ended it.

@@ -19,7 +19,7 @@ pub trait Desk {
 pub trait Clock {
     ghost use Rattle.std.specs.Prelude.{ℕ};
 
-    /// The moment that it may give, and what it goes on to.
+    /// States which moment the clock may give, and which state it is then in.
     ghost tick: { Self → ℕ → Self → Type 0 };
 
     /// Returns the current moment.

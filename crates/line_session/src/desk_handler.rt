@@ -29,7 +29,7 @@ pub fn answer_to<C: Clock, D: Desk>(
     }
 }
 
-/// Why an answer has no line, and ends the session, if it does.
+/// Returns why an answer has no line and ends the session; `None` for an answer that has a line.
 pub fn unsaid(answer: &Answer) -> Option<HandlerError>
     ensures some { IfSome result (λ fault. IsUnsaid fault answer.now) }
     ensures none { IfNone result (ends_unsaid answer.now ≡ false) }

@@ -11,23 +11,23 @@ pub trait Doors {
 
     ghost use Rattle.std.specs.Prelude.{IfOk, OnErr};
 
-    /// The doors that it may open, and what it goes on to.
+    /// States which connection may be opened, and which state the doors are then in.
     ghost opens: { Self → Self.In → Self.Out → Self → Type 0 };
 
-    /// What it may go on to where a door does not open.
+    /// States which state the doors may be in after a connection could not be opened.
     ghost fails: { Self → Self → Type 0 };
 
-    /// The next door.
+    /// Opens the next connection, and returns its input and its output.
     fn next(&mut self) -> Result<(Self::In, Self::Out), DeviceFault>
         ensures ok { IfOk result (λ door. opens self.old door.0 door.1 self.new) }
         ensures err { OnErr result (fails self.old self.new) };
 
-    /// Whether a further line is there already, so that its answer may be written with the one before. It is free not
-    /// to know.
+    /// Returns whether a further line has already arrived, so that its answer may be written together with the one
+    /// before. Doors that can't know it return false.
     fn has_buffered_line(&self, _input: &Self::In) -> bool {
         false
     }
 
-    /// Hears how a session at one of its doors ended. It is free to do nothing.
+    /// Takes the report of how a session over one of the connections ended. An implementation may do nothing.
     fn ended(&self, _outcome: &Result<Ended, SessionFault>) {}
 }

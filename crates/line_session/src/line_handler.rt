@@ -18,7 +18,7 @@ pub trait LineHandler<C, D> {
     ghost use Rattle.till_request.specs.Count.{RoseBy, one_if};
     ghost use Rattle.line_session.specs.Answering.{FallsShort, Said, is_write_fault};
 
-    /// What it may say to a line, and what clock and desk go on to.
+    /// States what may be answered to a line, and which states the clock and the desk are then in.
     ghost says: { Self → (C × D) → List ℕ → List ℕ → (C × D) → Type 0 };
 
     /// States which states the clock and the desk may be in after a line without an answer, where memory ran out or the
@@ -31,7 +31,7 @@ pub trait LineHandler<C, D> {
     /// The lines that take memory before anything changes.
     ghost takes: { Self → List ℕ → Type 0 };
 
-    /// Answers a line, which comes without its LF. After an error nobody is asked any more.
+    /// Answers a line, which comes without its LF. After an error the handler isn't called any more.
     fn handle_line<O: LineOut>(
         &self,
         alloc: Global,

@@ -39,7 +39,7 @@ impl Progress {
         }
     }
 
-    /// Writes what waits, unless a further line is there already and little waits.
+    /// Writes the answers that wait, unless they are few and a further line has already arrived.
     fn flush_unless_more<S: Doors>(
         &mut self,
         doors: &S,
@@ -61,7 +61,7 @@ impl Progress {
         self.waiting.flush(&mut connection.output)
     }
 
-    /// Answers a line. The answer is written, or waits.
+    /// Answers a line. The answer waits, or is written at once where memory runs out.
     fn answer_line<O: LineOut, C: Clock, D: Desk>(
         &mut self,
         role: Role,
@@ -184,10 +184,10 @@ fn device_failed(fault: SessionFault) -> bool
     }
 }
 
-/// Answers the lines that somebody of a role sends over a connection, as `session`; but where further lines are there
-/// already, as the doors say, the answers are written together.
+/// Answers the lines that somebody of a role sends over a connection, as `session` does; but where the doors report
+/// further lines, the answers are written together.
 ///
-/// Where a read fails, answers may still wait for a line that the doors said was there: these are not written.
+/// Where a read fails, answers may still wait, because the doors reported a further line. These are not written.
 pub fn pipelined_session<S: Doors, C: Clock, D: Desk>(
     alloc: Global,
     role: Role,

@@ -10,7 +10,7 @@ use crate::pipelined::pipelined_session;
 use std::alloc::Global;
 use till_request::{DeviceFault, Role};
 
-/// Opens a door and runs a session at it. `None`: the door did not open.
+/// Opens a connection and runs a session over it. Returns `None` where the connection could not be opened.
 fn serve_connection<S: Doors, C: Clock, D: Desk>(
     alloc: Global,
     role: Role,
@@ -33,7 +33,7 @@ fn serve_connection<S: Doors, C: Clock, D: Desk>(
     }
 }
 
-/// One for a connection that ended without fault.
+/// Returns 1 for a connection that ended without fault, and 0 otherwise.
 fn one_if_good(outcome: Option<Result<Ended, SessionFault>>) -> u64
     ensures counted { result ≡ one_good outcome }
     ensures most { result ≤ 1 }

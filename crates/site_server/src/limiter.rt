@@ -37,7 +37,8 @@ impl Limiter {
         }
     }
 
-    /// Whether a line may go through in this second, and how many were held back before it, at most 2^64 - 1.
+    /// Returns how many lines were held back before this one, at most 2^64 - 1; none where this one is held back
+    /// itself.
     pub fn admit(&mut self, second: u64) -> Option<u64>
         ensures admitted { result ≡ admitted self.old second }
         ensures after { self.old.held + 1 < 2 ^ 64 → self.new ≡ after_line self.old second }

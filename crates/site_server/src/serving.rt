@@ -76,7 +76,7 @@ pub struct Unclosed<J: Journal = NoJournal> {
     pub back: Option<(Site, J)>,
 }
 
-/// All of serving that takes memory.
+/// The parts of serving that need memory, made before anything is served.
 #[derive(Drop)]
 struct Prepared<L: SiteLedger> {
     builder: ForecourtBuilder<L>,
@@ -114,7 +114,7 @@ fn prepare<L: SiteLedger>(
     })
 }
 
-/// Why a site wasn't closed, where its journal failed or didn't.
+/// Returns why a site wasn't closed: that its journal failed, or else the refusal to close it.
 fn why_not_closed(why: CloseRefusal, has_stopped: bool) -> ServeFault
     ensures { result ≡ fault_of_close why has_stopped }
 {
@@ -149,7 +149,7 @@ fn close<L: SiteLedger, J: Journal, R: Wait>(
     }
 }
 
-/// Lets the proof know that as many connections can be counted.
+/// Lets the proof know that the number of connections is below 2^32.
 fn prove_few(connections: u32)
     ensures { connections < 2 ^ 32 }
 {}

@@ -12,8 +12,8 @@ use std::alloc::{AllocError, Global};
 use std::net::TcpListener;
 use std::sync::Arc;
 
-/// A worker's task: the pass and the share of its role's port that it begins with, and then the pass that it hands
-/// back, with the number of connections that ended without fault.
+/// A worker's task: the pass and the share of its role's port that the worker starts with, and then the pass that it
+/// returns, with the number of connections that ended without fault.
 #[derive(Drop)]
 pub struct WorkerTask<L: SiteLedger> {
     pub waiting: Option<(Pass<L>, Arc<TcpListener>)>,

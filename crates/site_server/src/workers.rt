@@ -55,8 +55,8 @@ impl<L: SiteLedger, J: Journal, N: Notices, A: Release, R: Wait + Clock> Workers
         task.done = Some(self.serve(pass, role, &mut doors));
     }
 
-    /// Serves the connections of a role for one pass, whose programs run while nobody holds the site's lock. The answer
-    /// is the pass, with the receipts that it gained, and the number of connections that ended without fault.
+    /// Serves the connections of a role with one pass, whose programs run while nobody holds the site's lock. Returns
+    /// the pass, with the receipts that it gained, and the number of connections that ended without fault.
     fn serve<S: Doors>(&self, pass: Pass<L>, role: Role, doors: &mut S) -> (Pass<L>, u64)
         ensures served { (moment : ℕ)
             × Serves (Visits S.opens S.fails

@@ -100,7 +100,7 @@ pub enum Act {
     },
 }
 
-/// What is answered. Refused has the refusal's number and its value.
+/// The reply to an act. `Refused` has the refusal's number, and its value if there is one.
 #[derive(Clone, Copy, Debug, PartialEq, Eq, Drop)]
 pub enum Reply {
     Done,

@@ -26,7 +26,7 @@ pub trait LineIn {
     /// How many bytes they asked for, which is the length of their buffers, modulo 2^64.
     ghost asked: { Self → ℕ };
 
-    /// Reads into the front of the buffer, and answers how many bytes: 0 at the end.
+    /// Reads bytes into the beginning of the buffer, and returns how many: 0 at the end.
     fn read(&mut self, buffer: &mut [u8]) -> Result<usize, DeviceFault>
         ensures bound { IfOk result (λ n. n ≤ length buffer.new) }
         ensures bytes { ReadConsumes (remaining self.old) (remaining self.new) result buffer.new }
@@ -60,8 +60,7 @@ pub trait LineOut {
     /// How many writes failed, modulo 2^64.
     ghost failures: { Self → ℕ };
 
-    /// Takes a front of the piece, and answers how many bytes: at least one of a piece that isn't
-    /// empty.
+    /// Takes bytes from the beginning of the piece, and returns how many: at least one of a piece that isn't empty.
     fn write(&mut self, piece: &[u8]) -> Result<usize, DeviceFault>
         ensures bound { IfOk result (λ n. n ≤ length piece.now) }
         ensures some { IfOk result (λ n. 0 < length piece.now → 0 < n) }

@@ -7,7 +7,7 @@ ghost use Rattle.till_request.specs.Grammar.{number, has_no_leading_zero};
 
 use crate::act::LineFault;
 
-/// The number that a digit more makes, where it is below 2^64.
+/// Returns a number with one more decimal digit at its end, if the byte is a digit and the result is below 2^64.
 fn with_digit(value: u64, byte: u8) -> Option<u64>
     ensures some { IfSome result (λ more. (is_ascii_digit byte ≡ true) × (more ≡ value * 10 + digit_value byte)) }
     ensures none { IfNone result ((is_ascii_digit byte ≡ false) ⊎ (2 ^ 64 ≤ value * 10 + digit_value byte)) }
