@@ -9,55 +9,76 @@ use crate::grammar::Line;
 use crate::line::{cut, row_of};
 use std::alloc::{AllocError, Global};
 use std::fmt;
-use thiserror::Error;
 
 /// A fault of a text, with the line or the label that it names.
-#[derive(Clone, Copy, Debug, Error)]
+#[derive(Clone, Copy)]
 pub enum AsmFlaw<'a> {
     /// A1, in the first line.
-    #[error("the text begins with a byte order mark")]
     ByteOrderMark,
     /// A1.
-    #[error("the line ends with CR LF, and LF alone ends a line")]
     CarriageReturn,
     /// A1, with the line.
-    #[error("no such form: {}", Excerpt(.0))]
     NoForm(&'a [u8]),
     /// A2, with the label.
-    #[error("the label '{}' stands on a line before", Excerpt(.0))]
     LabelAgain(&'a [u8]),
     /// A2, with the label.
-    #[error("no line has the label '{}'", Excerpt(.0))]
     LabelMissing(&'a [u8]),
     /// A3, with the line.
-    #[error("a number out of range: {}", Excerpt(.0))]
     OutOfRange(&'a [u8]),
     /// A4.
-    #[error("a program has 1 to 512 units")]
     Length,
+}
+
+impl fmt::Display for AsmFlaw<'_> {
+    fn fmt<W: fmt::Write>(&self, f: &mut fmt::Formatter<W>) -> fmt::Result {
+        match self {
+            AsmFlaw::ByteOrderMark => f.write_str("the text begins with a byte order mark"),
+            AsmFlaw::CarriageReturn => {
+                f.write_str("the line ends with CR LF, and LF alone ends a line")
+            }
+            AsmFlaw::NoForm(line) => write_around(f, "no such form: ", *line, ""),
+            AsmFlaw::LabelAgain(name) => {
+                write_around(f, "the label '", *name, "' stands on a line before")
+            }
+            AsmFlaw::LabelMissing(name) => write_around(f, "no line has the label '", *name, "'"),
+            AsmFlaw::OutOfRange(line) => write_around(f, "a number out of range: ", *line, ""),
+            AsmFlaw::Length => f.write_str("a program has 1 to 512 units"),
+        }
+    }
+}
+
+/// Writes the beginning of a line or a label between two texts.
+fn write_around<W: fmt::Write>(
+    f: &mut fmt::Formatter<W>,
+    before: &str,
+    line: &[u8],
+    after: &str,
+) -> fmt::Result {
+    f.write_str(before)?;
+    write_beginning(f, line)?;
+    f.write_str(after)
 }
 
 /// The most bytes that are shown of a line.
 const MOST_SHOWN: usize = 80;
 
-/// The beginning of a line as a terminal can show it.
-#[derive(Clone, Copy)]
-struct Excerpt<'a>(&'a [u8]);
+/// Writes the beginning of a line as a terminal can show it.
+fn write_beginning<W: fmt::Write>(f: &mut fmt::Formatter<W>, line: &[u8]) -> fmt::Result {
+    for byte in line.iter().take(MOST_SHOWN) {
+        write_byte(f, *byte)?;
+    }
+    if line.len() > MOST_SHOWN {
+        f.write_str(" ..")?;
+    }
+    Ok(())
+}
 
-impl fmt::Display for Excerpt<'_> {
-    fn fmt<W: fmt::Write>(&self, f: &mut fmt::Formatter<W>) -> fmt::Result {
-        let Excerpt(line) = self;
-        for byte in line.iter().take(MOST_SHOWN) {
-            if (b' '..=b'~').contains(byte) {
-                f.write_char(char::from(*byte))?;
-            } else {
-                write!(f, "\\x{byte:02x}")?;
-            }
-        }
-        if line.len() > MOST_SHOWN {
-            f.write_str(" ..")?;
-        }
-        Ok(())
+/// Writes a byte as it is, or as a number where a terminal can't show it.
+fn write_byte<W: fmt::Write>(f: &mut fmt::Formatter<W>, byte: u8) -> fmt::Result {
+    if (b' '..=b'~').contains(&byte) {
+        f.write_char(char::from(byte))
+    } else {
+        write!(f, "\\x{byte:02x}")
     }
 }
 

@@ -5,7 +5,7 @@ ghost use Rattle.std.specs.Prelude.{◌≡◌, ◌++◌, IfOk, IfErr, OnOk, map,
 ghost use Rattle.std.specs.Prelude.{codes};
 ghost use Rattle.std.specs.Fmt.{decimal};
 ghost use Rattle.bpf_model.specs.Reading.{form_of};
-ghost use Rattle.bpf_asm.specs.Numbered.{line_of_unit, numbered_from};
+ghost use Rattle.bpf_asm.specs.Numbered.{line_of_unit, numbered_from, front_line as front_of};
 ghost use Rattle.bpf_asm.specs.Program as spec;
 ghost use Rattle.bpf_asm.specs.RoundTrip.{RoundTrip};
 ghost use Rattle.bpf_asm.specs.Sound.{AreSound};
@@ -16,24 +16,18 @@ use bpf_decode::{Code, Inst, Unit};
 use grammar::Line;
 use std::alloc::{AllocError, Global};
 use std::fmt::Write;
-use thiserror::Error;
 
-/// Why a text is no program. The number is that of a line, from 1.
-#[derive(Clone, Copy, Debug, PartialEq, Eq, Error)]
+/// Why a text is no program. The number is that of a line, from 1. `explain` has the words for it.
+#[derive(Clone, Copy)]
 pub enum AsmFault {
     /// A1: the line has none of the assembler's forms.
-    #[error("no such form")]
     BadLine(u64),
     /// A2: the line defines a label again, or goes to one that no line defines.
-    #[error("a label that stands on two lines, or on none")]
     BadLabel(u64),
     /// A3: a number of the line is out of range.
-    #[error("a number out of range")]
     OutOfRange(u64),
     /// A4: the program doesn't have 1 to 512 units.
-    #[error("a program has 1 to 512 units")]
     Length,
-    #[error("out of memory")]
     OutOfMemory,
 }
 
@@ -81,12 +75,23 @@ pub fn instruction_line(alloc: Global, code: &Code, unit: u32) -> Result<Option<
     ensures { IfOk result (λ found. option_map string_bytes found ≡ line_of_unit code.now unit) }
 {
     match code.units().get(unit as usize..) {
-        Some([Unit::First(inst), after @ ..]) => {
+        Some(units) => front_line(alloc, units),
+        None => Ok(None),
+    }
+}
+
+/// Returns the line of the instruction that begins at the first of these units, if one does.
+fn front_line(alloc: Global, units: &[Unit]) -> Result<Option<String>, AllocError>
+    ensures { IfOk result (λ found. option_map string_bytes found ≡ front_of units.now) }
+{
+    match units.split_first() {
+        Some((Unit::First(inst), after)) => {
             let mut line = String::new(alloc);
             text::write_instruction(&mut line, *inst, high(after))?;
             Ok(Some(line))
         }
-        _ => Ok(None),
+        Some((Unit::Second(_), _)) => Ok(None),
+        None => Ok(None),
     }
 }
 

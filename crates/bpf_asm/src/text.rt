@@ -1,12 +1,13 @@
 // The text of one instruction.
 
-ghost use Rattle.std.specs.Prelude.{◌≡◌, ◌++◌, ◌+◌, ◌*◌, ◌^◌, ◌≤◌, ◌↔◌, IsTrue, [], ◌∷◌, pos, Some, OnOk, string_bytes};
+ghost use Rattle.std.specs.Prelude.{◌≡◌, ◌++◌, ◌+◌, ◌*◌, ◌^◌, ◌≤◌, [], ◌∷◌, pos, Some, OnOk, string_bytes};
 ghost use Rattle.std.specs.Prelude.{codes};
 ghost use Rattle.std.specs.Int.{cast_unsigned, w32};
 ghost use Rattle.std.specs.Fmt.{decimal, signed_decimal};
 ghost use Rattle.bpf_asm.specs.Text.{line_text, pieces, register_text, operator_text, condition_text, size_text};
 ghost use Rattle.bpf_asm.specs.Text.{signed_size_text, extension_text, swap_text, instruction_text, distance, number};
-ghost use Rattle.bpf_asm.specs.Text.{shift, left_width, right_pieces, upper, HasSecondOperand};
+ghost use Rattle.bpf_asm.specs.Text.{shift, left_width, right_pieces, upper, place, HasSecondOperand};
+ghost use Rattle.bpf_asm.specs.Text.{Next, After};
 ghost use Rattle.bpf_model.specs.Reading.{form_of};
 
 use bpf_model::instruction::{Condition, Form, Inst, Operator, Size, Source, Width};
@@ -192,15 +193,6 @@ fn write_move(out: &mut String, width: Width, source: Source, inst: Inst) -> Res
     }
 }
 
-fn is_plain(operator: Operator) -> bool
-    ensures { IsTrue result ↔ HasSecondOperand operator }
-{
-    !matches!(
-        operator,
-        Operator::Neg | Operator::SwapBytes | Operator::Mov
-    )
-}
-
 // Adds the line of any operator but NEG, END and MOV.
 fn write_plain(
     out: &mut String,
@@ -254,26 +246,16 @@ fn write_wide(out: &mut String, inst: Inst, high: i32) -> Result<(), AllocError>
     write!(out, "{dst} = {value} ll\n")
 }
 
-fn write_load(out: &mut String, size: Size, inst: Inst) -> Result<(), AllocError>
+// Adds the line of a load of this SIZE.
+fn write_load(out: &mut String, size: &str, inst: Inst) -> Result<(), AllocError>
     ensures { OnOk result (string_bytes out.new ≡ string_bytes out.old
-        ++ line_text (pieces (Form.Load size) inst (pos 0))) }
+        ++ line_text (Next (register_text Width.Bits64 inst.dst) ∷ After (codes "=") ∷ After (codes "*")
+        ∷ place size.now inst.src inst.offset [])) }
 {
     let dst = Name(Width::Bits64, inst.dst);
     let src = Name(Width::Bits64, inst.src);
-    let name = name_of_size(size);
     let shift = Shift(inst.offset);
-    write!(out, "{dst} = *({name} *)({src}{shift})\n")
-}
-
-fn write_signed_load(out: &mut String, size: Size, inst: Inst) -> Result<(), AllocError>
-    ensures { OnOk result (string_bytes out.new ≡ string_bytes out.old
-        ++ line_text (pieces (Form.LoadSigned size) inst (pos 0))) }
-{
-    let dst = Name(Width::Bits64, inst.dst);
-    let src = Name(Width::Bits64, inst.src);
-    let name = name_of_signed(size);
-    let shift = Shift(inst.offset);
-    write!(out, "{dst} = *({name} *)({src}{shift})\n")
+    write!(out, "{dst} = *({size} *)({src}{shift})\n")
 }
 
 fn write_number_store(out: &mut String, size: Size, inst: Inst) -> Result<(), AllocError>
@@ -323,19 +305,13 @@ fn write_branch(
     }
 }
 
-fn write_goto(out: &mut String, inst: Inst) -> Result<(), AllocError>
-    ensures { OnOk result (string_bytes out.new ≡ string_bytes out.old ++ line_text (pieces Form.Ja inst (pos 0))) }
-{
-    let distance = Distance(i32::from(inst.offset));
-    write!(out, "goto {distance}\n")
-}
-
-fn write_long_goto(out: &mut String, inst: Inst) -> Result<(), AllocError>
+// Adds the line of a jump without condition: `goto` or `gotol`.
+fn write_goto(out: &mut String, word: &str, to: i32) -> Result<(), AllocError>
     ensures { OnOk result (string_bytes out.new ≡ string_bytes out.old
-        ++ line_text (pieces Form.Ja32 inst (pos 0))) }
+        ++ line_text (Next word.now ∷ distance to [])) }
 {
-    let distance = Distance(inst.imm);
-    write!(out, "gotol {distance}\n")
+    let distance = Distance(to);
+    write!(out, "{word} {distance}\n")
 }
 
 fn write_call(out: &mut String, inst: Inst) -> Result<(), AllocError>
@@ -356,12 +332,12 @@ pub fn write_instruction(out: &mut String, inst: Inst, high: i32) -> Result<(), 
             out, operator, width, source, inst,
         ),
         Some(Form::Wide) => write_wide(out, inst, high),
-        Some(Form::Load(size)) => write_load(out, size, inst),
-        Some(Form::LoadSigned(size)) => write_signed_load(out, size, inst),
+        Some(Form::Load(size)) => write_load(out, name_of_size(size), inst),
+        Some(Form::LoadSigned(size)) => write_load(out, name_of_signed(size), inst),
         Some(Form::StoreImmediate(size)) => write_number_store(out, size, inst),
         Some(Form::StoreRegister(size)) => write_register_store(out, size, inst),
-        Some(Form::Ja) => write_goto(out, inst),
-        Some(Form::Ja32) => write_long_goto(out, inst),
+        Some(Form::Ja) => write_goto(out, "goto", i32::from(inst.offset)),
+        Some(Form::Ja32) => write_goto(out, "gotol", inst.imm),
         Some(Form::Branch(condition, width, source)) => write_branch(
             out, condition, width, source, inst,
         ),

@@ -16,7 +16,7 @@ use counters::Counters;
 pub use memory::put;
 
 /// What a helper takes as an argument: nothing, a number, the number of a declared counter, or a place in the stack.
-#[derive(Clone, Copy, Debug, PartialEq, Eq)]
+#[derive(Clone, Copy, Debug)]
 pub enum Kind {
     Nothing,
     Number,
