@@ -45,6 +45,10 @@ pub cut-last : {T : Type 0} → (xs : List T) (x y : T) → take (length xs) (se
 cut-last [] x y = refl
 cut-last (z ∷ zs) x y = ap (λ r. z ∷ r) (cut-last zs x y)
 
+-- The place of a point's number is one of the places.
+pub place-below : (n m : ℕ) → 1 ≤ n → n ≤ m → n - 1 < m
+place-below n m one le = omega arith
+
 -- The invariant of a station still holds after one of its points and its place in the view changed.
 pub keeps-seen : (points : List PointState) (view : View) (i : ℕ) (p : PointState) (one : PointView) → i < length points → length points ≤ 32
     → length view.prices ≡ 8 → view.count ≡ length points → view.points ≡ seen_points points → one ≡ seen p

@@ -1,5 +1,5 @@
 -- What a run outside the site says about the site's own step.
-use Rattle.std.proofs.Common.{◌≡◌, ℕ, List, ◌∷◌, length, arith, Bool, true, false, Option, Some, None, Ok, Err, refl, ap, ◌∙◌, sym, subst}
+use Rattle.std.proofs.Common.{◌≡◌, ℕ, List, ◌∷◌, length, Bool, true, false, Option, Some, None, Ok, Err, refl, ap, ◌∙◌, sym, subst}
 use Rattle.std.specs.Prelude.{◌⊎◌, reverse, ◌==◌, if◌then◌else◌, IsSome, is_some, ◌<◌, Result, IfOk}
 use Rattle.std.specs.declared.alloc.AllocError.{AllocError}
 use Rattle.std.proofs.Common.{inl, inr}
@@ -16,7 +16,6 @@ use Rattle.till_request.specs.declared.act.Act.TheVariants as act
 use Rattle.bpf_model.specs.Machine.{Counters, counter}
 use Rattle.bpf_model.specs.Runs.{Ended}
 use Rattle.bpf_model.specs.Program.{outcome}
-use Rattle.till_request.specs.declared.act.Reply.{Reply}
 use Rattle.program_slots.specs.Value.{SlotsValue}
 use Rattle.program_slots.specs.Slots.{Version}
 use Rattle.bpf_model.specs.Layouts.{bytes_of}
@@ -36,7 +35,7 @@ use Rattle.site_core.specs.Asked.{asked_question, question_of, StillAsked, IsDra
 use Rattle.site_core.specs.declared.draft.Begin.{Begin}
 use Rattle.site_core.specs.declared.draft.Begin.TheVariants as begin
 use Rattle.site_core.specs.Outside.{run_now, reply_now, Begins, Begun, IsRunOf, basis, drafted}
-use Rattle.site_core.specs.Site.{SiteValue, Enters, entered}
+use Rattle.site_core.specs.Site.{SiteValue, entered}
 use Rattle.site_core.proofs.Points.{commanded-none, commanded-some}
 use Rattle.site_core.proofs.Decisions.{decided-refused, decided-none, decided-some, decided-ended}
 use Rattle.site_core.proofs.Grants.{verdict-deny, verdict-grant}
@@ -179,13 +178,6 @@ begins-none config history s slots till moment r agrees (inr h) =
       history = history;
       state = s;
     }) till moment r (runs-none config (reverse history) s till moment r (inr (h.0, h.1, agrees.in_force h.0.slot ∙ h.2)))
-
--- Where `begin` returned Direct and the request is entered in the same state, the reply is neither a grant nor S24.
-pub direct-undecided : (old new : SiteValue) (pass till moment number : ℕ) (r : Request) (reply : Reply) → Begins old till moment r begin.Direct
-    → length old.history < 1048576 → Enters old pass moment (act.Till till r) number reply new → is_decided reply ≡ false
-unfolding entered
-direct-undecided old new pass till moment number r reply (inl full) less enters = absurd (omega arith)
-direct-undecided old new pass till moment number r reply (inr direct) less enters = ap is_decided enters.reply_is ∙ direct.1
 
 pub begun : (config : ConfigValue) (history : List Entry) (s : SiteState) (slots : SlotsValue) (till moment : ℕ) (r : Request) (draft : DraftValue)
     → Agrees slots (reverse history) → IsDraft config s slots till moment r draft → Begun (record {

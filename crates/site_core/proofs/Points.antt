@@ -1,9 +1,8 @@
 -- The effect of a point's answer on the site.
-use Rattle.std.proofs.Common.{◌≡◌, ℕ, ◌+◌, ◌-◌, ◌<◌, ◌≤◌, List, length, Option, Some, None, Result, Ok, Err, slice_set, refl, arith, ap, ◌∙◌, sym, get_or, suc}
-use Rattle.std.proofs.Common.{zero}
+use Rattle.std.proofs.Common.{◌≡◌, ℕ, ◌+◌, ◌-◌, ◌<◌, ◌≤◌, List, length, Option, Some, None, Result, Ok, Err, slice_set, refl, arith, ap, ◌∙◌, sym, get_or}
 use Rattle.std.specs.Prelude.{unwrap_or}
 use Rattle.std.proofs.lemmas.Bool.Decides.{nat_tests}
-use Rattle.std.proofs.lemmas.Option.{slice_get-get_or, slice_get_past}
+use Rattle.std.proofs.lemmas.Option.{slice_get-get_or}
 use Rattle.std.proofs.lemmas.List.{set-get_or}
 use Rattle.fuelling_point.specs.Table.{PointState, Answer, command_step, event_step}
 use Rattle.fuelling_point.specs.Promises.{FollowsTable}
@@ -23,19 +22,6 @@ at_number-within items n d one le =
     let lt : n - 1 < length items = omega arith in
     let got = slice_get-get_or items (n - 1) d lt in
     grind (arith, nat_tests, got)
-
-pub at_number-zero : {T : Type 0} → (items : List T) → at_number items 0 ≡ None
-at_number-zero items = refl
-
-pub at_number-past : {T : Type 0} → (items : List T) (n : ℕ) → length items < n → at_number items n ≡ None
-at_number-past items n lt =
-    let past = slice_get_past items (n - 1) (omega arith) in
-    grind (arith, nat_tests, past)
-
--- There is no point of this number.
-pub at_number-none : {T : Type 0} → (items : List T) (n : ℕ) → ((1 ≤ n) × (n ≤ length items) → ⊥) → at_number items n ≡ None
-at_number-none items zero nowhere = at_number-zero items
-at_number-none items (suc k) nowhere = at_number-past items (suc k) (grind arith)
 
 -- A command where there is no such point.
 pub commanded-none : (s : SiteState) (till n : ℕ) (command : Command) → at_number s.points n ≡ None → commanded s till n command ≡ replied no_such_point s

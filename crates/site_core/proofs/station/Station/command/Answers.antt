@@ -1,14 +1,14 @@
-use Rattle.std.proofs.Common.{◌≡◌, ◌+◌, ◌-◌, ◌<◌, ◌≤◌, length, arith, Some, None, Ok, Err, ap, ◌∙◌}
-use Rattle.std.proofs.lemmas.Grind.{common_steps}
+use Rattle.std.proofs.Common.{◌≡◌, ◌+◌, ◌-◌, ◌<◌, ◌≤◌, length, arith, Some, None, Ok, Err, ap, ◌∙◌, subst, sym}
+use Rattle.std.proofs.lemmas.Bool.{OnFalse_at, OnTrue_at}
 use Rattle.fuelling_point.specs.Table.{command_step}
 use Rattle.fuelling_point.specs.Promises.{FollowsTable}
 use Rattle.site_core.specs.State.{SiteState}
-use Rattle.site_core.proofs.Filling.{keeps-seen}
+use Rattle.site_core.proofs.Filling.{keeps-seen, place-below}
 use Rattle.site_core.proofs.Points.{commanded-none, commanded-err, commanded-ok}
 use Rattle.site_core.proofs.station.Station.command.Goals as goal
 
 pub returns-then-not-has_point-clause-effect : goal.returns-then-not-has_point-clause-effect
-returns-then-not-has_point-clause-effect c = commanded-none c.args.self.now c.args.till c.args.n c.args.command (grind (arith, common_steps))
+returns-then-not-has_point-clause-effect c = commanded-none c.args.self.now c.args.till c.args.n c.args.command (OnFalse_at c.if-not-has_point.true c.has_point.ensures.none)
 
 pub returns-in-Err-clause-effect : goal.returns-in-Err-clause-effect
 returns-in-Err-clause-effect c =
@@ -21,8 +21,9 @@ returns-in-Err-clause-effect c =
     } in
     let answer : FollowsTable (command_step c.index_mut-point.result.now c.args.till c.args.command) c.index_mut-point.result.now (Err c.in-Err.fault)
     c.on_command-outcome.new.self = rw c.in-Err.is at c.on_command-outcome.ensures.answer in
-    let one : 1 ≤ c.args.n = grind (arith, common_steps) in
-    let le : c.args.n ≤ length c.self.inside.points.items = grind (arith, common_steps) in
+    let there : (1 ≤ c.args.n) × (c.args.n ≤ length c.args.self.now.points) = OnTrue_at c.if-not-has_point.false c.has_point.ensures.there in
+    let one : 1 ≤ c.args.n = there.0 in
+    let le : c.args.n ≤ length c.self.inside.points.items = subst (λ (s : SiteState). c.args.n ≤ length s.points) (sym c.self.view_is) there.1 in
     rw (← c.self.view_is, c.fault_reply.ensures) (commanded-err old c.args.till c.args.n c.args.command c.index_mut-point.result.now
     c.on_command-outcome.new.self c.in-Err.fault one le c.index_mut-point.ensures.value answer)
 
@@ -40,8 +41,9 @@ returns-in-Ok-None-clause-effect c =
     let answer : FollowsTable (command_step c.index_mut-point.result.now c.args.till c.args.command) c.index_mut-point.result.now (Ok None)
     c.on_command-outcome.new.self =
     rw is at c.on_command-outcome.ensures.answer in
-    let one : 1 ≤ c.args.n = grind (arith, common_steps) in
-    let le : c.args.n ≤ length c.self.inside.points.items = grind (arith, common_steps) in
+    let there : (1 ≤ c.args.n) × (c.args.n ≤ length c.args.self.now.points) = OnTrue_at c.if-not-has_point.false c.has_point.ensures.there in
+    let one : 1 ≤ c.args.n = there.0 in
+    let le : c.args.n ≤ length c.self.inside.points.items = subst (λ (s : SiteState). c.args.n ≤ length s.points) (sym c.self.view_is) there.1 in
     let whole = commanded-ok old c.args.till c.args.n c.args.command c.index_mut-point.result.now c.on_command-outcome.new.self None one le
     c.index_mut-point.ensures.value answer
     in
@@ -62,8 +64,9 @@ returns-in-Ok-Some-clause-effect c =
     let is : c.on_command-outcome.result ≡ Ok (Some c.in-Ok-Some.amount) = c.in-Ok-Some.is ∙ ap (λ x. Ok x) some in
     let answer : FollowsTable (command_step c.index_mut-point.result.now c.args.till c.args.command) c.index_mut-point.result.now
     (Ok (Some c.in-Ok-Some.amount)) c.on_command-outcome.new.self = rw is at c.on_command-outcome.ensures.answer in
-    let one : 1 ≤ c.args.n = grind (arith, common_steps) in
-    let le : c.args.n ≤ length c.self.inside.points.items = grind (arith, common_steps) in
+    let there : (1 ≤ c.args.n) × (c.args.n ≤ length c.args.self.now.points) = OnTrue_at c.if-not-has_point.false c.has_point.ensures.there in
+    let one : 1 ≤ c.args.n = there.0 in
+    let le : c.args.n ≤ length c.self.inside.points.items = subst (λ (s : SiteState). c.args.n ≤ length s.points) (sym c.self.view_is) there.1 in
     rw (← c.self.view_is) (commanded-ok old c.args.till c.args.n c.args.command c.index_mut-point.result.now c.on_command-outcome.new.self
     (Some c.in-Ok-Some.amount) one le c.index_mut-point.ensures.value answer)
 
@@ -71,19 +74,25 @@ pub invariant_of-self : goal.invariant_of-self
 invariant_of-self c =
     let points = c.self.inside.points.items in
     let i = c.self.invariant in
-    let lt : c.args.n - 1 < length points = grind (arith, common_steps) in
+    let there : (1 ≤ c.args.n) × (c.args.n ≤ length c.args.self.now.points) = OnTrue_at c.if-not-has_point.false c.has_point.ensures.there in
+    let le : c.args.n ≤ length c.self.inside.points.items = subst (λ (s : SiteState). c.args.n ≤ length s.points) (sym c.self.view_is) there.1 in
+    let lt : c.args.n - 1 < length points = place-below c.args.n (length points) there.0 le in
     keeps-seen points c.self.inside.view (c.args.n - 1) c.on_command-outcome.new.self c.renew.new.place lt i.0 i.1 i.2 i.3 (c.renew.ensures ∙ c.seen.ensures)
 
 pub invariant_of-self-in-Ok-None : goal.invariant_of-self-in-Ok-None
 invariant_of-self-in-Ok-None c =
     let points = c.self.inside.points.items in
     let i = c.self.invariant in
-    let lt : c.args.n - 1 < length points = grind (arith, common_steps) in
+    let there : (1 ≤ c.args.n) × (c.args.n ≤ length c.args.self.now.points) = OnTrue_at c.if-not-has_point.false c.has_point.ensures.there in
+    let le : c.args.n ≤ length c.self.inside.points.items = subst (λ (s : SiteState). c.args.n ≤ length s.points) (sym c.self.view_is) there.1 in
+    let lt : c.args.n - 1 < length points = place-below c.args.n (length points) there.0 le in
     keeps-seen points c.self.inside.view (c.args.n - 1) c.on_command-outcome.new.self c.renew.new.place lt i.0 i.1 i.2 i.3 (c.renew.ensures ∙ c.seen.ensures)
 
 pub invariant_of-self-in-Ok-Some : goal.invariant_of-self-in-Ok-Some
 invariant_of-self-in-Ok-Some c =
     let points = c.self.inside.points.items in
     let i = c.self.invariant in
-    let lt : c.args.n - 1 < length points = grind (arith, common_steps) in
+    let there : (1 ≤ c.args.n) × (c.args.n ≤ length c.args.self.now.points) = OnTrue_at c.if-not-has_point.false c.has_point.ensures.there in
+    let le : c.args.n ≤ length c.self.inside.points.items = subst (λ (s : SiteState). c.args.n ≤ length s.points) (sym c.self.view_is) there.1 in
+    let lt : c.args.n - 1 < length points = place-below c.args.n (length points) there.0 le in
     keeps-seen points c.self.inside.view (c.args.n - 1) c.on_command-outcome.new.self c.renew.new.place lt i.0 i.1 i.2 i.3 (c.renew.ensures ∙ c.seen.ensures)

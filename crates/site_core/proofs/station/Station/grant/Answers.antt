@@ -1,17 +1,17 @@
-use Rattle.std.proofs.Common.{◌≡◌, ℕ, ◌-◌, ◌<◌, ◌≤◌, length, arith, ap, ◌∙◌, sym, None, slice_set}
-use Rattle.std.proofs.lemmas.Grind.{common_steps}
+use Rattle.std.proofs.Common.{◌≡◌, ℕ, ◌-◌, ◌<◌, ◌≤◌, length, ap, ◌∙◌, sym, None, slice_set, subst}
+use Rattle.std.proofs.lemmas.Bool.{OnFalse_at, OnTrue_at}
 use Rattle.fuelling_point.specs.Table.{PointState, command_step}
 use Rattle.fuelling_point.specs.Promises.{FollowsTable}
 use Rattle.site_core.specs.State.{SiteState, at_number}
 use Rattle.site_core.specs.Bounds.{Bounded}
 use Rattle.site_core.specs.Decide.{command_of, granted_point}
 use Rattle.site_core.proofs.Grants.{grant-none, grant-is, bounded-with}
-use Rattle.site_core.proofs.Filling.{keeps-seen}
+use Rattle.site_core.proofs.Filling.{keeps-seen, place-below}
 use Rattle.site_core.proofs.station.Station.grant.Goals as goal
 
 pub returns-then-not-has_point-clause-grant : goal.returns-then-not-has_point-clause-grant
 returns-then-not-has_point-clause-grant c =
-    let none : at_number c.args.self.now.points c.args.question.now.point ≡ None = grind (arith, common_steps) in
+    let none : at_number c.args.self.now.points c.args.question.now.point ≡ None = OnFalse_at c.if-not-has_point.true c.has_point.ensures.none in
     let q = c.args.question.now in
     let back : c.args.self.now ≡ record {
       points = c.self.inside.points.items;
@@ -35,8 +35,9 @@ returns-clause-grant c =
     } in
     let q = c.args.question.now in
     let p : PointState = c.index_mut-point.result.now in
-    let one : 1 ≤ q.point = grind (arith, common_steps) in
-    let le : q.point ≤ length old.points = grind (arith, common_steps) in
+    let there : (1 ≤ q.point) × (q.point ≤ length c.args.self.now.points) = OnTrue_at c.if-not-has_point.false c.has_point.ensures.there in
+    let one : 1 ≤ q.point = there.0 in
+    let le : q.point ≤ length old.points = subst (λ (s : SiteState). q.point ≤ length s.points) (sym c.self.view_is) there.1 in
     let given : c.granted_point-granted.result ≡ granted_point q.kind q.asked c.args.r0 p.preset = rw c.preset.ensures at c.granted_point-granted.ensures in
     let asked : c.command_of.result ≡ command_of q.kind (granted_point q.kind q.asked c.args.r0 p.preset) = rw given at c.command_of.ensures in
     let answers : FollowsTable (command_step p c.args.till (command_of q.kind (granted_point q.kind q.asked c.args.r0 p.preset))) p c.on_command.result
@@ -54,8 +55,9 @@ returns-clause-bounded c = λ k b.
       clears = c.self.inside.clears;
     } in
     let q = c.args.question.now in
-    let one : 1 ≤ q.point = grind (arith, common_steps) in
-    let le : q.point ≤ length old.points = grind (arith, common_steps) in
+    let there : (1 ≤ q.point) × (q.point ≤ length c.args.self.now.points) = OnTrue_at c.if-not-has_point.false c.has_point.ensures.there in
+    let one : 1 ≤ q.point = there.0 in
+    let le : q.point ≤ length old.points = subst (λ (s : SiteState). q.point ≤ length s.points) (sym c.self.view_is) there.1 in
     let bound : Bounded k old = rw (← c.self.view_is) at b in
     bounded-with k old q.point c.index_mut-point.result.now c.on_command.new.self bound le one c.index_mut-point.ensures.value c.on_command.ensures.last
 
@@ -64,5 +66,7 @@ invariant_of-self-2 c =
     let q = c.args.question.now in
     let points = c.self.inside.points.items in
     let i = c.self.invariant in
-    let lt : q.point - 1 < length points = grind (arith, common_steps) in
+    let there : (1 ≤ q.point) × (q.point ≤ length c.args.self.now.points) = OnTrue_at c.if-not-has_point.false c.has_point.ensures.there in
+    let le : q.point ≤ length points = subst (λ (s : SiteState). q.point ≤ length s.points) (sym c.self.view_is) there.1 in
+    let lt : q.point - 1 < length points = place-below q.point (length points) there.0 le in
     keeps-seen points c.self.inside.view (q.point - 1) c.on_command.new.self c.renew.new.place lt i.0 i.1 i.2 i.3 (c.renew.ensures ∙ c.seen.ensures)
