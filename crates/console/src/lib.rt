@@ -1,4 +1,5 @@
-//! What the program does for the words of its command line: it plays a script against a site, and reports on files.
+//! Plays of a script against a site. The calls that read the words of `fc` and a configuration are passed on from
+//! their own crates.
 #![tactic(auto)]
 
 mod entering;
@@ -10,7 +11,6 @@ mod script;
 pub use bpf_asm::{AsmFault, AsmFlaw, ProgramFileFault};
 pub use command_line::{CommandFault, Job, command};
 pub use entering::{Entered, enter};
-pub use job_texts::audit_journal;
 pub use line_session::{Ended, READS, SessionFault};
 pub use notices::{NoNotices, PlayNotices};
 pub use player::Player;

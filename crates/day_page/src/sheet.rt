@@ -8,6 +8,7 @@ use std::alloc::{AllocError, Global};
 #[derive(Drop)]
 pub(crate) struct Sheet {
     text: String,
+    /// Whether memory ran out for some piece.
     is_short: bool,
 }
 

@@ -185,15 +185,15 @@ pub fn tell_text(rt: &HostRuntime, word: &str, text: &[u8]) -> Result<(), AllocE
 /// Says what is wrong with a text of the assembler.
 fn tell_asm(
     rt: &HostRuntime,
-    text: Place<'_>,
+    file: Place<'_>,
     fault: AsmFault,
     flaw: &AsmFlaw<'_>,
 ) -> Result<(), AllocError> {
     let (place, code) = match fault {
-        AsmFault::BadLine(line) => (text.line(line), "A1"),
-        AsmFault::BadLabel(line) => (text.line(line), "A2"),
-        AsmFault::OutOfRange(line) => (text.line(line), "A3"),
-        AsmFault::Length => (text, "A4"),
+        AsmFault::BadLine(line) => (file.line(line), "A1"),
+        AsmFault::BadLabel(line) => (file.line(line), "A2"),
+        AsmFault::OutOfRange(line) => (file.line(line), "A3"),
+        AsmFault::Length => (file, "A4"),
         AsmFault::OutOfMemory => return Err(AllocError),
     };
     complain(rt, place, flaw, code);

@@ -16,7 +16,7 @@ mod statuses;
 mod stop;
 
 pub use audits::audit_files;
-pub use console::{Serve, Settings};
+pub use console::Serve;
 pub use faults::{
     Place, cannot_read, complain, once_printed, out_of_memory, refuse, say, tell, tell_at,
     tell_loss,

@@ -60,7 +60,7 @@ fn tell_broken(
         (SessionFault::Read, Some(error)) => complain(rt, place, error, "N1"),
         (SessionFault::Read, None) => complain(rt, place, &fault, "N1"),
         (SessionFault::ReadsSpent, _) => complain(rt, place, &fault, "N3"),
-        // A play keeps no journal, and want of memory is no device's.
+        // A play keeps no journal, and out of memory is no fault of a device.
         (SessionFault::Write | SessionFault::Journal | SessionFault::OutOfMemory, _) => {
             answers.tell_failure(rt);
         }
@@ -127,8 +127,8 @@ fn outlet<'a, 'b>(answers: &'b Answers<'a>) -> StreamOut<Outgoing<'a, 'b>> {
 
 /// Plays a script against a site of a configuration, both files that words name, and answers the exit status.
 pub fn play_files(rt: &HostRuntime, config: &str, script: &str) -> Result<u8, Stop> {
-    let answers = Answers::new(rt)?;
     let (settings, source) = settings_and(rt, config, script)?;
+    let answers = Answers::new(rt)?;
     // On a terminal the answers themselves show how far it is.
     let is_silent = !rt.stdout().is_terminal();
     let progress = Progress::new(rt, is_silent, source.size());

@@ -4,9 +4,7 @@ use crate::files::text_of;
 use crate::statuses::REFUSED;
 use crate::stop::Stop;
 use bpf_model::context::Layout;
-use job_texts::{
-    ProgramFlaw, Told, asm_file, dis_file, dis_flaw, dis_units_file, verify_file, verify_flaw,
-};
+use job_texts::{Told, asm_file, dis_file, dis_flaw, dis_units_file, verify_file, verify_flaw};
 use std::alloc::{AllocError, Global};
 
 /// What is printed of one file.
@@ -46,19 +44,13 @@ fn told_of(alloc: Global, tell: Tell, text: &[u8]) -> Result<Told, AllocError> {
 
 /// Says why a file is refused.
 fn explain(rt: &HostRuntime, word: &str, tell: Tell, text: &[u8]) -> Result<(), AllocError> {
-    if let Tell::Asm = tell {
-        return tell_text(rt, word, text);
-    }
-    if let Some(flaw) = flaw_of(rt.alloc(), tell, text)? {
+    let flaw = match tell {
+        Tell::Asm => return tell_text(rt, word, text),
+        Tell::Dis | Tell::DisUnits => dis_flaw(rt.alloc(), text)?,
+        Tell::Verify(counters, context) => verify_flaw(rt.alloc(), text, counters, context)?,
+    };
+    if let Some(flaw) = flaw {
         tell_program(rt, word, &flaw);
     }
     Ok(())
-}
-
-/// Why the bytes of a file are no program that is accepted.
-fn flaw_of(alloc: Global, tell: Tell, text: &[u8]) -> Result<Option<ProgramFlaw>, AllocError> {
-    match tell {
-        Tell::Asm | Tell::Dis | Tell::DisUnits => dis_flaw(alloc, text),
-        Tell::Verify(counters, context) => verify_flaw(alloc, text, counters, context),
-    }
 }

@@ -10,6 +10,9 @@ use till_request::{DeviceFault, LineIn};
 /// The lines after which the line is renewed.
 const STEP: u64 = 8192;
 
+/// Goes to the beginning of the terminal's line, and empties it.
+const RENEW: &str = "\r\x1b[K";
+
 /// The line on standard error. Nothing is said of work on fewer lines than `STEP`.
 #[derive(Drop)]
 pub struct Progress<'a> {
@@ -67,7 +70,7 @@ impl<'a> Progress<'a> {
     /// Renews the line: the lines so far, and where the size is known the part of it and the time that the rest will
     /// take. What a terminal does not take is no fault of the work.
     fn say_how_far(&self, lines: u64) {
-        let _ = eprint!(self.rt; "\r\x1b[Kfc: {lines} lines read");
+        let _ = eprint!(self.rt; "{RENEW}fc: {lines} lines read");
         if let (Some(percent), Some(left)) = (self.percent(), self.seconds_left()) {
             let _ = eprint!(self.rt; ", {percent} %, {left} s left");
         }
@@ -77,14 +80,14 @@ impl<'a> Progress<'a> {
     fn say_end(&self) {
         let lines = self.lines.get();
         if lines >= STEP {
-            let _ = eprint!(self.rt; "\r\x1b[Kfc: {lines} lines read, the last of them");
+            let _ = eprint!(self.rt; "{RENEW}fc: {lines} lines read, the last of them");
         }
     }
 
     /// Erases the line.
     pub fn clear(&self) {
         if self.is_shown && self.lines.get() >= STEP {
-            let _ = eprint!(self.rt; "\r\x1b[K");
+            let _ = eprint!(self.rt; "{RENEW}");
         }
     }
 
