@@ -1,13 +1,12 @@
 -- Behind the lines: what was found there ends a session.
-use Rattle.std.proofs.Common.{◌≡◌, ◌≢◌, ◌≤◌, ◌-◌, arith, ℕ, List, [], Option, false, Result, Ok, Err, IfErr, refl}
+use Rattle.std.proofs.Common.{◌≡◌, ◌≢◌, ℕ, List, [], Option, false, Result, Ok, Err, IfErr, refl}
 use Rattle.std.specs.Io.KnownBytes.{Consumes}
 use Rattle.till_request.specs.declared.line.Found.{Found}
 use Rattle.till_request.specs.declared.line.Found.TheVariants.{Line, TooLong, Cut, End}
 use Rattle.till_request.specs.Line.{Finds}
 use Rattle.line_session.specs.declared.answering.SessionFault.{SessionFault}
 use Rattle.line_session.specs.declared.answering.SessionFault.TheVariants as session
-use Rattle.till_request.specs.Count.{RoseBy}
-use Rattle.line_session.specs.Answering.{IsCut, SpendsReads, is_read, session_reads}
+use Rattle.line_session.specs.Answering.{IsCut, is_read}
 use Rattle.line_session.specs.Found.{cut_by}
 
 pub cut_found : (found : Found) (old now : Option (List ℕ)) (line : List ℕ) → (found ≡ Line → ⊥) → Finds old now line found
@@ -39,8 +38,3 @@ module _ {T : Type 0} where
   pub write_no_journal : (r : Result T SessionFault) → IfErr r (λ e. e ≡ session.Write) → r ≡ Err session.Journal → ⊥
   write_no_journal (Ok x) h is = absurd (cc)
   write_no_journal (Err e) h is = absurd (cc)
-
--- the reads that a session made, by those that are left
-pub spends : {T : Type 0} (r : Result T SessionFault) (left : ℕ) {a b x y : ℕ} → left ≤ session_reads → (r ≡ Err session.ReadsSpent → left ≡ 0)
-    → RoseBy (session_reads - left) a b → RoseBy (session_reads - left) x y → SpendsReads session_reads r a b x y
-spends r left few spent reads asked = (session_reads - left, omega arith, reads, λ e. omega (arith, spent e), asked)

@@ -1,5 +1,5 @@
-//! Tests of the site under its lock and of serving it: a gate that is held, synced answers, and sockets. They are a
-//! crate of their own, so that the gate proves each of those crates once.
+//! Tests of the site under its lock and of serving it: a gate that is held, many programs, synced answers, and
+//! sockets. They are a crate of their own, so that `./check` proves each of those crates once.
 #![tactic(auto)]
 
 #[cfg(test)]

@@ -42,7 +42,7 @@ fn longer(pause: u64) -> u64
     }
 }
 
-/// Returns the failure to report to an operator; none where the peer ended the session after a whole line.
+/// Returns the failure to report to an operator; `None` where the peer ended the session after a whole line.
 fn failure_of(outcome: &Result<Ended, SessionFault>) -> Option<SessionFailure>
     ensures { result ≡ told_of outcome.now }
 {

@@ -37,8 +37,8 @@ impl Limiter {
         }
     }
 
-    /// Returns how many lines were held back before this one, at most 2^64 - 1; none where this one is held back
-    /// itself.
+    /// Returns how many lines were held back since the last one that passed, at most 2^64 - 1; `None` where this one is
+    /// held back itself.
     pub fn admit(&mut self, second: u64) -> Option<u64>
         ensures admitted { result ≡ admitted self.old second }
         ensures after { self.old.held + 1 < 2 ^ 64 → self.new ≡ after_line self.old second }

@@ -1,6 +1,6 @@
-//! Tests of the site and of what it stands on, as far as no word of the program reaches it: drafts, runs of events, a
-//! line by itself, and words of faults. They are a crate of their own, so that the gate proves each of these once and not once more with its
-//! tests.
+//! Tests of the site and of what it stands on, as far as no word of the program reaches it: drafts, a line by itself,
+//! and words of faults. They are a crate of their own, so that `./check` proves each crate once and not once more with
+//! its tests.
 #![tactic(auto)]
 
 #[cfg(test)]
