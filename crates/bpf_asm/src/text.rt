@@ -246,7 +246,7 @@ fn write_wide(out: &mut String, inst: Inst, high: i32) -> Result<(), AllocError>
     write!(out, "{dst} = {value} ll\n")
 }
 
-// Adds the line of a load, of a size that has this name.
+// Adds the line of a load of this SIZE.
 fn write_load(out: &mut String, size: &str, inst: Inst) -> Result<(), AllocError>
     ensures { OnOk result (string_bytes out.new ≡ string_bytes out.old
         ++ line_text (Next (register_text Width.Bits64 inst.dst) ∷ After (codes "=") ∷ After (codes "*")
