@@ -8,7 +8,7 @@ use job_texts::{JournalFlaw, ProgramFlaw, asm_flaw};
 use std::alloc::AllocError;
 use std::fmt::{self, Display};
 use std::io::{self, ErrorKind};
-use till_request::{LineFault, WriteFault};
+use till_request::LineFault;
 
 /// A file, a line of it, and a column.
 #[derive(Clone, Copy)]
@@ -114,7 +114,7 @@ pub fn tell_write(rt: &HostRuntime, failure: Option<&io::Error>) {
 pub fn tell_loss(rt: &HostRuntime, failure: Option<&io::Error>) {
     match failure {
         Some(error) => complain(rt, Place::output(), error, "N2"),
-        None => complain(rt, Place::output(), &WriteFault::Write, "N2"),
+        None => complain(rt, Place::output(), &"a write failed", "N2"),
     }
 }
 
