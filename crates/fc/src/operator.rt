@@ -16,8 +16,8 @@ pub struct Operator<'a, H: Wait + Clock> {
 
 fn name_of(role: Role) -> &'static str {
     match role {
-        Role::Till => "a till",
-        Role::Dispenser => "a dispenser",
+        Role::Till | Role::OneTill(_) => "a till",
+        Role::Dispenser | Role::SomePoints(_) => "a dispenser",
         Role::Owner | Role::All => "the owner",
     }
 }

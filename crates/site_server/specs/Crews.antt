@@ -2,7 +2,7 @@
 -- dispensers', and the last one to the owner's.
 use Rattle.std.specs.Prelude.{ℕ, ◌+◌, ◌<◌, ◌≤◌, nat_le, if◌then◌else◌}
 use Rattle.till_request.specs.declared.act.Role.{Role}
-use Rattle.till_request.specs.declared.act.Role.TheVariants.{Till, Dispenser, Owner, All}
+use Rattle.till_request.specs.declared.act.Role.TheVariants.{Till, Dispenser, Owner, All, OneTill, SomePoints}
 
 -- at least one worker for tills and one for dispensers, and at most as many as there are tills, and fewer than there may be points
 abbrev pub IsCrew : ℕ → ℕ → Type 0
@@ -20,3 +20,5 @@ port_of till dispenser owner Till = till
 port_of till dispenser owner Dispenser = dispenser
 port_of till dispenser owner Owner = owner
 port_of till dispenser owner All = owner
+port_of till dispenser owner (OneTill number) = till
+port_of till dispenser owner (SomePoints points) = dispenser

@@ -78,8 +78,8 @@ impl Listeners {
         ensures { result.now ≡ port_of self.now.till self.now.dispenser self.now.owner role }
     {
         match role {
-            Role::Till => &self.till,
-            Role::Dispenser => &self.dispenser,
+            Role::Till | Role::OneTill(_) => &self.till,
+            Role::Dispenser | Role::SomePoints(_) => &self.dispenser,
             Role::Owner | Role::All => &self.owner,
         }
     }
