@@ -1,6 +1,6 @@
-//! A connection.
+//! A connection, as an input and an output.
 
-/// What lines are read from, and what their answers go to.
+/// A connection: the device that lines are read from, and the device that their answers are written to.
 #[derive(Drop)]
 pub struct Connection<I, O> {
     pub input: I,
