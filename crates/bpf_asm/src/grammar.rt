@@ -317,7 +317,7 @@ fn only_assigned(width: Width, dst: u8, tokens: &[Token]) -> Option<Statement>
     }
 }
 
-// Returns the instruction for the tokens after `r1 =`.
+// Returns the instruction for the tokens after `r1 =` (or another register) at the start of a line.
 fn assigned(width: Width, dst: u8, tokens: &[Token]) -> Option<Statement>
     ensures { result ≡ spec.assigned width dst tokens.now }
 {

@@ -1,4 +1,5 @@
-// Labels, and the units that they name. A row is a parsed line, with the text of the label that it defines or may name.
+// Labels, and the units that they name. A row is a parsed line with its label: the one that it defines, or for an
+// instruction its last word, which is the label of a jump.
 
 ghost use Rattle.std.specs.Prelude.{◌≡◌, ◌≤◌, ◌++◌, [], ℕ, List, map, IfOk, OnOk, Some, is_some};
 ghost use Rattle.bpf_asm.specs.Program as spec;

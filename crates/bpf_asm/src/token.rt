@@ -13,7 +13,7 @@ pub enum Token {
     Compare(Condition),
     Unsigned(Size),
     Signed(Size),
-    /// A byte order `le`, `be` or `bswap`, by the width and source that END has for it, and its number of bits.
+    /// One of the words `le16` to `bswap64`: the width and the source of its END instruction, and the number of bits.
     Swap(Width, Source, u64),
     If,
     Goto,

@@ -84,7 +84,7 @@ fn enter_load(
     }
 }
 
-/// Returns an answer to an act that the verifier didn't refuse.
+/// Returns an answer with no refusal by the verifier.
 fn unrefused(answer: Answer) -> Entered
     ensures { result ≡ record { answer = answer; refusal = None } }
 {

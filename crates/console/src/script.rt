@@ -10,7 +10,7 @@ use till_request::{
     Act, LINE_WORDS, LineFault, Role, few_parts, number_u32, number_u64, parse_words,
 };
 
-/// What a line of a script asks.
+/// A parsed line of a script.
 #[derive(Drop)]
 pub enum ScriptLine {
     Act(Act),
@@ -18,7 +18,7 @@ pub enum ScriptLine {
     Moment(u64),
     /// `counter C` asks for the value and the bound of a counter.
     Counter(u32),
-    /// `journal` asks for all entries.
+    /// `journal` asks for all entries of the history.
     Journal,
 }
 

@@ -35,7 +35,7 @@ pub const FIRST_REFUSAL: u32 = 20;
 /// How many numbers of refusals there are: S20 to S34.
 pub const REFUSALS: u32 = 15;
 
-/// What a history adds up to.
+/// The totals of a history.
 #[derive(Drop)]
 pub struct Totals {
     pub entries: usize,
@@ -210,7 +210,7 @@ fn denied_in(decisions: &[Decision]) -> usize
     decisions.iter().filter(|d| !d.is_granted).count()
 }
 
-/// What was sold at each point, by each till and in each hour.
+/// The totals of what was sold at each point, by each till and in each hour.
 #[derive(Drop)]
 struct Sums {
     points: Vec<Sum>,

@@ -1,4 +1,4 @@
-//! Laws about what a history adds up to.
+//! Laws about the totals of a history.
 
 ghost use Rattle.day_report.specs.Laws.{SalesTellTheSite, VersionsTellAllDecisions};
 

@@ -14,7 +14,7 @@ use till_request::{Act, Request};
 /// The most steps that a picture has along its axis.
 const STEPS: usize = 2000;
 
-/// The shortest span, in seconds, for which a picture is drawn along time.
+/// The shortest history, in seconds, whose picture is drawn along time and not along the entries.
 const SPAN: u64 = 600;
 
 /// The axis of a picture of a history: what its steps divide.

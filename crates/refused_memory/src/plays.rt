@@ -17,8 +17,8 @@ const STATION: &str =
     "tills = 2\nprice_slot = 2\nprices = [1799, 1849, 0, 0, 0, 0, 0, 0]\n[[point]]\nrelease = 0\npreset = 1\n\
         [[point]]\nrelease = 0\npreset = 1\n[[counter]]\nvalue = 0\nbound = 2\n";
 
-// The list of the history begins with memory for four entries, so it next allocates at the fifth: this is the release,
-// which is granted when it is sent again.
+// The list of the history begins with memory for four entries, and allocates again for the fifth. Here that is the
+// release, which is granted when it is sent again.
 const RELEASE: &str =
     "load 0 0 79101800000000009500000000000000\ntill 1 show 1\ntill 1 show 1\ntill 1 open 1\n\
         till 1 release 1 8000\ntill 1 release 1 8000\n";

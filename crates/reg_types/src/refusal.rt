@@ -8,9 +8,9 @@ use bpf_decode::DecodeFault;
 use flow_check::FlowFault;
 use thiserror::Error;
 
-/// What is wrong with an instruction, under the fact before it. The first number in a case is the unit where the
-/// instruction begins; a second number is the register at fault, or the argument (1 or 2). The messages don't show the
-/// unit.
+/// What is wrong with an instruction, given the fact (the abstract state) before it. The first number in a case is the
+/// unit where the instruction begins; a second number is the register at fault, or the argument (1 or 2). The messages
+/// don't show the unit.
 #[derive(Clone, Copy, Debug, PartialEq, Eq, Error)]
 pub enum TypeFault {
     #[error("the program runs past its last unit")]

@@ -66,7 +66,7 @@ pub struct StackWrite {
     pub kept: RegType,
 }
 
-/// What is wrong with an instruction under a fact: a `TypeFault` without its unit.
+/// What is wrong with an instruction, given the fact before it: a `TypeFault` without its unit.
 #[derive(Clone, Copy)]
 pub enum Flaw {
     FallsOff,

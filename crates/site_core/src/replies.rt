@@ -16,7 +16,7 @@ pub const NO_SUCH_TILL: Reply = Reply::Refused(21, None);
 /// S25: an amount, a price or a product is out of range.
 pub const BAD_AMOUNT: Reply = Reply::Refused(25, None);
 
-/// S26: two transactions are unpaid.
+/// S26: two transactions of the point are unpaid, which is the most.
 pub const TRANSACTIONS_FULL: Reply = Reply::Refused(26, None);
 
 /// S27: another till holds the transaction, or this till would have to hold it and doesn't.

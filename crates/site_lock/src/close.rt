@@ -8,7 +8,7 @@ use thiserror::Error;
 /// Why a forecourt wasn't closed.
 #[derive(Clone, Copy, Debug, PartialEq, Eq, Drop, Error)]
 pub enum CloseRefusal {
-    /// C1: the given passes aren't all passes of the forecourt, each once.
+    /// C1: the passes given to the close aren't exactly the passes of the forecourt, each once.
     #[error("the passes handed in aren't all of the site's, each once")]
     PassMissing,
     /// C2: the receipt of this pass and number isn't the entry of that number, or the entry of this pass and number has
