@@ -143,7 +143,7 @@ fn add_hour(sheet: &mut Sheet, hour: usize, height: usize) {
     sheet.add("\n");
 }
 
-/// The number of columns from which neighbouring versions begin to share a column.
+/// The number of versions from which on neighbours share a column, so that there are fewer columns than this.
 const COLUMNS: usize = 1000;
 
 /// Adds the picture of decisions by version, in the order of their loads. Each version has a column of two parts,

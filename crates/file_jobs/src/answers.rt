@@ -27,7 +27,7 @@ impl<'a> Answers<'a> {
         })
     }
 
-    /// Writes all buffered answers. Returns an error where this write fails or an earlier one failed.
+    /// Writes all buffered answers. Writes nothing if an earlier write failed.
     fn flush(&self) -> io::Result<()> {
         match self.waiting.try_borrow_mut() {
             Ok(mut waiting) => match waiting.flush() {
