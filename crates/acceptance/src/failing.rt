@@ -195,8 +195,9 @@ fn seen_after_writes<R: Wait>(rt: &R, alloc: Global, good: u64) -> Result<Seen, 
     seen_by(rt, alloc, input, answers(alloc, 4, Some(good)))
 }
 
-/// Does the same for writes. The event of the answer whose write fails must stay entered. A session makes more than 14
-/// writes.
+/// Runs sessions whose first 0, 1, 2 and so on writes succeed, and returns the first of these numbers at which a
+/// session leaves something wrong. The event of the answer whose write fails must stay entered. A session makes more
+/// than 14 writes.
 fn unlike_after_writes<R: Wait>(rt: &R, alloc: Global) -> Result<Option<u64>, Fail> {
     for good in 0..100u64 {
         let seen = seen_after_writes(rt, alloc, good)?;
@@ -309,7 +310,8 @@ const FRONT_OF_A_JOURNAL: Written = Written {
     is_all: false,
 };
 
-/// Does the same as `unlike_after_journal_reads` for writing the journal, which takes more than 14 writes.
+/// Writes the journal with 0, 1, 2 and so on successful writes, and returns the first of these numbers at which the
+/// result is wrong. The whole journal takes more than 14 writes.
 fn unlike_after_journal_writes(alloc: Global) -> Result<Option<u64>, Fail> {
     let mut input = cut_journal(alloc, 1000)?;
     let entries = read_entries(alloc, &mut input).ok().ok_or("entries")?;

@@ -37,7 +37,7 @@ fn add_bar(sheet: &mut Sheet, place: usize, left: usize, width: usize, name: Tex
     );
 }
 
-/// Where the bars of points begin, from the left.
+/// How far from the left of the picture the bars of points begin.
 const POINTS: usize = 90;
 
 /// Returns the greatest of the totals, in cents.
@@ -73,7 +73,7 @@ pub(crate) fn add_points(sheet: &mut Sheet, sums: &[Sum]) {
     sheet.add(END);
 }
 
-/// Where the bars of refusals begin, from the left: their names in words come before.
+/// How far from the left of the picture the bars of refusals begin: their names in words come before.
 const NUMBERS: usize = 440;
 
 /// Returns the greatest of the counts, and how many counts aren't 0: these have a bar.

@@ -6,7 +6,7 @@ use crate::texts::{Text, number, scaled};
 use day_report::{Axis, Bands, step_of};
 use fuelling_point::State;
 
-/// Where a drawing begins, from the left of its picture.
+/// How far from the left of its picture a drawing begins.
 pub(crate) const LEFT: usize = 90;
 
 pub(crate) const WIDTH: usize = 900;

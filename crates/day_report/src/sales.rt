@@ -119,7 +119,7 @@ pub fn find_sales(alloc: Global, points: usize, entries: &[Entry]) -> Result<Sol
     Ok(Sold { sales, points })
 }
 
-/// A part of the sales, which is added up by itself.
+/// A part of the sales that is added up separately.
 #[derive(Clone, Copy, Drop)]
 pub enum Part {
     All,

@@ -17,7 +17,7 @@ const STEPS: usize = 2000;
 /// The shortest history, in seconds, whose picture is drawn along time and not along the entries.
 const SPAN: u64 = 600;
 
-/// The axis of a picture of a history: what its steps divide.
+/// The axis of a picture of a history: its entries, or time.
 #[derive(Clone, Copy, Drop)]
 pub enum Axis {
     /// The entries, from 1 to the number given.

@@ -1,4 +1,4 @@
-//! A connection, as an input and an output.
+//! Connections: where lines come from, and where their answers go.
 
 /// A connection: the device that lines are read from, and the device that their answers are written to.
 #[derive(Drop)]

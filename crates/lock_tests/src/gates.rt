@@ -94,7 +94,7 @@ impl Gate for Holding<'_> {
 }
 
 /// Asks for a release as till 1. The gate waits at both runs, and both are stale, since point 2 changes each time. So
-/// the request is decided under the lock, as entry 6. Returns whether it was so.
+/// the request is decided under the lock, as entry 6. Returns whether all this happened.
 fn held_call<L: SiteLedger, R: Wait>(
     rt: &R,
     forecourt: &Forecourt<L>,
@@ -113,7 +113,7 @@ fn held_call<L: SiteLedger, R: Wait>(
 }
 
 /// Changes point 2 each time that till 1's gate waits, and then lets the gate go: first the nozzle is lifted, then till
-/// 2 is granted a release, after one run of its own. Returns whether it was so.
+/// 2 is granted a release, after one run of its own. Returns whether all this happened.
 fn other_calls<L: SiteLedger, R: Wait>(
     rt: &R,
     forecourt: &Forecourt<L>,
