@@ -10,7 +10,7 @@ pub trait Desk {
     /// States what the desk may answer to an act at a moment, and the state of the desk after that.
     ghost step: { Self → Act → ℕ → Answer → Self → Type 0 };
 
-    /// Answers an act that is asked at a moment, in seconds since the start of 1970.
+    /// Returns the answer to an act that is asked at a moment.
     fn answer(&mut self, act: Act, moment: u64) -> Answer
         ensures { step self.old act moment result self.new };
 }
