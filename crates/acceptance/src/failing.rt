@@ -1,5 +1,5 @@
-//! Devices that fail at each call in turn. A session returns the fault of the device that failed, what was entered
-//! stays, and what is out is a beginning of the answers; a journal's fault is the device's.
+//! Tests of sessions and journals over devices that fail at each read and each write in turn. A session must return the
+//! fault of the device, keep the events that were entered, and have written a beginning of the answers.
 ghost use Rattle.std.specs.Prelude.{◌≡◌, [], None};
 
 use crate::sites::{ANSWERS, DELIVERY, JOURNAL, station};
@@ -15,7 +15,7 @@ use std::test::Fail;
 use till_request::Role;
 use till_request::devices::{MemoryIn, MemoryOut};
 
-/// Tells 0.
+/// A clock that always gives moment 0.
 #[derive(Drop)]
 struct Still;
 
@@ -27,8 +27,8 @@ impl Clock for Still {
     }
 }
 
-/// What a session left: how it ended, how many reads and writes failed, how many entries its pass was told of, how many
-/// lines are out, and whether what is out is a beginning of the answers.
+/// What a session left: how it ended, how many reads and writes failed, how many receipts its pass got, how many
+/// answers were written, and whether the output is a beginning of the answers.
 #[derive(Clone, Copy, PartialEq, Drop)]
 struct Seen {
     ended: Result<Ended, SessionFault>,
@@ -38,7 +38,7 @@ struct Seen {
     is_front: bool,
 }
 
-/// All lines are read, entered and answered.
+/// What a session without a fault leaves: all 14 lines are entered and answered.
 const WHOLE: Seen = Seen {
     ended: Ok(Ended {
         lines: 14,
@@ -50,7 +50,7 @@ const WHOLE: Seen = Seen {
     is_front: true,
 };
 
-/// How many lines end in these bytes.
+/// Returns how many LF these bytes have.
 fn lines_in(bytes: &[u8]) -> usize {
     let mut lines = 0usize;
     for byte in bytes {
@@ -61,7 +61,7 @@ fn lines_in(bytes: &[u8]) -> usize {
     lines
 }
 
-/// A session over these devices at a desk with this pass.
+/// Runs a session with these devices at a desk with this pass, and returns what it left.
 fn seen_at<L: SiteLedger, R: Wait>(
     rt: &R,
     alloc: Global,
@@ -89,7 +89,7 @@ fn seen_at<L: SiteLedger, R: Wait>(
     }
 }
 
-/// The same at a new site.
+/// Runs a session with these devices at the desk of a new forecourt, and returns what it left.
 fn sat<L: SiteLedger, R: Wait>(
     rt: &R,
     alloc: Global,
@@ -109,13 +109,13 @@ fn sat<L: SiteLedger, R: Wait>(
     Some(seen_at(rt, alloc, &forecourt, pass, input, output))
 }
 
-/// The delivery, at a device whose first reads succeed, as many as given.
+/// Makes an input that gives the lines of the delivery. Its first `good` reads succeed; `None` means all.
 fn delivery(alloc: Global, good: Option<u64>) -> Result<MemoryIn, Fail> {
     let bytes = Vec::from_slice(alloc, DELIVERY.as_bytes())?;
     Ok(MemoryIn::new(bytes, Vec::new(alloc), good))
 }
 
-/// A device that takes at most `each` bytes a write, and whose first writes succeed.
+/// Makes an output that takes at most `each` bytes in a write. Its first `good` writes succeed; `None` means all.
 fn answers(alloc: Global, each: usize, good: Option<u64>) -> MemoryOut {
     let mut output = MemoryOut::new(alloc, Vec::new(alloc), good);
     output.each = each;
@@ -132,7 +132,7 @@ fn sat_of<R: Wait>(
     sat::<Brand, R>(rt, alloc, Blank::new(1), config, input, output)
 }
 
-/// What these devices see of a session at a new station.
+/// Runs a session with these devices at a new site of two points, and returns what it left.
 fn seen_by<R: Wait>(
     rt: &R,
     alloc: Global,
@@ -148,7 +148,7 @@ fn seen_after_reads<R: Wait>(rt: &R, alloc: Global, good: u64) -> Result<Seen, F
     seen_by(rt, alloc, input, answers(alloc, 4096, None))
 }
 
-/// What a session saw, with how many lines were entered and answered.
+/// Returns what a session must leave that fails with this fault after `entries` entries and `lines` answers.
 fn failed(ended: SessionFault, entries: usize, lines: usize) -> Seen {
     let failed = match ended {
         SessionFault::Write => (0, 1),
@@ -163,7 +163,7 @@ fn failed(ended: SessionFault, entries: usize, lines: usize) -> Seen {
     }
 }
 
-/// How many lines end before this place of the delivery.
+/// Returns how many lines end in the first `place` bytes of the delivery.
 fn lines_before(place: usize) -> usize {
     lines_in(
         DELIVERY
@@ -173,7 +173,8 @@ fn lines_before(place: usize) -> usize {
     )
 }
 
-/// After how many good reads a session that fails at the next one leaves anything else; the last has none that fails.
+/// Runs sessions whose first 0, 1, 2 and so on reads succeed, and returns the first of these numbers at which a session
+/// leaves something wrong. In the last session no read fails.
 fn unlike_after_reads<R: Wait>(rt: &R, alloc: Global) -> Result<Option<u64>, Fail> {
     for good in 0..DELIVERY.len().wrapping_add(2) {
         let lines = lines_before(good);
@@ -194,7 +195,9 @@ fn seen_after_writes<R: Wait>(rt: &R, alloc: Global, good: u64) -> Result<Seen, 
     seen_by(rt, alloc, input, answers(alloc, 4, Some(good)))
 }
 
-/// The same of writes, of which there are over 14. The event of the answer whose write failed stays entered.
+/// Runs sessions whose first 0, 1, 2 and so on writes succeed, and returns the first of these numbers at which a
+/// session leaves something wrong. The event of the answer whose write fails must stay entered. A session makes more
+/// than 14 writes.
 fn unlike_after_writes<R: Wait>(rt: &R, alloc: Global) -> Result<Option<u64>, Fail> {
     for good in 0..100u64 {
         let seen = seen_after_writes(rt, alloc, good)?;
@@ -208,7 +211,7 @@ fn unlike_after_writes<R: Wait>(rt: &R, alloc: Global) -> Result<Option<u64>, Fa
     Ok(Some(100))
 }
 
-/// The journal, at a device that gives 50 bytes a read and whose first reads succeed.
+/// Makes an input that gives the journal, 50 bytes in a read. Its first `good` reads succeed.
 fn cut_journal(alloc: Global, good: u64) -> Result<MemoryIn, Fail> {
     let bytes = Vec::from_slice(alloc, JOURNAL.as_bytes())?;
     let mut input = MemoryIn::new(bytes, Vec::new(alloc), Some(good));
@@ -216,7 +219,7 @@ fn cut_journal(alloc: Global, good: u64) -> Result<MemoryIn, Fail> {
     Ok(input)
 }
 
-/// What a journal's reader came to over such a device.
+/// The result of reading a journal, and how many reads failed, how many were made, and how many bytes they asked for.
 #[derive(Clone, Copy, PartialEq, Drop)]
 struct Read {
     entries: Result<usize, JournalFault>,
@@ -236,7 +239,7 @@ fn read_after(alloc: Global, good: u64) -> Result<Read, Fail> {
     })
 }
 
-/// What is read where the last of these reads fails.
+/// Returns the result that a journal must have whose last read, that of number `reads`, fails.
 fn failed_read(reads: u64) -> Read {
     Read {
         entries: Err(JournalFault::Device),
@@ -246,7 +249,7 @@ fn failed_read(reads: u64) -> Read {
     }
 }
 
-/// What is read where none of these reads fails.
+/// Returns the result that a journal must have that is read whole in `reads` reads.
 fn whole_read(reads: u64) -> Read {
     Read {
         entries: Ok(14),
@@ -256,7 +259,8 @@ fn whole_read(reads: u64) -> Read {
     }
 }
 
-/// After how many good reads of a journal a failure leaves anything else; the journal takes more than 10.
+/// Reads the journal with 0, 1, 2 and so on successful reads, and returns the first of these numbers at which the
+/// result is wrong. The whole journal takes more than 10 reads.
 fn unlike_after_journal_reads(alloc: Global) -> Result<Option<u64>, Fail> {
     for good in 0..100u64 {
         let read = read_after(alloc, good)?;
@@ -270,8 +274,8 @@ fn unlike_after_journal_reads(alloc: Global) -> Result<Option<u64>, Fail> {
     Ok(Some(100))
 }
 
-/// What came of writing entries: the fault, how many writes failed, and whether what is out is a beginning of the
-/// journal, and all of it.
+/// The result of writing a journal, how many writes failed, and whether the output is a beginning of the journal, and
+/// the whole of it.
 #[derive(Clone, Copy, PartialEq, Drop)]
 struct Written {
     told: Result<(), JournalFault>,
@@ -280,7 +284,7 @@ struct Written {
     is_all: bool,
 }
 
-/// Writes entries to a device that takes 30 bytes a write and whose first writes succeed.
+/// Writes entries to an output that takes 30 bytes in a write and whose first `good` writes succeed.
 fn written_after(alloc: Global, entries: &[Entry], good: u64) -> Written {
     let mut output = answers(alloc, 30, Some(good));
     let told = write_entries(alloc, entries, &mut output);
@@ -306,7 +310,8 @@ const FRONT_OF_A_JOURNAL: Written = Written {
     is_all: false,
 };
 
-/// The same of writes of a journal, which takes more than 14.
+/// Writes the journal with 0, 1, 2 and so on successful writes, and returns the first of these numbers at which the
+/// result is wrong. The whole journal takes more than 14 writes.
 fn unlike_after_journal_writes(alloc: Global) -> Result<Option<u64>, Fail> {
     let mut input = cut_journal(alloc, 1000)?;
     let entries = read_entries(alloc, &mut input).ok().ok_or("entries")?;
@@ -322,7 +327,8 @@ fn unlike_after_journal_writes(alloc: Global) -> Result<Option<u64>, Fail> {
     Ok(Some(200))
 }
 
-/// After how many good reads and writes of a session, and of a journal, something else is left.
+/// Returns the first wrong number of successful reads and writes of a session, and of a journal; `None` where all are
+/// right.
 fn first_unlike<R: Wait>(rt: &R, alloc: Global) -> Result<[Option<u64>; 4], Fail> {
     let reads = unlike_after_reads(rt, alloc)?;
     let writes = unlike_after_writes(rt, alloc)?;
@@ -331,7 +337,7 @@ fn first_unlike<R: Wait>(rt: &R, alloc: Global) -> Result<[Option<u64>; 4], Fail
     Ok([reads, writes, journal_reads, journal_writes])
 }
 
-// A session and a journal, at each read and each write.
+// Tests a session and a journal with a failure at each read and each write.
 #[test]
 fn fails_at_each_call(rt: HostRuntime) -> Result<(), Fail> {
     assert!(rt; first_unlike(&rt, rt.alloc())? == [None; 4]);

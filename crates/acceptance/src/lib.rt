@@ -1,5 +1,5 @@
-//! Acceptance: what goes through many crates and no word of the program reaches. Devices that fail at each call, and
-//! programs at random.
+//! Tests that cross many crates and that the commands of the program can't make: devices that fail at each call, and
+//! random programs.
 #![tactic(auto)]
 
 #[cfg(test)]

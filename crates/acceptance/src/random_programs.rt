@@ -1,4 +1,4 @@
-//! Programs at random, from a fixed seed: each is refused by a number, or runs to a number.
+//! Tests of random programs from a fixed seed: each must be refused with a number, or run to an answer.
 use counters::Counters;
 use helpers::{PointView, View};
 use interp::{Context, Layout, run};
@@ -6,7 +6,7 @@ use reg_types::verify;
 use std::alloc::{AllocError, Global};
 use std::test::Fail;
 
-/// Numbers from a seed (xorshift64*).
+/// A generator of random numbers from a seed (xorshift64*).
 #[derive(Drop)]
 struct Numbers {
     state: u64,
@@ -20,7 +20,7 @@ impl Numbers {
         self.state.wrapping_mul(0x2545_F491_4F6C_DD1D)
     }
 
-    /// One of these.
+    /// Returns one of these choices at random.
     fn pick(&mut self, choices: &[u8]) -> u8 {
         let place = self.next() % 64;
         choices
@@ -30,17 +30,17 @@ impl Numbers {
     }
 }
 
-/// What becomes of some bytes.
+/// The result of verifying and running some bytes as a program.
 #[derive(Clone, Copy)]
 enum Verdict {
-    /// V and this number.
+    /// The verifier refused the bytes with this V number.
     Refused(u32),
-    /// The program was accepted, and answered.
+    /// The program was accepted, and its run ended with this number.
     Answered(u64),
 }
 
-/// What became of programs: how many passed the decoder, how many were accepted, what all answers come to, and how many
-/// were refused by no number of 1 to 20.
+/// The results of many programs: how many passed the decoder, how many were accepted, the sum of all answers, and how
+/// many were refused without a number from 1 to 20.
 #[derive(Clone, Copy)]
 struct Tally {
     decoded: u32,
@@ -64,8 +64,8 @@ impl Tally {
     }
 }
 
-/// What the units of a form hold: opcodes, registers (the source above the destination), offsets by their low and their
-/// high byte, and immediates. There are numbers in r0, r6 and r7, the context at r1, and the stack at r10.
+/// The choices for the bytes of a random unit: opcode, registers (source in the high four bits), low and high byte of
+/// the offset, and immediate. They suit programs with numbers in R0, R6 and R7, the context in R1 and the stack in R10.
 struct Form {
     opcodes: &'static [u8],
     registers: &'static [u8],
@@ -184,7 +184,7 @@ const FORMS: [Form; 16] = [
     CALL,
 ];
 
-/// A unit with mostly what its form uses.
+/// Returns a random unit of one of the forms.
 fn unit_of(numbers: &mut Numbers) -> [u8; 8] {
     let place = numbers.next() % 16;
     let form = &FORMS[place as usize];
@@ -200,7 +200,7 @@ fn unit_of(numbers: &mut Numbers) -> [u8; 8] {
     ]
 }
 
-/// Bytes at random, 1 to 64 units.
+/// Returns 1 to 64 units of random bytes.
 fn noise(alloc: Global, numbers: &mut Numbers) -> Result<Vec<u8>, AllocError> {
     let mut bytes = Vec::new(alloc);
     for _ in 0..=numbers.next() % 64 {
@@ -209,7 +209,8 @@ fn noise(alloc: Global, numbers: &mut Numbers) -> Result<Vec<u8>, AllocError> {
     Ok(bytes)
 }
 
-/// Units that look like a program's, 1 to 64: numbers in r0, r6 and r7 first, EXIT last.
+/// Returns 1 to 64 units that look like a program: first numbers for R0, R6 and R7, then random units, and EXIT at the
+/// end.
 fn likeness(alloc: Global, numbers: &mut Numbers) -> Result<Vec<u8>, AllocError> {
     let mut bytes = Vec::new(alloc);
     let longest = numbers.next() % 64;

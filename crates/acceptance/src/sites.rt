@@ -1,9 +1,9 @@
-//! A site, a delivery that is paid there, and its journal.
+//! A site for tests: its configuration, the lines of a delivery there, their answers, and their journal.
 use site_core::Config;
 use std::alloc::Global;
 use std::test::Fail;
 
-/// Two tills, and two points whose releases go to slot 0 and presets to slot 1; prices in slot 2.
+/// Makes a configuration with two tills and two points. Slot 0 decides releases, slot 1 presets, and slot 2 prices.
 pub fn station(alloc: Global) -> Result<Config, Fail> {
     let points = vec![in alloc; (0, 1), (0, 1)]?;
     let prices = [1799, 1849, 0, 0, 0, 0, 0, 0];
@@ -11,18 +11,18 @@ pub fn station(alloc: Global) -> Result<Config, Fail> {
     Ok(config.ok_or("a configuration")?)
 }
 
-/// A delivery that is paid: 14 lines.
+/// The 14 lines of a delivery that is paid.
 pub const DELIVERY: &str =
     "load 0 0 79101800000000009500000000000000\ntill 1 open 1\ndisp 1 up 1\ntill 1 release 1 8000\ndisp 1 order\n\
         disp 1 started\ndisp 1 flow 2500 1390\ndisp 1 down\ntill 1 lock 1 1\ntill 2 lock 1 1\ntill 2 clear 1 1\n\
         till 1 clear 1 1\ntill 1 clear 1 1\ntill 1 show 1\n";
 
-/// What the delivery is answered.
+/// The answers to the lines of the delivery.
 pub const ANSWERS: &str =
     "1 version 1\n2 done\n3 done\n4 granted 8000 by 1\n5 order authorise 8000\n6 done\n7 done\n8 done\n9 done\n\
         10 S27\n11 S27\n12 done\n13 S28\n14 point 3 0 0 0 0 0 0\n";
 
-/// The journal of the delivery.
+/// The journal that the delivery leaves.
 pub const JOURNAL: &str =
     "1 1 0 load 0 0 79101800000000009500000000000000 = version 1\n2 1 0 till 1 open 1 = done\n\
         3 1 0 disp 1 up 1 = done\n4 1 0 till 1 release 1 8000 = granted 8000 by 1 ; 0 1 8000 \

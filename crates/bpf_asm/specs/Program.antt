@@ -64,7 +64,7 @@ last_word [] = []
 last_word (word ∷ []) = word
 last_word (word ∷ other ∷ words) = last_word (other ∷ words)
 
--- what a line says, with the label that it defines or names
+-- a parsed line, with the label that it defines, or the last word of an instruction, which is the label of a jump
 pub record Row : Type 0 where
   pub says : Line
   pub label : Text
@@ -92,7 +92,7 @@ abbrev pub with_row : Option Row → List Row → List Row
 with_row None rows = rows
 with_row (Some r) rows = r ∷ rows
 
--- what the lines say; a line without a form has no row
+-- the parsed lines; a line that has no form of the assembler has no row
 abbrev pub rows_of : List Text → List Row
 rows_of [] = []
 rows_of (text ∷ lines) = with_row (row_of text) (rows_of lines)

@@ -1,4 +1,4 @@
-// What a fault names of its text, for people.
+// Flaws: the faults of an assembler text with their words, for people to read.
 
 ghost use Rattle.std.specs.Prelude.{◌≡◌, ◌-◌, [], IfOk, slice_get, unwrap_or};
 ghost use Rattle.bpf_asm.specs.Program as spec;
@@ -10,22 +10,22 @@ use crate::line::{cut, row_of};
 use std::alloc::{AllocError, Global};
 use std::fmt;
 
-/// A fault of a text, with the line or the label that it names.
+/// A fault of an assembler text, with the line or the label that its message shows.
 #[derive(Clone, Copy)]
 pub enum AsmFlaw<'a> {
-    /// A1, in the first line.
+    /// A1 (no form of the assembler) in the first line, as a byte order mark comes before it.
     ByteOrderMark,
-    /// A1.
+    /// A1 (no form of the assembler) in a line with a CR before its LF.
     CarriageReturn,
-    /// A1, with the line.
+    /// A1: this line has no form of the assembler.
     NoForm(&'a [u8]),
-    /// A2, with the label.
+    /// A2: an earlier line defines this label too.
     LabelAgain(&'a [u8]),
-    /// A2, with the label.
+    /// A2: a jump names this label, and no line defines it.
     LabelMissing(&'a [u8]),
-    /// A3, with the line.
+    /// A3: a number in this line is out of range.
     OutOfRange(&'a [u8]),
-    /// A4.
+    /// A4: the program doesn't have 1 to 512 units.
     Length,
 }
 
@@ -47,7 +47,7 @@ impl fmt::Display for AsmFlaw<'_> {
     }
 }
 
-/// Writes the beginning of a line or a label between two texts.
+/// Writes `before`, the first 80 bytes of a line or a label, and `after`.
 fn write_around<W: fmt::Write>(
     f: &mut fmt::Formatter<W>,
     before: &str,
@@ -59,10 +59,10 @@ fn write_around<W: fmt::Write>(
     f.write_str(after)
 }
 
-/// The most bytes that are shown of a line.
+/// The most bytes of a line that a message shows.
 const MOST_SHOWN: usize = 80;
 
-/// Writes the beginning of a line as a terminal can show it.
+/// Writes the first 80 bytes of a line, each as a terminal can show it, and ` ..` if there are more.
 fn write_beginning<W: fmt::Write>(f: &mut fmt::Formatter<W>, line: &[u8]) -> fmt::Result {
     for byte in line.iter().take(MOST_SHOWN) {
         write_byte(f, *byte)?;
@@ -73,7 +73,7 @@ fn write_beginning<W: fmt::Write>(f: &mut fmt::Formatter<W>, line: &[u8]) -> fmt
     Ok(())
 }
 
-/// Writes a byte as it is, or as a number where a terminal can't show it.
+/// Writes a printable ASCII character as it is, and any other byte as in `\x0d`.
 fn write_byte<W: fmt::Write>(f: &mut fmt::Formatter<W>, byte: u8) -> fmt::Result {
     if (b' '..=b'~').contains(&byte) {
         f.write_char(char::from(byte))
@@ -82,7 +82,7 @@ fn write_byte<W: fmt::Write>(f: &mut fmt::Formatter<W>, byte: u8) -> fmt::Result
     }
 }
 
-/// A line of a text by its number, from 1; an empty one where the text has fewer lines.
+/// Returns the line of this number, counted from 1, or an empty one if the text has fewer lines.
 fn line_of(alloc: Global, text: &[u8], number: u64) -> Result<&[u8], AllocError>
     ensures { IfOk result (λ line. line.now ≡ line_at text.now number) }
 {
@@ -105,7 +105,8 @@ fn has_return(line: &[u8]) -> bool
     line.ends_with(b"\r")
 }
 
-/// What is at fault in a line without a form.
+/// Returns the flaw of a line that has no form of the assembler (A1): a byte order mark, a CR at its end, or the line
+/// itself.
 fn formless<'a>(alloc: Global, text: &'a [u8], number: u64) -> Result<AsmFlaw<'a>, AllocError>
     ensures { IfOk result (Explains text.now (AsmFault.BadLine number)) }
 {
@@ -120,7 +121,7 @@ fn formless<'a>(alloc: Global, text: &'a [u8], number: u64) -> Result<AsmFlaw<'a
     }
 }
 
-/// Returns the label that a line defines again, or that it names and no line defines.
+/// Returns the flaw of a line with a wrong label (A2): it defines the label again, or names one that no line defines.
 fn label_of<'a>(alloc: Global, text: &'a [u8], number: u64) -> Result<AsmFlaw<'a>, AllocError>
     ensures { IfOk result (Explains text.now (AsmFault.BadLabel number)) }
 {
@@ -139,8 +140,8 @@ fn out_of_range<'a>(alloc: Global, text: &'a [u8], number: u64) -> Result<AsmFla
     Ok(AsmFlaw::OutOfRange(line))
 }
 
-/// Returns a fault of a text with the line or the label that it names. For a bad line it says whether a CR at the end
-/// or a byte order mark is the cause. The error is out of memory, also where that is the fault.
+/// Returns the flaw for a fault of a text, with the line or the label that its message shows. The error is that memory
+/// ran out, now or as the fault itself.
 pub fn explain<'a>(
     alloc: Global,
     text: &'a [u8],

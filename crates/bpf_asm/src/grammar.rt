@@ -1,4 +1,4 @@
-// The grammar: what the tokens of a line say.
+// The grammar of the assembler: the instructions and labels that the tokens of a line mean.
 
 ghost use Rattle.std.specs.Prelude.{◌≡◌, ◌∷◌, option_map};
 ghost use Rattle.bpf_asm.specs.Grammar as spec;
@@ -6,14 +6,14 @@ ghost use Rattle.bpf_asm.specs.Grammar as spec;
 use crate::token::Token;
 use bpf_model::instruction::{Condition, Form, Operator, Size, Source, Width};
 
-/// A number with its sign. `size` is `None` for a number above 2^64 - 1.
+/// A number with its sign. `size` is its absolute value, or `None` if that is above 2^64 - 1.
 #[derive(Clone, Copy)]
 pub struct Value {
     pub negative: bool,
     pub size: Option<u64>,
 }
 
-/// The fields of an instruction, as numbers that may be out of range.
+/// The fields of an instruction, with numbers that may still be out of range.
 #[derive(Clone, Copy)]
 pub struct Fields {
     pub dst: u8,
@@ -22,14 +22,15 @@ pub struct Fields {
     pub imm: Value,
 }
 
-/// Where a jump goes: to a label, which is the line's last token, or by a distance in units.
+/// The target of a jump: a label, which is the line's last token, or a distance in units.
 #[derive(Clone, Copy)]
 pub enum Target {
     Label,
     Distance(Value),
 }
 
-/// An instruction: a wide load with its register and number, a jump with its target, or one of the others.
+/// A parsed instruction: a wide load with its register and number, a jump with its target, or any other with its
+/// fields.
 #[derive(Clone, Copy)]
 pub enum Statement {
     Plain(Form, Fields),
@@ -37,7 +38,8 @@ pub enum Statement {
     Jump(Form, Fields, Target),
 }
 
-/// What a line says without its comment. A label is the text of the first token.
+/// A parsed line, without its comment: empty, the definition of a label, whose name is the first token, or an
+/// instruction.
 #[derive(Clone, Copy)]
 pub enum Line {
     Empty,
@@ -112,8 +114,8 @@ fn is_word(token: Token) -> bool
     )
 }
 
-// Returns the instruction of an operator whose second operand are these tokens: a register or a number, and nothing
-// after it.
+// Returns the instruction `dst OPERATOR= operand`, if the tokens are the operand and nothing more: a register or a
+// number.
 fn operand(
     operator: Operator,
     offset: u64,
@@ -160,7 +162,7 @@ fn target_of(tokens: &[Token]) -> Option<Target>
     }
 }
 
-// Reads `(SIZE *)`, and returns SIZE and the tokens after it.
+// Parses `(SIZE *)`, and returns SIZE and the tokens after it.
 fn sized(tokens: &[Token]) -> Option<(Token, &[Token])>
     ensures { option_map (λ p. (p.0, p.1.now)) result ≡ spec.sized tokens.now }
 {
@@ -170,7 +172,7 @@ fn sized(tokens: &[Token]) -> Option<(Token, &[Token])>
     }
 }
 
-// Reads `(r2 + N)` or `(r2 - N)`, and returns the register's number, N with its sign, and the tokens after it.
+// Parses `(r2 + N)` or `(r2 - N)`, and returns the register's number, N with its sign, and the tokens after it.
 fn based(tokens: &[Token]) -> Option<(u8, Value, &[Token])>
     ensures { option_map (λ p. (p.0, p.1, p.2.now)) result ≡ spec.based tokens.now }
 {
@@ -274,7 +276,7 @@ fn is_full(width: Width) -> bool
     matches!(width, Width::Bits64)
 }
 
-// Returns the instruction for the right side of `=` that no other operator can have: a negation, a sign extension, END,
+// Returns the instruction `dst = tokens` if it has a form that exists for `=` only: a negation, a sign extension, END,
 // a wide load or a load.
 fn only_assigned(width: Width, dst: u8, tokens: &[Token]) -> Option<Statement>
     ensures { result ≡ spec.only_assigned width dst tokens.now }
@@ -315,7 +317,7 @@ fn only_assigned(width: Width, dst: u8, tokens: &[Token]) -> Option<Statement>
     }
 }
 
-// Returns the instruction for the tokens after `r1 =`.
+// Returns the instruction for the tokens after `r1 =` (or another register) at the start of a line.
 fn assigned(width: Width, dst: u8, tokens: &[Token]) -> Option<Statement>
     ensures { result ≡ spec.assigned width dst tokens.now }
 {
@@ -325,7 +327,7 @@ fn assigned(width: Width, dst: u8, tokens: &[Token]) -> Option<Statement>
     }
 }
 
-// Returns the instruction of a store for the tokens after its place.
+// Returns the instruction of a store, if the tokens after the store's address are right.
 fn stored(size: Size, base: u8, offset: Value, tokens: &[Token]) -> Option<Statement>
     ensures { result ≡ spec.stored size base offset tokens.now }
 {
@@ -446,7 +448,7 @@ fn no_fields() -> Fields
     fields_of(0, 0, exactly(0), exactly(0))
 }
 
-// Returns the instruction for the tokens after a register at the start.
+// Returns the instruction for the tokens after a register at the start of a line.
 fn changed(width: Width, dst: u8, tokens: &[Token]) -> Option<Statement>
     ensures { result ≡ spec.statement (Token.Register width dst ∷ tokens.now) }
 {
@@ -493,7 +495,7 @@ fn exit(tokens: &[Token]) -> Option<Statement>
     }
 }
 
-/// Returns the instruction that the tokens say, if they have the form of one.
+/// Returns the instruction that the tokens of a line mean; `None` if they have no form of the assembler.
 pub fn statement_of(tokens: &[Token]) -> Option<Statement>
     ensures { result ≡ spec.statement tokens.now }
 {
@@ -510,7 +512,7 @@ pub fn statement_of(tokens: &[Token]) -> Option<Statement>
     }
 }
 
-/// Returns what a line says; `None` where its tokens have no form.
+/// Parses the tokens of a line; `None` if they have no form of the assembler.
 pub fn line_of(tokens: &[Token]) -> Option<Line>
     ensures { result ≡ spec.line_of tokens.now }
 {

@@ -1,4 +1,5 @@
-// Labels, and the units that they name.
+// Labels, and the units that they name. A row is a parsed line with its label: the one that it defines, or for an
+// instruction its last word, which is the label of a jump.
 
 ghost use Rattle.std.specs.Prelude.{◌≡◌, ◌≤◌, ◌++◌, [], ℕ, List, map, IfOk, OnOk, Some, is_some};
 ghost use Rattle.bpf_asm.specs.Program as spec;
@@ -7,7 +8,7 @@ use crate::AsmFault;
 use crate::grammar::{Line, Statement, Target};
 use std::alloc::{AllocError, Global};
 
-// Returns how many units a line takes.
+// Returns the number of units of a line: 0, 1, or 2 for a wide load.
 pub fn len_of(line: Line) -> u64
     ensures value { result ≡ spec.line_len_of line }
     ensures small { result ≤ 2 }
@@ -21,7 +22,7 @@ pub fn len_of(line: Line) -> u64
     }
 }
 
-/// Returns how many units the rows take.
+/// Returns the number of units of all rows.
 pub fn units_in(rows: &[(Line, &[u8])]) -> u64
     ensures { result ≡ spec.units_in (map (λ p. spec.row p.0 p.1.now) rows.now) }
 {
@@ -34,7 +35,7 @@ pub fn units_in(rows: &[(Line, &[u8])]) -> u64
     units
 }
 
-// Adds the label that the line defines, if it defines one, with the unit that it names.
+// Adds to the list the label that a row defines, if it defines one, with the unit that it names, which is `at`.
 fn define<'a>(
     labels: &mut Vec<(&'a [u8], u64)>,
     says: Line,
@@ -51,7 +52,7 @@ fn define<'a>(
     }
 }
 
-/// Returns the labels of the rows, in their order, each with the unit that it names.
+/// Returns the labels that the rows define, in their order, each with the unit that it names.
 pub fn labels_of<'a>(
     alloc: Global,
     rows: &[(Line, &'a [u8])],
@@ -71,7 +72,7 @@ pub fn labels_of<'a>(
     Ok(labels)
 }
 
-/// Returns the unit that a label names; `None` where no line defines the label.
+/// Returns the unit that a label names; `None` if no row defines the label.
 pub fn place_of(mut labels: &[(&[u8], u64)], name: &[u8]) -> Option<u64>
     ensures { result ≡ spec.place_found (map (λ d. spec.definition d.0.now d.1) labels.entry.now) name.now }
 {
@@ -102,7 +103,7 @@ fn goes_to_label(statement: Statement) -> bool
     matches!(statement, Statement::Jump(_, _, Target::Label))
 }
 
-// Returns whether the row defines a label that was seen before, or goes to one that no row defines.
+// Returns whether a row defines a label of `seen` again, or jumps to one that no row defines.
 fn is_wrong(labels: &[(&[u8], u64)], seen: &[&[u8]], says: Line, name: &[u8]) -> bool
     ensures { result ≡ spec.is_wrong (map (λ d. spec.definition d.0.now d.1) labels.now)
         (map (λ t. t.now) seen.now) says name.now }
@@ -125,8 +126,8 @@ fn note<'a>(seen: &mut Vec<&'a [u8]>, says: Line, name: &'a [u8]) -> Result<(), 
     }
 }
 
-/// Returns the fault of the first line that defines a label again, or goes to one that no line defines; `None` where no
-/// line does.
+/// Returns the fault of the first row that defines a label again, or jumps to one that no row defines; `None` if no row
+/// does.
 pub fn label_fault(
     alloc: Global,
     labels: &[(&[u8], u64)],

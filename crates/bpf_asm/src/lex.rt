@@ -1,4 +1,4 @@
-// The lexer: cuts a line into tokens.
+// The lexer: splits a line into tokens.
 
 ghost use Rattle.std.specs.Prelude.{◌≡◌, ◌≤◌, ◌<◌, ◌+◌, ◌-◌, ◌*◌, map, length, take, drop, slice_index, nat_eq, true};
 ghost use Rattle.std.specs.Prelude.{IsTrue, IfOk, OnOk, option_map};
@@ -105,7 +105,7 @@ fn symbol_len(mut table: &[(&[u8], Token)], text: &[u8]) -> usize
     longest
 }
 
-/// Returns the length of the longest token at the front; 0 where no token begins there.
+/// Returns the length of the longest token at the start of a text; 0 if no token begins there.
 pub fn token_len(text: &[u8]) -> usize
     ensures value { result ≡ spec.token_len text.now }
     ensures within { result ≤ length text.now }
@@ -161,7 +161,7 @@ fn register_or_name(text: &[u8]) -> Token
     }
 }
 
-/// Returns how many bytes of a line come before its comment.
+/// Returns the number of bytes of a line before its comment.
 pub fn code_len(line: &[u8]) -> usize
     ensures value { result ≡ spec.code_len line.now }
     ensures within { result ≤ length line.now }
@@ -173,7 +173,7 @@ pub fn code_len(line: &[u8]) -> usize
     at
 }
 
-/// Returns the texts of the tokens; `None` where something that isn't blank begins no token.
+/// Returns the texts of a line's tokens; `None` if there is a byte that is no blank and begins no token.
 pub fn split<'a>(alloc: Global, text: &'a [u8]) -> Result<Option<Vec<&'a [u8]>>, AllocError>
     ensures { IfOk result (λ found. option_map (λ v. map (λ t. t.now) v.items) found ≡ spec.split text.now) }
 {
@@ -237,7 +237,7 @@ fn lookup_symbol(text: &[u8], other: Token) -> Token
     lookup(&SYMBOLS, text, other)
 }
 
-// Returns the value of a number, if it is below 2^64.
+// Returns the value of a decimal or hexadecimal number; `None` if it is 2^64 or more.
 fn number(text: &[u8]) -> Option<u64>
     ensures { result ≡ spec.small (spec.number_value text.now) }
 {
@@ -248,7 +248,7 @@ fn number(text: &[u8]) -> Option<u64>
     }
 }
 
-/// Returns what a token means.
+/// Returns the token of a text.
 pub fn kind_of(text: &[u8]) -> Token
     ensures { result ≡ spec.kind_of text.now }
 {
@@ -259,7 +259,7 @@ pub fn kind_of(text: &[u8]) -> Token
     }
 }
 
-/// Returns what each of the tokens means.
+/// Returns the token of each text. The error is that memory ran out.
 pub fn kinds(alloc: Global, words: &[&[u8]]) -> Result<Vec<Token>, AllocError>
     ensures { IfOk result (λ v. v.items ≡ map spec.kind_of (map (λ t. t.now) words.now)) }
 {

@@ -1,4 +1,4 @@
-//! The assembler: programs from text, text of programs, and files of programs as hexadecimal digits.
+//! The assembler: programs from text and back, and files of programs as hexadecimal digits.
 #![tactic(auto)]
 
 ghost use Rattle.std.specs.Prelude.{◌≡◌, ◌++◌, IfOk, IfErr, OnOk, map, None, ◌&&◌, nat_le, string_bytes, option_map};
@@ -17,12 +17,12 @@ use grammar::Line;
 use std::alloc::{AllocError, Global};
 use std::fmt::Write;
 
-/// Why a text is no program. The number is that of a line, from 1. `explain` has the words for it.
+/// Why a text is no program. The number is that of a line, counted from 1. `explain` finds the words for it.
 #[derive(Clone, Copy)]
 pub enum AsmFault {
     /// A1: the line has none of the assembler's forms.
     BadLine(u64),
-    /// A2: the line defines a label again, or goes to one that no line defines.
+    /// A2: the line defines a label again, or jumps to one that no line defines.
     BadLabel(u64),
     /// A3: a number of the line is out of range.
     OutOfRange(u64),
@@ -54,7 +54,7 @@ fn high(units: &[Unit]) -> i32
     }
 }
 
-/// Returns the text of a program, with a line for each instruction.
+/// Returns the text of a program, with one line for each instruction. The error is that memory ran out.
 pub fn disassemble(alloc: Global, code: &Code) -> Result<String, AllocError>
     ensures { IfOk result (λ text. string_bytes text ≡ canon code.now) }
 {
@@ -69,8 +69,8 @@ pub fn disassemble(alloc: Global, code: &Code) -> Result<String, AllocError>
     Ok(out)
 }
 
-/// Returns the line of the instruction that begins at a unit, as in `disassemble`, with its LF; `None` where none
-/// begins.
+/// Returns the line, with its LF, of the instruction that begins at a unit, as `disassemble` writes it; `None` if none
+/// begins there.
 pub fn instruction_line(alloc: Global, code: &Code, unit: u32) -> Result<Option<String>, AllocError>
     ensures { IfOk result (λ found. option_map string_bytes found ≡ line_of_unit code.now unit) }
 {
@@ -80,7 +80,7 @@ pub fn instruction_line(alloc: Global, code: &Code, unit: u32) -> Result<Option<
     }
 }
 
-/// Returns the line of the instruction that begins at the first of these units, if one does.
+/// Returns the line of the instruction that begins at the first of these units; `None` if none begins there.
 fn front_line(alloc: Global, units: &[Unit]) -> Result<Option<String>, AllocError>
     ensures { IfOk result (λ found. option_map string_bytes found ≡ front_of units.now) }
 {
@@ -95,7 +95,8 @@ fn front_line(alloc: Global, units: &[Unit]) -> Result<Option<String>, AllocErro
     }
 }
 
-/// Returns the text of a program, with the number of its first unit and `: ` before each instruction.
+/// Returns the text of a program, like `disassemble`, with the number of its first unit and `: ` before each
+/// instruction.
 pub fn disassemble_numbered(alloc: Global, code: &Code) -> Result<String, AllocError>
     ensures { IfOk result (λ text. string_bytes text ≡ numbered_from 0 code.now) }
 {
@@ -112,7 +113,7 @@ pub fn disassemble_numbered(alloc: Global, code: &Code) -> Result<String, AllocE
     Ok(out)
 }
 
-/// Adds the line of an instruction, with the number of its unit before it.
+/// Appends the number of a unit, `: `, and the line of the instruction that begins there.
 fn write_numbered(out: &mut String, number: u64, inst: Inst, high: i32) -> Result<(), AllocError>
     ensures { OnOk result (string_bytes out.new ≡ string_bytes out.old ++ decimal number ++ codes ": "
         ++ instruction_text (form_of inst.opcode) inst high) }
@@ -127,7 +128,8 @@ fn is_length(count: u64) -> bool
     1 <= count && count <= 512
 }
 
-// Returns the program of rows that have no fault of their own, or their fault: of the length, else of a label.
+// Returns the program of parsed lines that have no fault of their own. The error is that it doesn't have 1 to 512
+// units, else the first wrong label, or that memory ran out.
 fn assemble_rows(alloc: Global, rows: &[(Line, &[u8])]) -> Result<Code, AsmFault>
     requires fits { spec.AreRight (map (λ p. spec.row p.0 p.1.now) rows.now) }
     requires sound { AreSound (map (λ p. spec.row p.0 p.1.now) rows.now) }
@@ -155,8 +157,8 @@ fn assemble_rows(alloc: Global, rows: &[(Line, &[u8])]) -> Result<Code, AsmFault
     Ok(Code::from_units(units))
 }
 
-/// Returns the program that a text spells, or the first fault of the text: that of a line, else of the length, else of
-/// a label. `OutOfMemory` comes where memory runs out.
+/// Assembles a text. The error is the fault of the first line that has one of its own, else that the program doesn't
+/// have 1 to 512 units, else the first wrong label; or that memory ran out.
 pub fn assemble(alloc: Global, text: &[u8]) -> Result<Code, AsmFault>
     ensures ok { IfOk result (λ code. spec.Spells text.now code) }
     ensures refused { IfErr result (λ fault. spec.IsRefused text.now fault) }
@@ -174,14 +176,14 @@ pub fn assemble(alloc: Global, text: &[u8]) -> Result<Code, AsmFault>
     }
 }
 
-/// States that the canonical text of a program spells the program, and no other. It does nothing: its contract is the
-/// law.
+/// States that the text of a program, as `disassemble` writes it, assembles to that program and to no other. It does
+/// nothing: its contract is the law.
 pub fn law_of_canonical_text()
     ensures { RoundTrip }
 {}
 
-/// Writes a program as text, assembles the text, and returns the program that it spells: the same one, unless memory
-/// runs out.
+/// Disassembles a program, assembles the text, and returns the result, which is the same program. The error is that
+/// memory ran out.
 pub fn reassemble(alloc: Global, code: &Code) -> Result<Code, AsmFault>
     ensures same { IfOk result (λ again. again ≡ code.now) }
     ensures refused { IfErr result (λ fault. fault ≡ AsmFault.OutOfMemory) }

@@ -1,4 +1,4 @@
-// What a line of text says, and the lines of a text.
+// The lines of a text, and their parsing.
 
 ghost use Rattle.std.specs.Prelude.{◌≡◌, ◌^◌, ◌≤◌, ◌<◌, ◌+◌, length, drop, map, take, option_map, IfOk, IfErr, Some};
 ghost use Rattle.std.specs.Prelude.{None, nat_lt};
@@ -58,7 +58,7 @@ fn label_of<'a>(line: Line, words: &[&'a [u8]]) -> &'a [u8]
     }
 }
 
-// Returns what the tokens say, with the label that they define or name; `None` where they have no form.
+// Returns the parsed line with its label; `None` if the tokens have no form of the assembler.
 fn row_with<'a>(tokens: &[Token], words: &[&'a [u8]]) -> Option<(Line, &'a [u8])>
     ensures { option_map (λ p. spec.row p.0 p.1.now) result
         ≡ spec.row_with (line_said tokens.now) (map (λ t. t.now) words.now) }
@@ -67,7 +67,7 @@ fn row_with<'a>(tokens: &[Token], words: &[&'a [u8]]) -> Option<(Line, &'a [u8])
     Some((says, label_of(says, words)))
 }
 
-// Returns what the words of a line say, with the label that it defines or names; `None` where they have no form.
+// Parses the words of a line, and returns it with its label; `None` if they have no form of the assembler.
 fn row_by<'a>(alloc: Global, words: &[&'a [u8]]) -> Result<Option<(Line, &'a [u8])>, AllocError>
     ensures { IfOk result (λ found. option_map (λ p. spec.row p.0 p.1.now) found
         ≡ spec.row_by (Some (map (λ t. t.now) words.now))) }
@@ -76,7 +76,8 @@ fn row_by<'a>(alloc: Global, words: &[&'a [u8]]) -> Result<Option<(Line, &'a [u8
     Ok(row_with(tokens.as_slice(), words))
 }
 
-/// Returns what a line says, with the label that it defines or names; `None` where it has no form.
+/// Parses a line, and returns it with its label: the one that it defines, or for an instruction its last word, which is
+/// the label of a jump. Returns `None` if the line has no form of the assembler.
 pub fn row_of<'a>(alloc: Global, line: &'a [u8]) -> Result<Option<(Line, &'a [u8])>, AllocError>
     ensures { IfOk result (λ found. option_map (λ p. spec.row p.0 p.1.now) found ≡ spec.row_of line.now) }
 {
@@ -86,7 +87,7 @@ pub fn row_of<'a>(alloc: Global, line: &'a [u8]) -> Result<Option<(Line, &'a [u8
     }
 }
 
-// Returns whether the number is from minus `half` to `half` - 1.
+// Returns whether a number is in the range from minus `half` to `half` - 1.
 fn fits(half: u64, value: Value) -> bool
     ensures { result ≡ spec.fits half value }
 {
@@ -117,7 +118,7 @@ fn statement_fits(statement: Statement) -> bool
     }
 }
 
-/// Returns whether the numbers of a line are in range.
+/// Returns whether all numbers of a parsed line are in range.
 pub fn line_fits(line: Line) -> bool
     ensures { result ≡ spec.line_fits line }
 {
@@ -139,7 +140,7 @@ fn line_len(text: &[u8]) -> usize
     at
 }
 
-// Returns the text after its first n bytes and one more.
+// Returns the text after its first `n` bytes and the LF that follows them.
 fn past(text: &[u8], n: usize) -> &[u8]
     requires { n ≤ length text.now }
     ensures value { result.now ≡ drop (n + 1) text.now }
@@ -150,7 +151,7 @@ fn past(text: &[u8], n: usize) -> &[u8]
     }
 }
 
-/// Returns the lines of a text, without their LF.
+/// Splits a text into its lines, and returns them without their LF. The error is that memory ran out.
 pub fn cut<'a>(alloc: Global, text: &'a [u8]) -> Result<Vec<&'a [u8]>, AllocError>
     ensures { IfOk result (λ v. map (λ t. t.now) v.items ≡ spec.cut text.now) }
 {
@@ -165,7 +166,8 @@ pub fn cut<'a>(alloc: Global, text: &'a [u8]) -> Result<Vec<&'a [u8]>, AllocErro
     Ok(lines)
 }
 
-/// Returns what a line says, with its label, or the line's own fault.
+/// Parses line `number`, and returns it with its label. The error is the line's own fault (A1 or A3), or that memory
+/// ran out.
 fn row_at<'a>(alloc: Global, number: u64, line: &'a [u8]) -> Result<(Line, &'a [u8]), AsmFault>
     ensures ok { IfOk result (λ p. spec.row_of line.now ≡ Some (spec.row p.0 p.1.now)) }
     ensures none { IfOk result (λ p. spec.row_fault number (spec.row_of line.now) ≡ None) }
@@ -184,7 +186,8 @@ fn row_at<'a>(alloc: Global, number: u64, line: &'a [u8]) -> Result<(Line, &'a [
     }
 }
 
-/// Returns what each line says, or the fault of the first line that has one of its own.
+/// Parses all lines, and returns each with its label. The error is the fault of the first line that has one of its own
+/// (A1 or A3), or that memory ran out.
 pub fn rows_of<'a>(alloc: Global, lines: &[&'a [u8]]) -> Result<Vec<(Line, &'a [u8])>, AsmFault>
     ensures ok { IfOk result
         (λ v. map (λ p. spec.row p.0 p.1.now) v.items ≡ spec.rows_of (map (λ t. t.now) lines.now)) }

@@ -1,4 +1,4 @@
-//! Files of programs: hexadecimal digits with blanks between them.
+//! Program files: the bytes of a program as hexadecimal digits, with blanks between them.
 ghost use Rattle.std.specs.Prelude.{◌≡◌, ◌*◌, ◌+◌, ◌≤◌, length, filter, not, IfOk, OnOk, ◌++◌, string_bytes};
 ghost use Rattle.bpf_asm.specs.ProgramFile.{Gives, program_in, is_blank, line_at, unit_lines};
 
@@ -6,16 +6,16 @@ use hex::FromHexError;
 use std::alloc::{AllocError, Global};
 use thiserror::Error;
 
-/// The most bytes of a configuration, program or assembler file.
+/// The most bytes that a configuration, a program file or an assembler text can have.
 pub const MOST_BYTES: usize = 65_536;
 
-/// Why a file is no program file.
+/// Why a file isn't a program file.
 #[derive(Clone, Copy, Debug, Drop, Error)]
 pub enum ProgramFileFault {
-    /// L1.
+    /// L1: the file is too long.
     #[error("over 65,536 bytes")]
     TooLong,
-    /// H1.
+    /// H1: a byte is no hexadecimal digit and no blank, or the number of digits is odd.
     #[error("another byte than hexadecimal digits and blanks, or an odd count of digits")]
     BadDigits,
     #[error("out of memory")]
@@ -32,14 +32,14 @@ impl From<AllocError> for ProgramFileFault {
     }
 }
 
-/// A space, tab, CR or LF.
+/// Returns whether a byte is a blank: a space, tab, CR or LF.
 fn is_a_blank(byte: u8) -> bool
     ensures { result ≡ is_blank byte }
 {
     byte == b' ' || byte == b'\t' || byte == b'\r' || byte == b'\n'
 }
 
-/// The bytes that are no blanks.
+/// Returns the bytes of a text that are no blanks.
 fn without_blanks(alloc: Global, text: &[u8]) -> Result<Vec<u8>, AllocError>
     ensures { IfOk result (λ kept. kept.items ≡ filter (λ b. not (is_blank b)) text.now) }
 {
@@ -49,8 +49,8 @@ fn without_blanks(alloc: Global, text: &[u8]) -> Result<Vec<u8>, AllocError>
         .collect(alloc)
 }
 
-/// The bytes of a program file: at most 65,536 bytes of hexadecimal digits in either case; spaces, tabs, CR
-/// and LF are skipped. A file that is too long is refused before its digits are looked at.
+/// Reads a program file: at most 65,536 bytes of hexadecimal digits in either case, between which spaces, tabs, CR and
+/// LF are skipped. A file that is too long is refused before its digits are checked.
 #[tactic(auto, unfolding(crate::specs::ProgramFile::program_in))]
 pub fn read_program(alloc: Global, text: &[u8]) -> Result<Vec<u8>, ProgramFileFault>
     ensures { Gives (λ bytes. bytes.items) result (program_in text.now) }
@@ -68,7 +68,7 @@ pub fn read_program(alloc: Global, text: &[u8]) -> Result<Vec<u8>, ProgramFileFa
     }
 }
 
-/// Adds the line of a unit.
+/// Appends the line of a unit: 16 hexadecimal digits and an LF.
 fn push_line(alloc: Global, text: &mut String, bytes: &[u8], unit: usize) -> Result<(), AllocError>
     requires { 8 * unit + 8 ≤ length bytes.now }
     ensures { OnOk result (string_bytes text.new ≡ string_bytes text.old ++ line_at bytes.now unit) }
@@ -79,7 +79,7 @@ fn push_line(alloc: Global, text: &mut String, bytes: &[u8], unit: usize) -> Res
     Ok(())
 }
 
-/// Returns the units of a program as lines: 16 lower case digits and an LF for each whole unit of 8 bytes.
+/// Returns the units of a program as lines: for each whole unit of 8 bytes, 16 lower case hexadecimal digits and an LF.
 pub fn unit_lines(alloc: Global, bytes: &[u8]) -> Result<String, AllocError>
     ensures { IfOk result (λ text. string_bytes text ≡ unit_lines bytes.now) }
 {

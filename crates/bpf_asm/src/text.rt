@@ -1,4 +1,4 @@
-// The text of one instruction.
+// The text of one instruction, as the disassembler writes it.
 
 ghost use Rattle.std.specs.Prelude.{◌≡◌, ◌++◌, ◌+◌, ◌*◌, ◌^◌, ◌≤◌, [], ◌∷◌, pos, Some, OnOk, string_bytes};
 ghost use Rattle.std.specs.Prelude.{codes};
@@ -14,7 +14,7 @@ use bpf_model::instruction::{Condition, Form, Inst, Operator, Size, Source, Widt
 use std::alloc::AllocError;
 use std::fmt;
 
-// A register's name, by its width and number.
+// The name of a register, by its width and number: `r` for 64 bits, `w` for 32, and the number.
 #[derive(Clone, Copy, Drop)]
 struct Name(Width, u8);
 
@@ -91,7 +91,7 @@ fn name_of_signed(size: Size) -> &'static str
     }
 }
 
-// An offset from a register, written with its sign between blanks.
+// An offset from a register, written as ` + 8` or ` - 8`.
 #[derive(Clone, Copy, Drop)]
 struct Shift(i16);
 
@@ -112,7 +112,7 @@ impl fmt::Display for Shift {
     }
 }
 
-// A distance, written with its sign.
+// The distance of a jump, written with its sign, as in `+8` or `-8`.
 #[derive(Clone, Copy, Drop)]
 struct Distance(i32);
 
@@ -132,8 +132,8 @@ impl fmt::Display for Distance {
     }
 }
 
-// The next functions write the operators that have a text of their own: END and NEG, which take one register, and MOV
-// with its sign extension.
+// The next functions append the lines of the operators that have a form of their own: END and NEG, which have one
+// register, and MOV, which can extend a sign.
 fn write_swap(out: &mut String, width: Width, source: Source, inst: Inst) -> Result<(), AllocError>
     ensures { OnOk result (string_bytes out.new ≡ string_bytes out.old
         ++ line_text (pieces (Form.Arithmetic Operator.SwapBytes width source) inst (pos 0))) }
@@ -193,7 +193,7 @@ fn write_move(out: &mut String, width: Width, source: Source, inst: Inst) -> Res
     }
 }
 
-// Adds the line of any operator but NEG, END and MOV.
+// Appends the line of any operator but NEG, END and MOV.
 fn write_plain(
     out: &mut String,
     operator: Operator,
@@ -246,7 +246,7 @@ fn write_wide(out: &mut String, inst: Inst, high: i32) -> Result<(), AllocError>
     write!(out, "{dst} = {value} ll\n")
 }
 
-// Adds the line of a load of this SIZE.
+// Appends the line of a load of a size that has this name.
 fn write_load(out: &mut String, size: &str, inst: Inst) -> Result<(), AllocError>
     ensures { OnOk result (string_bytes out.new ≡ string_bytes out.old
         ++ line_text (Next (register_text Width.Bits64 inst.dst) ∷ After (codes "=") ∷ After (codes "*")
@@ -305,7 +305,7 @@ fn write_branch(
     }
 }
 
-// Adds the line of a jump without condition: `goto` or `gotol`.
+// Appends the line of a jump without condition. `word` is `goto` or `gotol`.
 fn write_goto(out: &mut String, word: &str, to: i32) -> Result<(), AllocError>
     ensures { OnOk result (string_bytes out.new ≡ string_bytes out.old
         ++ line_text (Next word.now ∷ distance to [])) }
@@ -321,7 +321,7 @@ fn write_call(out: &mut String, inst: Inst) -> Result<(), AllocError>
     write!(out, "call {imm}\n")
 }
 
-/// Adds the line of an instruction. `high` is the second unit's number of a wide load.
+/// Appends the line of an instruction. `high` is the upper half of a wide load's number.
 pub fn write_instruction(out: &mut String, inst: Inst, high: i32) -> Result<(), AllocError>
     ensures { OnOk result (string_bytes out.new ≡ string_bytes out.old
         ++ instruction_text (form_of inst.opcode) inst high) }

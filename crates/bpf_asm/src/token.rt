@@ -1,19 +1,19 @@
-// The tokens of assembler text.
+// The tokens of an assembler text, and the tables of symbols and words that have a token of their own.
 
 use bpf_model::instruction::{Condition, Operator, Size, Source, Width};
 
-/// What a token means.
+/// A token: a register, a number, a symbol, or a word.
 #[derive(Clone, Copy)]
 pub enum Token {
     Register(Width, u8),
-    /// A number; `None` for one above 2^64 - 1.
+    /// A number; `None` if it is above 2^64 - 1.
     Number(Option<u64>),
-    /// An operator with its `=`, and its offset: 1 makes a division signed.
+    /// An operator with its `=`, as in `+=`. The number is the offset of its instruction: 1 makes a division signed.
     Assign(Operator, u64),
     Compare(Condition),
     Unsigned(Size),
     Signed(Size),
-    /// The byte orders `le`, `be` and `bswap`, with their number of bits.
+    /// One of the words `le16` to `bswap64`: the width and the source of its END instruction, and the number of bits.
     Swap(Width, Source, u64),
     If,
     Goto,
@@ -31,7 +31,7 @@ pub enum Token {
     Name,
 }
 
-/// The symbols, each with the token that it means.
+/// The symbols, each with its token.
 pub const SYMBOLS: [(&[u8], Token); 31] = [
     (b"+=", Token::Assign(Operator::Add, 0)),
     (b"-=", Token::Assign(Operator::Sub, 0)),
@@ -66,7 +66,7 @@ pub const SYMBOLS: [(&[u8], Token); 31] = [
     (b":", Token::Colon),
 ];
 
-/// The words that mean something of their own, each with its token.
+/// The words that have a token of their own.
 pub const WORDS: [(&[u8], Token); 22] = [
     (b"if", Token::If),
     (b"goto", Token::Goto),
@@ -103,7 +103,7 @@ pub const WORDS: [(&[u8], Token); 22] = [
 
 ghost use Rattle.bpf_asm.specs.Tables.{TablesAreRight};
 
-/// States that the tables of symbols and words are those of the format. It does nothing: its contract is the law.
+/// States that the tables of symbols and words are those of the definitions. It does nothing: its contract is the law.
 pub fn tables()
     ensures { TablesAreRight }
 {}

@@ -1,4 +1,4 @@
-// The units of instructions, and the opcodes of forms.
+// The units of parsed instructions, and the opcodes of forms.
 
 ghost use Rattle.std.specs.Prelude.{◌≡◌, ◌^◌, ◌≤◌, ◌+◌, ◌-ℤ◌, ◌++◌, true, pos, map, IfOk, OnOk, Some, []};
 ghost use Rattle.bpf_asm.specs.Program as spec;
@@ -93,7 +93,7 @@ fn jump_class(width: Width) -> u8
     }
 }
 
-/// Returns the opcode of a form.
+/// Returns the opcode of an instruction of this form.
 pub fn opcode_of(form: Form) -> u8
     ensures { result ≡ spec.opcode_of form }
 {
@@ -116,7 +116,7 @@ pub fn opcode_of(form: Form) -> u8
     }
 }
 
-/// Returns the value as a number of 32 bits, which it must fit.
+/// Returns a value as a 32-bit number. It must be in the range of one.
 pub fn int_of(value: Value) -> i32
     requires { spec.fits (2 ^ 31) value ≡ true }
     ensures { result ≡ spec.int_of value }
@@ -133,7 +133,7 @@ pub fn int_of(value: Value) -> i32
     }
 }
 
-/// Returns the value as a number of 16 bits, which it must fit.
+/// Returns a value as a 16-bit number. It must be in the range of one.
 fn short_of(value: Value) -> i16
     requires { spec.fits (2 ^ 15) value ≡ true }
     ensures { result ≡ spec.int_of value }
@@ -171,7 +171,7 @@ fn place_or_zero(labels: &[(&[u8], u64)], name: &[u8]) -> u64
     }
 }
 
-// Returns the distance of a jump at unit `at` to a unit: it counts from the unit after the jump.
+// Returns the distance of a jump at unit `at` to unit `place`, in units from the unit after the jump.
 fn apart(place: u64, at: u64) -> i16
     requires place { place ≤ UNITS }
     requires at { at ≤ UNITS }
@@ -182,7 +182,7 @@ fn apart(place: u64, at: u64) -> i16
     to - from
 }
 
-// Returns the distance of a jump at unit `at` to a label.
+// Returns the distance of a jump at unit `at` to a label, in units from the unit after the jump.
 fn distance_to(labels: &[(&[u8], u64)], at: u64, name: &[u8]) -> i16
     requires at { at ≤ UNITS }
     requires places { spec.AreWithin UNITS (map (λ d. spec.definition d.0.now d.1) labels.now) }
@@ -258,7 +258,7 @@ fn push_wide(units: &mut Vec<Unit>, dst: u8, n: u64) -> Result<(), AllocError>
     Ok(units.push(Unit::Second(high_half(n)))?)
 }
 
-// Adds the units of a line. The first of them is unit `at` of the program.
+// Appends the units of a parsed line. The first of them is unit `at` of the program.
 fn push_units(
     units: &mut Vec<Unit>,
     labels: &[(&[u8], u64)],
@@ -293,7 +293,7 @@ fn push_units(
     }
 }
 
-/// Returns the units of the rows.
+/// Returns the units of all rows. The error is that memory ran out.
 pub fn units_of(
     alloc: Global,
     labels: &[(&[u8], u64)],

@@ -1,9 +1,9 @@
-// The context that a program is given, and its layouts.
+// The context that a program is run on, and its two layouts.
 
 ghost use Rattle.std.specs.Prelude.{◌≡◌, ◌≤◌, length};
 ghost use Rattle.bpf_model.specs.Layouts.{context_len, layout_of, bytes_of};
 
-/// The layout of a program's context: which fields it has, and so how many bytes (this profile).
+/// The layout of a context. It says which fields the context has, and so how many bytes.
 #[derive(Clone, Copy, PartialEq, Eq)]
 pub enum Layout {
     One,
@@ -24,7 +24,7 @@ impl Layout {
     }
 }
 
-/// The context that a program is given, in the layout that the program was loaded for.
+/// The bytes of a context, in the layout that the program was loaded for.
 #[derive(Clone, Copy, PartialEq, Eq)]
 pub enum Context {
     One([u8; 64]),
@@ -32,7 +32,7 @@ pub enum Context {
 }
 
 impl Context {
-    /// Returns the layout of these bytes.
+    /// Returns the layout of this context.
     pub fn layout(&self) -> Layout
         ensures { result ≡ layout_of self.now }
     {
@@ -42,7 +42,7 @@ impl Context {
         }
     }
 
-    /// Returns the context's bytes, from its first on.
+    /// Returns all bytes of the context, the first one first.
     pub fn bytes(&self) -> &[u8]
         ensures bytes { result.now ≡ bytes_of self.now }
         ensures many { length result.now ≡ context_len (layout_of self.now) }
@@ -54,7 +54,7 @@ impl Context {
     }
 }
 
-// Returns the bytes as a slice; the contract says how many they are.
+// Returns an array as a slice. The contract gives the prover the slice's length.
 fn all_of<const N: usize>(bytes: &[u8; N]) -> &[u8]
     ensures bytes { result.now ≡ bytes.now }
     ensures many { length result.now ≡ N }

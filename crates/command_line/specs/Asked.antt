@@ -23,7 +23,7 @@ use Rattle.command_line.specs.declared.job.CommandFault.TheVariants as refusal
 abbrev pub file_rule : Text → Rule
 file_rule name = record (new_rule name) { required = true }
 
--- --counters MASK, a number from 0 to 2^32 - 1, 0 where nothing is said
+-- --counters MASK, a number from 0 to 2^32 - 1, which is 0 if the option isn't given
 abbrev pub mask_rule : Rule
 mask_rule =
     record (new_rule (codes "counters")) {
@@ -33,7 +33,7 @@ mask_rule =
       defaults = codes "0" ∷ [];
     }
 
--- --context LAYOUT, 1 where nothing is said
+-- --context LAYOUT, which is 1 if the option isn't given
 abbrev pub context_rule : Rule
 context_rule =
     record (new_rule (codes "context")) { long = Some (codes "context"); value_names = 1; defaults = codes "1" ∷ [] }
@@ -42,7 +42,7 @@ context_rule =
 abbrev pub journal_rule : Rule
 journal_rule = record (new_rule (codes "journal")) { long = Some (codes "journal"); value_names = 1 }
 
--- a word without a value, as --units
+-- an option without a value, such as --units
 abbrev pub flag_rule : Text → Rule
 flag_rule name = record (new_rule name) { long = Some name; action = Some SetTrue }
 
@@ -105,7 +105,7 @@ abbrev pub files_in : Text → Text → (Text → Text → Asked) → List Row �
 files_in first second ask rows =
     option_and_then (λ (a : Text). option_map (ask a) (first_of second rows)) (first_of first rows)
 
--- a word without a value was used
+-- an option without a value is given
 abbrev pub is_set : Text → List Row → Bool
 is_set id rows = option_map_or (λ (t : Text). bytes_eq t (codes "true")) (first_of id rows) false
 
@@ -195,11 +195,11 @@ HasNoMask rows =
 abbrev pub IsNothing : Option (Text × List Row) → Type 0
 IsNothing found = (asked_of found ≡ None) ⊎ ((p : Text × List Row) × (found ≡ Some p) × HasNoMask p.1)
 
--- the last line of what is said of words that are wrong
+-- the last line of the message for a command line that isn't valid
 abbrev pub further : Text
 further = codes "For more information, try '--help'." ++ 10 ∷ []
 
--- what is said of words that `clap` takes and that ask for nothing
+-- the message for a command line that `clap` accepts, but that asks for no job
 abbrev pub unasked_by : Text → Text
 unasked_by name =
     if bytes_eq name (codes "serve") then codes "error: --sync wants --journal FILE" ++ 10 ∷ 10 ∷ further

@@ -1,4 +1,4 @@
-//! The program's words, as they are described to `clap`.
+//! The subcommands and arguments of `fc`, as they are described to the crate `clap`.
 ghost use Rattle.std.specs.Prelude.{◌≡◌, false, IfOk, codes};
 ghost use Rattle.clap.specs.Words.{app_of, new_app, rule_of, with_subcommand};
 ghost use Rattle.clap.specs.declared.builder.command.Command.TheViews.{out-Command};
@@ -12,19 +12,19 @@ use std::alloc::{AllocError, Global};
 /// An argument of a subcommand.
 #[derive(Clone, Copy, Drop)]
 enum Argument {
-    /// A file that is wanted, by its name and what help says of it.
+    /// A file that must be given: its name, and its help text.
     File(&'static str, &'static str),
-    /// --counters MASK.
+    /// The option `--counters MASK`.
     Mask,
-    /// --context LAYOUT.
+    /// The option `--context LAYOUT`.
     Context,
-    /// --journal FILE.
+    /// The option `--journal FILE`.
     Journal,
-    /// A word without a value, with what help says of it.
+    /// An option without a value: its name, and its help text.
     Flag(&'static str, &'static str),
 }
 
-/// A subcommand: its name, what help says of it, an example, and its arguments.
+/// A subcommand: its name, its help text, an example, and its arguments.
 #[derive(Clone, Copy, Drop)]
 struct Word {
     name: &'static str,
@@ -33,7 +33,7 @@ struct Word {
     arguments: &'static [Argument],
 }
 
-/// A file that is wanted.
+/// Makes the argument for a file that must be given.
 fn file_arg<'a>(alloc: Global, name: &'a str, help: &'a str) -> Arg<'a>
     ensures rule { rule_of result ≡ file_rule name.entry.now }
     ensures local { result.global ≡ false }
@@ -41,7 +41,7 @@ fn file_arg<'a>(alloc: Global, name: &'a str, help: &'a str) -> Arg<'a>
     Arg::new(alloc, name).help(help).required(true)
 }
 
-/// A word --NAME that is followed by a value.
+/// Makes an option `--NAME VALUE`.
 fn option_arg<'a>(alloc: Global, name: &'a str, value: &'a str, help: &'a str) -> Arg<'a>
     ensures rule { rule_of result ≡ option_rule name.entry.now }
     ensures local { result.global ≡ false }
@@ -52,7 +52,7 @@ fn option_arg<'a>(alloc: Global, name: &'a str, value: &'a str, help: &'a str) -
         .help(help)
 }
 
-/// The counters that a program declares.
+/// Makes the option `--counters`: the mask of the counters that a program declares.
 fn mask_arg<'a>(alloc: Global) -> Arg<'a>
     ensures rule { rule_of result ≡ mask_rule }
     ensures local { result.global ≡ false }
@@ -63,7 +63,7 @@ fn mask_arg<'a>(alloc: Global) -> Arg<'a>
         .value_parser(value_parser!(u32))
 }
 
-/// The layout of the context that a program is loaded for.
+/// Makes the option `--context`: the layout of the contexts that a program is run on.
 fn context_arg<'a>(alloc: Global) -> Arg<'a>
     ensures rule { rule_of result ≡ context_rule }
     ensures local { result.global ≡ false }
@@ -72,7 +72,7 @@ fn context_arg<'a>(alloc: Global) -> Arg<'a>
     option_arg(alloc, "context", "LAYOUT", help).default_value("1")
 }
 
-/// The file in which a served site keeps its journal.
+/// Makes the option `--journal`: the file in which a served site keeps its journal.
 fn journal_arg<'a>(alloc: Global) -> Arg<'a>
     ensures rule { rule_of result ≡ journal_rule }
     ensures local { result.global ≡ false }
@@ -81,7 +81,7 @@ fn journal_arg<'a>(alloc: Global) -> Arg<'a>
     option_arg(alloc, "journal", "FILE", help)
 }
 
-/// A word without a value.
+/// Makes an option `--NAME` without a value.
 fn flag_arg<'a>(alloc: Global, name: &'a str, help: &'a str) -> Arg<'a>
     ensures rule { rule_of result ≡ flag_rule name.entry.now }
     ensures local { result.global ≡ false }
@@ -178,7 +178,7 @@ Faults: A assembler text, C closing a site, F an entry that is not legal, H hexa
 K configuration, L line, N device, S refusal of the site, V program refused. docs/use/reference.md names each.
 Status: 0 done, 1 the input is refused, 2 the words are wrong, 3 a device failed or memory ran out.";
 
-/// An argument, as `clap` has it.
+/// Returns an argument in the form that `clap` takes.
 fn argument_of<'a>(alloc: Global, argument: Argument) -> Arg<'a>
     ensures rule { rule_of result ≡ rule_for argument }
     ensures local { result.global ≡ false }
@@ -192,7 +192,7 @@ fn argument_of<'a>(alloc: Global, argument: Argument) -> Arg<'a>
     }
 }
 
-/// A subcommand, before it has arguments.
+/// Makes the command of a subcommand, without its arguments.
 fn described<'a>(alloc: Global, word: Word) -> Command<'a>
     ensures app { app_of result ≡ new_app word.name.now }
     ensures local { (out-Command result).has_globals ≡ false }
@@ -202,7 +202,7 @@ fn described<'a>(alloc: Global, word: Word) -> Command<'a>
         .after_help(word.example)
 }
 
-/// A subcommand, as `clap` has it.
+/// Makes the command of a subcommand, with its arguments. The error is that memory ran out.
 fn subcommand_of<'a>(alloc: Global, word: Word) -> Result<Command<'a>, AllocError>
     ensures app { IfOk result (λ c. app_of c ≡ app_for word) }
     ensures local { IfOk result (λ c. (out-Command c).has_globals ≡ false) }
@@ -214,7 +214,7 @@ fn subcommand_of<'a>(alloc: Global, word: Word) -> Result<Command<'a>, AllocErro
     Ok(command)
 }
 
-/// A command with this subcommand more.
+/// Adds a subcommand to a command. The error is that memory ran out.
 fn with_word<'a>(alloc: Global, some: Command<'a>, word: Word) -> Result<Command<'a>, AllocError>
     ensures { IfOk result (λ c. app_of c ≡ with_subcommand (app_of some.entry) (app_for word).top) }
 {
@@ -222,7 +222,7 @@ fn with_word<'a>(alloc: Global, some: Command<'a>, word: Word) -> Result<Command
     some.subcommand(subcommand)
 }
 
-/// The command of the program, before it has subcommands.
+/// Makes the command of the program, without its subcommands.
 fn top_command<'a>(alloc: Global) -> Command<'a>
     ensures { app_of result ≡ top_app }
 {
@@ -232,7 +232,7 @@ fn top_command<'a>(alloc: Global) -> Command<'a>
         .after_help(AFTER)
 }
 
-/// The command of a program with these subcommands.
+/// Makes the command of the program with these subcommands. The error is that memory ran out.
 fn with_words<'a>(alloc: Global, words: &[Word]) -> Result<Command<'a>, AllocError>
     ensures { IfOk result (λ c. app_of c ≡ with_words top_app words.now) }
 {
@@ -243,7 +243,7 @@ fn with_words<'a>(alloc: Global, words: &[Word]) -> Result<Command<'a>, AllocErr
     Ok(command)
 }
 
-/// The program's command.
+/// Makes the command of the program, with all its subcommands. The error is that memory ran out.
 pub fn fc<'a>(alloc: Global) -> Result<Command<'a>, AllocError>
     ensures { IfOk result (λ c. app_of c ≡ fc_app) }
 {

@@ -1,61 +1,61 @@
-//! What the words ask for.
+//! The jobs that a command line can ask for.
 ghost use Rattle.std.specs.Prelude.{◌≡◌};
 
 use bpf_model::context::Layout;
 use std::alloc::AllocError;
 
-/// What the words ask for. Files are named as the words name them.
+/// The job that a command line asks for. Files are named as in the command line.
 #[derive(Drop)]
 pub enum Job {
-    /// No words: the configuration and the script come on standard input.
+    /// No argument was given: play a script from standard input, where the configuration comes before it.
     NoWords,
-    /// Text of the assembler to units.
+    /// Print the units of an assembler text.
     Asm(String),
-    /// A program file to text of the assembler.
+    /// Print a program file as assembler text.
     Dis(String),
-    /// A program file to text of the assembler, with each unit's number before its line.
+    /// Print a program file as assembler text, with the number of its first unit before each instruction.
     DisUnits(String),
-    /// Whether a program file is accepted, for contexts of this layout; bit c of `counters` declares counter c.
+    /// Verify a program file, for contexts of this layout. Bit c of `counters` declares counter c.
     Verify {
         counters: u32,
         context: Layout,
         file: String,
     },
-    /// A script's answers.
+    /// Answer the lines of a script, from a new site of this configuration.
     Play {
         config: String,
         script: String,
     },
-    /// Whether a journal is a legal history.
+    /// Audit a journal against a configuration.
     Audit {
         config: String,
         journal: String,
     },
-    /// A page of pictures and figures, made of a journal that is a legal history.
+    /// Audit a journal against a configuration, and print it as a page of pictures and tables.
     Report {
         config: String,
         journal: String,
     },
-    /// A site served on loopback, whose journal is printed at the end.
+    /// Serve a site of this configuration on 127.0.0.1, and print its journal at the end.
     Serve(String),
-    /// A site served on loopback, whose journal is kept in a file as it happens.
+    /// Serve a site of this configuration on 127.0.0.1, and write its journal to a file as it grows.
     ServeKept {
         config: String,
         journal: String,
     },
-    /// A site served as by `ServeKept`, where no answer leaves before its journal's line is synced.
+    /// Serve a site like `ServeKept`, and send no answer before its line in the journal is synced.
     ServeSynced {
         config: String,
         journal: String,
     },
-    /// The text to print where the words ask for help or the version.
+    /// Print this text, which is the help or the version.
     Show(String),
 }
 
-/// Why there is no job.
+/// Why a command line asks for no job.
 #[derive(Drop)]
 pub enum CommandFault {
-    /// The words aren't a valid use of the program; the text says how it is used.
+    /// The command line isn't valid. The text is the message for the user.
     Usage(String),
     OutOfMemory,
 }

@@ -1,4 +1,4 @@
-//! The words of the command line.
+//! The command line of `fc`: its parsing, and the jobs that it can ask for.
 #![tactic(auto)]
 
 mod app;

@@ -1,4 +1,4 @@
-//! Reading the words of a command line.
+//! The parsing of a command line.
 ghost use Rattle.std.specs.Prelude.{◌≡◌, IsTrue, IsSome, None, false, [], IfOk, IfErr, IsOkAnd, OnOk};
 ghost use Rattle.std.specs.Prelude.{map, codes, option_map, string_bytes, ◌↔◌};
 ghost use Rattle.clap.specs.Words.{first_of, rows_of, found_of, subcommand_of, subcommand_rows_of, takes, fault_of};
@@ -13,7 +13,7 @@ use clap::ArgMatches;
 use clap::error::ErrorKind;
 use std::alloc::{AllocError, Global};
 
-/// The text of a file's name, where there is one.
+/// Returns the file that the argument `id` names, if it is given.
 fn file_of(alloc: Global, matches: &ArgMatches, id: &str) -> Result<Option<String>, AllocError>
     ensures { IfOk result (λ s. first_of id.now (rows_of (found_of matches.now)) ≡ option_map string_bytes s) }
 {
@@ -26,14 +26,14 @@ fn file_of(alloc: Global, matches: &ArgMatches, id: &str) -> Result<Option<Strin
     }
 }
 
-/// The number of the mask, where there is one.
+/// Returns the mask that `--counters` gives, if there is one.
 fn mask_of(matches: &ArgMatches) -> Option<u32>
     ensures { ReadsMask (rows_of (found_of matches.now)) result }
 {
     matches.get_one::<u32>("counters")
 }
 
-/// The layout that the text names.
+/// Returns the layout that a text names: `1` or `2`; `None` for any other text.
 fn layout_named(text: &str) -> Option<Layout>
     ensures { result ≡ layout_named text.now }
 {
@@ -46,7 +46,7 @@ fn layout_named(text: &str) -> Option<Layout>
     }
 }
 
-/// The layout of the contexts, where the words name one.
+/// Returns the layout that `--context` names, if it names one.
 fn layout_of(matches: &ArgMatches) -> Option<Layout>
     ensures { result ≡ layout_in (rows_of (found_of matches.now)) }
 {
@@ -65,7 +65,7 @@ fn asm_of(alloc: Global, matches: &ArgMatches) -> Result<Option<Job>, AllocError
     }
 }
 
-/// Whether a word without a value was used.
+/// Returns whether the option `id`, which has no value, is given.
 fn is_set(matches: &ArgMatches, id: &str) -> bool
     ensures { result ≡ is_set id.now (rows_of (found_of matches.now)) }
 {
@@ -107,7 +107,7 @@ fn verify_of(alloc: Global, matches: &ArgMatches) -> Result<Option<Job>, AllocEr
     }
 }
 
-/// The texts of two files' names, where there are both.
+/// Returns the files that two arguments name, if both are given.
 fn files_of(
     alloc: Global,
     matches: &ArgMatches,
@@ -152,7 +152,7 @@ fn report_of(alloc: Global, matches: &ArgMatches) -> Result<Option<Job>, AllocEr
     }
 }
 
-/// How a site is served. A journal that isn't kept can't be synced.
+/// Returns the job of `fc serve`. There is none for `--sync` without `--journal`.
 fn serve_of(alloc: Global, matches: &ArgMatches) -> Result<Option<Job>, AllocError>
     ensures { IfOk result (Finds (codes "serve") (rows_of (found_of matches.now))) }
 {
@@ -168,7 +168,7 @@ fn serve_of(alloc: Global, matches: &ArgMatches) -> Result<Option<Job>, AllocErr
     }
 }
 
-/// The job of a subcommand.
+/// Returns the job of a subcommand, or `None` if its arguments ask for none.
 fn named_job(alloc: Global, name: &str, matches: &ArgMatches) -> Result<Option<Job>, AllocError>
     ensures { IfOk result (Finds name.now (rows_of (found_of matches.now))) }
 {
@@ -191,7 +191,7 @@ fn named_job(alloc: Global, name: &str, matches: &ArgMatches) -> Result<Option<J
     }
 }
 
-/// The job of these matches, where they ask for one.
+/// Returns the job of a parsed command line, or `None` if it asks for none.
 fn job_of(alloc: Global, matches: &ArgMatches) -> Result<Option<Job>, AllocError>
     ensures { IfOk result (FindsIn (subcommand_rows_of matches.now)) }
 {
@@ -201,26 +201,26 @@ fn job_of(alloc: Global, matches: &ArgMatches) -> Result<Option<Job>, AllocError
     }
 }
 
-/// The message for words that `clap` accepts, but that ask to sync a journal that isn't kept.
+/// The message for a command line that `clap` accepts, but that has `--sync` without `--journal`.
 const UNKEPT: &str = "error: --sync wants --journal FILE
 
 For more information, try '--help'.
 ";
 
-/// The message for words that `clap` accepts, but whose layout isn't 1 or 2.
+/// The message for a command line that `clap` accepts, but whose `--context` is neither 1 nor 2.
 const LAYOUTS: &str = "error: --context takes 1 or 2
 
 For more information, try '--help'.
 ";
 
-/// Returns the message for words of this subcommand that `clap` accepts, but that are no job.
+/// Returns the message for arguments of this subcommand that `clap` accepts, but that ask for no job.
 fn unasked_by(name: &str) -> &'static str
     ensures { result.now ≡ unasked_by name.now }
 {
     if name == "serve" { UNKEPT } else { LAYOUTS }
 }
 
-/// Returns the message for words that `clap` accepts, but that are no job.
+/// Returns the message for a command line that `clap` accepts, but that asks for no job.
 fn unasked(matches: &ArgMatches) -> &'static str
     ensures { result.now ≡ unasked_text (subcommand_rows_of matches.now) }
 {
@@ -230,7 +230,7 @@ fn unasked(matches: &ArgMatches) -> &'static str
     }
 }
 
-/// The job that was found; where there is none the words are refused.
+/// Returns the job of a parsed command line. The error is the message if it asks for none, or that memory ran out.
 fn found_job(alloc: Global, matches: &ArgMatches) -> Result<Job, CommandFault>
     ensures asked { IfOk result (λ job. asked_of (subcommand_rows_of matches.now) ≡ asked job) }
     ensures some { IfOk result (λ job. IsSome (asked job)) }
@@ -242,15 +242,15 @@ fn found_job(alloc: Global, matches: &ArgMatches) -> Result<Job, CommandFault>
     }
 }
 
-/// Whether the kind is help or the version, which the words ask for.
+/// Returns whether an error of `clap` is one that the user asked for: the help or the version.
 fn is_asked_text(kind: ErrorKind) -> bool
     ensures { IsTrue result ↔ IsShown kind }
 {
     matches!(kind, ErrorKind::DisplayHelp | ErrorKind::DisplayVersion)
 }
 
-/// Returns what an error of `clap` becomes, by its kind and its text: help and the version are shown, and any other
-/// text is the usage.
+/// Returns what an error of `clap` leads to: `Show` if it is the help or the version, else the error `Usage` with its
+/// text, or that memory ran out.
 fn told_of(kind: ErrorKind, made: Result<String, AllocError>) -> Result<Job, CommandFault>
     ensures none { IfOk result (λ job. asked job ≡ None) }
     ensures shown { OnOk result (IsShown kind) }
@@ -268,8 +268,8 @@ fn told_of(kind: ErrorKind, made: Result<String, AllocError>) -> Result<Job, Com
     }
 }
 
-/// The job that the words ask for, the first of which is the program's name. Words that are no use of
-/// the program are refused with the text of its usage.
+/// Parses a command line, whose first word is the program's name, and returns its job. The error is the message for a
+/// command line that isn't valid, or that memory ran out.
 pub fn command(alloc: Global, words: Vec<String>) -> Result<Job, CommandFault>
     ensures asked { IfOk result
         (λ job. IsSome (asked job) → asked_of (subcommand_of fc_app (map string_bytes words.items)) ≡ asked job) }

@@ -1,4 +1,4 @@
-//! Enters acts as events of a site.
+//! Carries out the acts of a script on a site.
 ghost use Rattle.std.specs.Prelude.{◌≡◌, ℕ, None};
 ghost use Rattle.bpf_model.specs.Program.{ProgramText, as_loaded};
 ghost use Rattle.reg_types.specs.Shown.{IsRefused, IsRefusal, refusal_of};
@@ -12,10 +12,10 @@ use std::alloc::Global;
 use std::sync::Arc;
 use till_request::{Act, Answer, Bytes};
 
-/// The pass of all acts of a script.
+/// The pass that a script's acts are entered under: one for all of them.
 const PASS: u32 = 1;
 
-/// Enters an event at a moment, and returns the answer to it.
+/// Applies an event to a site at a moment, and returns the answer.
 fn enter_event(site: &mut Site, moment: u64, what: What) -> Answer
     ensures { EventAnswered site.old moment (act_of what) result site.new }
 {
@@ -34,15 +34,16 @@ fn enter_event(site: &mut Site, moment: u64, what: What) -> Answer
     }
 }
 
-/// What an act was answered.
+/// The answer to an act.
 #[derive(Clone, Copy, Drop)]
 pub struct Entered {
     pub answer: Answer,
-    /// Why the verifier refuses the program, if the act is a load.
+    /// Why the verifier refuses the program, if the act is a load that it refuses.
     pub refusal: Option<Refusal>,
 }
 
-/// Returns the answer to a load that the verifier refuses, with the refusal unless memory ran out.
+/// Returns the answer to a load that the verifier refuses, with the refusal. Where memory ran out in the verifier, the
+/// answer says that, and there is no refusal.
 fn refuse_load(refusal: Refusal) -> Entered
     ensures answered { (old : SiteValue) (moment slot : ℕ) (p : ProgramText) → IsRefused p refusal
         → IsRefusal (refusal_of p) refusal → LoadAnswered old moment slot p result.answer old }
@@ -93,7 +94,7 @@ fn unrefused(answer: Answer) -> Entered
     }
 }
 
-/// Enters an act at a moment, by the script's pass. Returns the answer, and for a load why its program is refused.
+/// Carries out an act on a site at a moment. Returns the answer, and for a load that the verifier refuses, why.
 pub fn enter(alloc: Global, site: &mut Site, moment: u64, act: &Act) -> Entered
     ensures answered { ActAnswered site.old moment act.now result.answer site.new }
     ensures refused { IsWhyRefused act.now result.answer result.refusal }

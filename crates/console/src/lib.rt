@@ -1,4 +1,4 @@
-//! Plays of a script against a site. The calls that read the words of `fc` and a configuration are passed on from
+//! Plays of a script against a site. The calls that read the words of `fc` and a configuration are re-exported from
 //! their own crates.
 #![tactic(auto)]
 

@@ -1,20 +1,20 @@
-//! What a play reports beside its answers.
+//! The reports of a play that its answers have no place for.
 use reg_types::Refusal;
 use till_request::Act;
 
-/// Takes the reports of a play that its answers have no room for.
+/// Receives the reports of a play that its answers have no place for.
 pub trait PlayNotices {
     ghost use Rattle.console.specs.Loading.{IsRefusedAct};
 
-    /// The next line of the script is to be answered.
+    /// Reports that the next line of the script begins to be answered.
     fn line_begins(&self);
 
-    /// The program of this load is refused.
+    /// Reports that the verifier refuses the program of this load.
     fn refused_load(&self, load: &Act, refusal: Refusal)
         requires { IsRefusedAct load.now refusal };
 }
 
-/// Drops all reports.
+/// A receiver that ignores all reports.
 #[derive(Clone, Copy, Drop)]
 pub struct NoNotices;
 

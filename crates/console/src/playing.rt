@@ -1,4 +1,4 @@
-//! Plays scripts.
+//! The calls that play a script.
 ghost use Rattle.std.specs.Prelude.{◌≡◌, ◌≢◌, ◌≤◌, ◌-◌, ℕ, IfOk, IfErr, OnErr, Err};
 ghost use Rattle.till_request.specs.Count.{RoseBy, one_if};
 ghost use Rattle.line_session.specs.Answering.{SpendsReads, is_read, is_write, session_reads};
@@ -12,8 +12,8 @@ use site_core::{Config, Site};
 use std::alloc::Global;
 use till_request::{LineIn, LineOut};
 
-/// Answers a script line by line, as `play` does, with at most `left` reads of one byte each. `left` becomes how many
-/// reads remain. `notices` hears of each line and of each load that is refused.
+/// Answers a script line by line, like `play`, but with at most `left` reads of one byte each. Sets `left` to the
+/// number of reads that remain. Reports each line and each refused load to `notices`.
 pub fn play_within<I: LineIn, O: LineOut, N: PlayNotices>(
     alloc: Global,
     config: Config,
@@ -48,10 +48,10 @@ pub fn play_within<I: LineIn, O: LineOut, N: PlayNotices>(
     answer_lines_within(alloc, input, output, &player, &mut moment, &mut site, left)
 }
 
-/// Answers a script line by line, as a session with a new site of the configuration that starts at moment 0 and makes
-/// at most 67,108,864 reads.
+/// Answers a script line by line, from a new site of this configuration. The first moment is 0, and at most 67,108,864
+/// reads of one byte are made.
 ///
-/// After an error the output holds a beginning of the answers.
+/// After an error the output has a beginning of the answers.
 pub fn play<I: LineIn, O: LineOut>(
     alloc: Global,
     config: Config,
@@ -77,11 +77,11 @@ pub fn play<I: LineIn, O: LineOut>(
     play_within(alloc, config, input, output, &NoNotices, &mut left)
 }
 
-/// The answers to a script don't depend on how its bytes are cut into reads. Two plays of the same bytes with the same
+/// A law: the answers to a script don't depend on the sizes of the reads. Two plays of the same bytes with the same
 /// configuration that both end wrote the same and left the same site, if neither ran out of memory at a line.
 ///
-/// The contract of `play` speaks only of the bytes of its input and not of the device that gives them. So by this law
-/// the sizes of the reads change nothing.
+/// The contract of `play` speaks only of the bytes of its input and not of the device that gives them. So the law
+/// follows.
 pub fn law_of_the_cut()
     ensures { PlaysAlike }
 {}

@@ -1,4 +1,4 @@
-//! Reads the lines of a script: the lines of all roles, and those that only scripts have.
+//! Parses the lines of a script: the acts of all roles, and the lines that only scripts have.
 ghost use Rattle.std.specs.Prelude.{◌≡◌, Err, map};
 ghost use Rattle.std.specs.Str.{bytes_eq};
 ghost use Rattle.till_request.specs.Gives.{Gives};
@@ -10,7 +10,7 @@ use till_request::{
     Act, LINE_WORDS, LineFault, Role, few_parts, number_u32, number_u64, parse_words,
 };
 
-/// What a line of a script asks.
+/// A parsed line of a script.
 #[derive(Drop)]
 pub enum ScriptLine {
     Act(Act),
@@ -18,18 +18,18 @@ pub enum ScriptLine {
     Moment(u64),
     /// `counter C` asks for the value and the bound of a counter.
     Counter(u32),
-    /// `journal` asks for all entries.
+    /// `journal` asks for all entries of the history.
     Journal,
 }
 
-/// Returns whether the word is this name and the value isn't empty.
+/// Returns whether `word` is `name`, and `value` isn't empty.
 fn is_pair(word: &[u8], name: &[u8], value: &[u8]) -> bool
     ensures { result ≡ is_named word.now name.now value.now }
 {
     word == name && !value.is_empty()
 }
 
-/// Reads these words as an act of any role.
+/// Parses the words of a line as an act of any role.
 fn read_act(alloc: Global, words: &[&[u8]]) -> Result<ScriptLine, LineFault>
     ensures given { Gives result (act_line (map (λ w. w.now) words.now)) }
     ensures memory { result ≡ Err LineFault.OutOfMemory → IsLoad Role.All (map (λ w. w.now) words.now) }
@@ -37,7 +37,7 @@ fn read_act(alloc: Global, words: &[&[u8]]) -> Result<ScriptLine, LineFault>
     Ok(ScriptLine::Act(parse_words(alloc, Role::All, words)?))
 }
 
-/// Reads a line of one word.
+/// Parses a line of one word.
 fn read_alone(alloc: Global, word: &[u8], words: &[&[u8]]) -> Result<ScriptLine, LineFault>
     ensures given { Gives result (line_alone word.now (map (λ w. w.now) words.now)) }
     ensures memory { result ≡ Err LineFault.OutOfMemory → IsLoad Role.All (map (λ w. w.now) words.now) }
@@ -49,7 +49,7 @@ fn read_alone(alloc: Global, word: &[u8], words: &[&[u8]]) -> Result<ScriptLine,
     }
 }
 
-/// Reads a line of two words.
+/// Parses a line of two words.
 fn read_with_value(
     alloc: Global,
     word: &[u8],
@@ -70,7 +70,7 @@ fn read_with_value(
     read_act(alloc, words)
 }
 
-/// Reads the words of a line.
+/// Parses the words of a line.
 fn read_words(alloc: Global, words: &[&[u8]]) -> Result<ScriptLine, LineFault>
     ensures given { Gives result (line_of_words (map (λ w. w.now) words.now)) }
     ensures memory { result ≡ Err LineFault.OutOfMemory → IsLoad Role.All (map (λ w. w.now) words.now) }
@@ -82,8 +82,8 @@ fn read_words(alloc: Global, words: &[&[u8]]) -> Result<ScriptLine, LineFault>
     }
 }
 
-/// Reads what a line of a script asks. The line comes without its LF. The error is L2 where the words are none of the
-/// known forms, or else L3 where a value can't be read, or that memory ran out for the bytes of a load.
+/// Parses a line of a script, without its LF. The error is L2 where the words have none of the known forms, L3 where a
+/// value can't be read, or that there was no memory for the bytes of a load.
 pub fn parse_script_line(alloc: Global, line: &[u8]) -> Result<ScriptLine, LineFault>
     ensures given { Gives result (line_of line.now) }
     ensures memory { result ≡ Err LineFault.OutOfMemory → IsLoad Role.All (words_of line.now) }

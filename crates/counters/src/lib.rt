@@ -1,4 +1,4 @@
-// Bounded counters.
+// The counters that programs read and change through helpers. Each has a bound that its value can't pass.
 #![tactic(auto)]
 
 ghost use Rattle.std.specs.Prelude.{◌≡◌, ℕ, ◌≤◌, ◌<◌, ◌^◌};
@@ -10,7 +10,7 @@ ghost use Rattle.bpf_model.specs.declared.limits.TheConstants.{COUNTERS};
 
 use std::marker::Model;
 
-/// 32 counters, each with its value and its bound. A value is at most its bound.
+/// The 32 counters, each a pair of its value and its bound. A value is at most its bound.
 #[derive(Clone, Copy, Drop)]
 pub struct Counters {
     cells: [(u64, u64); 32],
@@ -30,7 +30,7 @@ impl Model for Counters {
 }
 
 impl Counters {
-    /// Makes counters of these values and bounds, counter 0 first.
+    /// Makes counters from pairs of a value and a bound, counter 0 first.
     pub fn new(cells: [(u64, u64); 32]) -> Counters
         requires { All (λ c. c.0 ≤ c.1) cells }
         ensures { result ≡ cells }
@@ -39,7 +39,7 @@ impl Counters {
         Counters { cells }
     }
 
-    /// Returns the value of a counter, 0 to 31.
+    /// Returns the value of counter number `c` (0 to 31).
     pub fn get(&self, c: u32) -> u64
         requires { c < COUNTERS }
         ensures value { result ≡ (counter self.now c).0 }
@@ -48,7 +48,7 @@ impl Counters {
         self.cells[c as usize].0
     }
 
-    /// Returns the bound of a counter, 0 to 31.
+    /// Returns the bound of counter number `c` (0 to 31).
     pub fn bound(&self, c: u32) -> u64
         requires { c < COUNTERS }
         ensures { result ≡ (counter self.now c).1 }
@@ -56,7 +56,8 @@ impl Counters {
         self.cells[c as usize].1
     }
 
-    /// Adds `n` to a counter, 0 to 31. Returns false, and changes nothing, where the sum would be above the bound.
+    /// Adds `n` to counter number `c` (0 to 31), and returns true. Where the sum would be above the bound, changes
+    /// nothing and returns false.
     pub fn add(&mut self, c: u32, n: u64) -> bool
         requires { c < COUNTERS }
         ensures answer { result ≡ can_add self.old c n }
@@ -70,7 +71,8 @@ impl Counters {
         true
     }
 
-    /// Takes over the declared counters of another list, with their values and bounds. The other counters stay.
+    /// Copies from `other` the counters that the mask `declared` names, with their values and bounds. Bit c of a mask
+    /// names counter c.
     pub fn adopt(&mut self, declared: u32, other: &Counters)
         ensures { (c : ℕ) → counter self.new c ≡ adopted declared other.now self.old c }
     {
@@ -81,7 +83,8 @@ impl Counters {
         }
     }
 
-    /// Takes `n` from a counter, 0 to 31. Returns false, and changes nothing, where `n` is above the value.
+    /// Subtracts `n` from counter number `c` (0 to 31), and returns true. Where `n` is above the value, changes nothing
+    /// and returns false.
     pub fn take(&mut self, c: u32, n: u64) -> bool
         requires { c < COUNTERS }
         ensures answer { result ≡ can_take self.old c n }

@@ -1,4 +1,5 @@
-//! Pictures made of bars and of columns.
+//! The pictures of bars (sales by point, refusals) and of columns (sales by hour, decisions by version). All lengths
+//! are in the units of a picture, which is 1,000 wide.
 ghost use Rattle.std.specs.Prelude.{◌<◌};
 
 use crate::pictures::{COLUMNS_END, END, add_head, add_label, add_rect};
@@ -7,13 +8,13 @@ use crate::tables::outcome_of;
 use crate::texts::{Text, number, numbered, scaled};
 use day_report::{FIRST_REFUSAL, Load, REFUSALS, Sum, Totals};
 
-/// How far a bar lies below the one before it.
+/// The distance from the top of a bar to the top of the next.
 const APART: usize = 28;
 
-/// The room behind the longest bar, for its value.
+/// The width that is kept free to the right of the longest bar, for its value.
 const VALUE: usize = 140;
 
-/// Adds the head of a picture of this many bars.
+/// Adds the start of a picture of `bars` bars.
 fn add_bars_head(sheet: &mut Sheet, bars: usize, title: &'static str, text: &'static str) {
     add_head(
         sheet,
@@ -23,7 +24,7 @@ fn add_bars_head(sheet: &mut Sheet, bars: usize, title: &'static str, text: &'st
     );
 }
 
-/// Adds the bar at a place, with its name before it and its value behind it.
+/// Adds the bar at a place, with its name to the left and its value to the right.
 fn add_bar(sheet: &mut Sheet, place: usize, left: usize, width: usize, name: Text, value: Text) {
     let over = place.saturating_mul(APART);
     let (top, foot) = (over.saturating_add(4), over.saturating_add(20));
@@ -36,10 +37,10 @@ fn add_bar(sheet: &mut Sheet, place: usize, left: usize, width: usize, name: Tex
     );
 }
 
-/// Where the bars of points begin.
+/// How far from the left of the picture the bars of points begin.
 const POINTS: usize = 90;
 
-/// The money of the part of the sales that has the most.
+/// Returns the greatest of the totals, in cents.
 fn most_sold(sums: &[Sum]) -> u128 {
     let mut most = 0;
     for sum in sums {
@@ -48,7 +49,7 @@ fn most_sold(sums: &[Sum]) -> u128 {
     most
 }
 
-/// Adds a bar for each point.
+/// Adds the picture of sales by point: one bar for each.
 pub(crate) fn add_points(sheet: &mut Sheet, sums: &[Sum]) {
     add_bars_head(
         sheet,
@@ -72,10 +73,10 @@ pub(crate) fn add_points(sheet: &mut Sheet, sums: &[Sum]) {
     sheet.add(END);
 }
 
-/// Where the bars of refusals begin, behind their names in words.
+/// How far from the left of the picture the bars of refusals begin: their names in words come before.
 const NUMBERS: usize = 440;
 
-/// How many refusals there were of those with the most, and how many have a bar.
+/// Returns the greatest of the counts, and how many counts aren't 0: these have a bar.
 fn most_refused(counts: &[usize]) -> (usize, usize) {
     let (mut most, mut bars) = (0usize, 0usize);
     for count in counts {
@@ -87,7 +88,7 @@ fn most_refused(counts: &[usize]) -> (usize, usize) {
     (most, bars)
 }
 
-/// Adds a bar for each refusal that there was.
+/// Adds the picture of refusals: one bar for each number that was the reply.
 pub(crate) fn add_refusals(sheet: &mut Sheet, counts: &[usize]) {
     let (most, bars) = most_refused(counts);
     add_bars_head(
@@ -110,7 +111,7 @@ pub(crate) fn add_refusals(sheet: &mut Sheet, counts: &[usize]) {
     sheet.add(END);
 }
 
-/// Adds what was sold in each hour of the day, as columns.
+/// Adds the picture of sales by hour of the day: one column for each.
 pub(crate) fn add_hours(sheet: &mut Sheet, sums: &[Sum]) {
     add_head(
         sheet,
@@ -126,7 +127,7 @@ pub(crate) fn add_hours(sheet: &mut Sheet, sums: &[Sum]) {
     sheet.add(COLUMNS_END);
 }
 
-/// Adds the column of an hour, of this height.
+/// Adds the column of an hour.
 fn add_hour(sheet: &mut Sheet, hour: usize, height: usize) {
     let left = hour.saturating_mul(41).saturating_add(8);
     add_rect(
@@ -142,11 +143,11 @@ fn add_hour(sheet: &mut Sheet, hour: usize, height: usize) {
     sheet.add("\n");
 }
 
-/// The most columns of versions: each is two steps of a picture, which has 2,000.
+/// The number of versions from which on neighbours share a column, so that there are fewer columns than this.
 const COLUMNS: usize = 1000;
 
-/// Adds how many decisions the versions granted and denied, in the order of their loads: a stacked column for each,
-/// or for as many neighbours as make 1,000 columns.
+/// Adds the picture of decisions by version, in the order of their loads. Each version has a column of two parts,
+/// granted and denied. Where there are 1,000 versions or more, some neighbours share a column.
 pub(crate) fn add_versions(sheet: &mut Sheet, totals: &Totals) {
     add_head(
         sheet,
@@ -163,7 +164,7 @@ pub(crate) fn add_versions(sheet: &mut Sheet, totals: &Totals) {
     sheet.add(COLUMNS_END);
 }
 
-/// Adds a column for each so many neighbours.
+/// Adds the columns, each for `together` neighbouring versions.
 fn add_columns(sheet: &mut Sheet, totals: &Totals, together: usize)
     requires { 0 < together }
 {
@@ -176,7 +177,7 @@ fn add_columns(sheet: &mut Sheet, totals: &Totals, together: usize)
     }
 }
 
-/// The most that this many neighbours decided together.
+/// Returns the most decisions that `together` neighbouring versions made.
 fn most_decided(totals: &Totals, together: usize) -> u128
     requires { 0 < together }
 {
@@ -188,7 +189,7 @@ fn most_decided(totals: &Totals, together: usize) -> u128
     most
 }
 
-/// What a version granted and denied.
+/// Returns how many requests a version granted, and how many it denied.
 fn decided_by(totals: &Totals, version: u32) -> (u128, u128) {
     let releases = outcome_of(&totals.releases, version);
     let presets = outcome_of(&totals.presets, version);
@@ -199,7 +200,7 @@ fn decided_by(totals: &Totals, version: u32) -> (u128, u128) {
     )
 }
 
-/// What these versions granted and denied together.
+/// Returns how many requests the versions of these loads granted together, and how many they denied.
 fn decided(totals: &Totals, loads: &[Load]) -> (u128, u128) {
     let (mut granted, mut denied) = (0u128, 0u128);
     for load in loads {
@@ -210,9 +211,9 @@ fn decided(totals: &Totals, loads: &[Load]) -> (u128, u128) {
     (granted, denied)
 }
 
-/// Where one of this many columns begins, and how wide it is.
+/// Returns where the column at a place begins, and how wide it is, where there are `columns` columns.
 fn column_at(place: usize, columns: usize) -> (usize, usize) {
-    // A few columns are side by side, and do not spread over the whole width.
+    // Fewer than 12 columns don't fill the whole width, so that none is too wide.
     let room = 1000usize.min(scaled(columns as u128, 12, 1000));
     let left = scaled(place as u128, columns as u128, room);
     let next = scaled((place as u128).saturating_add(1), columns as u128, room);
@@ -221,7 +222,8 @@ fn column_at(place: usize, columns: usize) -> (usize, usize) {
     (left, width)
 }
 
-/// Adds one of this many columns of versions, whose two parts have these heights.
+/// Adds the column at a place, where there are `columns` columns. `low` is the height of its lower part, `high` that of
+/// its upper part.
 fn add_column(sheet: &mut Sheet, place: usize, columns: usize, low: usize, high: usize) {
     let (left, width) = column_at(place, columns);
     let top = 206usize.saturating_sub(low);

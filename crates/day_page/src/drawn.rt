@@ -1,4 +1,4 @@
-//! How the points stood through the day, drawn.
+//! The picture of the points' states through the day. Lengths are in the units of a picture, which is 1,000 wide.
 use crate::names::{STATES, state_name};
 use crate::pictures::{END, add_head, add_label};
 use crate::sheet::Sheet;
@@ -6,12 +6,12 @@ use crate::texts::{Text, number, scaled};
 use day_report::{Axis, Bands, step_of};
 use fuelling_point::State;
 
-/// Where the drawing begins, and how wide it is.
+/// How far from the left of its picture a drawing begins.
 pub(crate) const LEFT: usize = 90;
 
 pub(crate) const WIDTH: usize = 900;
 
-/// Adds the axis below a drawing, with five places named.
+/// Adds the axis below a drawing, with labels at its ends and at each quarter.
 pub(crate) fn add_axis(sheet: &mut Sheet, axis: Axis, top: usize) {
     sheet.fill(
         "<path class=\"axis\" d=\"M{} {}h{}\"/>\n",
@@ -22,7 +22,7 @@ pub(crate) fn add_axis(sheet: &mut Sheet, axis: Axis, top: usize) {
     }
 }
 
-/// Adds the name of a place on an axis, this many quarters of its length from the start.
+/// Adds the label on an axis at `quarters` quarters of its length from the start.
 fn add_place(sheet: &mut Sheet, axis: Axis, quarters: usize, foot: usize) {
     let x = quarters.min(4) * (WIDTH / 4) + LEFT;
     let anchor = match quarters {
@@ -41,7 +41,8 @@ fn add_place(sheet: &mut Sheet, axis: Axis, quarters: usize, foot: usize) {
     );
 }
 
-/// The name of a place on an axis, this many quarters of its length from the start.
+/// Returns the label on an axis at `quarters` quarters of its length from the start: an entry's number, or a time of
+/// day.
 fn name_at(axis: Axis, quarters: usize) -> Text {
     match axis {
         Axis::Entries(count) => Text::Entry(step_of(quarters as u128, 4, count).max(1) as u64),
@@ -52,10 +53,10 @@ fn name_at(axis: Axis, quarters: usize) -> Text {
     }
 }
 
-/// How far a point's band lies below the one before it.
+/// The distance from a point's band to the next point's.
 const APART: usize = 26;
 
-/// Adds a band for each point, coloured by its state.
+/// Adds the picture of the points' states: a band for each point, coloured by its state.
 pub(crate) fn add_bands(sheet: &mut Sheet, bands: &Bands, axis: Axis) {
     let foot = bands.points.saturating_mul(APART).saturating_add(6);
     add_head(
@@ -87,20 +88,20 @@ fn add_point(sheet: &mut Sheet, bands: &Bands, place: usize) {
     sheet.add("</g>\n");
 }
 
-/// Whether a point was in a state in a step.
+/// Returns whether the point at a place has this state in a step.
 fn is_at(bands: &Bands, place: usize, state: State, step: usize) -> bool {
     let at = step.saturating_mul(bands.points).saturating_add(place);
     step < bands.steps && bands.states.get(at) == Some(&state)
 }
 
-/// Adds where a point was in a state, from one step to another, at a height.
+/// Adds a line at height `y` from step `from` to step `to`, in which the point is in one state.
 fn add_stretch(sheet: &mut Sheet, bands: &Bands, from: usize, to: usize, y: usize) {
     let left = scaled(from as u128, bands.steps as u128, 2000);
     let width = scaled(to as u128, bands.steps as u128, 2000).saturating_sub(left);
     sheet.fill("M{} {}h{}", &[number(left), number(y), number(width)]);
 }
 
-/// Adds the head of the path of a state.
+/// Adds the start of the path of a state.
 fn add_path_head(sheet: &mut Sheet, state: State) {
     let thick = if state.is_busy() { " busy" } else { "" };
     sheet.fill(
@@ -109,7 +110,7 @@ fn add_path_head(sheet: &mut Sheet, state: State) {
     );
 }
 
-/// The first step from this one on in which the point was in another state.
+/// Returns the first step from `from` on in which the point isn't in this state.
 fn end_of(bands: &Bands, place: usize, state: State, from: usize) -> usize {
     for step in from..bands.steps {
         if !is_at(bands, place, state, step) {
@@ -119,7 +120,7 @@ fn end_of(bands: &Bands, place: usize, state: State, from: usize) -> usize {
     bands.steps
 }
 
-/// Adds where a point was in a state.
+/// Adds the path that marks all steps in which the point at a place is in this state.
 fn add_state(sheet: &mut Sheet, bands: &Bands, place: usize, state: State, y: usize) {
     let mut is_begun = false;
     let mut is_before = false;
@@ -139,7 +140,7 @@ fn add_state(sheet: &mut Sheet, bands: &Bands, place: usize, state: State, y: us
     }
 }
 
-/// Adds what the colour of a state is.
+/// Adds the entry of the legend for a state: its colour, number and name.
 fn add_name(sheet: &mut Sheet, state: State) {
     let digit = Text::Number(state.number() as u64);
     sheet.fill(
@@ -148,7 +149,7 @@ fn add_name(sheet: &mut Sheet, state: State) {
     );
 }
 
-/// Adds what the colours of the states are.
+/// Adds the legend of the states' colours.
 pub(crate) fn add_legend(sheet: &mut Sheet) {
     sheet.add("<ul class=\"legend\">\n");
     for state in &STATES {

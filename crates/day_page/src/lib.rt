@@ -1,4 +1,4 @@
-//! A day in a picture: a page of HTML that shows what a site's history adds up to.
+//! A page of HTML that shows what a site's history adds up to, in tables and pictures.
 #![tactic(auto)]
 
 mod bars;

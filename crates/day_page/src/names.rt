@@ -1,7 +1,7 @@
-//! Names in words.
+//! The names of states and of refusals, in words.
 use fuelling_point::State;
 
-/// A state in words.
+/// Returns the name of a state in words.
 pub(crate) fn state_name(state: State) -> &'static str {
     match state {
         State::Inoperative => "inoperative",
@@ -16,7 +16,7 @@ pub(crate) fn state_name(state: State) -> &'static str {
     }
 }
 
-/// The states, by their numbers.
+/// All states, in the order of their numbers (1 to 9).
 pub(crate) const STATES: [State; 9] = [
     State::Inoperative,
     State::Closed,
@@ -29,7 +29,7 @@ pub(crate) const STATES: [State; 9] = [
     State::SuspendedFuelling,
 ];
 
-/// A refusal in words.
+/// Returns what a refusal of this number (20 to 34) means, in words.
 pub(crate) fn refusal_name(number: u32) -> &'static str {
     match number {
         20 => "no such point",

@@ -1,4 +1,4 @@
-//! The page: what a day was, in figures and pictures.
+//! The page and its sections.
 
 use crate::sheet::Sheet;
 use crate::style::START;
@@ -9,15 +9,15 @@ use site_core::Site;
 use std::alloc::{AllocError, Global};
 use std::fmt;
 
-/// A page of HTML that shows a site's history: its text is written by `Display`. It is complete: it names no other
-/// file and has no script.
+/// A page of HTML that shows a site's history. `Display` writes its text. The page refers to no other file and has no
+/// script.
 #[derive(Drop)]
 pub struct Page {
     text: String,
 }
 
 impl Page {
-    /// Makes the page of a site. The error is out of memory.
+    /// Makes the page of a site's history. The error is that memory ran out.
     pub fn of(alloc: Global, site: &Site) -> Result<Page, AllocError> {
         let day = Day::of(alloc, site)?;
         Ok(Page {
@@ -32,19 +32,19 @@ impl fmt::Display for Page {
     }
 }
 
-/// What a page shows of a site.
+/// All that the page shows of a site's history.
 #[derive(Drop)]
 struct Day {
     totals: Totals,
-    /// The counters' values and bounds.
+    /// The value and the bound of each counter, after the last entry.
     counters: [(u64, u64); 32],
-    /// The prices at the start.
+    /// The prices of the eight products in the configuration, in thousandths.
     opening: [u32; 8],
     axis: Axis,
     bands: Bands,
 }
 
-/// The values of a site's counters, with their bounds.
+/// Returns the value and the bound of each of a site's counters.
 fn counters_of(site: &Site) -> [(u64, u64); 32] {
     let mut counters = [(0, 0); 32];
     for c in 0..32 {
@@ -71,7 +71,7 @@ impl Day {
     }
 }
 
-/// The text of the page of a day. The error is out of memory.
+/// Returns the text of the page. The error is that memory ran out.
 fn text_of(alloc: Global, day: &Day) -> Result<String, AllocError> {
     let mut sheet = Sheet::new(alloc);
     add_day(&mut sheet, day);
@@ -89,10 +89,10 @@ fn add_day(sheet: &mut Sheet, day: &Day) {
     sheet.add("</main></body></html>\n");
 }
 
-/// The end of a section.
+/// The closing tag of a section.
 const SECTION_END: &str = "</section>\n";
 
-/// Adds what the day was, in figures.
+/// Adds the title, the times and the main totals.
 fn add_headline(sheet: &mut Sheet, totals: &Totals, axis: Axis) {
     sheet.fill(
         "<p class=\"audited\">{} entries, audited</p>\n<h1>The day in a picture</h1>\n",
@@ -134,7 +134,7 @@ fn add_figures(sheet: &mut Sheet, totals: &Totals) {
     sheet.add("</ul>\n");
 }
 
-/// Adds a figure of the headline.
+/// Adds one of the main totals: its name and its value.
 fn add_figure(sheet: &mut Sheet, name: &'static str, value: Text) {
     sheet.fill(
         "<li><span>{}</span> <b>{}</b></li>\n",
@@ -151,7 +151,7 @@ fn add_sales(sheet: &mut Sheet, totals: &Totals) {
     sheet.add(SECTION_END);
 }
 
-/// Adds what was sold by point, and by the till that cleared.
+/// Adds the tables of sales by point, and by the till that cleared them.
 fn add_sums(sheet: &mut Sheet, totals: &Totals) {
     sheet.add("<div class=\"side\"><div><h3>By point</h3>");
     tables::add_points(sheet, totals);
@@ -162,7 +162,7 @@ fn add_sums(sheet: &mut Sheet, totals: &Totals) {
     sheet.add("</div></div>\n");
 }
 
-/// Adds what was sold by hour, where the sales have moments.
+/// Adds the picture and the table of sales by hour, if the sales have moments.
 fn add_hours(sheet: &mut Sheet, sums: &[Sum]) {
     if !sums.iter().any(|sum| sum.count > 0) {
         return sheet.add(
@@ -197,7 +197,7 @@ fn add_rules(sheet: &mut Sheet, totals: &Totals, counters: &[(u64, u64)]) {
     sheet.add(SECTION_END);
 }
 
-/// What the colours of the columns of versions are.
+/// The legend of the colours in the picture of decisions by version.
 const VERSIONS_LEGEND: &str = "<ul class=\"legend\"><li><i class=\"granted\">&#160;</i>granted</li>\
 <li><i class=\"denied\">&#160;</i>denied</li></ul>
 ";

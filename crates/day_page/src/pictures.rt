@@ -1,8 +1,8 @@
-//! The parts that pictures are made of.
+//! The parts that pictures are made of. A picture is an SVG element, 1,000 units wide.
 use crate::sheet::Sheet;
 use crate::texts::{Text, number};
 
-/// Adds the head of a picture: its size, and its title and text for those who hear it.
+/// Adds the start of a picture: its height, and the title and description that screen readers read.
 pub(crate) fn add_head(sheet: &mut Sheet, height: usize, title: &'static str, text: &'static str) {
     sheet.fill(
         "<div class=\"wide\"><svg viewBox=\"0 0 1000 {}\" role=\"img\"><title>{}</title><desc>{}</desc>\n",
@@ -10,13 +10,13 @@ pub(crate) fn add_head(sheet: &mut Sheet, height: usize, title: &'static str, te
     );
 }
 
-/// The end of a picture.
+/// The closing tags of a picture.
 pub(crate) const END: &str = "</svg></div>\n";
 
-/// The line below columns, and the end of their picture.
+/// The line below the columns, and the closing tags of their picture.
 pub(crate) const COLUMNS_END: &str = "<path class=\"axis\" d=\"M0 206.5h1000\"/>\n</svg></div>\n";
 
-/// Adds a text at a place of a picture.
+/// Adds a text at a place of a picture. `anchor` says which part of the text is at `x`: `start`, `middle` or `end`.
 pub(crate) fn add_label(sheet: &mut Sheet, x: usize, y: usize, anchor: &'static str, text: Text) {
     sheet.fill(
         "<text x=\"{}\" y=\"{}\" text-anchor=\"{}\">{}</text>",
@@ -24,7 +24,7 @@ pub(crate) fn add_label(sheet: &mut Sheet, x: usize, y: usize, anchor: &'static 
     );
 }
 
-/// Adds a rectangle, but for its end.
+/// Adds a rectangle without the end of its tag, so that the caller can add attributes.
 pub(crate) fn add_rect(
     sheet: &mut Sheet,
     class: &'static str,

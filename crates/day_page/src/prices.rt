@@ -1,20 +1,20 @@
-//! What the prices were through the day.
+//! The picture of the prices through the day: a line for each product.
 use crate::drawn::{LEFT, WIDTH, add_axis};
 use crate::pictures::{END, add_head, add_label};
 use crate::sheet::Sheet;
 use crate::texts::{Text, number, scaled};
 use day_report::{Axis, PriceChange};
 
-/// The places along a line where it may rise or fall: eight lines have 1,800 together.
+/// At how many places, equally far apart, a product's line can rise or fall.
 const PLACES: usize = 225;
 
-/// How far apart they are.
+/// The distance between two such places, in units of the picture.
 const APART: usize = WIDTH / PLACES;
 
-/// How high the drawing is.
+/// The height of the drawing, in units of the picture.
 const HIGH: usize = 160;
 
-/// The least and the greatest price that is drawn.
+/// The least and the greatest price that the drawing shows, in thousandths.
 #[derive(Clone, Copy, Drop)]
 struct Range {
     least: u64,
@@ -22,14 +22,14 @@ struct Range {
 }
 
 impl Range {
-    /// How far below the top a price is drawn.
+    /// Returns how far below the top of the picture a price is drawn.
     fn depth(&self, price: u64) -> usize {
         let above = price.saturating_sub(self.least) as u128;
         let span = self.greatest.saturating_sub(self.least).max(1) as u128;
         (HIGH + 10).saturating_sub(scaled(above, span, HIGH))
     }
 
-    /// This range with one price more.
+    /// Returns the smallest range that also has this price.
     fn with(self, price: u64) -> Range {
         Range {
             least: self.least.min(price),
@@ -54,7 +54,7 @@ fn range_of(opening: &[u32; 8], changes: &[PriceChange]) -> Range {
     range
 }
 
-/// Adds a line for each product that has a price.
+/// Adds the picture of the prices: a line for each product that has a price.
 pub(crate) fn add_lines(
     sheet: &mut Sheet,
     opening: &[u32; 8],
@@ -78,14 +78,14 @@ pub(crate) fn add_lines(
     sheet.add(END);
 }
 
-/// Adds the prices beside the top and the foot of a drawing.
+/// Adds the labels beside the drawing: the greatest price at its top, the least at its foot.
 fn add_range(sheet: &mut Sheet, range: Range) {
     add_label(sheet, 80, 16, "end", Text::Thousandths(range.greatest));
     add_label(sheet, 80, 174, "end", Text::Thousandths(range.least));
     sheet.add("\n");
 }
 
-/// Where a change is drawn.
+/// Returns how far from the left a change of a price is drawn.
 fn x_of(change: &PriceChange, axis: Axis) -> usize {
     let place = match axis {
         Axis::Entries(count) => scaled(change.number as u128, count as u128, PLACES),
@@ -97,7 +97,7 @@ fn x_of(change: &PriceChange, axis: Axis) -> usize {
     LEFT + place * APART
 }
 
-/// Adds the next step of a product's line: from `x` at a depth to `next`. The first step begins the line.
+/// Adds a step of a product's line: at this depth, from `x` to `next`. The first step also begins the line's path.
 fn add_step(sheet: &mut Sheet, product: u32, is_begun: bool, x: usize, depth: usize, next: usize) {
     if is_begun {
         sheet.fill("V{}H{}", &[number(depth), number(next)]);
@@ -114,7 +114,7 @@ fn add_step(sheet: &mut Sheet, product: u32, is_begun: bool, x: usize, depth: us
     }
 }
 
-/// Adds the line of one product.
+/// Adds the line of a product: level at each price, with a step where a new price was granted.
 fn add_line(
     sheet: &mut Sheet,
     product: u32,
@@ -150,7 +150,7 @@ fn add_line(
     }
 }
 
-/// Adds what the colours of the lines are: the products that have a price, with the first and the last.
+/// Adds the legend of the lines' colours: each product that has a price, with its first and last price.
 pub(crate) fn add_legend(sheet: &mut Sheet, opening: &[u32; 8], changes: &[PriceChange]) {
     sheet.add("<ul class=\"legend\">\n");
     for (place, price) in opening.iter().enumerate() {
@@ -164,7 +164,7 @@ pub(crate) fn add_legend(sheet: &mut Sheet, opening: &[u32; 8], changes: &[Price
     sheet.add("</ul>\n");
 }
 
-/// Adds what the colour of a product's line is.
+/// Adds the entry of the legend for a product.
 fn add_product(sheet: &mut Sheet, product: u32, opening: u64, last: u64) {
     let product = Text::Number(product as u64);
     sheet.fill(
@@ -177,7 +177,7 @@ fn add_product(sheet: &mut Sheet, product: u32, opening: u64, last: u64) {
     sheet.fill("{}</li>\n", &[Text::Thousandths(last)]);
 }
 
-/// The price of a product after the changes.
+/// Returns the price of a product after all changes.
 fn last_price(changes: &[PriceChange], product: u32, opening: u64) -> u64 {
     let mut price = opening;
     for change in changes {

@@ -1,14 +1,14 @@
-//! A page's text, as it grows.
+//! The text of a page while it is written.
 use crate::names::refusal_name;
 use crate::texts::{Date, Text, date_of};
 use html_text::Escaped;
 use std::alloc::{AllocError, Global};
 
-/// A text that grows piece by piece. It remembers that memory ran out, so that only who takes the whole has to ask.
+/// A text to which pieces are added. It remembers that memory ran out, so only `finish` returns that error.
 #[derive(Drop)]
 pub(crate) struct Sheet {
     text: String,
-    /// Whether memory ran out for some piece.
+    /// Whether memory ran out when a piece was added.
     is_short: bool,
 }
 
@@ -21,13 +21,13 @@ impl Sheet {
         }
     }
 
-    /// Returns the whole text. The error is that memory ran out for some piece of it.
+    /// Returns the whole text. The error is that memory ran out when a piece was added.
     pub fn finish(self) -> Result<String, AllocError> {
         let Sheet { text, is_short } = self;
         if is_short { Err(AllocError) } else { Ok(text) }
     }
 
-    /// Remembers whether a piece was written.
+    /// Remembers whether memory ran out when a piece was added.
     fn note(&mut self, written: Result<(), AllocError>) {
         if written.is_err() {
             self.is_short = true;
@@ -40,7 +40,7 @@ impl Sheet {
         self.note(written);
     }
 
-    /// Adds a form of HTML in which each `{}` is replaced by the next of the texts.
+    /// Adds a template of HTML in which the texts replace the places `{}` in order.
     pub fn fill(&mut self, form: &str, texts: &[Text]) {
         let mut texts = texts.iter();
         for piece in form.split("{}") {
@@ -51,7 +51,7 @@ impl Sheet {
         }
     }
 
-    /// Adds a text.
+    /// Adds a text in its form.
     pub fn put(&mut self, text: Text) {
         match text {
             Text::Number(number) => self.number(number),
@@ -67,7 +67,7 @@ impl Sheet {
         }
     }
 
-    /// Adds words, with the marks of HTML escaped.
+    /// Adds words, with the special characters of HTML escaped.
     pub fn words(&mut self, words: &str) {
         let words = Escaped(words);
         let written = write!(self.text, "{words}");
@@ -79,13 +79,13 @@ impl Sheet {
         self.note(written);
     }
 
-    /// Adds a number of two digits behind a mark.
+    /// Adds `mark`, then a number with two digits.
     fn two(&mut self, mark: &str, number: u64) {
         let written = write!(self.text, "{mark}{number:02}");
         self.note(written);
     }
 
-    /// Adds a number of three digits behind a mark.
+    /// Adds `mark`, then a number with three digits.
     fn three(&mut self, mark: &str, number: u64) {
         let written = write!(self.text, "{mark}{number:03}");
         self.note(written);
@@ -116,7 +116,7 @@ impl Sheet {
         self.three(".", number % 1000);
     }
 
-    /// Adds a number behind a name.
+    /// Adds a name, then a number.
     fn named(&mut self, name: &str, number: u64) {
         self.add(name);
         self.number(number);
@@ -147,5 +147,5 @@ impl Sheet {
     }
 }
 
-/// The groups of three digits that a number of 128 bits can have.
+/// The most groups of three digits that a number of 128 bits has.
 const GROUPS: u32 = 13;

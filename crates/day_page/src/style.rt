@@ -1,7 +1,7 @@
-//! How a page begins, and how it looks.
+//! The start of a page, with its style sheet.
 
-/// What comes before a page's body. The style's colours differ in lightness too, and for those who don't see red and
-/// green apart.
+/// The HTML before the page's body. The colours of the style differ in lightness too, so they can be told apart by
+/// those who don't see red and green apart.
 pub(crate) const START: &str = "<!DOCTYPE html>
 <html lang=\"en\"><head><meta charset=\"utf-8\">
 <meta name=\"viewport\" content=\"width=device-width, initial-scale=1\">

@@ -5,10 +5,10 @@ use crate::texts::{Text, number, numbered};
 use day_report::{Load, Outcomes, PriceChange, Sum, Totals, Unpaid};
 use fuelling_point::Point;
 
-/// The most rows of a table.
+/// The most rows that a long table has.
 const ROWS: usize = 1000;
 
-/// The head of a table: its name, and the names of its columns.
+/// Makes the start of a table: its id, and the names of its columns.
 macro_rules! head {
     ($id:literal; $($column:literal),+) => {
         concat!(
@@ -19,7 +19,7 @@ macro_rules! head {
     };
 }
 
-/// Adds a row, by its name and its other cells.
+/// Adds a row: its name, then its other cells.
 fn add_row(sheet: &mut Sheet, name: Text, cells: &[Text]) {
     sheet.fill("<tr><th scope=\"row\">{}</th>", &[name]);
     for cell in cells {
@@ -30,7 +30,7 @@ fn add_row(sheet: &mut Sheet, name: Text, cells: &[Text]) {
 
 const FOOT: &str = "</tbody></table></div>\n";
 
-/// Adds a row of what was sold: the number of sales, their money and their litres.
+/// Adds a row of sales: how many there are, their money and their litres.
 fn add_sum(sheet: &mut Sheet, name: Text, sum: &Sum) {
     let cells = [
         Text::Thousands(sum.count as u128),
@@ -40,7 +40,7 @@ fn add_sum(sheet: &mut Sheet, name: Text, sum: &Sum) {
     add_row(sheet, name, &cells);
 }
 
-/// Adds a row of what was sold, of how many transactions are unpaid, and of a state at the end.
+/// Adds a row of sales, with the number of unpaid transactions and the state at the end.
 fn add_point(sheet: &mut Sheet, name: Text, sum: &Sum, unpaid: usize, state: &'static str) {
     let cells = [
         Text::Thousands(sum.count as u128),
@@ -52,7 +52,7 @@ fn add_point(sheet: &mut Sheet, name: Text, sum: &Sum, unpaid: usize, state: &'s
     add_row(sheet, name, &cells);
 }
 
-/// Adds the row of the point at a place.
+/// Adds the row of the point at a place, counted from 0.
 fn add_place(sheet: &mut Sheet, totals: &Totals, place: usize, point: &Point) {
     if let Some(sum) = totals.by_point.get(place) {
         let state = state_name(point.state());
@@ -69,7 +69,7 @@ fn add_place(sheet: &mut Sheet, totals: &Totals, place: usize, point: &Point) {
 const BY_POINT: &str =
     head!("by-point"; "Point", "Sales", "Money", "Litres", "Unpaid at the end", "State at the end");
 
-/// Adds what was sold at each point, and its state at the end.
+/// Adds the table of the points: what was sold at each, and its state at the end.
 pub(crate) fn add_points(sheet: &mut Sheet, totals: &Totals) {
     sheet.add(BY_POINT);
     for (place, point) in totals.points.iter().enumerate() {
@@ -85,13 +85,13 @@ pub(crate) fn add_points(sheet: &mut Sheet, totals: &Totals) {
     sheet.add(FOOT);
 }
 
-/// The head of what tills cleared.
+/// The start of the table of sales by till.
 pub(crate) const BY_TILL: &str = head!("by-till"; "Till", "Sales", "Money", "Litres");
 
-/// The head of what was sold in hours.
+/// The start of the table of sales by hour.
 pub(crate) const BY_HOUR: &str = head!("by-hour"; "Hour", "Sales", "Money", "Litres");
 
-/// Adds what was sold in parts that have sales, as tills and hours, by the number of the first part.
+/// Adds a table of sales by till or by hour, without those that have no sale. `first` is the number of the first row.
 pub(crate) fn add_parts(sheet: &mut Sheet, head: &str, sums: &[Sum], first: u64) {
     sheet.add(head);
     for (place, sum) in sums.iter().enumerate() {
@@ -119,7 +119,7 @@ fn add_transaction(sheet: &mut Sheet, unpaid: &Unpaid) {
 
 const UNPAID: &str = head!("unpaid"; "Point", "Transaction", "Money", "Litres", "Held by till");
 
-/// Adds the transactions that are unpaid at the end.
+/// Adds the table of the transactions that are unpaid at the end.
 pub(crate) fn add_unpaid(sheet: &mut Sheet, unpaid: &[Unpaid]) {
     sheet.add(UNPAID);
     for transaction in unpaid {
@@ -128,12 +128,12 @@ pub(crate) fn add_unpaid(sheet: &mut Sheet, unpaid: &[Unpaid]) {
     sheet.add(FOOT);
 }
 
-/// How often a version did what is counted by version.
+/// Returns the count for a version: the number at the version's place, or 0 if there is none.
 fn count_at(counts: &[u64], version: u32) -> u64 {
     counts.get(version as usize).copied().unwrap_or(0)
 }
 
-/// What a version granted and denied.
+/// Returns how many requests a version granted, and how many it denied.
 pub(crate) fn outcome_of(outcomes: &Outcomes, version: u32) -> (u64, u64) {
     (
         count_at(&outcomes.granted, version),
@@ -141,7 +141,7 @@ pub(crate) fn outcome_of(outcomes: &Outcomes, version: u32) -> (u64, u64) {
     )
 }
 
-/// Adds the row of a version, with what it decided.
+/// Adds the row of a version, with how many requests it granted and denied.
 fn add_version(sheet: &mut Sheet, totals: &Totals, load: &Load) {
     let releases = outcome_of(&totals.releases, load.version);
     let presets = outcome_of(&totals.presets, load.version);
@@ -166,7 +166,7 @@ const VERSIONS: &str = head!(
     "Prices granted", "denied"
 );
 
-/// Adds the versions, with what they decided.
+/// Adds the table of the versions, with how many requests each granted and denied.
 pub(crate) fn add_versions(sheet: &mut Sheet, totals: &Totals) {
     sheet.add(VERSIONS);
     for load in &totals.loads {
@@ -175,8 +175,8 @@ pub(crate) fn add_versions(sheet: &mut Sheet, totals: &Totals) {
     sheet.add(FOOT);
 }
 
-/// Adds what a version granted and denied to each till that asked it, behind `rows` rows. Returns how many rows there
-/// are then, of which those past the most are left out.
+/// Adds a row for each till whose requests a version decided, after `rows` rows. Returns the number of rows after that.
+/// Rows beyond `ROWS` are counted but left out.
 fn add_tills(sheet: &mut Sheet, tills: &[Outcomes], version: u32, rows: usize) -> usize {
     let mut rows = rows;
     for (place, outcomes) in tills.iter().enumerate() {
@@ -198,7 +198,7 @@ fn add_tills(sheet: &mut Sheet, tills: &[Outcomes], version: u32, rows: usize) -
 
 const BY_VERSION_AND_TILL: &str = head!("versions-by-till"; "Version", "Till", "Granted", "Denied");
 
-/// Adds what each version granted and denied to each till that asked it.
+/// Adds the table of how many requests each version granted and denied for each till.
 pub(crate) fn add_versions_by_till(sheet: &mut Sheet, totals: &Totals) {
     sheet.add(BY_VERSION_AND_TILL);
     let mut rows = 0;
@@ -210,14 +210,14 @@ pub(crate) fn add_versions_by_till(sheet: &mut Sheet, totals: &Totals) {
     add_remark(sheet, remark, rows.saturating_sub(ROWS));
 }
 
-/// Adds a remark on how many rows are left out, if any are.
+/// Adds a note on how many rows are left out, if any are.
 fn add_remark(sheet: &mut Sheet, remark: &str, left: usize) {
     if left > 0 {
         sheet.fill(remark, &[number(ROWS), Text::Thousands(left as u128)]);
     }
 }
 
-/// Adds the row of a counter, if it can count.
+/// Adds the row of a counter, if its bound isn't 0.
 fn add_counter(sheet: &mut Sheet, place: usize, counter: &(u64, u64)) {
     let (value, bound) = *counter;
     if bound > 0 {
@@ -231,7 +231,7 @@ fn add_counter(sheet: &mut Sheet, place: usize, counter: &(u64, u64)) {
 
 const COUNTERS: &str = head!("counters"; "Counter", "Value at the end", "Bound");
 
-/// Adds the counters that can count, with their values at the end and their bounds.
+/// Adds the table of the counters whose bound isn't 0, with their values at the end.
 pub(crate) fn add_counters(sheet: &mut Sheet, counters: &[(u64, u64)]) {
     sheet.add(COUNTERS);
     for (place, counter) in counters.iter().enumerate() {
@@ -240,7 +240,7 @@ pub(crate) fn add_counters(sheet: &mut Sheet, counters: &[(u64, u64)]) {
     sheet.add(FOOT);
 }
 
-/// Adds the row of a price that was changed.
+/// Adds the row of a changed price.
 fn add_change(sheet: &mut Sheet, change: &PriceChange) {
     let cells = [
         Text::Moment(change.moment),
@@ -257,7 +257,7 @@ const PRICES: &str = head!(
     "Entry", "Moment", "Product", "New price", "Asked by till", "Granted by version"
 );
 
-/// Adds the prices that were changed: the last of them, where there are many.
+/// Adds the table of the changed prices: the last `ROWS` of them, if there are more.
 pub(crate) fn add_prices(sheet: &mut Sheet, changes: &[PriceChange]) {
     sheet.add(PRICES);
     let left = changes.len().saturating_sub(ROWS);

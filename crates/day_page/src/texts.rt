@@ -1,42 +1,42 @@
-//! Texts of a page: numbers in their forms, moments, and words.
+//! The texts of a page: numbers, moments and names, each with the form in which it is written.
 
 ghost use Rattle.std.specs.Prelude.{◌≤◌};
 
-/// A text of a page.
+/// A text of a page, and the form in which it is written.
 #[derive(Clone, Copy, Drop)]
 pub(crate) enum Text {
-    /// A number as it is.
+    /// A number in plain digits, as in 1234567.
     Number(u64),
-    /// A number with its thousands apart, as 1,234,567.
+    /// A number with commas between groups of three digits, as in 1,234,567.
     Thousands(u128),
-    /// Hundredths with two decimals, as 1,234.50: cents as money, centilitres as litres.
+    /// A number of hundredths with two decimals, as in 1,234.50: cents as money, or centilitres as litres.
     Hundredths(u128),
-    /// Thousandths with three decimals, as 1.799: prices.
+    /// A number of thousandths with three decimals, as in 1.799: a price.
     Thousandths(u64),
-    /// A moment as its date and time of the day in UTC; 0 is no moment.
+    /// A moment as a date and a time of day in UTC; 0 is written as `not told`.
     Moment(u64),
-    /// A moment as its hour and minute in UTC.
+    /// A moment as a time of day in UTC: hours and minutes.
     Clock(u64),
-    /// The name of a point.
+    /// `Point` and the point's number.
     Point(u64),
-    /// The name of an entry.
+    /// `entry` and the entry's number.
     Entry(u64),
-    /// The number of a refusal, with its name.
+    /// A refusal's number, as in S20, and what it means in words.
     Refusal(u32),
     Words(&'static str),
 }
 
-/// A place or a length as a text.
+/// Returns a length, or another `usize`, as a number in plain digits.
 pub(crate) fn number(length: usize) -> Text {
     Text::Number(length as u64)
 }
 
-/// The number of a place that is counted from 0, where the first has this number.
+/// Returns `first + place` as a number in plain digits.
 pub(crate) fn numbered(place: usize, first: u64) -> Text {
     Text::Number((place as u64).saturating_add(first))
 }
 
-/// A date of the calendar that is in use, in UTC.
+/// A date of the Gregorian calendar, in UTC. Months and days begin at 1.
 #[derive(Clone, Copy, Drop)]
 pub(crate) struct Date {
     pub year: u64,
@@ -44,8 +44,8 @@ pub(crate) struct Date {
     pub day: u64,
 }
 
-/// The date of a moment in seconds since the start of 1970, in UTC. It counts in years that begin in March, so that a
-/// leap day is the last of its year, and in cycles of 400 such years, which have 146,097 days.
+/// Returns the date of a moment in seconds since the start of 1970. The computation uses years that begin in March, so
+/// that a leap day is the last of its year, and cycles of 400 years, which have 146,097 days.
 pub(crate) fn date_of(moment: u64) -> Date {
     let days = moment / 86_400 + 719_468;
     let cycle = days / 146_097;
@@ -67,7 +67,7 @@ pub(crate) fn date_of(moment: u64) -> Date {
     }
 }
 
-/// How far `value` is of `most`, on a length.
+/// Returns `value` scaled so that `most` becomes `length`; never more than `length`.
 pub(crate) fn scaled(value: u128, most: u128, length: usize) -> usize
     ensures { result ≤ length }
 {

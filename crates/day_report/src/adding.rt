@@ -1,4 +1,4 @@
-//! Adds up all totals of a history.
+//! The totals of a history: what its sales, decisions, refusals and prices add up to.
 
 ghost use Rattle.std.specs.Prelude.{◌≡◌, ◌+◌, ◌≤◌, IfOk, length, not, sum_by, count_by, option_map};
 ghost use Rattle.std.specs.List.{filter_map};
@@ -20,54 +20,54 @@ use decision_journal::Entry;
 use fuelling_point::{Point, Transaction};
 use std::alloc::{AllocError, Global};
 
-/// How many points a site whose history is added up may have at most.
+/// The most points that a site can have whose history is added up.
 pub const MOST_POINTS: usize = 1000;
 
-/// How many tills a site has at most.
+/// The most tills that a site can have.
 pub const TILLS: u32 = 64;
 
 /// How many hours a day has.
 const HOURS: u32 = 24;
 
-/// The least number of a refusal that can be the reply of an entry.
+/// The number of the first refusal: refusals are numbered S20 to S34.
 pub const FIRST_REFUSAL: u32 = 20;
 
-/// How many numbers of refusals there are, from the first on.
+/// How many numbers of refusals there are: S20 to S34.
 pub const REFUSALS: u32 = 15;
 
-/// What a history adds up to.
+/// The totals of a history.
 #[derive(Drop)]
 pub struct Totals {
     pub entries: usize,
     /// Everything that was sold.
     pub sold: Sum,
-    /// What was sold at point 1, 2 and so on.
+    /// What was sold at each point, point 1 first.
     pub by_point: Vec<Sum>,
-    /// What tills 1 to 64 cleared.
+    /// What each of the tills 1 to 64 cleared, till 1 first.
     pub by_till: Vec<Sum>,
-    /// What was sold in the hours 0 to 23 of the day, in UTC.
+    /// What was sold in each of the hours 0 to 23 of the day, in UTC.
     pub by_hour: Vec<Sum>,
-    /// The points at the end.
+    /// The points after the last entry.
     pub points: Vec<Point>,
-    /// How often each of S20 to S34 was the reply.
+    /// How often each of the refusals S20 to S34 was the reply.
     pub refused: Vec<usize>,
     pub loads: Vec<Load>,
     pub prices: Vec<PriceChange>,
-    /// The transactions that are unpaid at the end, point by point, and their total in cents.
+    /// The transactions that are unpaid after the last entry, point by point.
     pub unpaid: Vec<Unpaid>,
     pub unpaid_cents: u128,
-    /// How many decisions were grants, and how many denials.
+    /// How many decisions of rules were grants.
     pub granted: usize,
     pub denied: usize,
     pub releases: Outcomes,
     pub presets: Outcomes,
     pub price_requests: Outcomes,
-    /// What each version decided for tills 1 to 64.
+    /// For each of the tills 1 to 64, how often each version granted and denied its requests.
     pub tills: Vec<Outcomes>,
 }
 
 /// An unpaid transaction: its point, its number there, its amount in cents, its volume in centilitres, and the till
-/// that holds it, or 0 where none does.
+/// that locked it, or 0 if none did.
 #[derive(Clone, Copy, Drop)]
 pub struct Unpaid {
     pub point: usize,
@@ -108,7 +108,7 @@ fn by_hour(alloc: Global, sales: &[Sale]) -> Result<Vec<Sum>, AllocError>
     Ok(sums)
 }
 
-/// Returns how often each of S20 to S34 is among these numbers of refusals.
+/// Returns how often each of the refusals S20 to S34 is among these numbers.
 fn by_number(alloc: Global, numbers: &[u32]) -> Result<Vec<usize>, AllocError>
     ensures { IfOk result (λ counts. CountsRefusals counts.items numbers.now) }
 {
@@ -119,7 +119,7 @@ fn by_number(alloc: Global, numbers: &[u32]) -> Result<Vec<usize>, AllocError>
     Ok(counts)
 }
 
-/// Returns how often each of S20 to S34 was the reply.
+/// Returns how often each of the refusals S20 to S34 was the reply.
 fn refused_in(alloc: Global, entries: &[Entry]) -> Result<Vec<usize>, AllocError>
     ensures { IfOk result (λ counts. CountsRefusals counts.items (filter_map refusal_of entries.now)) }
 {
@@ -127,7 +127,7 @@ fn refused_in(alloc: Global, entries: &[Entry]) -> Result<Vec<usize>, AllocError
     by_number(alloc, &numbers)
 }
 
-/// Returns the outcomes of one part of the decisions, for each version below `versions`.
+/// Returns how often each version below `versions` granted and denied, counted in one part of the decisions.
 fn outcomes(
     alloc: Global,
     decisions: &[Decision],
@@ -142,7 +142,7 @@ fn outcomes(
     })
 }
 
-/// Returns for each of the 64 tills the outcomes of what it asked.
+/// Returns for each of the 64 tills how often each version granted and denied its requests.
 fn by_till_asked(
     alloc: Global,
     decisions: &[Decision],
@@ -157,7 +157,7 @@ fn by_till_asked(
     Ok(found)
 }
 
-/// Returns a transaction as an unpaid transaction of the point of this number, if there is one.
+/// Returns the unpaid transaction of point `point`, if the point has this transaction.
 fn unpaid_as(point: usize, transaction: Option<Transaction>) -> Option<Unpaid>
     ensures { result ≡ option_map (unpaid_transaction point) transaction }
 {
@@ -171,7 +171,7 @@ fn unpaid_as(point: usize, transaction: Option<Transaction>) -> Option<Unpaid>
     })
 }
 
-/// Returns the unpaid transactions of the points, point by point, the older one of a point first.
+/// Returns the unpaid transactions of the points, point by point, and the older one of a point first.
 fn unpaid_of(alloc: Global, points: &[Point]) -> Result<Vec<Unpaid>, AllocError>
     ensures { IfOk result (λ found. found.items ≡ unpaid_of points.now) }
 {
@@ -185,7 +185,7 @@ fn unpaid_of(alloc: Global, points: &[Point]) -> Result<Vec<Unpaid>, AllocError>
     Ok(found)
 }
 
-/// Returns the total of unpaid transactions in cents.
+/// Returns the total of the unpaid transactions, in cents.
 fn cents_of(unpaid: &[Unpaid]) -> u128
     ensures { result ≡ sum_by (λ (u : Unpaid). u.amount) unpaid.now }
 {
@@ -210,7 +210,7 @@ fn denied_in(decisions: &[Decision]) -> usize
     decisions.iter().filter(|d| !d.is_granted).count()
 }
 
-/// What was sold at each point, by each till and in each hour.
+/// The totals of what was sold at each point, by each till and in each hour.
 #[derive(Drop)]
 struct Sums {
     points: Vec<Sum>,
@@ -231,7 +231,7 @@ fn sums_of(alloc: Global, sales: &[Sale], points: usize) -> Result<Sums, AllocEr
     })
 }
 
-/// The outcomes of the decisions, by what was asked and by which till asked.
+/// How often each version granted and denied, by what was asked, and by which till asked.
 #[derive(Drop)]
 struct Verdicts {
     releases: Outcomes,
@@ -258,7 +258,7 @@ fn verdicts_of(
     })
 }
 
-/// What the sales of a history come to, and the state of the points at its end.
+/// What the sales of a history add up to, and the points after its last entry.
 #[derive(Drop)]
 struct Takings {
     sold: Sum,
@@ -296,7 +296,7 @@ fn takings_of(alloc: Global, points: usize, entries: &[Entry]) -> Result<Takings
     })
 }
 
-/// The loads of a history, and what the rules decided.
+/// The loads of a history, and how often its rules granted and denied.
 #[derive(Drop)]
 struct Decided {
     loads: Vec<Load>,
@@ -336,7 +336,7 @@ fn decided_in(alloc: Global, entries: &[Entry]) -> Result<Decided, AllocError>
     })
 }
 
-/// Adds up the history of a site that has this many points. The error is that memory ran out.
+/// Adds up the history of a site of `points` points. The error is that memory ran out.
 pub fn add_up(alloc: Global, points: usize, entries: &[Entry]) -> Result<Totals, AllocError>
     requires few { length entries.now ≤ ENTRIES }
     requires points { points ≤ MOST_POINTS }

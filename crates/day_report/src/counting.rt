@@ -7,13 +7,13 @@ ghost use Rattle.day_report.specs.Totals.{is_among, has_outcome, is_wanted, deci
 use crate::rulings::{Asked, Decision};
 use std::alloc::{AllocError, Global};
 
-/// The part of the decisions that is counted.
+/// The part of the decisions that is counted: those on releases, on presets, on prices, or for one till.
 #[derive(Clone, Copy, Drop)]
 pub enum Deciding {
     Releases,
     Presets,
     Prices,
-    /// The decisions of what this till asked.
+    /// The decisions on the requests of this till.
     Till(u32),
 }
 
@@ -34,7 +34,7 @@ fn has_outcome(granted: bool, decision: &Decision) -> bool
     decision.is_granted == granted
 }
 
-/// Returns whether a decision is in this part and has this outcome.
+/// Returns whether a decision is in this part, and a grant or a denial as `granted` says.
 #[tactic(auto, unfolding(crate::specs::Totals::is_wanted))]
 fn is_wanted(part: Deciding, granted: bool, decision: &Decision) -> bool
     ensures { result ≡ is_wanted part granted decision.now }
@@ -42,7 +42,7 @@ fn is_wanted(part: Deciding, granted: bool, decision: &Decision) -> bool
     is_among(part, decision) && has_outcome(granted, decision)
 }
 
-/// Adds one to the count at this place, if `wanted` is true and there is such a place.
+/// Adds one to the count at place `at`, if `wanted` is true and there is such a place.
 fn count_if(counts: &mut [u64], at: usize, wanted: bool)
     requires { All (λ n. n ≤ 2 ^ 64 - 2) counts.old }
     ensures length { length counts.new ≡ length counts.old }
@@ -54,8 +54,8 @@ fn count_if(counts: &mut [u64], at: usize, wanted: bool)
     }
 }
 
-/// Returns for each version below `versions` how many decisions of this part it granted, or how many it denied where
-/// `granted` is false. The error is that memory ran out.
+/// Returns for each version below `versions` how many decisions of this part it granted, or denied if `granted` is
+/// false. The error is that memory ran out.
 pub fn tally(
     alloc: Global,
     decisions: &[Decision],
@@ -75,8 +75,8 @@ pub fn tally(
     Ok(counts)
 }
 
-/// How many decisions of one part each version granted and how many it denied, both at the place of the version's
-/// number.
+/// How often each version granted and denied in one part of the decisions. A version's number is its place in both
+/// lists.
 #[derive(Drop)]
 pub struct Outcomes {
     pub granted: Vec<u64>,

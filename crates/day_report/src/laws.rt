@@ -1,15 +1,15 @@
-//! Laws about what a history adds up to.
+//! Laws about the totals of a history.
 
 ghost use Rattle.day_report.specs.Laws.{SalesTellTheSite, VersionsTellAllDecisions};
 
-/// The sales in a journal agree with the site's own state: the points are the site's points, there are as many sales as
-/// the site cleared transactions, and the sales in all, those of all points and those of all tills come to its cleared
+/// A law: the sales in a journal agree with the site's own state. The points are the site's points, there are as many
+/// sales as the site cleared transactions, and the totals of all sales, of all points and of all tills are its cleared
 /// total.
 pub fn law_of_sales()
     ensures { SalesTellTheSite }
 {}
 
-/// The grants and denials of all versions together are as many as the decisions of the history.
+/// A law: the grants and denials of all versions together are as many as the decisions of the history.
 pub fn law_of_decisions()
     ensures { VersionsTellAllDecisions }
 {}

@@ -8,8 +8,8 @@ use decision_journal::Entry;
 use std::alloc::{AllocError, Global};
 use till_request::{Act, Reply};
 
-/// A load that was answered with a version: the number of its entry, its slot, its version, and the last moment before
-/// it, or 0 where there was none. A load's own entry has no moment.
+/// A load of a program that was accepted: the number of its entry, its slot, its version, and the moment of the last
+/// entry before it that has one, or 0 if none has. The entry of a load has no moment.
 #[derive(Clone, Copy, Drop)]
 pub struct Load {
     pub number: u32,
@@ -36,7 +36,7 @@ fn load_of(moment: u64, entry: &Entry) -> Option<Load>
     }
 }
 
-/// Returns the last moment after an entry: the entry's own, or the one before it where the entry has none.
+/// Returns the last moment after an entry: the entry's own, or `moment` if the entry has none.
 fn moment_after(moment: u64, entry: &Entry) -> u64
     ensures { result ≡ moment_after moment entry.now }
 {
@@ -47,7 +47,7 @@ fn moment_after(moment: u64, entry: &Entry) -> u64
     }
 }
 
-/// Returns the loads that were answered with a version, oldest first. The error is that memory ran out.
+/// Returns the accepted loads of a history, oldest first. The error is that memory ran out.
 pub fn loads(alloc: Global, entries: &[Entry]) -> Result<Vec<Load>, AllocError>
     ensures { IfOk result (λ found. found.items ≡ loads 0 entries.now) }
 {

@@ -1,4 +1,4 @@
-//! Adds an item to a list, if there is one.
+//! The call that adds an optional item to a list.
 ghost use Rattle.std.specs.Prelude.{◌≡◌, ◌++◌, OnOk, option_to_list};
 
 use std::alloc::AllocError;

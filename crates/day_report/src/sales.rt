@@ -26,14 +26,14 @@ pub struct Sale {
     pub volume: u64,
 }
 
-/// The sales of a history, oldest first, and the points at its end.
+/// The sales of a history, oldest first, and the points after its last entry.
 #[derive(Drop)]
 pub struct Sold {
     pub sales: Vec<Sale>,
     pub points: Vec<Point>,
 }
 
-/// A Clear that was answered Done: its till, its point and the number of its transaction.
+/// A request to clear a transaction that was done: the till, the point and the transaction's number.
 #[derive(Clone, Copy)]
 struct Clearing {
     till: u32,
@@ -60,7 +60,7 @@ fn clearing_of(act: &Act, reply: &Reply) -> Option<Clearing>
     }
 }
 
-/// Returns the unpaid transaction of number `number` at point `n`.
+/// Returns the unpaid transaction number `number` of point `n`, if there is one.
 fn unpaid_at(points: &[Point], n: u32, number: u32) -> Option<Transaction>
     ensures { result ≡ unpaid_at points.now n number }
 {
@@ -70,7 +70,7 @@ fn unpaid_at(points: &[Point], n: u32, number: u32) -> Option<Transaction>
     points[n as usize - 1].find(number)
 }
 
-/// Returns the sale that an entry makes, where `points` are the points before it.
+/// Returns the sale that an entry made, if it made one. `points` are the points before the entry.
 #[tactic(auto, unfolding(crate::specs::Sales::sale_of))]
 fn sale_of(points: &[Point], entry: &Entry) -> Option<Sale>
     ensures { result ≡ sale_of points.now entry.now }
@@ -87,8 +87,8 @@ fn sale_of(points: &[Point], entry: &Entry) -> Option<Sale>
     })
 }
 
-/// Returns the sales of the entries. `points` are the points before the entries, and become the points after them. The
-/// error is that memory ran out.
+/// Returns the sales that the entries made. `points` are the points before the entries, and are changed to those after
+/// them. The error is that memory ran out.
 fn follow_sales(
     alloc: Global,
     points: &mut [Point],
@@ -107,8 +107,8 @@ fn follow_sales(
     Ok(sales)
 }
 
-/// Returns the sales of the history of a site that has this many points, and the points after it. The error is that
-/// memory ran out.
+/// Returns the sales of the history of a site of `points` points, and the points after it. The error is that memory ran
+/// out.
 pub fn find_sales(alloc: Global, points: usize, entries: &[Entry]) -> Result<Sold, AllocError>
     requires { length entries.now ≤ ENTRIES }
     ensures sales { IfOk result (λ sold. sold.sales.items ≡ sales (closed_points points) entries.now) }
@@ -119,7 +119,7 @@ pub fn find_sales(alloc: Global, points: usize, entries: &[Entry]) -> Result<Sol
     Ok(Sold { sales, points })
 }
 
-/// The part of the sales that is added up.
+/// A part of the sales that is added up separately.
 #[derive(Clone, Copy, Drop)]
 pub enum Part {
     All,
@@ -131,8 +131,8 @@ pub enum Part {
     Hour(u32),
 }
 
-/// How many sales there are, and their totals in cents and in centilitres. The totals add up 64-bit numbers in 128
-/// bits, so that no list can overflow them.
+/// How many sales there are, and their totals in cents and in centilitres. The totals have 128 bits, so sums of 64-bit
+/// numbers can't overflow them.
 #[derive(Clone, Copy, Drop)]
 pub struct Sum {
     pub count: u64,
@@ -151,7 +151,7 @@ fn is_in(part: Part, sale: &Sale) -> bool
     }
 }
 
-/// Adds up a part of the sales.
+/// Returns how many sales a part has, and their totals.
 pub fn sum_of(sales: &[Sale], part: Part) -> Sum
     ensures count { result.count ≡ count_in part sales.now }
     ensures cents { result.cents ≡ cents_in part sales.now }

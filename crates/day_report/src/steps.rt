@@ -1,4 +1,4 @@
-//! The states of the points, step by step, for a picture.
+//! The states of the points, divided into the steps of a picture.
 
 ghost use Rattle.std.specs.Prelude.{◌≡◌, ◌+◌, ◌≤◌, ℕ, OnOk, length};
 ghost use Rattle.site_core.specs.declared.site.TheConstants.{ENTRIES};
@@ -11,23 +11,22 @@ use fuelling_point::{Point, State};
 use std::alloc::{AllocError, Global};
 use till_request::{Act, Request};
 
-/// How many steps a picture has at most.
+/// The most steps that a picture has along its axis.
 const STEPS: usize = 2000;
 
-/// The shortest span, in seconds, for which a picture is drawn along time.
+/// The shortest history, in seconds, whose picture is drawn along time and not along the entries.
 const SPAN: u64 = 600;
 
-/// The quantity along which a picture of a history is drawn.
+/// The axis of a picture of a history: its entries, or time.
 #[derive(Clone, Copy, Drop)]
 pub enum Axis {
-    /// The entries, from 1 to this many.
+    /// The entries, from 1 to the number given.
     Entries(usize),
-    /// Time in seconds, from the first to the last moment of the entries.
+    /// Time, from the first moment to the last, both in seconds since the start of 1970.
     Time(u64, u64),
 }
 
-/// Returns the axis for a history: time, where its moments never go back and span at least ten minutes, or else its
-/// entries.
+/// Returns the axis for a history: time, if its moments never decrease and span at least ten minutes; else its entries.
 pub fn axis_of(entries: &[Entry]) -> Axis {
     let mut first = 0;
     let mut last = 0;
@@ -48,7 +47,7 @@ pub fn axis_of(entries: &[Entry]) -> Axis {
     Axis::Time(first, last)
 }
 
-/// Returns the step in which `at` lies, where `steps` steps cover the range from 0 to `most`.
+/// Returns the number of the step, from 0, in which `at` is, if `steps` equal steps divide the range from 0 to `most`.
 pub fn step_of(at: u128, most: u128, steps: usize) -> usize
     ensures { result ≤ steps }
 {
@@ -66,7 +65,7 @@ fn steps_of(axis: Axis) -> usize {
     }
 }
 
-/// Returns for each step how many entries come before its end.
+/// Returns for each step how many entries come before the step's end.
 fn cuts(
     alloc: Global,
     entries: &[Entry],
@@ -99,7 +98,8 @@ fn cuts(
     Ok(cuts)
 }
 
-/// The state of each point in each step. The states of the first step come first, one for each point.
+/// The state of each point in each step: first the states of step 0, one for each point, then those of step 1, and so
+/// on.
 #[derive(Drop)]
 pub struct Bands {
     pub points: usize,
@@ -122,7 +122,7 @@ fn point_of(entry: &Entry) -> Option<u32> {
     }
 }
 
-/// Raises the stored state of the point of this number to its current state, if that has a greater number.
+/// Sets the stored state of point `n` to its current state, if that has a greater number than the stored one.
 fn raise(states: &mut [State], points: &[Point], n: u32) {
     if n == 0 {
         return;
@@ -136,8 +136,8 @@ fn raise(states: &mut [State], points: &[Point], n: u32) {
     }
 }
 
-/// Does what the entries of a step do to the points, and raises the stored state of each point to its greatest state in
-/// the step.
+/// Applies the entries of a step to the points, and keeps in `states` the greatest state that each point has in the
+/// step.
 fn follow_step(points: &mut [Point], states: &mut [State], entries: &[Entry])
     requires few { HaveRoom points.old (length entries.now) }
     ensures stand { points.new ≡ stand points.old entries.now }
@@ -151,8 +151,8 @@ fn follow_step(points: &mut [Point], states: &mut [State], entries: &[Entry])
     }
 }
 
-/// Returns for each point its greatest state in a step of these entries, and does what they do to the points. The error
-/// is that memory ran out.
+/// Applies the entries of a step to the points, and returns the greatest state that each point has in the step. The
+/// error is that memory ran out.
 fn step_states(
     alloc: Global,
     points: &mut [Point],
@@ -170,8 +170,8 @@ fn step_states(
     Ok(states)
 }
 
-/// Returns the states of the points of a history: for each step and point, the state with the greatest number that the
-/// point had in the step. The error is that memory ran out.
+/// Returns for each step and each point the state with the greatest number that the point has in the step. The error is
+/// that memory ran out.
 pub fn follow_states(
     alloc: Global,
     points: usize,

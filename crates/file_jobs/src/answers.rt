@@ -1,4 +1,4 @@
-//! A play's answers, which leave together before more of its script is read.
+//! The answers of a play, held in a buffer. All of them are written before more of the script is read.
 ghost use Rattle.std.specs.Prelude.{◌≤◌, IfOk, length};
 
 use crate::faults::tell_write;
@@ -8,17 +8,18 @@ use console::{Ended, SessionFault};
 use std::cell::RefCell;
 use std::io::{self, BufWriter, Error, ErrorKind, Printer, Read, Write};
 
-/// Where answers wait until standard output takes them.
+/// A buffered standard output. It keeps the error of its first failed write.
 type Waiting<'a> = BufWriter<Outlet<Printer<'a, HostRuntime>>>;
 
-/// Answers that wait. An answer leaves before more of the script is read, so whoever waits for it never waits for long.
+/// The answers of a play that are buffered for standard output. They are written before more of the script is read, so
+/// whoever waits for one doesn't wait until the buffer is full.
 #[derive(Drop)]
 pub struct Answers<'a> {
     waiting: RefCell<Waiting<'a>>,
 }
 
 impl<'a> Answers<'a> {
-    /// Makes a buffer in which no answer waits.
+    /// Makes an empty buffer on standard output. The error is that memory ran out.
     pub fn new(rt: &'a HostRuntime) -> io::Result<Answers<'a>> {
         let waiting = BufWriter::new(rt.alloc(), Outlet::new(io::writer(rt)))?;
         Ok(Answers {
@@ -26,19 +27,20 @@ impl<'a> Answers<'a> {
         })
     }
 
-    /// Writes all answers that wait, unless a write failed before.
+    /// Writes all buffered answers. Writes nothing if an earlier write failed.
     fn flush(&self) -> io::Result<()> {
         match self.waiting.try_borrow_mut() {
             Ok(mut waiting) => match waiting.flush() {
                 Ok(()) => Ok(()),
                 Err(error) => Err(waiting.get_mut().keep(error)),
             },
-            // Nobody keeps them borrowed from one call to the next.
+            // This never comes: no borrow of the buffer outlasts a call.
             Err(_) => Err(Error::from(ErrorKind::WouldBlock)),
         }
     }
 
-    /// Takes a piece of an answer, where none failed to leave before.
+    /// Appends a piece of an answer to the buffer, and returns how many of its bytes were taken. Returns an error where
+    /// an earlier write failed.
     fn add(&self, piece: &[u8]) -> io::Result<usize>
         ensures { IfOk result (λ count. count ≤ length piece.now) }
     {
@@ -51,8 +53,8 @@ impl<'a> Answers<'a> {
         }
     }
 
-    /// Writes the last answers, and returns how the play ended: a play without a fault ends with `Write` where they
-    /// can't be written.
+    /// Writes the answers that are still buffered, and returns how the play ended: `ended`, or `Write` where `ended` is
+    /// no error but that write fails.
     pub fn end(&self, ended: Result<Ended, SessionFault>) -> Result<Ended, SessionFault> {
         match (ended, self.flush()) {
             (Ok(_), Err(_)) => Err(SessionFault::Write),
@@ -60,7 +62,8 @@ impl<'a> Answers<'a> {
         }
     }
 
-    /// Prints on standard error why the answers couldn't be written.
+    /// Prints on standard error why the answers couldn't be written. Prints nothing where the reader of standard output
+    /// closed the pipe.
     pub fn tell_failure(&self, rt: &HostRuntime) {
         match self.waiting.try_borrow() {
             Ok(waiting) => tell_write(rt, waiting.get_ref().failure()),
@@ -69,7 +72,7 @@ impl<'a> Answers<'a> {
     }
 }
 
-/// Takes a play's answers.
+/// The writer that a play writes its answers to.
 #[derive(Drop)]
 pub struct Outgoing<'a, 'b> {
     pub answers: &'b Answers<'a>,
@@ -85,18 +88,18 @@ impl Write for Outgoing<'_, '_> {
     }
 }
 
-/// A script, of which no more is read before its answers have left.
+/// The reader that a play reads its script from. Each read first writes the buffered answers.
 #[derive(Drop)]
 pub struct Incoming<'a, 'b, 'c> {
     pub source: Source,
     pub answers: &'b Answers<'a>,
-    /// How far it is, if that is shown.
+    /// The progress line, if one is shown.
     pub progress: Option<&'c Progress<'a>>,
 }
 
 impl Read for Incoming<'_, '_, '_> {
     fn read(&mut self, buf: &mut [u8]) -> io::Result<usize> {
-        // Where answers can't leave, no more is asked; the play's end says why.
+        // Where the answers can't be written, the script is ended here. `Answers::end` then returns the error.
         if self.answers.flush().is_err() {
             return Ok(0);
         }

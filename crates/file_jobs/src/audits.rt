@@ -11,19 +11,20 @@ use site_core::Config;
 use std::io;
 use till_request::devices::StreamIn;
 
-/// Audits a journal against a configuration, both files that words name, and answers the exit status.
+/// Audits the journal in one file against the configuration in another, prints the result, and returns the exit status.
+/// The arguments `config` and `journal` name the files.
 pub fn audit_files(rt: &HostRuntime, config: &str, journal: &str) -> Result<u8, Stop> {
     let (settings, source) = settings_and(rt, config, journal)?;
     let size = source.size();
     let told = audited(rt, &settings.config, journal, watch(rt, source, size))?;
-    // Only a file can be read once more.
+    // The journal is read again to explain the refusal, and only a regular file can be read again.
     if told.status == REFUSED && size.is_some() {
         explain_journal(rt, journal, settings.config);
     }
     Ok(say(rt, &told.text, told.status))
 }
 
-/// What the audit of a journal says.
+/// Returns the text and the exit status of the audit of a journal. The argument `journal` names its file.
 fn audited(
     rt: &HostRuntime,
     config: &Config,
@@ -38,25 +39,25 @@ fn audited(
     }
 }
 
-/// Prints on standard error why a journal was refused. The journal is read once more for that; where it can't be, that
-/// is printed. It stays refused in any case.
+/// Prints on standard error why a journal was refused. It opens and reads the journal again for that. Prints nothing
+/// where it can't be opened.
 fn explain_journal(rt: &HostRuntime, word: &str, config: Config) {
     if let Ok(source) = source_of(rt, word) {
         explain_source(rt, word, config, &mut stream(source));
     }
 }
 
-/// The same of the journal that is read from here.
+/// Prints on standard error why the journal in `input` was refused, or why it can't be read.
 fn explain_source(rt: &HostRuntime, word: &str, config: Config, input: &mut StreamIn<Source>) {
     match journal_flaw(rt.alloc(), config, input) {
         Ok(Some((line, flaw))) => tell_journal(rt, word, line, &flaw),
-        // It was changed meanwhile.
+        // Another process changed the file since the audit.
         Ok(None) => (),
         Err(fault) => tell_unread(rt, word, fault, input.reader.failure()),
     }
 }
 
-/// Says why a journal can't be read, with the failure of the read if one failed.
+/// Prints on standard error why a journal can't be read, with the system's error if a read failed.
 fn tell_unread(rt: &HostRuntime, word: &str, fault: JournalFault, failure: Option<&io::Error>) {
     match (fault, failure) {
         (JournalFault::BadEntry(line), _) => {
@@ -71,7 +72,8 @@ fn tell_unread(rt: &HostRuntime, word: &str, fault: JournalFault, failure: Optio
     }
 }
 
-/// Says why a journal can't be read; a text that is none has its line on standard output too.
+/// Prints on standard error why a journal can't be read. For a fault of its text, prints the fault's line on standard
+/// output too.
 pub fn tell_journal_fault(
     rt: &HostRuntime,
     word: &str,

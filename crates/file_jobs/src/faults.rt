@@ -1,5 +1,5 @@
-//! What is said where something is refused or fails: one line of words on standard error, with the file and the
-//! place. Whether anybody reads it changes no exit status.
+//! Messages about what is refused and what fails: one line on standard error, with the file and the place in it. A
+//! message that can't be written changes no exit status.
 use crate::files::name_of;
 use crate::statuses::{FAILED, REFUSED};
 use console::{AsmFault, AsmFlaw, ConfigFault, ConfigFlaw, ProgramFileFault};
@@ -10,7 +10,7 @@ use std::fmt::{self, Display};
 use std::io::{self, ErrorKind};
 use till_request::LineFault;
 
-/// A file, a line of it, and a column.
+/// A place that a message names: a file, and perhaps a line and a column of it, both counted from 1.
 #[derive(Clone, Copy)]
 pub struct Place<'a> {
     name: &'a str,
@@ -19,7 +19,7 @@ pub struct Place<'a> {
 }
 
 impl<'a> Place<'a> {
-    /// Makes the place of the file that a word names, without a line.
+    /// Makes the place of a whole file. `word` is the argument that names the file.
     pub fn of(word: &'a str) -> Place<'a> {
         Place {
             name: name_of(word),
@@ -28,7 +28,7 @@ impl<'a> Place<'a> {
         }
     }
 
-    /// Standard output.
+    /// Makes the place of standard output.
     fn output() -> Place<'static> {
         Place {
             name: "standard output",
@@ -65,22 +65,22 @@ impl Display for Place<'_> {
     }
 }
 
-/// Says a line of words.
+/// Prints a message on standard error, after the name of the program.
 pub fn tell<D: Display>(rt: &HostRuntime, words: &D) {
     let _ = eprintln!(rt; "fc: {words}");
 }
 
-/// Says it of a place.
+/// Prints a message on standard error, after the names of the program and of the place.
 pub fn tell_at<D: Display>(rt: &HostRuntime, place: Place<'_>, words: &D) {
     let _ = eprintln!(rt; "fc: {place}: {words}");
 }
 
-/// Says what is wrong at a place, with the fault's number.
+/// Prints a message about a fault on standard error: the place, the words, and the fault's number, as in `K1`.
 pub fn complain<D: Display>(rt: &HostRuntime, place: Place<'_>, words: &D, code: &str) {
     let _ = eprintln!(rt; "fc: {place}: {words} ({code})");
 }
 
-/// Returns the status where printing succeeded. Where it failed, prints why on standard error, and returns `FAILED`.
+/// Returns `status` where printing succeeded. Where it failed, prints why on standard error, and returns `FAILED`.
 pub fn once_printed(rt: &HostRuntime, printed: io::Result<()>, status: u8) -> u8 {
     match printed {
         Ok(()) => status,
@@ -91,12 +91,12 @@ pub fn once_printed(rt: &HostRuntime, printed: io::Result<()>, status: u8) -> u8
     }
 }
 
-/// Prints a text, and answers the status.
+/// Prints a text on standard output, and returns `status`, or `FAILED` where the text can't be written.
 pub fn say(rt: &HostRuntime, text: &str, status: u8) -> u8 {
     once_printed(rt, print!(rt; "{text}"), status)
 }
 
-/// Prints a fault's number, and answers the status.
+/// Prints a fault's number on standard output, and returns `REFUSED`, or `FAILED` where it can't be written.
 pub fn refuse(rt: &HostRuntime, fault: &str) -> u8 {
     once_printed(rt, println!(rt; "{fault}"), REFUSED)
 }
@@ -109,8 +109,8 @@ pub fn tell_write(rt: &HostRuntime, failure: Option<&io::Error>) {
     }
 }
 
-/// Prints on standard error why standard output can't be written, even where its reader closed the pipe: what was to be
-/// written is lost.
+/// Prints on standard error why standard output can't be written. Unlike `tell_write`, does so even where the reader
+/// closed the pipe.
 pub fn tell_loss(rt: &HostRuntime, failure: Option<&io::Error>) {
     match failure {
         Some(error) => complain(rt, Place::output(), error, "N2"),
@@ -118,13 +118,13 @@ pub fn tell_loss(rt: &HostRuntime, failure: Option<&io::Error>) {
     }
 }
 
-/// Refuses a file of too many bytes.
+/// Prints that a file has too many bytes (L1), and returns the exit status.
 pub fn refuse_length(rt: &HostRuntime, word: &str) -> u8 {
     complain(rt, Place::of(word), &ProgramFileFault::TooLong, "L1");
     refuse(rt, "L1")
 }
 
-/// Says why a file can't be read, and answers the status.
+/// Prints on standard error why a file can't be read, and returns the exit status, which is `FAILED`.
 pub fn cannot_read(rt: &HostRuntime, word: &str, error: &io::Error) -> u8 {
     if error.kind() == ErrorKind::OutOfMemory && error.raw_os_error().is_none() {
         return out_of_memory(rt);
@@ -133,18 +133,19 @@ pub fn cannot_read(rt: &HostRuntime, word: &str, error: &io::Error) -> u8 {
     FAILED
 }
 
-/// Says that memory was refused.
+/// Prints on standard error that memory ran out.
 fn tell_want(rt: &HostRuntime) {
     tell(rt, &"out of memory");
 }
 
-/// Says that memory was refused, and answers the status.
+/// Prints on standard error that memory ran out, and returns the exit status, which is `FAILED`.
 pub fn out_of_memory(rt: &HostRuntime) -> u8 {
     tell_want(rt);
     FAILED
 }
 
-/// Refuses a configuration.
+/// Prints why a configuration is refused: the words on standard error, the number (K1 to K3) on standard output.
+/// Returns the exit status.
 pub fn refuse_config(rt: &HostRuntime, word: &str, flaw: &ConfigFlaw) -> u8 {
     let code = match flaw.fault() {
         ConfigFault::K1 => "K1",
@@ -160,7 +161,7 @@ pub fn refuse_config(rt: &HostRuntime, word: &str, flaw: &ConfigFlaw) -> u8 {
     refuse(rt, code)
 }
 
-/// Says why a program file is refused.
+/// Prints on standard error why a program file is refused.
 pub fn tell_program(rt: &HostRuntime, word: &str, flaw: &ProgramFlaw) {
     let place = Place::of(word);
     match flaw {
@@ -174,7 +175,7 @@ pub fn tell_program(rt: &HostRuntime, word: &str, flaw: &ProgramFlaw) {
     }
 }
 
-/// Says why a text of the assembler is refused, if it is.
+/// Prints on standard error why an assembler text is refused. Prints nothing where it is accepted.
 pub fn tell_text(rt: &HostRuntime, word: &str, text: &[u8]) -> Result<(), AllocError> {
     match asm_flaw(rt.alloc(), text)? {
         Some((fault, flaw)) => tell_asm(rt, Place::of(word), fault, &flaw),
@@ -182,7 +183,8 @@ pub fn tell_text(rt: &HostRuntime, word: &str, text: &[u8]) -> Result<(), AllocE
     }
 }
 
-/// Says what is wrong with a text of the assembler.
+/// Prints on standard error what is wrong with an assembler text, with its fault A1 to A4. The error is that memory ran
+/// out.
 fn tell_asm(
     rt: &HostRuntime,
     file: Place<'_>,
@@ -200,7 +202,7 @@ fn tell_asm(
     Ok(())
 }
 
-/// Says why a journal is refused, with the line at fault if there is one.
+/// Prints on standard error why a journal is refused, with the line at fault if there is one.
 pub fn tell_journal(rt: &HostRuntime, word: &str, line: Option<u32>, flaw: &JournalFlaw) {
     let code = match flaw {
         JournalFlaw::Text(JournalFault::BadEntry(_)) => "J1",
@@ -218,13 +220,13 @@ pub fn tell_journal(rt: &HostRuntime, word: &str, line: Option<u32>, flaw: &Jour
     complain(rt, place, flaw, code);
 }
 
-/// Says why a script ended within this line.
+/// Prints on standard error which fault of a line stopped a script: one that is too long, or a last one without LF.
 pub fn tell_cut(rt: &HostRuntime, word: &str, line: u64, fault: LineFault) {
     let place = Place::of(word).line(line);
     match fault {
         LineFault::TooLong => complain(rt, place, &"over 8,400 bytes", "L1"),
         LineFault::CutLine => complain(rt, place, &"the last line has no LF", "L4"),
-        // A script goes on behind these.
+        // These faults don't stop a script: the next line is read.
         LineFault::BadLine | LineFault::BadNumber | LineFault::OutOfMemory => (),
     }
 }

@@ -1,4 +1,4 @@
-//! What the program does for words that name files: it shows programs, plays scripts, audits and shows journals.
+//! What the commands of `fc` do with files: show programs, play scripts, audit journals and show them as pages.
 #![tactic(auto)]
 
 mod answers;

@@ -1,4 +1,4 @@
-//! Plays of a script against a site.
+//! Plays of a script against a new site.
 ghost use Rattle.std.specs.Prelude.{◌≤◌};
 
 use crate::answers::{Answers, Incoming, Outgoing};
@@ -14,15 +14,15 @@ use site_core::Config;
 use std::io::{self, IsTerminal};
 use till_request::devices::{Ahead, StreamIn, StreamOut};
 
-/// What is said to who types the input.
+/// The message to a user at a terminal who gave no argument, so that input is awaited.
 const AWAITED: &str =
     "reading a configuration, a line --- and a script from standard input; fc --help tells more";
 
-/// A script, whose bytes are taken one by one and read in blocks.
+/// The input of a play: it is read from the device in blocks, and taken by the play byte by byte.
 type Script<'a, 'b, 'c> = Ahead<StreamIn<Incoming<'a, 'b, 'c>>>;
 
-/// The status of a play of the script that a word names, before which there are `lines` lines, by how it ended; what
-/// cut it off is said on standard error, with the failures of its devices.
+/// Returns the exit status of a play that ended so, and prints on standard error what stopped it. The argument `word`
+/// names the script, `lines` lines come before it in the same input, and `read` is the error of a failed read.
 fn status_of(
     rt: &HostRuntime,
     ended: Result<Ended, SessionFault>,
@@ -47,7 +47,7 @@ fn status_of(
     }
 }
 
-/// Says which device broke a play off, with its failure.
+/// Prints on standard error which device failed in a play, with its error.
 fn tell_broken(
     rt: &HostRuntime,
     word: &str,
@@ -60,14 +60,15 @@ fn tell_broken(
         (SessionFault::Read, Some(error)) => complain(rt, place, error, "N1"),
         (SessionFault::Read, None) => complain(rt, place, &fault, "N1"),
         (SessionFault::ReadsSpent, _) => complain(rt, place, &fault, "N3"),
-        // A play keeps no journal, and out of memory is no fault of a device.
+        // Of these only `Write` comes: a play writes no journal, and `status_of` takes `OutOfMemory`.
         (SessionFault::Write | SessionFault::Journal | SessionFault::OutOfMemory, _) => {
             answers.tell_failure(rt);
         }
     }
 }
 
-/// Plays the script of standard input against a site of the configuration before it, and answers the exit status.
+/// Plays the script in standard input against a new site, and returns the exit status. The configuration comes before
+/// the script, in standard input too.
 pub fn play_input(rt: &HostRuntime) -> Result<u8, Stop> {
     if rt.stdin().is_terminal() {
         tell(rt, &AWAITED);
@@ -76,7 +77,7 @@ pub fn play_input(rt: &HostRuntime) -> Result<u8, Stop> {
     play_both(rt, &mut script_of(Source::input(rt), &answers, None))
 }
 
-/// Plays a script that comes behind its configuration.
+/// Plays a script that follows its configuration in the same input, and returns the exit status.
 fn play_both<'a>(rt: &'a HostRuntime, input: &mut Script<'a, '_, '_>) -> Result<u8, Stop> {
     let mut left = READS;
     match read_head(rt.alloc(), input, &mut left) {
@@ -92,7 +93,8 @@ fn play_both<'a>(rt: &'a HostRuntime, input: &mut Script<'a, '_, '_>) -> Result<
     }
 }
 
-/// The settings that stand before a script.
+/// Returns the settings in `head`, the input up to the line that ends the configuration. Where they are refused, prints
+/// why; the error has the exit status.
 fn settings_before(rt: &HostRuntime, head: &[u8]) -> Result<Settings, Stop> {
     match config_part(head) {
         Some(text) => settings_in(rt, "-", text),
@@ -112,12 +114,12 @@ fn script_of<'a, 'b, 'c>(
     }))
 }
 
-/// How many lines end in these bytes.
+/// Returns how many LF these bytes have.
 fn lines_in(bytes: &[u8]) -> u64 {
     bytes.iter().filter(|byte| **byte == b'\n').count() as u64
 }
 
-/// Standard output, where answers wait for the next read.
+/// Makes the device that a play writes its answers to. It buffers them until the next read.
 fn outlet<'a, 'b>(answers: &'b Answers<'a>) -> StreamOut<Outgoing<'a, 'b>> {
     StreamOut {
         writer: Outgoing { answers },
@@ -125,18 +127,20 @@ fn outlet<'a, 'b>(answers: &'b Answers<'a>) -> StreamOut<Outgoing<'a, 'b>> {
     }
 }
 
-/// Plays a script against a site of a configuration, both files that words name, and answers the exit status.
+/// Plays the script in one file against a new site of the configuration in another, and returns the exit status. The
+/// arguments `config` and `script` name the files.
 pub fn play_files(rt: &HostRuntime, config: &str, script: &str) -> Result<u8, Stop> {
     let (settings, source) = settings_and(rt, config, script)?;
     let answers = Answers::new(rt)?;
-    // On a terminal the answers themselves show how far it is.
+    // On a terminal the user sees the answers, and they would be mixed with the progress line.
     let is_silent = !rt.stdout().is_terminal();
     let progress = Progress::new(rt, is_silent, source.size());
     let mut input = script_of(source, &answers, Some(&progress));
     Ok(play_script(rt, settings.config, script, 0, &mut input, READS))
 }
 
-/// Plays the script that a word names, before which there are `lines` lines, and answers the exit status.
+/// Plays a script, and returns the exit status. The argument `word` names the script, `lines` lines come before it in
+/// the same input, and at most `left` reads are made.
 fn play_script<'a>(
     rt: &'a HostRuntime,
     config: Config,

@@ -1,4 +1,4 @@
-//! What the program says of one file: a rule's text or its units.
+//! What `fc asm`, `fc dis` and `fc verify` print of a file.
 use crate::faults::{say, tell_program, tell_text};
 use crate::files::text_of;
 use crate::statuses::REFUSED;
@@ -7,7 +7,8 @@ use bpf_model::context::Layout;
 use job_texts::{Told, asm_file, dis_file, dis_flaw, dis_units_file, verify_file, verify_flaw};
 use std::alloc::{AllocError, Global};
 
-/// What is printed of one file.
+/// What to print of a file: its units, its assembler text, that text with the numbers of units, or the verifier's
+/// result for a mask of counters and a layout.
 #[derive(Clone, Copy)]
 pub enum Tell {
     Asm,
@@ -16,14 +17,14 @@ pub enum Tell {
     Verify(u32, Layout),
 }
 
-/// Prints what `tell` asks for of the file that a word names, and returns the exit status. Why a file is refused is
-/// printed on standard error.
+/// Prints of a file what `tell` asks for, and returns the exit status. The argument `word` names the file. Where the
+/// file is refused, also prints why on standard error.
 pub fn tell_file(rt: &HostRuntime, word: &str, tell: Tell) -> Result<u8, Stop> {
     let text = text_of(rt, word)?;
     tell_bytes(rt, word, tell, &text)
 }
 
-/// The same of the bytes that the file has.
+/// Prints what `tell` asks for of a file whose bytes are `text`, and returns the exit status.
 fn tell_bytes(rt: &HostRuntime, word: &str, tell: Tell, text: &[u8]) -> Result<u8, Stop> {
     let told = told_of(rt.alloc(), tell, text)?;
     if told.status == REFUSED {
@@ -32,7 +33,7 @@ fn tell_bytes(rt: &HostRuntime, word: &str, tell: Tell, text: &[u8]) -> Result<u
     Ok(say(rt, &told.text, told.status))
 }
 
-/// What is printed of the bytes of a file.
+/// Returns the text to print for a file whose bytes are `text`, and the exit status. The error is that memory ran out.
 fn told_of(alloc: Global, tell: Tell, text: &[u8]) -> Result<Told, AllocError> {
     match tell {
         Tell::Asm => asm_file(alloc, text),
@@ -42,7 +43,7 @@ fn told_of(alloc: Global, tell: Tell, text: &[u8]) -> Result<Told, AllocError> {
     }
 }
 
-/// Says why a file is refused.
+/// Prints on standard error why a file is refused.
 fn explain(rt: &HostRuntime, word: &str, tell: Tell, text: &[u8]) -> Result<(), AllocError> {
     let flaw = match tell {
         Tell::Asm => return tell_text(rt, word, text),

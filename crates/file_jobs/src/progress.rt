@@ -1,4 +1,4 @@
-//! How far long work is: one line on standard error that is renewed, where standard error is a terminal.
+//! The progress line of a long job: how many lines are read. It is shown on standard error, if that is a terminal.
 use crate::files::{Source, stream};
 use memchr::memchr_iter;
 use std::cell::Cell;
@@ -7,18 +7,18 @@ use std::time::Instant;
 use till_request::devices::StreamIn;
 use till_request::{DeviceFault, LineIn};
 
-/// The lines after which the line is renewed.
+/// How many lines are read between two renewals of the progress line.
 const STEP: u64 = 8192;
 
-/// Goes to the beginning of the terminal's line, and empties it.
+/// The terminal's codes that move to the start of the line and erase it.
 const RENEW: &str = "\r\x1b[K";
 
-/// The line on standard error. Nothing is said of work on fewer lines than `STEP`.
+/// The progress line of a job, and the counts that it shows. It appears after `STEP` lines are read.
 #[derive(Drop)]
 pub struct Progress<'a> {
     rt: &'a HostRuntime,
     is_shown: bool,
-    /// How many bytes there are, where that is known, and when the first were read.
+    /// How many bytes the input has, if that is known.
     size: Option<u64>,
     begun: Option<Instant>,
     bytes: Cell<u64>,
@@ -26,7 +26,7 @@ pub struct Progress<'a> {
 }
 
 impl<'a> Progress<'a> {
-    /// Shown only if it is wanted and standard error is a terminal.
+    /// Makes a progress line with nothing read yet. It is shown only if it is wanted and standard error is a terminal.
     pub fn new(rt: &'a HostRuntime, is_wanted: bool, size: Option<u64>) -> Self {
         let is_shown = is_wanted && rt.stderr().is_terminal();
         Progress {
@@ -43,8 +43,8 @@ impl<'a> Progress<'a> {
         }
     }
 
-    /// Takes the bytes of a read, in order; no bytes are the end. Counts the lines that end in them, if the progress is
-    /// shown.
+    /// Counts the bytes that a read returned, and the lines that end in them. No bytes mean that the input is at its
+    /// end. Counts nothing if the line isn't shown.
     pub fn see(&self, bytes: &[u8]) {
         if !self.is_shown {
             return;
@@ -67,8 +67,8 @@ impl<'a> Progress<'a> {
         }
     }
 
-    /// Renews the line: the lines so far, and where the size is known the part of it and the time that the rest will
-    /// take. What a terminal does not take is no fault of the work.
+    /// Renews the progress line: the lines read, and for an input of known size also the percentage and the seconds
+    /// left. An error of the terminal is ignored.
     fn say_how_far(&self, lines: u64) {
         let _ = eprint!(self.rt; "{RENEW}fc: {lines} lines read");
         if let (Some(percent), Some(left)) = (self.percent(), self.seconds_left()) {
@@ -76,7 +76,7 @@ impl<'a> Progress<'a> {
         }
     }
 
-    /// Says that all lines are read, where they are many.
+    /// Shows that all lines are read, if the progress line was shown before.
     fn say_end(&self) {
         let lines = self.lines.get();
         if lines >= STEP {
@@ -84,19 +84,19 @@ impl<'a> Progress<'a> {
         }
     }
 
-    /// Erases the line.
+    /// Erases the progress line, if it was shown.
     pub fn clear(&self) {
         if self.is_shown && self.lines.get() >= STEP {
             let _ = eprint!(self.rt; "{RENEW}");
         }
     }
 
-    /// How much of the bytes was read, in hundredths.
+    /// Returns how much of the input was read, in percent.
     fn percent(&self) -> Option<u64> {
         self.bytes.get().saturating_mul(100).checked_div(self.size?)
     }
 
-    /// How many seconds the rest takes, if it goes on as before.
+    /// Returns how many seconds the rest of the input takes, at the average speed so far.
     fn seconds_left(&self) -> Option<u64> {
         let elapsed = self.begun?.elapsed(self.rt).ok()?.as_secs();
         let left = self.size?.saturating_sub(self.bytes.get());
@@ -104,14 +104,14 @@ impl<'a> Progress<'a> {
     }
 }
 
-/// A source of bytes that are looked at as they are read.
+/// A device that shows a progress line as it is read.
 #[derive(Drop)]
 pub struct Watched<'a, I: LineIn> {
     pub input: I,
     pub progress: Progress<'a>,
 }
 
-/// A source of this many bytes, where that is known, of which is shown how far it was read.
+/// Makes a device that reads from `source` and shows a progress line. `size` is the number of bytes, if that is known.
 pub fn watch<'a>(
     rt: &'a HostRuntime,
     source: Source,

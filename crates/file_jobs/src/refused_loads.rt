@@ -1,4 +1,5 @@
-//! Why the program of a script's load is refused, in words on standard error. The answer is the V line in any case.
+//! Messages about loads in a script whose program the verifier refuses. They are printed on standard error, beside the
+//! answer, which has the refusal's number.
 use crate::progress::Progress;
 use console::PlayNotices;
 use job_texts::explain_refusal;
@@ -7,19 +8,19 @@ use std::alloc::AllocError;
 use std::cell::Cell;
 use till_request::Act;
 
-/// Says on standard error why a load is refused, with the number of its line.
+/// Prints on standard error why a load is refused, with the number of its line.
 #[derive(Drop)]
 pub struct RefusedLoads<'a, 'b> {
     rt: &'a HostRuntime,
     name: &'a str,
-    /// How many lines have begun, those before the script too.
+    /// How many lines of the input have begun, with those before the script.
     lines: Cell<u64>,
-    /// The progress line, which is erased first, if there is one.
+    /// The progress line, if one is shown. It is erased before a message.
     progress: Option<&'b Progress<'a>>,
 }
 
 impl<'a, 'b> RefusedLoads<'a, 'b> {
-    /// Makes the reporter for the script of this name, which comes after `lines` lines.
+    /// Makes the printer for the script of this name, before which there are `lines` lines in the same input.
     pub fn new(
         rt: &'a HostRuntime,
         name: &'a str,
@@ -54,7 +55,7 @@ impl PlayNotices for RefusedLoads<'_, '_> {
     }
 
     fn refused_load(&self, load: &Act, refusal: Refusal) {
-        // Where memory is refused, the answer still has the number.
+        // Where memory runs out, there is no message, but the answer has the refusal's number.
         let _ = self.say(load, refusal);
     }
 }

@@ -1,4 +1,4 @@
-//! The page of an audited journal.
+//! The page of HTML that shows an audited journal.
 use crate::audits::tell_journal_fault;
 use crate::faults::{once_printed, out_of_memory};
 use crate::files::Source;
@@ -13,8 +13,8 @@ use site_core::{AuditFault, Config, Site, audit};
 use std::io::{self, BufWriter, Write};
 use till_request::devices::StreamIn;
 
-/// Prints the page of a journal, once it is audited. A fault of the journal is reported as its audit does, and there is
-/// no page.
+/// Audits the journal in one file against the configuration in another, prints its page of HTML, and returns the exit
+/// status. Where the journal is refused, prints what its audit prints, and no page.
 pub fn report_files(rt: &HostRuntime, config: &str, journal: &str) -> Result<u8, Stop> {
     let (settings, source) = settings_and(rt, config, journal)?;
     let size = source.size();
@@ -22,7 +22,7 @@ pub fn report_files(rt: &HostRuntime, config: &str, journal: &str) -> Result<u8,
     report_entries(rt, journal, &settings.config, &entries)
 }
 
-/// The entries of a journal.
+/// Reads the entries of a journal. Where they can't be read, prints why; the error has the exit status.
 fn entries_of(
     rt: &HostRuntime,
     journal: &str,
@@ -36,7 +36,7 @@ fn entries_of(
     }
 }
 
-/// Prints the page of the site that a journal's entries leave.
+/// Audits the entries, and prints the page of the site that they lead to.
 fn report_entries(
     rt: &HostRuntime,
     journal: &str,

@@ -1,17 +1,18 @@
-//! The configuration that a word names.
+//! Reading of configuration files.
 use crate::faults::{refuse_config, tell};
 use crate::files::{Source, is_input, source_of, text_of};
 use crate::statuses::USAGE;
 use crate::stop::Stop;
 use console::{Settings, read_settings};
 
-/// A configuration file's settings.
+/// Reads the configuration file that an argument names. Where it can't be read or is refused, prints why; the error has
+/// the exit status.
 pub fn settings_of(rt: &HostRuntime, word: &str) -> Result<Settings, Stop> {
     let text = text_of(rt, word)?;
     settings_in(rt, word, &text)
 }
 
-/// The settings that the text of a configuration has.
+/// Reads the settings in the text of a configuration. Where it is refused, prints why; the error has the exit status.
 pub fn settings_in(rt: &HostRuntime, word: &str, text: &[u8]) -> Result<Settings, Stop> {
     match read_settings(rt.alloc(), text) {
         Ok(settings) => Ok(settings),
@@ -19,7 +20,8 @@ pub fn settings_in(rt: &HostRuntime, word: &str, text: &[u8]) -> Result<Settings
     }
 }
 
-/// The settings and the other file that a job wants. Standard input is read once.
+/// Reads the configuration file and opens the other file. Only one of the two may be standard input. Where one fails,
+/// prints why; the error has the exit status.
 pub fn settings_and(
     rt: &HostRuntime,
     config: &str,

@@ -1,9 +1,9 @@
 //! The exit statuses of the program.
-/// All was done. A refusal inside a play is an answer.
+/// All was done. A request that a play answers with a refusal counts as done.
 pub const DONE: u8 = 0;
-/// The input is refused.
+/// The input was refused.
 pub const REFUSED: u8 = 1;
-/// The words are no use of the program.
+/// The command line is none that the program knows.
 pub const USAGE: u8 = 2;
-/// A device failed, the reads ran out, or memory was refused.
+/// A device failed, more reads were needed than a session may make, or memory ran out.
 pub const FAILED: u8 = 3;

@@ -1,13 +1,13 @@
-//! Why a job ends before it is done.
+//! The error of a job that can't be done.
 use std::alloc::AllocError;
 use std::io;
 
 /// Why a job ends before it is done.
 #[derive(Clone, Copy, Drop)]
 pub enum Stop {
-    /// What is wrong was said, and this is the exit status.
+    /// What is wrong was printed already, and this is the exit status.
     Said(u8),
-    /// A call failed, of which nothing was said.
+    /// A call failed, and nothing was printed yet.
     Failed(io::Error),
 }
 

@@ -1,4 +1,4 @@
-// The check that each jump of a program goes forward to an instruction, and where jumps go.
+// The check that each jump of a program goes forward to an instruction, and the targets of its jumps.
 #![tactic(auto)]
 
 ghost use Rattle.std.specs.Prelude.{◌≡◌, ℕ, ◌+◌, ◌≤◌, ◌<◌, length, slice_get, IfOk, IfErr, IfSome, Some, None};
@@ -15,8 +15,8 @@ use std::alloc::Global;
 use std::marker::Model;
 use thiserror::Error;
 
-/// Why a program's jumps are refused: what is wrong with the first jump at fault, and the unit where it begins. The
-/// messages leave out the unit.
+/// Why a program's jumps are refused: what is wrong with the first wrong jump, and the number of its unit, counted from
+/// 0. The messages don't show the number.
 #[derive(Clone, Copy, Debug, PartialEq, Eq, Error)]
 pub enum FlowFault {
     #[error("a jump backwards")]
@@ -47,7 +47,7 @@ impl Model for Flow {
     ghost invariant = { λ f. GoesForward f.code };
 }
 
-// Returns the distance of a jump, in units from the one after it; `None` for other instructions.
+// Returns the distance of a jump, in units from the unit behind it; `None` for an instruction that is no jump.
 fn distance_in(inst: Inst) -> Option<i64>
     ensures { result ≡ distance_by (form_of inst.opcode) inst }
 {
@@ -77,7 +77,7 @@ fn fault_of_landing(landing: Option<Unit>) -> Option<JumpFault>
     }
 }
 
-// Returns what is wrong with the jump at unit `pc`, if it has a distance and is at fault.
+// Returns what is wrong with the jump at unit `pc`, if anything is. `distance` is `None` where no jump begins.
 fn fault_of_distance(units: &[Unit], pc: usize, distance: Option<i64>) -> Option<JumpFault>
     requires { pc < UNITS }
     ensures { result ≡ distance_fault units.now pc distance }
@@ -97,7 +97,7 @@ fn fault_of_jump(units: &[Unit], pc: usize) -> Option<JumpFault>
     fault_of_distance(units, pc, distance(units[pc]))
 }
 
-// Returns the first unit whose jump is at fault, and the fault; `None` where no jump is.
+// Returns the unit of the first wrong jump, and what is wrong with it; `None` if no jump is wrong.
 fn first_jump_fault(units: &[Unit]) -> Option<(u32, JumpFault)>
     requires { length units.now ≤ UNITS }
     ensures { result ≡ flow_fault units.now }
@@ -110,7 +110,7 @@ fn first_jump_fault(units: &[Unit]) -> Option<(u32, JumpFault)>
     None
 }
 
-// Returns the unit that the jump at unit `pc` goes to, if there is a jump.
+// Returns the target of the jump at unit `pc`; `None` where no jump begins.
 fn target_in(units: &[Unit], pc: u32) -> Option<u32>
     requires { length units.now ≤ UNITS }
     ensures { result ≡ target units.now pc }
@@ -129,8 +129,8 @@ fn fault_at(fault: JumpFault, pc: u32) -> FlowFault
     }
 }
 
-/// Returns the program, if each of its jumps, reached or not, goes forward to the first unit of an instruction. Else
-/// returns the first fault. It allocates nothing, so `OutOfMemory` never comes.
+/// Checks that each jump, whether a run can reach it or not, goes forward to the first unit of an instruction. The
+/// error is the first wrong jump. `OutOfMemory` never comes, as nothing is allocated.
 pub fn check_flow(_alloc: Global, code: Code) -> Result<Flow, FlowFault>
     ensures ok { IfOk result (λ flow. (flow ≡ code) × (flow_fault code ≡ None)) }
     ensures refused { IfErr result (λ fault. IsShown code fault) }
@@ -142,7 +142,7 @@ pub fn check_flow(_alloc: Global, code: Code) -> Result<Flow, FlowFault>
 }
 
 impl Flow {
-    /// Returns the program's units, whose jumps all go forward to instructions.
+    /// Returns the program. The contract says that its jumps all go forward to instructions.
     pub fn code(&self) -> &Code
         ensures same { result.now ≡ self.now }
         ensures forward { GoesForward self.now }
@@ -150,7 +150,7 @@ impl Flow {
         &self.code
     }
 
-    /// Returns the unit that the jump at unit `pc` goes to; `None` where no jump begins there.
+    /// Returns the target of the jump at unit `pc`; `None` where no jump begins.
     pub fn target(&self, pc: u32) -> Option<u32>
         ensures same { result ≡ target self.now pc }
         ensures ahead { IfSome result (λ to. IsAhead self.now pc to) }

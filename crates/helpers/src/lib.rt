@@ -1,4 +1,4 @@
-// The helpers that programs call.
+// The helpers: the functions that programs can call, by number.
 #![tactic(auto)]
 
 mod memory;
@@ -15,7 +15,7 @@ pub use bpf_model::machine::{PointView, View};
 use counters::Counters;
 pub use memory::put;
 
-/// What a helper takes as an argument: nothing, a number, the number of a declared counter, or a place in the stack.
+/// The kind of a helper's argument: none, any number, the number of a declared counter, or a place in the stack.
 #[derive(Clone, Copy, Debug)]
 pub enum Kind {
     Nothing,
@@ -49,7 +49,8 @@ fn kinds_of(helper: Helper) -> [Kind; 2]
     }
 }
 
-/// Returns the kinds of the arguments in R1 and R2, for the helpers 1 to 6; `None` for any other number.
+/// Returns the kinds of the arguments in R1 and R2 of helper `id`, or `None` if there is no such helper. Helpers are
+/// numbered 1 to 6.
 pub fn arguments(id: i32) -> Option<[Kind; 2]>
     ensures { result ≡ signature id }
 {
@@ -57,7 +58,7 @@ pub fn arguments(id: i32) -> Option<[Kind; 2]>
     Some(kinds_of(helper))
 }
 
-// Returns the point with this number, counted from 1, if it is there.
+// Returns the point of this number, counted from 1, or `None` if there is no such point.
 fn point_of(view: &View, number: u64) -> Option<PointView>
     ensures { result ≡ point view.now number }
 {
@@ -94,8 +95,8 @@ fn price_of(view: &View, number: u64) -> u64
     u64::from(view.prices[(number - 1) as usize])
 }
 
-// Writes the record of a point, all zeros where there is no point, to a place in the stack. Returns 1 if there is one,
-// else 0.
+// Writes the 16-byte record of a point to the stack at place `at`: all zeros if there is no point. Returns 1 if there
+// is one, else 0.
 fn put_point(point: Option<PointView>, at: u64, stack: &mut [u8; 512]) -> u64
     requires { at + 16 ≤ STACK_BYTES }
     ensures answer { result ≡ is_there point }
@@ -108,7 +109,7 @@ fn put_point(point: Option<PointView>, at: u64, stack: &mut [u8; 512]) -> u64
     u64::from(point.is_some())
 }
 
-// Makes a helper's changes to the counters and the stack, and returns its answer.
+// Changes the counters and the stack as a helper does, and returns its answer.
 fn answer(
     helper: Helper,
     a: u64,
@@ -133,9 +134,9 @@ fn answer(
     }
 }
 
-/// Calls helper `id`, 1 to 6, on the numbers in R1 and R2, and returns its answer. A place is counted from the stack's
-/// lowest byte. The answer, the counters and the stack's bytes become what the machine's definition gives for these
-/// numbers.
+/// Calls helper `id` (1 to 6), with the values of R1 and R2 as `a` and `b`, and returns its answer. Changes the
+/// counters and the stack's bytes as the helper does. A place in the stack is counted in bytes from the stack's lowest
+/// byte.
 pub fn call(
     id: i32,
     a: u64,

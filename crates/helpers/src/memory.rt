@@ -1,4 +1,4 @@
-// Numbers in memory.
+// Writing of numbers to the bytes of the stack.
 
 ghost use Rattle.std.specs.Prelude.{◌≡◌, ◌+◌, ◌≤◌, length};
 ghost use Rattle.byteorder.specs.Endian.{little_bytes};
@@ -33,7 +33,8 @@ fn put_double(memory: &mut [u8; 512], at: usize, n: u64)
     LittleEndian::write_u64(&mut memory[at..], n);
 }
 
-/// Writes the low bytes of a number from `at` on, the lowest first.
+/// Writes the low bytes of a number, as many as `size` says, to place `at` and the places above it, the lowest byte
+/// first.
 #[inline(always)]
 pub fn put(memory: &mut [u8; 512], at: usize, size: Size, n: u64)
     requires { at + bytes_in size ≤ STACK_BYTES }

@@ -1,4 +1,4 @@
-//! Writes text into a page of HTML.
+//! Writing of text into a page of HTML.
 #![tactic(auto)]
 
 use std::fmt;
@@ -33,7 +33,7 @@ impl fmt::Display for Escaped<'_> {
     }
 }
 
-/// A character that is written escaped where it is special in HTML.
+/// A character that is written escaped if it is special in HTML.
 #[derive(Clone, Copy, Drop)]
 struct Mark(char);
 

@@ -1,6 +1,7 @@
-// What a run has of its own.
+// The stack and the registers of a run.
 
-/// The stack's bytes, and the registers as words. The stack comes first, so that an address in it costs no addition.
+/// The memory of a run: the stack's bytes, and the 11 registers as words. The stack is the first field, so that an
+/// address in it needs no addition.
 #[derive(Drop)]
 pub struct Frame {
     pub stack: [u8; 512],

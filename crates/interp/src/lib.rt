@@ -1,4 +1,4 @@
-// Runs verified programs on plain words of 64 bits.
+// The interpreter: runs verified programs on plain 64-bit words.
 #![tactic(auto)]
 
 mod arithmetic;

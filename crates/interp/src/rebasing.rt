@@ -1,4 +1,4 @@
-// The outcome of a run, carried over to other counters.
+// The outcome of a run on some counters, computed from a run on others.
 
 ghost use Rattle.std.specs.Prelude.{◌≡◌, ℕ};
 ghost use Rattle.bpf_model.specs.Machine.{counter};
@@ -13,10 +13,9 @@ use counters::Counters;
 use helpers::View;
 use reg_types::Program;
 
-/// Carries the outcome of a run on the counters `before` over to the counters `now`, without a new run. A run and its
-/// answer depend only on the declared counters, which must be the same in `before` and `now`. The program answered
-/// `answer` and left `after`, so on `now` it gives the same answer. The declared counters of `now` become those of
-/// `after`, and the others stay, as that run would leave them.
+/// Sets `now` to the counters that a run on `now` would leave, without that run. An earlier run on the counters
+/// `before` answered `answer` and left `after`, and a run depends only on the declared counters, which must be the same
+/// in `before` and `now`. So the answer is the same, and the declared counters become those of `after`.
 pub fn rebase(
     program: &Program,
     context: &Context,

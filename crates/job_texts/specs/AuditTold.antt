@@ -1,4 +1,4 @@
--- Definitions: what the program says of a journal (this profile).
+-- Definitions: what the program prints of a journal (this profile).
 use Rattle.std.specs.Prelude.{◌≡◌, ◌≢◌, ◌⊎◌, ℕ, List, [], ◌++◌, length, codes, Option, Some, None}
 use Rattle.std.specs.Fmt.{decimal}
 use Rattle.decision_journal.specs.declared.entries.Entry.{Entry}

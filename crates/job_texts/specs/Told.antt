@@ -1,4 +1,4 @@
--- Definitions: what the program says of a program file (this profile).
+-- Definitions: what the program prints of a program file (this profile).
 use Rattle.std.specs.Prelude.{◌≡◌, ◌⊎◌, ℕ, ◌/◌, List, [], ◌++◌, length, codes, Option, Some, None, Result, Ok, Err, string_bytes}
 use Rattle.std.specs.Fmt.{decimal}
 use Rattle.bpf_model.specs.declared.context.Layout.{Layout}

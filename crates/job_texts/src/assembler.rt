@@ -1,4 +1,4 @@
-//! What is said of assembler texts, and of programs that are read back.
+//! What `fc asm` and `fc dis` print.
 ghost use Rattle.std.specs.Prelude.{◌≡◌, ◌≢◌, ◌⊎◌, ℕ, List, IfOk, OnOk, string_bytes};
 ghost use Rattle.bpf_decode.specs.Faults.{IsRefusedFor};
 ghost use Rattle.bpf_decode.specs.Encoded.{encoded};
@@ -19,7 +19,7 @@ use reg_types::Refusal;
 use std::alloc::{AllocError, Global};
 use till_request::Answer;
 
-/// The lines of a program's units.
+/// Returns the units of a program as lines, with status 0.
 fn told_units(alloc: Global, code: &Code) -> Result<Told, AllocError>
     ensures { IfOk result (λ told. IsSaid told (unit_lines (encoded code.now)) 0) }
 {
@@ -28,7 +28,7 @@ fn told_units(alloc: Global, code: &Code) -> Result<Told, AllocError>
     Ok(Told { text, status: 0 })
 }
 
-/// The line for a fault of the assembler; out of memory has none.
+/// Returns the line for a fault of the assembler. For the fault `OutOfMemory` returns the error.
 fn asm_fault_line(alloc: Global, fault: AsmFault) -> Result<String, AllocError>
     ensures line { IfOk result (λ line. string_bytes line ≡ asm_fault_text fault) }
     ensures fault { OnOk result (fault ≢ AsmFault.OutOfMemory) }
@@ -62,8 +62,8 @@ fn asm_text(alloc: Global, text: &[u8]) -> Result<Told, AllocError>
     }
 }
 
-/// The units that an assembler text spells, one a line of 16 hexadecimal digits, with status 0; or with status 1 `L1`
-/// for a text of over 65,536 bytes, or the text's first fault: `A1 LINE` to `A3 LINE`, or `A4`.
+/// Returns what `fc asm` prints for a text: its units, each as a line of 16 hexadecimal digits, with status 0. With
+/// status 1 returns `L1` for a text of over 65,536 bytes, or the text's first fault: `A1 LINE` to `A3 LINE`, or `A4`.
 pub fn asm_file(alloc: Global, text: &[u8]) -> Result<Told, AllocError>
     ensures { IfOk result (AsmTells text.now) }
 {
@@ -103,9 +103,9 @@ fn dis_bytes(alloc: Global, bytes: &[u8]) -> Result<Told, AllocError>
     }
 }
 
-/// A program file as assembler text, with status 0; or with status 1 `L1` for a file of over 65,536 bytes, `H1` for
-/// one of other bytes than digits and blanks, or the V line of bytes that are no units. Jumps and types aren't
-/// judged.
+/// Returns what `fc dis` prints for a program file: the program as assembler text, with status 0. With status 1 returns
+/// `L1` for a file of over 65,536 bytes, `H1` for wrong digits, or the V line for bytes that don't decode. Jumps and
+/// types aren't checked.
 pub fn dis_file(alloc: Global, file: &[u8]) -> Result<Told, AllocError>
     ensures { IfOk result (DisTells file.now) }
 {
@@ -133,7 +133,8 @@ fn dis_units(alloc: Global, bytes: &[u8]) -> Result<Told, AllocError>
     }
 }
 
-/// Returns what `dis_file` does, with the number of its first unit, a colon and a blank before each instruction.
+/// Returns what `fc dis --units` prints for a program file: the same as `dis_file`, with the number of its first unit,
+/// a colon and a blank before each instruction.
 pub fn dis_units_file(alloc: Global, file: &[u8]) -> Result<Told, AllocError>
     ensures { IfOk result (DisUnitsTells file.now) }
 {

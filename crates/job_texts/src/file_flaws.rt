@@ -1,4 +1,4 @@
-//! Why a program file is refused, in words.
+//! The reasons why a program file is refused, in words.
 ghost use Rattle.std.specs.Prelude.{◌≡◌, ◌≢◌, IfOk, OnOk, MatchOption};
 ghost use Rattle.job_texts.specs.FileFlaws.{IsAccepted, IsShown, IsVerifyFlaw, IsDisFlaw};
 
@@ -9,7 +9,7 @@ use reg_types::{Layout, Refusal};
 use std::alloc::{AllocError, Global};
 use std::fmt;
 
-/// Why a program file is refused.
+/// Why a program file is refused: for a fault of the file, or of its program.
 #[derive(Drop)]
 pub enum ProgramFlaw {
     File(ProgramFileFault),
@@ -25,7 +25,7 @@ impl fmt::Display for ProgramFlaw {
     }
 }
 
-/// Returns a file's own fault as a flaw. Where the fault is out of memory, that is the error.
+/// Returns a fault of a file as a flaw. For the fault `OutOfMemory` returns the error.
 fn file_flaw(fault: ProgramFileFault) -> Result<ProgramFlaw, AllocError>
     ensures flaw { IfOk result (λ flaw. flaw ≡ ProgramFlaw.File fault) }
     ensures fault { OnOk result (fault ≢ ProgramFileFault.OutOfMemory) }
@@ -36,7 +36,8 @@ fn file_flaw(fault: ProgramFileFault) -> Result<ProgramFlaw, AllocError>
     }
 }
 
-/// Returns why `verify_file` refuses a program file; none where the program is accepted. The error is out of memory.
+/// Returns why `verify_file` refuses a program file, or `None` if it accepts the file. The error is that memory ran
+/// out.
 pub fn verify_flaw(
     alloc: Global,
     file: &[u8],
@@ -55,7 +56,8 @@ pub fn verify_flaw(
     }
 }
 
-/// Why a program file can't be shown as text, as `dis_file` refuses it; none where it can. The error is out of memory.
+/// Returns why `dis_file` refuses a program file, or `None` if it shows the file as text. The error is that memory ran
+/// out.
 pub fn dis_flaw(alloc: Global, file: &[u8]) -> Result<Option<ProgramFlaw>, AllocError>
     ensures { IfOk result (λ found. MatchOption found (IsShown file.now) (IsDisFlaw file.now)) }
 {

@@ -1,4 +1,4 @@
-//! Why a journal is refused, in words.
+//! The reasons why a journal is refused, in words.
 ghost use Rattle.std.specs.Prelude.{◌≡◌, ◌≢◌, ◌↔◌, ℕ, List, length, Some, None, IfErr, IfOk, IfSome, IsNone, OnOk};
 ghost use Rattle.std.specs.Prelude.{Err, MatchOption};
 ghost use Rattle.decision_journal.specs.Journal.{FailsOrRunsOut, IsWant, SpendsBlocks, is_device};
@@ -19,15 +19,15 @@ use till_request::{Act, LineIn};
 /// Why a journal is refused.
 #[derive(Drop)]
 pub enum JournalFlaw {
-    /// J1 and J2.
+    /// J1 or J2: a line isn't an entry, or the last line has no LF.
     Text(JournalFault),
-    /// F1: the entry's number, and its place.
+    /// F1: the number of an entry (the first) isn't its place (the second).
     Number(u32, u32),
-    /// F2: the slot of the load.
+    /// F2: the verifier refuses the program of a load. The number is that of the load's slot.
     Program(u32, RefusedProgram),
-    /// F3.
+    /// F3: the entry differs from the one that the site makes of its event.
     Entry(Difference),
-    /// F3.
+    /// F3: the site's history is full, so the site makes no entry.
     NoEntry,
 }
 
@@ -45,8 +45,8 @@ impl fmt::Display for JournalFlaw {
     }
 }
 
-/// Returns the site of a configuration after the entries `before` and the event of `entry`; none where the site takes
-/// no more entries. The error is out of memory.
+/// Returns the site after the entries `before` and the event of `entry`, or `None` if its history is full before that
+/// event. The error is that memory ran out.
 fn answered_after(
     alloc: Global,
     config: Config,
@@ -74,7 +74,7 @@ fn answered_after(
         moment: entry.moment,
         what,
     };
-    // A site upholds what its type says.
+    // This call gives the prover that the site upholds its invariant.
     let _ = site.history();
     match site.apply(event) {
         Ok(_) => Ok(Some(site)),
@@ -83,7 +83,8 @@ fn answered_after(
     }
 }
 
-/// Returns how an entry that an audit refuses differs from what the site enters after the entries before it.
+/// Returns how an entry that an audit refuses differs from the entry that the site makes after the entries `before`.
+/// The error is that memory ran out.
 fn entry_flaw(
     alloc: Global,
     config: Config,
@@ -106,7 +107,7 @@ fn entry_flaw(
     Ok(JournalFlaw::Entry(difference))
 }
 
-/// Why a load's program is refused.
+/// Returns the flaw of a load whose program the verifier refuses. The error is that memory ran out.
 fn load_flaw(alloc: Global, act: &Act, refusal: Refusal) -> Result<JournalFlaw, AllocError>
     requires { load_refusal act.now ≡ Some refusal }
     ensures { IfOk result (IsLoadFlaw act.now) }
@@ -120,7 +121,7 @@ fn load_flaw(alloc: Global, act: &Act, refusal: Refusal) -> Result<JournalFlaw, 
     }
 }
 
-/// Returns what is wrong with an entry that an audit refuses after the entries `before`. The error is out of memory.
+/// Returns the flaw of an entry that an audit refuses after the entries `before`. The error is that memory ran out.
 fn fault_flaw(
     alloc: Global,
     config: Config,
@@ -139,7 +140,7 @@ fn fault_flaw(
     }
 }
 
-/// The place that an audit's fault names; out of memory names none.
+/// Returns the place of the entry that an audit's fault names; `None` for `OutOfMemory`.
 fn place_of(fault: AuditFault) -> Option<u32>
     ensures { MatchOption result (fault ≡ AuditFault.OutOfMemory) (IsPlaceOf fault) }
 {
@@ -151,7 +152,7 @@ fn place_of(fault: AuditFault) -> Option<u32>
     }
 }
 
-/// Returns the place of the entry that an audit refuses, and what is wrong with it. The error is out of memory.
+/// Returns the place of the entry that an audit refuses, and its flaw. The error is that memory ran out.
 fn shown_flaw(
     alloc: Global,
     config: Config,
@@ -170,8 +171,8 @@ fn shown_flaw(
     Ok((place, flaw))
 }
 
-/// Why entries are no history of a site of this configuration, with the place of the first that is at fault; none
-/// where they are one. The error is out of memory.
+/// Audits entries, and returns the place and the flaw of the first one that is at fault, or `None` if they are a
+/// history that a site of this configuration can have. The error is that memory ran out.
 pub fn entries_flaw(
     alloc: Global,
     config: Config,
@@ -186,7 +187,8 @@ pub fn entries_flaw(
     }
 }
 
-/// The line that a text's fault names, and what is wrong; a fault of the device or of memory is the error.
+/// Returns the line that a fault of a journal's text names, if it names one, and the flaw. A fault of the device or of
+/// memory is returned as the error.
 fn text_flaw(fault: JournalFault) -> Result<(Option<u32>, JournalFlaw), JournalFault>
     ensures line { IfOk result (λ p. p.0 ≡ line_in fault) }
     ensures flaw { IfOk result (λ p. p.1 ≡ JournalFlaw.Text fault) }
@@ -202,10 +204,10 @@ fn text_flaw(fault: JournalFault) -> Result<(Option<u32>, JournalFlaw), JournalF
     }
 }
 
-/// Returns why what a device gives is no journal of a site of this configuration, with the line at fault, if there is
-/// one; none where it is such a journal.
+/// Returns why the text that a device gives isn't the journal of a site of this configuration: the flaw, and the line
+/// at fault if there is one. Returns `None` if the text is such a journal.
 ///
-/// The error is `Device` where a read failed or the reads ran out, else `OutOfMemory`.
+/// The error is `Device` if a read failed or more reads were needed than are allowed, or `OutOfMemory`.
 pub fn journal_flaw<I: LineIn>(
     alloc: Global,
     config: Config,

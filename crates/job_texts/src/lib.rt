@@ -1,4 +1,4 @@
-//! What the program says of files, and the exit status with it.
+//! What the commands of `fc` print about a file, with the exit status, and the reasons in words for refusing a file.
 #![tactic(auto)]
 
 mod assembler;

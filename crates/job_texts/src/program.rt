@@ -1,4 +1,4 @@
-//! What is said of program files.
+//! What `fc verify` prints.
 ghost use Rattle.std.specs.Prelude.{◌≡◌, ◌/◌, ◌++◌, ◌⊎◌, ℕ, List, codes, length, IfOk};
 ghost use Rattle.std.specs.Fmt.{decimal};
 ghost use Rattle.bpf_model.specs.Program.{ProgramText, as_loaded};
@@ -11,7 +11,7 @@ use reg_types::{Layout, Program, Refusal, verify};
 use std::alloc::{AllocError, Global};
 use till_request::Answer;
 
-/// The line of a program that is accepted.
+/// Returns the line for a program that is accepted, with status 0.
 fn told_accepted(alloc: Global, program: &Program) -> Result<Told, AllocError>
     ensures { IfOk result
         (λ told. IsSaid told (codes "accepted " ++ decimal (length program.now.bytes / 8) ++ codes "\n") 0) }
@@ -21,7 +21,7 @@ fn told_accepted(alloc: Global, program: &Program) -> Result<Told, AllocError>
     Ok(Told { text, status: 0 })
 }
 
-/// The line of a refusal.
+/// Returns the V line for a program that is refused, with status 1.
 fn told_refusal(alloc: Global, refusal: Refusal) -> Result<Told, AllocError>
     ensures { IfOk result
         (λ told. (p : ProgramText) → IsRefusal (refusal_of p) refusal → IsRefused p refusal → Refused p told) }
@@ -37,7 +37,7 @@ fn told_refusal(alloc: Global, refusal: Refusal) -> Result<Told, AllocError>
     })
 }
 
-/// What is said of a program's bytes.
+/// Verifies the bytes of a program, and returns what is printed.
 fn verify_bytes(
     alloc: Global,
     bytes: &[u8],
@@ -54,9 +54,9 @@ fn verify_bytes(
     }
 }
 
-/// Whether a program file's program is accepted for contexts of this layout, with bit c of `counters` for each
-/// counter c that it declares: `accepted UNITS` with status 0, or with status 1 `L1` for a file of over 65,536 bytes,
-/// `H1` for one of other bytes than digits and blanks, or the V line of the program's first fault.
+/// Returns what `fc verify` prints for a program file, for contexts of this layout; bit c of `counters` declares
+/// counter c. This is `accepted UNITS` with status 0, or with status 1 `L1` for a file of over 65,536 bytes, `H1` for
+/// wrong digits, or the V line of the program's first fault.
 pub fn verify_file(
     alloc: Global,
     file: &[u8],

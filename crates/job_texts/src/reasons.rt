@@ -1,4 +1,4 @@
-//! Why a program or a text of the assembler is refused, in words.
+//! The reasons why a program or an assembler text is refused, in words.
 ghost use Rattle.std.specs.Prelude.{◌≡◌, ◌↔◌, IfOk, IsTrue, MatchOption, Some, None, option_map, string_bytes};
 ghost use Rattle.bpf_model.specs.Program.{as_loaded};
 ghost use Rattle.bpf_model.specs.Reading.{units};
@@ -16,18 +16,18 @@ use reg_types::{Layout, Refusal, TypeFault, verify};
 use std::alloc::{AllocError, Global};
 use std::fmt;
 
-/// Why a program is refused: the refusal, the line of the instruction at fault, and what an argument of a helper must
-/// be where that is at fault.
+/// Why a program is refused: the refusal, the line of the instruction at fault, and, if the argument of a helper is at
+/// fault, what kind it must be.
 #[derive(Drop)]
 pub struct RefusedProgram {
     pub refusal: Refusal,
-    /// The instruction's line as `dis` prints it, or the unit's 16 digits where the bytes can't be decoded; with its
+    /// The instruction as `fc dis` prints it, or the unit's 16 hexadecimal digits if the bytes don't decode; with an
     /// LF.
     pub line: Option<String>,
     pub wanted: Option<Kind>,
 }
 
-/// What an argument of a helper has to be.
+/// Returns in words what an argument of this kind must be.
 fn words_of(kind: Kind) -> &'static str {
     match kind {
         Kind::Nothing => "anything",
@@ -38,7 +38,7 @@ fn words_of(kind: Kind) -> &'static str {
 }
 
 impl fmt::Display for RefusedProgram {
-    /// The unit, its instruction, and the rule.
+    /// Writes the unit, its instruction, and what is wrong with it.
     fn fmt<W: fmt::Write>(&self, f: &mut fmt::Formatter<W>) -> fmt::Result {
         if let Some((_, Some(unit), _)) = self.refusal.shown() {
             write!(f, "unit {unit}: ")?;
@@ -56,7 +56,7 @@ impl fmt::Display for RefusedProgram {
 }
 
 impl RefusedProgram {
-    /// The number of the V fault; 0 for out of memory, which has none.
+    /// Returns the number of the V fault, or 0 for `OutOfMemory`, which has no number.
     pub fn number(&self) -> u32
         ensures { result ≡ number_in (shown_by self.now.refusal) }
     {
@@ -67,7 +67,7 @@ impl RefusedProgram {
     }
 }
 
-/// The unit that a refusal names.
+/// Returns the unit that a refusal names, if it names one.
 fn unit_of(refusal: Refusal) -> Option<u32>
     ensures { result ≡ unit_in (shown_by refusal) }
 {
@@ -75,7 +75,7 @@ fn unit_of(refusal: Refusal) -> Option<u32>
     unit
 }
 
-/// The digits of a unit, with their LF.
+/// Returns the hexadecimal digits of a unit, with an LF, or `None` if there is no such unit.
 fn digits_of(alloc: Global, bytes: &[u8], unit: u32) -> Result<Option<String>, AllocError>
     ensures { IfOk result (λ line. option_map string_bytes line ≡ digits_line bytes.now unit) }
 {
@@ -86,7 +86,7 @@ fn digits_of(alloc: Global, bytes: &[u8], unit: u32) -> Result<Option<String>, A
     }
 }
 
-/// What the helper that is called at a unit takes as an argument.
+/// If an argument of a helper is at fault, returns the kind that the helper takes there.
 fn wanted_by(code: &Code, refusal: Refusal) -> Option<Kind>
     ensures { result ≡ kind_wanted code.now refusal }
 {
@@ -99,7 +99,7 @@ fn wanted_by(code: &Code, refusal: Refusal) -> Option<Kind>
     }
 }
 
-/// What a helper takes as an argument, 1 or 2.
+/// Returns the kind that a helper takes as argument 1 or 2.
 fn kind_of(helper: i32, argument: u32) -> Option<Kind>
     ensures { result ≡ wanted_at helper argument }
 {
@@ -119,7 +119,7 @@ fn is_memory(fault: DecodeFault) -> bool
     fault == DecodeFault::OutOfMemory
 }
 
-/// The units of bytes; none where they are none.
+/// Decodes bytes, and returns `None` if they don't decode. The error is that memory ran out.
 fn units_of(alloc: Global, bytes: &[u8]) -> Result<Option<Code>, AllocError>
     ensures { IfOk result (λ found. MatchOption found (units bytes.now ≡ None) (λ code. units bytes.now ≡ Some code)) }
 {
@@ -135,8 +135,8 @@ fn units_of(alloc: Global, bytes: &[u8]) -> Result<Option<Code>, AllocError>
     }
 }
 
-/// Returns why bytes are refused. The line is that of the instruction at the unit that the refusal names, or that
-/// unit's digits where the bytes can't be decoded. The error is out of memory.
+/// Returns a refusal of these bytes in words, with the instruction at the unit that it names, or that unit's digits if
+/// the bytes don't decode. The error is that memory ran out.
 pub fn explain_refusal(
     alloc: Global,
     bytes: &[u8],
@@ -175,7 +175,7 @@ pub fn explain_refusal(
     }
 }
 
-/// Why a program's bytes are refused; none where they are accepted. The error is out of memory.
+/// Returns why the bytes of a program are refused, or `None` if they are accepted. The error is that memory ran out.
 pub fn refused_program(
     alloc: Global,
     bytes: &[u8],
@@ -200,8 +200,8 @@ pub fn refused_program(
     }
 }
 
-/// Returns why a text of the assembler is refused: its fault, and the part of the text that the fault names; none where
-/// the text is a program. The error is out of memory.
+/// Returns why an assembler text is refused: its fault, and its flaw, which has the line or label at fault. Returns
+/// `None` if the text assembles. The error is that memory ran out.
 pub fn asm_flaw(alloc: Global, text: &[u8]) -> Result<Option<(AsmFault, AsmFlaw<'_>)>, AllocError>
     ensures { IfOk result
         (λ found. MatchOption found (IsSpelling text.now)

@@ -1,20 +1,20 @@
-//! A text and an exit status.
+//! A text to print, with an exit status.
 ghost use Rattle.std.specs.Prelude.{◌≡◌, ◌++◌, ◌∷◌, [], codes, IfOk, string_bytes};
 ghost use Rattle.job_texts.specs.Told.{IsSaid};
 
 use std::alloc::{AllocError, Global};
 
-/// The exit status where the input is refused.
+/// The exit status for an input that is refused.
 pub const REFUSED: u8 = 1;
 
-/// What is printed on standard output, and the exit status.
+/// A text to print on standard output, and the exit status.
 #[derive(Drop)]
 pub struct Told {
     pub text: String,
     pub status: u8,
 }
 
-/// A refusal's line, with status 1.
+/// Returns the line of a refusal, with status 1. The error is that memory ran out.
 pub fn refused(alloc: Global, line: &str) -> Result<Told, AllocError>
     ensures { IfOk result (λ told. IsSaid told (line.now ++ 10 ∷ []) 1) }
 {

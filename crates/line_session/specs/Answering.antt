@@ -1,6 +1,6 @@
--- Promises: what somebody says to lines, one after another. The input is cut at LF; to each line in order one text is
--- said, from the state that the lines before it left; a line that is too long or cut is answered by its fault and is
--- the last.
+-- Promises: the answers to lines, one after another. The input is split at LF. Each line in order is answered with one
+-- text, in the state that the lines before it left. A line that is too long, or a last one without LF, is answered with
+-- its fault, and ends the session.
 use Rattle.std.specs.Prelude.{◌≡◌, ◌≢◌, ◌⊎◌, ℕ, ◌<◌, ◌≤◌, List, [], ◌∷◌, ◌++◌, ◌+◌, length, take, Option, Some, None, Result, Ok, Err, Bool, true, false}
 use Rattle.std.specs.Io.KnownBytes.{Appends, Consumes, IsAtEnd}
 use Rattle.std.specs.List.{flat_map, AllByRecursion}
@@ -15,47 +15,47 @@ use Rattle.line_session.specs.declared.line_handler.HandlerError.TheVariants as 
 use Rattle.line_session.specs.declared.answering.SessionFault.{SessionFault}
 use Rattle.line_session.specs.declared.answering.SessionFault.TheVariants as session
 
--- the line was answered, and the answer is out
+-- the line was answered, and the whole answer was written
 pub record Said {S : Type 0} (says : S → List ℕ → List ℕ → S → Type 0) (line : List ℕ) (s s' : S) (out_old out_new : Option (List ℕ)) : Type 0 where
   pub text : List ℕ
   pub says_it : says s line text s'
   pub written : Appends out_old out_new text
 
--- the line was answered, and a front of the answer is out
+-- the line was answered, and a beginning of the answer was written
 pub record Half {S : Type 0} (says : S → List ℕ → List ℕ → S → Type 0) (line : List ℕ) (s s' : S) (out_old out_new : Option (List ℕ)) : Type 0 where
   pub text : List ℕ
   pub says_it : says s line text s'
   pub kept : ℕ
   pub written : Appends out_old out_new (take kept text)
 
--- the line has no answer, since memory was refused or the journal failed, and nothing of one is out
+-- the line has no answer, since memory ran out or the journal failed, and nothing was written
 pub record Dropped {S O : Type 0} (drops : S → List ℕ → S → Type 0) (line : List ℕ) (s s' : S) (o o' : O) : Type 0 where
   pub drops_it : drops s line s'
   pub output : o' ≡ o
 
--- what somebody drops who never drops a line that changed anything
+-- for a handler with an answer to each line that changes anything: no line is dropped
 abbrev pub drops_none : {S : Type 0} → S → List ℕ → S → Type 0
 drops_none s line s' = ⊥
 
--- the line takes memory, which was refused, and nothing changed
+-- the line needs memory, which ran out, and nothing changed
 pub record Silent {S O : Type 0} (takes : List ℕ → Type 0) (line : List ℕ) (s s' : S) (o o' : O) : Type 0 where
   pub takes_it : takes line
   pub state : s' ≡ s
   pub output : o' ≡ o
 
--- why the line has no whole answer: the device failed, and a front of the answer is out; or memory was refused, and nothing changed or the line has
--- no answer; or the journal failed, and the line has no answer
+-- why the line has no whole answer: the device failed, and a beginning of the answer was written; or memory ran out,
+-- and nothing changed or the line has no answer; or the journal failed, and the line has no answer
 abbrev pub FallsShort : {S O : Type 0} → (S → List ℕ → List ℕ → S → Type 0) → (S → List ℕ → S → Type 0) → (List ℕ → Type 0) → (O → Option (List ℕ))
     → HandlerError → List ℕ → S → S → O → O → Type 0
 FallsShort says drops takes out error.Write line s s' o o' = Half says line s s' (out o) (out o')
 FallsShort says drops takes out error.OutOfMemory line s s' o o' = Silent takes line s s' o o' ⊎ Dropped drops line s s' o o'
 FallsShort says drops takes out error.Journal line s s' o o' = Dropped drops line s s' o o'
 
--- the state is what a line leaves at which the journal failed
+-- the state is one after a line at which the journal failed
 abbrev pub FailsAt : {S : Type 0} → (S → List ℕ → S → Type 0) → S → Type 0
 FailsAt {S} fails s' = (s : S) × (line : List ℕ) × fails s line s'
 
--- at what lines the journal of somebody fails who keeps none
+-- for a handler that keeps no journal: no line makes it fail
 abbrev pub fails_none : {S : Type 0} → S → List ℕ → S → Type 0
 fails_none s line s' = ⊥
 
@@ -63,21 +63,21 @@ fails_none s line s' = ⊥
 abbrev pub with_lf : List ℕ → List ℕ
 with_lf line = line ++ 10 ∷ []
 
--- the lines, each with its LF, and the texts, one after another
+-- the lines, each with its LF, one after another; and the texts, one after another
 abbrev pub all_lines : List (List ℕ) → List ℕ
 all_lines lines = flat_map with_lf lines
 
 abbrev pub all_texts : List (List ℕ) → List ℕ
 all_texts texts = flat_map (λ text. text) texts
 
--- to these lines it says these texts, one after another
+-- these lines, one after another, are answered with these texts
 abbrev pub SaysAll : {S : Type 0} → (S → List ℕ → List ℕ → S → Type 0) → List (List ℕ) → S → List (List ℕ) → S → Type 0
 SaysAll says [] s [] s' = s' ≡ s
 SaysAll {S} says (line ∷ lines) s (text ∷ texts) s' = (m : S) × says s line text m × SaysAll says lines m texts s'
 SaysAll says [] s (text ∷ texts) s' = ⊥
 SaysAll says (line ∷ lines) s [] s' = ⊥
 
--- lines were taken and answered, and behind them something more was taken and written
+-- lines were read and answered, and after them `rest` was read and `more` was written
 pub record AnswersLines {S : Type 0} (says : S → List ℕ → List ℕ → S → Type 0) (s s' : S) (in_old in_new out_old out_new : Option (List ℕ)) (count : ℕ)
     (rest more : List ℕ) : Type 0 where
   pub lines : List (List ℕ)
@@ -88,7 +88,7 @@ pub record AnswersLines {S : Type 0} (says : S → List ℕ → List ℕ → S �
   pub written : Appends out_old out_new (all_texts texts ++ more)
   pub counted : count ≡ length texts
 
--- what was taken behind the last line: nothing at the end, a line that is too long, or one without LF
+-- what was read after the last whole line: nothing at the end of the input, a line that is too long, or one without LF
 abbrev pub IsCut : Option LineFault → Option (List ℕ) → List ℕ → Type 0
 IsCut None in_new rest = (rest ≡ []) × IsAtEnd in_new
 IsCut (Some line.TooLong) in_new rest = HasNoLf rest × (length rest ≡ 8401)
@@ -97,7 +97,7 @@ IsCut (Some line.BadLine) in_new rest = ⊥
 IsCut (Some line.BadNumber) in_new rest = ⊥
 IsCut (Some line.OutOfMemory) in_new rest = ⊥
 
--- the answer to a cut, and the number of answers to it
+-- the answer to such a fault, and the number of answers to it
 abbrev pub cut_line : Option LineFault → List ℕ
 cut_line None = []
 cut_line (Some fault) = answer_line (Line fault)
@@ -106,7 +106,7 @@ abbrev pub cut_count : Option LineFault → ℕ
 cut_count None = 0
 cut_count (Some fault) = 1
 
--- all of it was said
+-- the session ended without a failure: all lines were answered, and all answers were written
 pub record Ends {S : Type 0} (says : S → List ℕ → List ℕ → S → Type 0) (s s' : S) (in_old in_new out_old out_new : Option (List ℕ)) (count : ℕ)
     (cut : Option LineFault) : Type 0 where
   pub answered : ℕ
@@ -119,17 +119,17 @@ pub record Ends {S : Type 0} (says : S → List ℕ → List ℕ → S → Type 
 abbrev pub IsUpToLine : List ℕ → Type 0
 IsUpToLine rest = IsLine rest ⊎ ((line : List ℕ) × IsLine line × (rest ≡ with_lf line))
 
--- what was taken behind the last line that was answered: at most the next line; a cut that is answered, be it by a front of
--- the answer, is one
+-- what was read after the last line that was answered: at most the next line; or the line of a fault, of whose answer
+-- at least a beginning was written
 abbrev pub AnswersCut : Option LineFault → Option (List ℕ) → List ℕ → Type 0
 AnswersCut None in_new rest = IsUpToLine rest
 AnswersCut (Some fault) in_new rest = IsCut (Some fault) in_new rest
 
--- no line more was taken up, or the next one was dropped
+-- no further line was handled, or the next one was dropped
 abbrev pub DropsNext : {S : Type 0} → (S → List ℕ → S → Type 0) → S → S → List ℕ → Type 0
 DropsNext drops s s' rest = (s' ≡ s) ⊎ ((line : List ℕ) × IsLine line × (rest ≡ with_lf line) × drops s line s')
 
--- a beginning of what would be said is out
+-- the session failed, and a beginning of the answers was written
 pub record Breaks {S : Type 0} (says : S → List ℕ → List ℕ → S → Type 0) (drops : S → List ℕ → S
     → Type 0) (s s' : S) (in_old in_new out_old out_new : Option (List ℕ)) : Type 0 where
   pub lines : List (List ℕ)
@@ -147,21 +147,22 @@ pub record Breaks {S : Type 0} (says : S → List ℕ → List ℕ → S → Typ
   pub written : Appends out_old out_new front
   pub begins : all_texts texts ++ cut_line cut ≡ front ++ after
 
--- what memory was refused to: the next line, as it was read; or its answer, for a line that takes memory; or the line was dropped
+-- what memory ran out for: the next line, while it was read; or its answer, if it is a line that needs memory; or the
+-- line was dropped
 abbrev pub WantsNext : {S : Type 0} → (S → List ℕ → S → Type 0) → (List ℕ → Type 0) → S → S → List ℕ → Type 0
 WantsNext drops takes s s' rest = ((s' ≡ s) × IsLine rest)
     ⊎ ((line : List ℕ) × IsLine line × (rest ≡ with_lf line) × (((s' ≡ s) × takes line) ⊎ drops s line s'))
 
--- It broke off though no write failed: the whole answers to the lines so far are out, and a cut is not answered. If it
--- was because memory ran out, then something was refused memory.
+-- The session failed although no write did: the whole answers to all handled lines were written, and no fault of a line
+-- was answered. If it failed as memory ran out, then there was something that needed memory.
 abbrev pub Stops : {S : Type 0} → (S → List ℕ → List ℕ → S → Type 0) → (S → List ℕ → S → Type 0) → (List ℕ → Type 0) → SessionFault → S → S
     → Option (List ℕ) → Option (List ℕ) → Option (List ℕ) → Option (List ℕ) → Type 0
 Stops says drops takes fault s s' in_old in_new out_old out_new =
     (b : Breaks says drops s s' in_old in_new out_old out_new) × (b.cut ≡ None) × (b.after ≡ [])
     × (fault ≡ session.OutOfMemory → WantsNext drops takes b.answered s' b.rest)
 
--- What `Stops` says, for a session whose answers may wait where its doors report a further line: those that wait where
--- a read fails are not out.
+-- The same as `Stops`, for a session that buffers answers while its doors report a further line: after a failed read
+-- the buffered answers are not written.
 abbrev pub StopsAtDoor : {S : Type 0} → (S → List ℕ → List ℕ → S → Type 0) → (S → List ℕ → S → Type 0) → (List ℕ → Type 0) → SessionFault → S → S
     → Option (List ℕ) → Option (List ℕ) → Option (List ℕ) → Option (List ℕ) → Type 0
 StopsAtDoor says drops takes fault s s' in_old in_new out_old out_new =
@@ -191,11 +192,12 @@ is_write_fault (Err error.Write) = true
 is_write_fault (Err error.OutOfMemory) = false
 is_write_fault (Err error.Journal) = false
 
--- how many reads a session may make (this profile)
+-- the most reads that a session makes (this profile)
 abbrev pub session_reads : ℕ
 session_reads = 67108864
 
--- At most this many reads were made, each for one byte; where they ran out, just this many. By the counts of the input's reads and of the bytes asked.
+-- At most this many reads were made, each of one byte, by the counts of the input's reads and of the bytes asked for.
+-- If the fault is that no read is left, exactly this many were made.
 abbrev pub SpendsReads : {T : Type 0} → ℕ → Result T SessionFault → ℕ → ℕ → ℕ → ℕ → Type 0
 SpendsReads most result reads_old reads_new asked_old asked_new =
     (k : ℕ) × (k ≤ most) × RoseBy k reads_old reads_new × (result ≡ Err session.ReadsSpent → k ≡ most) × RoseBy k asked_old asked_new

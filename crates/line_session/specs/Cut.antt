@@ -1,5 +1,6 @@
--- Promises: what is said to an input doesn't depend on how the input is cut. What a session took and wrote is said of the bytes that its
--- input has (`Ends`), whatever its reads gave; so two sessions over the same bytes, from the same state, go on alike, unless memory runs out.
+-- Promises: answers don't depend on the sizes of the input's reads. `Ends` describes what a session read and wrote by
+-- the bytes of its input alone; so two sessions with the same bytes, from the same state, end alike, unless memory runs
+-- out.
 use Rattle.std.specs.Prelude.{◌≡◌, ℕ, List, Option, Some}
 use Rattle.std.specs.List.{AllByRecursion}
 use Rattle.till_request.specs.declared.act.Act.{Act}
@@ -9,27 +10,28 @@ use Rattle.till_request.specs.declared.act.Answer.TheVariants.{OutOfMemory}
 use Rattle.till_request.specs.Answer.{answer_line}
 use Rattle.line_session.specs.Answering.{Ends}
 
--- the text says that memory was refused to the line
+-- the text is the answer that memory ran out
 abbrev pub IsWantTold : List ℕ → Type 0
 IsWantTold text = text ≡ answer_line OutOfMemory
 
--- memory was refused to none of these lines
+-- none of these answers is that memory ran out
 abbrev pub NoWantTold : List (List ℕ) → Type 0
 NoWantTold texts = AllByRecursion (λ text. ¬ IsWantTold text) texts
 
--- from one state one text is said to a line, and one state follows, unless memory runs out
+-- a line has only one answer in a state, and only one state follows, unless memory runs out
 abbrev pub IsDetermined : {S : Type 0} → (S → List ℕ → List ℕ → S → Type 0) → Type 0
 IsDetermined {S} says =
     (s : S) (line text other : List ℕ) (m n : S) → says s line text m → says s line other n → ¬ IsWantTold text → ¬ IsWantTold other → (text ≡ other) × (m ≡ n)
 
--- two sessions wrote the same, left the same state, and answered as many lines, to the same end
+-- two sessions wrote the same, left the same state, answered as many lines, and ended with the same fault of a line, if
+-- any
 pub record EndAlike {S : Type 0} (s t : S) (out_s out_t : List ℕ) (count_s count_t : ℕ) (cut_s cut_t : Option LineFault) : Type 0 where
   pub state : s ≡ t
   pub written : out_s ≡ out_t
   pub count : count_s ≡ count_t
   pub cut : cut_s ≡ cut_t
 
--- two sessions over the same bytes that both end, from one state and behind the same output, end alike
+-- two sessions with the same bytes, from one state and after the same output, end alike if both end
 abbrev pub CutsAlike : {S : Type 0} → (S → List ℕ → List ℕ → S → Type 0) → Type 0
 CutsAlike {S} says =
     (s t u : S) (bytes out out_t out_u : List ℕ) (in_t in_u : Option (List ℕ)) (count_t count_u : ℕ) (cut_t cut_u : Option LineFault)
@@ -38,11 +40,11 @@ CutsAlike {S} says =
     → NoWantTold one.answering.texts → NoWantTold other.answering.texts
     → EndAlike t u out_t out_u count_t count_u cut_t cut_u
 
--- a clock that gives one moment from one state
+-- in each state the clock can give only one moment
 abbrev pub TellsOne : {C : Type 0} → (C → ℕ → C → Type 0) → Type 0
 TellsOne {C} tick = (c d e : C) (m n : ℕ) → tick c m d → tick c n e → (m ≡ n) × (d ≡ e)
 
--- a desk that answers an act at a moment in one way, unless memory runs out
+-- in each state the desk has only one answer to an act at a moment, unless memory runs out
 abbrev pub AnswersOne : {D : Type 0} → (D → Act → ℕ → Answer → D → Type 0) → Type 0
 AnswersOne {D} step =
     (d e f : D) (act : Act) (moment : ℕ) (a b : Answer) → step d act moment a e → step d act moment b f → ¬ (a ≡ OutOfMemory)

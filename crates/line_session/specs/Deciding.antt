@@ -1,4 +1,5 @@
--- Promises: what is answered to a line, before it is written: its act is answered by the desk at the moment that the clock gives, or its fault as it is.
+-- Promises: the answer to a line, before it is written. The desk answers the line's act at the moment that the clock
+-- gives. A fault of the line is its own answer.
 use Rattle.std.specs.Prelude.{◌≡◌, ◌⊎◌, ℕ, List, Ok}
 use Rattle.till_request.specs.declared.act.Act.{Act}
 use Rattle.till_request.specs.declared.act.Role.{Role}
@@ -10,12 +11,12 @@ use Rattle.till_request.specs.Gives.{Fails}
 use Rattle.till_request.specs.Grammar.{line_read}
 use Rattle.line_session.specs.Session.{desk_takes}
 
--- the line asks an act, and the desk answered that
+-- the line is an act, and the desk answered it
 abbrev pub DecidesAct : {C D : Type 0} → (D → Act → ℕ → Answer → D → Type 0) → (C → ℕ → C → Type 0) → Role → List ℕ → C → D → Answer → C → D → Type 0
 DecidesAct step tick role line c d answer c' d' =
     (act : Act) × (moment : ℕ) × (line_read role line ≡ Ok act) × tick c moment c' × step d act moment answer d'
 
--- the line has a fault, and nobody was asked; only a load may be out of memory
+-- the line has a fault, and neither clock nor desk was asked; memory can run out only for a load
 abbrev pub DecidesFault : {C D : Type 0} → Role → List ℕ → C → D → Answer → C → D → Type 0
 DecidesFault role line c d answer c' d' =
     (fault : LineFault) × (answer ≡ Line fault) × Fails fault (line_read role line) × (fault ≡ OutOfMemory → desk_takes role line) × (c' ≡ c) × (d' ≡ d)

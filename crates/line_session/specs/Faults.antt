@@ -1,4 +1,4 @@
--- Promises: faults of reading and of speaking, as a session's.
+-- Promises: the faults of reading and of answering, as faults of a session.
 use Rattle.till_request.specs.declared.line.InputFault.{InputFault}
 use Rattle.till_request.specs.declared.line.InputFault.TheVariants as input
 use Rattle.line_session.specs.declared.line_handler.HandlerError.{HandlerError}

@@ -1,4 +1,4 @@
--- Promises: how a session ends behind its lines.
+-- Promises: how a session ends after its last line.
 use Rattle.std.specs.Prelude.{◌≡◌, ℕ, ◌+◌, Option, Some, None}
 use Rattle.till_request.specs.declared.act.LineFault.{LineFault}
 use Rattle.till_request.specs.declared.act.LineFault.TheVariants.{TooLong, CutLine}
@@ -7,14 +7,14 @@ use Rattle.till_request.specs.declared.line.Found.TheVariants as found
 use Rattle.line_session.specs.declared.answering.Ended.{Ended}
 use Rattle.line_session.specs.Answering.{cut_count}
 
--- what cuts a session behind which this was found, and no line
+-- the fault that ends a session where this was found and no whole line: one that is too long, or one without LF
 abbrev pub cut_by : Found → Option LineFault
 cut_by found.Line = None
 cut_by found.TooLong = Some TooLong
 cut_by found.Cut = Some CutLine
 cut_by found.End = None
 
--- A session ended so behind this many answers; what cut it was answered too.
+-- A session ended so after `lines` answers; if a fault ended it, that is one more answer.
 pub record IsEnd (lines : ℕ) (cut : Option LineFault) (ended : Ended) : Type 0 where
   pub lines_are : ended.lines ≡ lines + cut_count cut
   pub cut_is : ended.cut ≡ cut

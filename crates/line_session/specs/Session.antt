@@ -1,6 +1,7 @@
--- Definitions: what a desk says to a line (this profile). The act of the line is answered at the moment that the clock
--- gives for it; a line that asks no act is answered by its fault, and then neither clock nor desk is asked.
--- Where the desk's answer is out of memory at a line, or that the journal failed, the line has no answer: the session ends.
+-- Definitions: the answers of a desk to lines (this profile). The act of a line is answered at the moment that the
+-- clock gives for it. A line that is no act is answered with its fault, and then neither clock nor desk is asked. If
+-- the desk's answer is that memory ran out at a line, or that the journal failed, the line has no answer: the session
+-- ends.
 use Rattle.std.specs.Prelude.{◌≡◌, ℕ, List, take, Option, Result, Ok, Err, Bool, true, false}
 use Rattle.std.specs.Io.KnownBytes.{Appends}
 use Rattle.till_request.specs.declared.act.Act.{Act}
@@ -14,41 +15,42 @@ use Rattle.till_request.specs.Answer.{answer_line}
 use Rattle.line_session.specs.declared.line_handler.HandlerError.{HandlerError}
 use Rattle.line_session.specs.declared.line_handler.HandlerError.TheVariants as error
 
--- What is answered to an act: what the desk may answer at the moment that the clock may give. A fault is answered as it is.
+-- The answer to an act is one that the desk may give at a moment that the clock may give. A fault is its own answer.
 abbrev pub AnswersAct : {C D : Type 0} → (D → Act → ℕ → Answer → D → Type 0) → (C → ℕ → C → Type 0) → Result Act LineFault → C → D → Answer → C → D → Type 0
 AnswersAct step tick (Ok act) c d a c' d' = (moment : ℕ) × tick c moment c' × step d act moment a d'
 AnswersAct step tick (Err why) c d a c' d' = (a ≡ Line why) × (c' ≡ c) × (d' ≡ d)
 
--- the answer has no line, and ends the session
+-- the answer isn't written, and ends the session
 abbrev pub ends_unsaid : Answer → Bool
 ends_unsaid (Line fault.OutOfMemory) = true
 ends_unsaid JournalFailed = true
 ends_unsaid answer = false
 
--- the answer has a line, and this was written
+-- the answer has a line, and that was written
 pub record Writes {O : Type 0} (took : O → Option (List ℕ)) (answer : Answer) (o o' : O) : Type 0 where
   pub has_line : ends_unsaid answer ≡ false
   pub written : Appends (took o) (took o') (answer_line answer)
 
--- the same of a front of it
+-- the answer has a line, and a beginning of that was written
 pub record WritesFront {O : Type 0} (took : O → Option (List ℕ)) (answer : Answer) (o o' : O) : Type 0 where
   pub has_line : ends_unsaid answer ≡ false
   pub kept : ℕ
   pub written : Appends (took o) (took o') (take kept (answer_line answer))
 
--- why an answer has no line
+-- why an answer isn't written
 abbrev pub IsUnsaid : HandlerError → Answer → Type 0
 IsUnsaid error.Write answer = ⊥
 IsUnsaid error.OutOfMemory answer = answer ≡ Line fault.OutOfMemory
 IsUnsaid error.Journal answer = answer ≡ JournalFailed
 
--- why an answer isn't out: the device failed, and a front of its line is; or it has no line, and nothing is written
+-- why an answer isn't written whole: the device failed, and a beginning of its line was written; or it has no line, and
+-- nothing was written
 abbrev pub StaysUnsaid : {O : Type 0} → (O → Option (List ℕ)) → HandlerError → Answer → O → O → Type 0
 StaysUnsaid took error.Write answer o o' = WritesFront took answer o o'
 StaysUnsaid took error.OutOfMemory answer o o' = IsUnsaid error.OutOfMemory answer × (o' ≡ o)
 StaysUnsaid took error.Journal answer o o' = IsUnsaid error.Journal answer × (o' ≡ o)
 
--- the text is the line of such an answer
+-- the text is the line of an answer to this line
 pub record SpeaksAt {C D : Type 0} (step : D → Act → ℕ → Answer → D → Type 0) (tick : C → ℕ → C → Type 0) (role : Role) (line text : List ℕ) (c : C) (d : D)
     (c' : C) (d' : D) : Type 0 where
   pub answer : Answer
@@ -56,21 +58,21 @@ pub record SpeaksAt {C D : Type 0} (step : D → Act → ℕ → Answer → D �
   pub has_line : ends_unsaid answer ≡ false
   pub text_is : text ≡ answer_line answer
 
--- what a clock and a desk say to a line of somebody of this role
+-- the text is an answer of this clock and this desk to a line from this role
 abbrev pub desk_says : {C D : Type 0} → (D → Act → ℕ → Answer → D → Type 0) → (C → ℕ → C → Type 0) → Role → C × D → List ℕ → List ℕ → C × D → Type 0
 desk_says step tick role s line text s' = SpeaksAt step tick role line text s.0 s.1 s'.0 s'.1
 
--- a line that has no answer: what the desk answered has no line
+-- the line has no answer, since the desk's answer has no line
 abbrev pub desk_drops : {C D : Type 0} → (D → Act → ℕ → Answer → D → Type 0) → (C → ℕ → C → Type 0) → Role → C × D → List ℕ → C × D → Type 0
 desk_drops step tick role s line s' =
     (act : Act) × (moment : ℕ) × (answer : Answer) × (ends_unsaid answer ≡ true) × (line_read role line ≡ Ok act) × tick s.0 moment s'.0
     × step s.1 act moment answer s'.1
 
--- a line at which the journal failed: the desk answered so
+-- the desk's answer to the line is that the journal failed
 abbrev pub desk_fails : {C D : Type 0} → (D → Act → ℕ → Answer → D → Type 0) → (C → ℕ → C → Type 0) → Role → C × D → List ℕ → C × D → Type 0
 desk_fails step tick role s line s' =
     (act : Act) × (moment : ℕ) × (line_read role line ≡ Ok act) × tick s.0 moment s'.0 × step s.1 act moment JournalFailed s'.1
 
--- only a load takes memory before the desk is asked
+-- only a load needs memory before the desk is asked
 abbrev pub desk_takes : Role → List ℕ → Type 0
 desk_takes role line = IsLoad role (words line)

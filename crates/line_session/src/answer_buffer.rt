@@ -1,4 +1,4 @@
-//! Answers that wait, to be written together.
+//! A buffer for answers, so that several are written together.
 ghost use Rattle.std.specs.Prelude.{◌≡◌, ◌++◌, List, ℕ, [], true, false, IfErr, OnErr, OnOk};
 ghost use Rattle.till_request.specs.Answer.{answer_line};
 ghost use Rattle.till_request.specs.Count.{RoseBy, one_if};
@@ -10,18 +10,18 @@ use std::alloc::Global;
 use till_request::devices::MemoryOut;
 use till_request::{Answer, DeviceFault, LineOut, WriteFault, write_all, write_answer};
 
-/// Where this many bytes wait, they are written before a further line is read.
+/// The number of buffered bytes from which the buffer is written before the next line is read.
 const MOST_WAITING: usize = 16_384;
 
-/// Answers that wait in memory, to be written to a device together. An answer for which memory runs out doesn't wait:
-/// it is written at once, after those that waited.
+/// Answers that are buffered in memory, to be written to a device together. If memory runs out for an answer, it is
+/// written at once, after those in the buffer.
 #[derive(Drop)]
 pub struct AnswerBuffer {
     held: MemoryOut,
 }
 
 impl AnswerBuffer {
-    /// Nothing waits.
+    /// Makes an empty buffer.
     pub fn new(alloc: Global) -> AnswerBuffer
         ensures { result.held.bytes.items ≡ [] }
     {
@@ -30,12 +30,12 @@ impl AnswerBuffer {
         }
     }
 
-    /// Returns whether the answers that wait must be written before the next line is read.
+    /// Returns whether the buffered answers must be written before the next line is read.
     pub fn is_full(&self) -> bool {
         self.held.bytes.len() >= MOST_WAITING
     }
 
-    /// Writes the answers that wait, or a beginning of them. After that no answer waits.
+    /// Writes the buffered answers, and empties the buffer. After an error a beginning of them was written.
     pub fn flush<O: LineOut>(&mut self, output: &mut O) -> Result<(), SessionFault>
         ensures ok { OnOk result
             (Sends self.old.held.bytes.items [] (O.written output.old) (O.written output.new)) }
@@ -53,8 +53,7 @@ impl AnswerBuffer {
         }
     }
 
-    /// Appends an answer's line to those that wait, and returns true. Returns false, and changes nothing, where memory
-    /// runs out.
+    /// Appends an answer's line to the buffer, and returns true. If memory runs out, changes nothing and returns false.
     fn hold(&mut self, alloc: Global, answer: &Answer) -> bool
         ensures waits { result ≡ true
             → self.new.held.bytes.items ≡ self.old.held.bytes.items ++ answer_line answer.now }
@@ -70,7 +69,8 @@ impl AnswerBuffer {
         }
     }
 
-    /// Appends an answer's line to those that wait. Where memory runs out, writes all of them and then this line.
+    /// Appends an answer's line to the buffer. If memory runs out for that, writes the buffered answers and then this
+    /// line.
     pub fn put<O: LineOut>(
         &mut self,
         alloc: Global,

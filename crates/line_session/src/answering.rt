@@ -1,4 +1,4 @@
-//! The loop over the lines of an input.
+//! The loop that answers the lines of an input.
 ghost use Rattle.std.specs.Prelude.{◌≡◌, ◌≢◌, ◌⊎◌, ◌+◌, ◌-◌, ◌<◌, ◌≤◌, ℕ, List, take, IfOk, IfErr, OnErr, OnOk, Err, Some};
 ghost use Rattle.std.specs.Io.KnownBytes.{Appends};
 ghost use Rattle.till_request.specs.Count.{RoseBy, one_if};
@@ -15,31 +15,32 @@ use till_request::{
     Answer, Found, InputFault, LineFault, LineIn, LineOut, WriteFault, find_line, write_answer,
 };
 
-/// How many reads one session may make.
+/// The most reads that one session makes. Each read is of one byte.
 pub const READS: u32 = 67_108_864;
 
-/// How a session ended: the number of its answers, and the L1 or L4 that ended it.
+/// How a session ended: the number of its answers, and the fault of the last line if that was too long (L1) or had no
+/// LF (L4).
 #[derive(Clone, Copy, PartialEq, Eq, Drop)]
 pub struct Ended {
     pub lines: u64,
     pub cut: Option<LineFault>,
 }
 
-/// Why a session did not end well.
+/// Why a session failed.
 #[derive(Clone, Copy, Debug, PartialEq, Eq, Drop, Error)]
 pub enum SessionFault {
-    /// N1.
+    /// N1: a read failed.
     #[error("a read failed")]
     Read,
-    /// N2.
+    /// N2: a write failed.
     #[error("a write failed")]
     Write,
-    /// N3.
+    /// N3: the session would need more reads than it may make.
     #[error("the reads ran out")]
     ReadsSpent,
     #[error("out of memory")]
     OutOfMemory,
-    /// A line has no answer, since the site takes no further event.
+    /// The journal failed, so the line has no answer: the site takes no further event.
     #[error("the journal failed")]
     Journal,
 }
@@ -72,7 +73,7 @@ impl From<HandlerError> for SessionFault {
     }
 }
 
-/// What cuts a session behind which no line was found.
+/// Returns the fault that ends a session where no whole line was found: one that is too long, or a last one without LF.
 pub(crate) fn cut_of(found: Found) -> Option<LineFault>
     ensures { result ≡ cut_by found }
 {
@@ -83,7 +84,7 @@ pub(crate) fn cut_of(found: Found) -> Option<LineFault>
     }
 }
 
-/// Ends a session behind this many answers: what cut it is answered.
+/// Ends a session after `lines` answers. If a fault ends it, writes that as one more answer.
 fn end<O: LineOut>(
     alloc: Global,
     output: &mut O,
@@ -111,10 +112,11 @@ fn end<O: LineOut>(
     }
 }
 
-/// Answers the lines of an input in order, with at most `left` reads.
+/// Answers the lines of an input in order, with at most `left` reads, and sets `left` to the number of reads that
+/// remain.
 ///
-/// A line that is too long or cut is answered with its fault, and is the last. Only a failed write leaves part of an
-/// answer, or makes a session fail after such a line was answered.
+/// A line that is too long, or a last one without LF, is answered with its fault, and the session ends. A part of an
+/// answer is left only by a failed write.
 pub fn answer_lines_within<I: LineIn, O: LineOut, C, D, S: LineHandler<C, D>>(
     alloc: Global,
     input: &mut I,
@@ -154,7 +156,7 @@ pub fn answer_lines_within<I: LineIn, O: LineOut, C, D, S: LineHandler<C, D>>(
     }
 }
 
-/// Answers the lines of an input in order, as `answer_lines_within`, within the reads of one session.
+/// Answers the lines of an input in order, like `answer_lines_within`, with the reads of one session: 67,108,864.
 pub fn answer_lines<I: LineIn, O: LineOut, C, D, S: LineHandler<C, D>>(
     alloc: Global,
     input: &mut I,

@@ -1,6 +1,6 @@
-//! A connection.
+//! Connections: where lines come from, and where their answers go.
 
-/// What lines are read from, and what their answers go to.
+/// A connection: the device that lines are read from, and the device that their answers are written to.
 #[derive(Drop)]
 pub struct Connection<I, O> {
     pub input: I,

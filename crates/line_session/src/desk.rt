@@ -1,25 +1,25 @@
-//! Who answers, and when.
+//! The desk, which answers acts, and the clock, which gives the moments.
 use till_request::{Act, Answer};
 
-/// Answers acts, one after another.
+/// A desk: it answers acts, one after another.
 pub trait Desk {
     ghost use Rattle.std.specs.Prelude.{ℕ};
     ghost use Rattle.till_request.specs.declared.act.Act.{Act};
     ghost use Rattle.till_request.specs.declared.act.Answer.{Answer};
 
-    /// States what the desk may answer to an act at a moment, and which state it is then in.
+    /// States what the desk may answer to an act at a moment, and the state of the desk after that.
     ghost step: { Self → Act → ℕ → Answer → Self → Type 0 };
 
-    /// The answer to an act that is asked at a moment.
+    /// Returns the answer to an act that is asked at a moment.
     fn answer(&mut self, act: Act, moment: u64) -> Answer
         ensures { step self.old act moment result self.new };
 }
 
-/// Gives moments.
+/// A clock: it gives moments.
 pub trait Clock {
     ghost use Rattle.std.specs.Prelude.{ℕ};
 
-    /// States which moment the clock may give, and which state it is then in.
+    /// States which moment the clock may give, and the state of the clock after that.
     ghost tick: { Self → ℕ → Self → Type 0 };
 
     /// Returns the current moment.

@@ -1,4 +1,4 @@
-//! A desk and a clock that answer lines.
+//! The line handler that parses lines and passes the acts to a desk.
 ghost use Rattle.std.specs.Prelude.{◌≡◌, OnOk, IfErr, IfSome, IfNone, false};
 ghost use Rattle.till_request.specs.Count.{RoseBy, one_if};
 ghost use Rattle.line_session.specs.Answering.{is_write_fault};
@@ -10,7 +10,8 @@ use crate::line_handler::{HandlerError, LineHandler};
 use std::alloc::Global;
 use till_request::{Answer, LineFault, LineOut, Role, WriteFault, parse_line, write_answer};
 
-/// What is answered to a line of a role.
+/// Returns the answer to a line from a role: the desk's answer to its act at the clock's moment, or the fault of a line
+/// that is no act of the role.
 pub fn answer_to<C: Clock, D: Desk>(
     alloc: Global,
     role: Role,
@@ -29,7 +30,8 @@ pub fn answer_to<C: Clock, D: Desk>(
     }
 }
 
-/// Returns why an answer has no line and ends the session; `None` for an answer that has a line.
+/// Returns the error of an answer that isn't written and ends the session: memory ran out for the line, or the journal
+/// failed. Returns `None` for all other answers.
 pub fn unsaid(answer: &Answer) -> Option<HandlerError>
     ensures some { IfSome result (λ fault. IsUnsaid fault answer.now) }
     ensures none { IfNone result (ends_unsaid answer.now ≡ false) }
@@ -48,7 +50,7 @@ pub fn unsaid(answer: &Answer) -> Option<HandlerError>
     }
 }
 
-// Writes an answer. Out of memory at a line has no line, whoever met it, nor has a failed journal.
+// Writes an answer. The error is that the write failed, or that this answer isn't written, as `unsaid` says.
 fn say<O: LineOut>(alloc: Global, output: &mut O, answer: &Answer) -> Result<(), HandlerError>
     ensures ok { OnOk result (Writes O.written answer.now output.old output.new) }
     ensures err { IfErr result (λ fault. StaysUnsaid O.written fault answer.now output.old output.new) }
@@ -64,7 +66,7 @@ fn say<O: LineOut>(alloc: Global, output: &mut O, answer: &Answer) -> Result<(),
     }
 }
 
-/// Answers the lines of a role by a desk, at the moments of a clock.
+/// The line handler for a role: it answers with a desk, at the moments of a clock.
 #[derive(Clone, Copy, Drop)]
 pub struct DeskHandler {
     pub role: Role,

@@ -1,4 +1,4 @@
-//! Sessions at a desk.
+//! Sessions of a role at a desk.
 ghost use Rattle.std.specs.Prelude.{◌≡◌, ◌≢◌, ◌≤◌, ℕ, IfOk, IfErr, OnErr, Err};
 ghost use Rattle.till_request.specs.Count.{RoseBy, one_if};
 ghost use Rattle.line_session.specs.Answering.{Ends, Breaks, FailsAt, SpendsReads, Stops, is_read, is_write, session_reads};
@@ -10,10 +10,9 @@ use crate::desk_handler::DeskHandler;
 use std::alloc::Global;
 use till_request::{LineIn, LineOut, Role};
 
-/// Answers the lines that somebody of a role sends, in order and one by one, by a desk at the
-/// moments of a clock.
+/// Answers the lines of an input in order, as acts of a role, with the desk's answers at the clock's moments.
 ///
-/// After a fault a beginning of the answers is out.
+/// After an error a beginning of the answers was written.
 pub fn session<I: LineIn, O: LineOut, C: Clock, D: Desk>(
     alloc: Global,
     role: Role,

@@ -1,9 +1,9 @@
-//! Where lines come from and answers go, connection by connection.
+//! The source of connections.
 use crate::answering::{Ended, SessionFault};
 use till_request::{DeviceFault, LineIn, LineOut};
 
-/// Opens connections, one after another: for each an input, from which lines are read, and an output, to which their
-/// answers are written.
+/// A source of connections, one after another. A connection has an input, from which lines are read, and an output, to
+/// which their answers are written.
 pub trait Doors {
     type In: LineIn + Drop;
 
@@ -11,23 +11,23 @@ pub trait Doors {
 
     ghost use Rattle.std.specs.Prelude.{IfOk, OnErr};
 
-    /// States which connection may be opened, and which state the doors are then in.
+    /// States which connection may be opened, and the state of the doors after that.
     ghost opens: { Self → Self.In → Self.Out → Self → Type 0 };
 
-    /// States which state the doors may be in after a connection could not be opened.
+    /// States which state the doors may have after a connection couldn't be opened.
     ghost fails: { Self → Self → Type 0 };
 
-    /// Opens the next connection, and returns its input and its output.
+    /// Waits for the next connection, and returns its input and its output. The error is that it couldn't be opened.
     fn next(&mut self) -> Result<(Self::In, Self::Out), DeviceFault>
         ensures ok { IfOk result (λ door. opens self.old door.0 door.1 self.new) }
         ensures err { OnErr result (fails self.old self.new) };
 
-    /// Returns whether a further line has already arrived, so that its answer may be written together with the one
-    /// before. Doors that can't know it return false.
+    /// Returns whether more input has already arrived, so that the answers to several lines may be written together.
+    /// The default returns false.
     fn has_buffered_line(&self, _input: &Self::In) -> bool {
         false
     }
 
-    /// Takes the report of how a session over one of the connections ended. An implementation may do nothing.
+    /// Reports how the session over one of the connections ended. The default does nothing.
     fn ended(&self, _outcome: &Result<Ended, SessionFault>) {}
 }

@@ -1,4 +1,4 @@
-//! Sessions: lines in, answers out, one for each line in order.
+//! Sessions: for each line of an input, in order, one answer is written.
 #![tactic(auto)]
 
 mod answer_buffer;

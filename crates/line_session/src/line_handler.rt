@@ -1,37 +1,37 @@
-//! Who answers lines.
+//! The handler that answers lines.
 use std::alloc::Global;
 use till_request::LineOut;
 
-/// Why a line was not answered, or its answer is not out.
+/// Why a line has no answer, or its answer wasn't written whole.
 #[derive(Clone, Copy, Drop)]
 pub enum HandlerError {
-    /// N2: the device failed.
+    /// N2: the write of the answer failed.
     Write,
     OutOfMemory,
-    /// The line has no answer, since the site takes no further event.
+    /// The journal failed, so the line has no answer: the site takes no further event.
     Journal,
 }
 
-/// Answers each line with a text. This may change a clock, which gives moments, and a desk, which answers acts.
+/// A handler, which answers each line with a text. This may change the clock and the desk. The desk answers acts.
 pub trait LineHandler<C, D> {
     ghost use Rattle.std.specs.Prelude.{◌≡◌, List, ℕ, OnOk, IfErr, Err};
     ghost use Rattle.till_request.specs.Count.{RoseBy, one_if};
     ghost use Rattle.line_session.specs.Answering.{FallsShort, Said, is_write_fault};
 
-    /// States what may be answered to a line, and which states the clock and the desk are then in.
+    /// States what the answer to a line may be, and the states of the clock and the desk after it.
     ghost says: { Self → (C × D) → List ℕ → List ℕ → (C × D) → Type 0 };
 
-    /// States which states the clock and the desk may be in after a line without an answer, where memory ran out or the
+    /// States which states the clock and the desk may have after a line without an answer, as memory ran out or the
     /// journal failed.
     ghost drops: { Self → (C × D) → List ℕ → (C × D) → Type 0 };
 
-    /// What clock and desk go on to at a line at which the journal failed.
+    /// States which states the clock and the desk may have after a line at which the journal failed.
     ghost fails: { Self → (C × D) → List ℕ → (C × D) → Type 0 };
 
-    /// The lines that take memory before anything changes.
+    /// States which lines need memory before anything changes.
     ghost takes: { Self → List ℕ → Type 0 };
 
-    /// Answers a line, which comes without its LF. After an error the handler isn't called any more.
+    /// Answers a line, which is given without its LF. After an error the handler isn't called again.
     fn handle_line<O: LineOut>(
         &self,
         alloc: Global,

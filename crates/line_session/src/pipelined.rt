@@ -1,4 +1,5 @@
-//! The loop over the lines of a connection. Answers that are ready together are written together.
+//! The loop that answers the lines of a connection, and writes several answers together where several lines have
+//! arrived.
 ghost use Rattle.std.specs.Prelude.{◌≡◌, ◌≢◌, ◌⊎◌, ◌++◌, ◌-◌, ◌≤◌, ℕ, List, [], true, false, IfOk, IfErr, OnErr, OnOk, Err, Some};
 ghost use Rattle.till_request.specs.Answer.{answer_line};
 ghost use Rattle.till_request.specs.Count.{RoseBy, one_if};
@@ -18,7 +19,7 @@ use crate::doors::Doors;
 use std::alloc::Global;
 use till_request::{Answer, Found, LineFault, LineOut, Role, find_line};
 
-/// What a session under way has: memory, reads that are left, and answers that wait.
+/// The state of a session in progress: the reads that it can still make, and the buffered answers.
 #[derive(Drop)]
 struct Progress {
     alloc: Global,
@@ -27,7 +28,7 @@ struct Progress {
 }
 
 impl Progress {
-    /// All the reads of a session are left, and nothing waits.
+    /// Makes the state of a new session: all its reads remain, and no answer is buffered.
     fn new(alloc: Global) -> Progress
         ensures left { result.left ≡ session_reads }
         ensures none { result.waiting.held.bytes.items ≡ [] }
@@ -39,7 +40,7 @@ impl Progress {
         }
     }
 
-    /// Writes the answers that wait, unless they are few and a further line has already arrived.
+    /// Writes the buffered answers, unless they are few and a further line has already arrived.
     fn flush_unless_more<S: Doors>(
         &mut self,
         doors: &S,
@@ -61,7 +62,7 @@ impl Progress {
         self.waiting.flush(&mut connection.output)
     }
 
-    /// Answers a line. The answer waits, or is written at once where memory runs out.
+    /// Answers a line. The answer is buffered, or written at once if memory runs out for that.
     fn answer_line<O: LineOut, C: Clock, D: Desk>(
         &mut self,
         role: Role,
@@ -90,7 +91,7 @@ impl Progress {
         self.waiting.put(alloc, output, &answer)
     }
 
-    /// Ends a session behind this many answers: what cut it is answered. The answer is written, or waits.
+    /// Ends a session after `lines` answers. If a fault ends it, buffers or writes that as one more answer.
     fn end<O: LineOut>(
         &mut self,
         output: &mut O,
@@ -120,7 +121,7 @@ impl Progress {
         }
     }
 
-    /// Answers the lines of a connection in order. What isn't written at the end waits.
+    /// Answers the lines of a connection in order. At the end some answers may still be in the buffer.
     fn answer_lines<S: Doors, C: Clock, D: Desk>(
         &mut self,
         role: Role,
@@ -173,7 +174,7 @@ impl Progress {
     }
 }
 
-/// Whether a device failed: then nothing is written any more.
+/// Returns whether a fault is that of a device. After such a fault nothing more is written.
 fn device_failed(fault: SessionFault) -> bool
     ensures yes { result ≡ true → (fault ≡ SessionFault.Read) ⊎ (fault ≡ SessionFault.Write) }
     ensures no { result ≡ false → (fault ≢ SessionFault.Read) × (fault ≢ SessionFault.Write) }
@@ -184,10 +185,10 @@ fn device_failed(fault: SessionFault) -> bool
     }
 }
 
-/// Answers the lines that somebody of a role sends over a connection, as `session` does; but where the doors report
-/// further lines, the answers are written together.
+/// Answers the lines of a connection in order, as acts of a role, like `session`; but if the doors say that more input
+/// has arrived, several answers are written together.
 ///
-/// Where a read fails, answers may still wait, because the doors reported a further line. These are not written.
+/// After a failed read, answers that are still buffered are not written.
 pub fn pipelined_session<S: Doors, C: Clock, D: Desk>(
     alloc: Global,
     role: Role,

@@ -1,4 +1,4 @@
-//! Sessions at a desk, connection by connection.
+//! Workers, which run a session at each connection.
 ghost use Rattle.std.specs.Prelude.{◌≡◌, ◌≤◌};
 ghost use Rattle.line_session.specs.Serving.{Serves, SitsAtDesk, Visits, one_good};
 
@@ -10,7 +10,7 @@ use crate::pipelined::pipelined_session;
 use std::alloc::Global;
 use till_request::{DeviceFault, Role};
 
-/// Opens a connection and runs a session over it. Returns `None` where the connection could not be opened.
+/// Opens a connection and runs a session over it. Returns `None` if the connection couldn't be opened.
 fn serve_connection<S: Doors, C: Clock, D: Desk>(
     alloc: Global,
     role: Role,
@@ -33,7 +33,7 @@ fn serve_connection<S: Doors, C: Clock, D: Desk>(
     }
 }
 
-/// Returns 1 for a connection that ended without fault, and 0 otherwise.
+/// Returns 1 for a connection whose session ended without fault, and 0 otherwise.
 fn one_if_good(outcome: Option<Result<Ended, SessionFault>>) -> u64
     ensures counted { result ≡ one_good outcome }
     ensures most { result ≤ 1 }
@@ -44,10 +44,10 @@ fn one_if_good(outcome: Option<Result<Ended, SessionFault>>) -> u64
     }
 }
 
-/// Serves `connections` connections for somebody of a role, one after another, and returns how many
-/// ended without fault.
+/// Serves `connections` connections of a role, one after another, and returns how many of their sessions ended without
+/// fault.
 ///
-/// A door that does not open counts as a connection, and not as a good one.
+/// A connection that can't be opened counts as one of them, and not as one without fault.
 pub fn worker<S: Doors, C: Clock, D: Desk>(
     alloc: Global,
     role: Role,

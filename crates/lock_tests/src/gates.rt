@@ -1,4 +1,4 @@
-//! A program that is run while nobody holds the lock, and the close of its site.
+//! A test that a program is run while nobody holds the lock, and that a forecourt can be closed after a refused close.
 ghost use Rattle.std.specs.Prelude.{◌≡◌, [], None};
 
 use crate::programs::ASKED;
@@ -15,13 +15,13 @@ use std::test::Fail;
 use std::thread::{Threads, join, yield_now};
 use till_request::{Reply, Request};
 
-/// Two tills, two points whose releases go to slot 0 and presets to slot 1, and prices to slot 2.
+/// Makes a configuration with two tills and two points. Slot 0 decides releases, slot 1 presets, and slot 2 prices.
 fn config(alloc: Global) -> Option<Config> {
     let points = vec![in alloc; (0, 1), (0, 1)].ok()?;
     Config::new(2, 2, [1799, 1849, 0, 0, 0, 0, 0, 0], points, [(0, 0); 32])
 }
 
-/// Loads a program that grants what is asked.
+/// Loads a program into slot 0 that grants what is asked.
 fn load<L: SiteLedger, R: Wait>(
     rt: &R,
     alloc: Global,
@@ -34,7 +34,7 @@ fn load<L: SiteLedger, R: Wait>(
     Some(())
 }
 
-/// Opens both points for till 1.
+/// Opens points 1 and 2 as till 1.
 fn open<L: SiteLedger, R: Wait>(
     rt: &R,
     forecourt: &Forecourt<L>,
@@ -49,7 +49,7 @@ fn open<L: SiteLedger, R: Wait>(
     Some(())
 }
 
-/// Whether a release was granted as the entry of this number.
+/// Returns whether a call was answered with the grant of 8000 cents, as the entry of this number.
 fn is_granted(answered: Result<Answered, CallFault>, number: u32) -> bool {
     match answered {
         Ok(answered) => answered.number == number && answered.reply == Reply::Granted(8000, 1),
@@ -57,7 +57,8 @@ fn is_granted(answered: Result<Answered, CallFault>, number: u32) -> bool {
     }
 }
 
-/// Holds each draft, before it is run, until it is let go.
+/// A gate that waits before it runs a draft: it sets `held` to the number of its calls, and waits until `let_go` is the
+/// same number.
 #[derive(Drop)]
 struct Holding<'a> {
     held: &'a AtomicU64,
@@ -66,7 +67,7 @@ struct Holding<'a> {
     in_time: bool,
 }
 
-/// Whether a count comes to this within many turns.
+/// Waits until a count is `wanted`, and returns true. Returns false after 100,000,000 looks.
 fn wait_for(count: &AtomicU64, wanted: u64) -> bool {
     for _ in 0..100_000_000u32 {
         if count.load(Ordering::SeqCst) == wanted {
@@ -92,8 +93,8 @@ impl Gate for Holding<'_> {
     }
 }
 
-/// Till 1 asks, and is held twice, since point 2 changes each time. Then it is decided under the lock, as the entry of
-/// number 6.
+/// Asks for a release as till 1. The gate waits at both runs, and both are stale, since point 2 changes each time. So
+/// the request is decided under the lock, as entry 6. Returns whether all this happened.
 fn held_call<L: SiteLedger, R: Wait>(
     rt: &R,
     forecourt: &Forecourt<L>,
@@ -111,8 +112,8 @@ fn held_call<L: SiteLedger, R: Wait>(
     is_granted(answered, 6) && gate.calls == 2 && gate.in_time
 }
 
-/// Each time that till 1 is held something comes of point 2, and then it lets till 1 go: the nozzle is lifted, and then
-/// till 2 is granted a release, for which its gate is called once, since nothing comes between.
+/// Changes point 2 each time that till 1's gate waits, and then lets the gate go: first the nozzle is lifted, then till
+/// 2 is granted a release, after one run of its own. Returns whether all this happened.
 fn other_calls<L: SiteLedger, R: Wait>(
     rt: &R,
     forecourt: &Forecourt<L>,
@@ -130,7 +131,7 @@ fn other_calls<L: SiteLedger, R: Wait>(
     is_held && lifted.is_ok() && is_held_again && is_granted(released, 5) && gate.calls == 1
 }
 
-/// Whether both are answered so beside one another.
+/// Makes the calls of both tills on two threads, and returns whether all went as they should.
 fn beside<L: SiteLedger + Send + Sync, R: Threads + Wait + Sync>(
     rt: &R,
     forecourt: &Forecourt<L>,
@@ -147,7 +148,7 @@ fn beside<L: SiteLedger + Send + Sync, R: Threads + Wait + Sync>(
     one && two
 }
 
-/// The same with the two passes of a new forecourt.
+/// Loads the program and opens the points of a forecourt, and then makes the calls of both tills with its two passes.
 fn are_granted<L: SiteLedger + Send + Sync, R: Threads + Wait + Sync>(
     rt: &R,
     alloc: Global,
@@ -161,7 +162,7 @@ fn are_granted<L: SiteLedger + Send + Sync, R: Threads + Wait + Sync>(
     Some(beside(rt, forecourt, first, second))
 }
 
-/// How many entries the site has that is closed with these passes.
+/// Closes a forecourt with these passes, and returns how many entries its site has.
 fn closed<L: SiteLedger, R: Wait>(
     rt: &R,
     forecourt: Forecourt<L>,
@@ -173,7 +174,8 @@ fn closed<L: SiteLedger, R: Wait>(
     }
 }
 
-/// The same of a forecourt that couldn't be closed without this pass.
+/// Reopens a forecourt that couldn't be closed, closes it with this pass too, and returns how many entries its site
+/// has.
 fn closed_again<L: SiteLedger, R: Wait>(
     rt: &R,
     kept: CloseFault<L>,
@@ -184,8 +186,8 @@ fn closed_again<L: SiteLedger, R: Wait>(
     closed(rt, kept.forecourt.reopen(), passes)
 }
 
-/// Closes a forecourt without its last pass, and then with it: why the first close is refused, and how many entries the
-/// site has.
+/// Closes a forecourt without its last pass, which is refused, and then with all. Returns the refusal, and how many
+/// entries the site has.
 fn closed_in_the_end<L: SiteLedger, R: Wait>(
     rt: &R,
     forecourt: Forecourt<L>,
@@ -198,7 +200,8 @@ fn closed_in_the_end<L: SiteLedger, R: Wait>(
     }
 }
 
-/// Whether both tills are granted their releases at a new forecourt, and how it is closed then.
+/// Makes the calls of both tills at a new forecourt, and closes it. Returns whether both got their releases, and the
+/// results of the closes.
 fn both<L: SiteLedger + Send + Sync, R: Threads + Wait + Sync>(
     rt: &R,
     alloc: Global,
@@ -225,7 +228,7 @@ fn both_of<R: Threads + Wait + Sync>(
     both::<Brand, R>(rt, alloc, Blank::new(2), config)
 }
 
-// A gate that was called under the lock would never be let go.
+// If the gate were called under the lock, the other till couldn't let it go, and the test would fail.
 #[test]
 fn gate_holds_first_until_second(rt: HostRuntime) -> Result<(), Fail> {
     let config = config(rt.alloc()).ok_or("a configuration")?;

@@ -1,5 +1,5 @@
-//! Tests of the site under its lock and of serving it: a gate that is held, many programs, synced answers, and
-//! sockets. They are a crate of their own, so that `./check` proves each of those crates once.
+//! Tests of the site under its lock, and of serving it: a gate that waits, many programs, synced answers, and sockets.
+//! They are in a crate of their own, so that `./check` proves the tested crates only once.
 #![tactic(auto)]
 
 #[cfg(test)]

@@ -1,4 +1,4 @@
-//! Many programs are verified at once.
+//! A test that many programs are verified at once.
 ghost use Rattle.std.specs.Prelude.{◌<◌, ◌≤◌};
 
 use reg_types::Layout;
@@ -7,15 +7,15 @@ use std::alloc::{AllocError, Global};
 use std::test::Fail;
 use std::thread::Threads;
 
-/// It grants what is asked.
+/// A program that grants what is asked: it answers the asked amount of its context.
 pub const ASKED: [u8; 16] = [0x79, 0x10, 0x18, 0, 0, 0, 0, 0, 0x95, 0, 0, 0, 0, 0, 0, 0];
 
-/// No number is answered.
+/// A program that ends without an answer in R0, which the verifier refuses.
 const EXIT: [u8; 8] = [0x95, 0, 0, 0, 0, 0, 0, 0];
 
 type Item = (Vec<u8>, u32, Layout);
 
-/// The second of three programs isn't good.
+/// Returns three programs to verify, of which the second is refused.
 fn items(alloc: Global) -> Result<Vec<Item>, AllocError> {
     let mut items = Vec::new(alloc);
     for bytes in [ASKED.as_slice(), EXIT.as_slice(), ASKED.as_slice()] {
@@ -24,7 +24,7 @@ fn items(alloc: Global) -> Result<Vec<Item>, AllocError> {
     Ok(items)
 }
 
-/// How many of these items are answered as they are, by this many workers.
+/// Verifies these items on `workers` threads, and returns how many results are right: all but the second are accepted.
 fn answered<R: Threads + Sync>(rt: &R, alloc: Global, items: &[Item], workers: u32) -> u32
     requires { (0 < workers) × (workers ≤ 16) }
 {

@@ -1,4 +1,4 @@
-//! Serving over loopback: the peers are a thread of the test.
+//! Tests of serving over the loopback interface. The peers are a thread of the test.
 use line_session::Doors;
 use site_core::{Config, Site};
 use site_server::{AtOnce, Crew, Listeners, NoJournal, Notices, Serving, SessionFailure, TcpDoors};
@@ -12,7 +12,7 @@ use std::thread::{Threads, join};
 use std::time::Clock;
 use till_request::Role;
 
-/// Tells nobody.
+/// A receiver of notices that ignores them.
 #[derive(Drop)]
 struct Silent;
 
@@ -32,7 +32,7 @@ fn ports<R: Net<Listener = TcpListener, Stream = TcpStream>>(
     }
 }
 
-/// A new site of one till, and one point whose releases go to slot 0 and presets to slot 1.
+/// Makes a new site with one till and one point. Slot 0 decides releases, slot 1 presets, and slot 2 prices.
 fn site(alloc: Global) -> Result<Site, Fail> {
     let points = vec![in alloc; (0, 1)]?;
     let prices = [1799, 1849, 0, 0, 0, 0, 0, 0];
@@ -40,7 +40,7 @@ fn site(alloc: Global) -> Result<Site, Fail> {
     Ok(Site::start(alloc, config)?)
 }
 
-/// Where tills, dispensers and the owner connect.
+/// The addresses to which tills, dispensers and the owner connect.
 #[derive(Clone, Copy)]
 struct Addresses {
     till: SocketAddr,
@@ -56,7 +56,7 @@ fn addresses_of(listeners: &Listeners) -> io::Result<Addresses> {
     })
 }
 
-/// Sends lines as a peer, and hears as many answers.
+/// Connects as a peer, sends these lines, and appends to `heard` as many answers as `answers` says.
 fn ask<R: Net<Listener = TcpListener, Stream = TcpStream>>(
     rt: &R,
     alloc: Global,
@@ -74,7 +74,8 @@ fn ask<R: Net<Listener = TcpListener, Stream = TcpStream>>(
     Ok(())
 }
 
-/// The owner loads a program, a till opens a point and asks for a release, and the dispenser takes its order.
+/// Sends lines as three peers in turn: the owner loads a program, a till opens a point and asks for a release, and the
+/// dispenser takes its order. Returns their answers.
 fn in_turn<R: Net<Listener = TcpListener, Stream = TcpStream>>(
     rt: &R,
     alloc: Global,
@@ -91,7 +92,7 @@ fn in_turn<R: Net<Listener = TcpListener, Stream = TcpStream>>(
     Ok(heard)
 }
 
-/// A site that serves one connection of each kind.
+/// Makes the settings for serving a new site, with one connection of each kind.
 fn serving(alloc: Global, listeners: Listeners) -> Result<Serving, Fail> {
     let crew = Crew::new(1, 1).ok_or("a crew")?;
     Ok(Serving {
@@ -103,8 +104,8 @@ fn serving(alloc: Global, listeners: Listeners) -> Result<Serving, Fail> {
     })
 }
 
-/// Serves beside what the peers do: how many connections ended without fault, how many entries the site has that was
-/// closed then, and what the peers heard.
+/// Serves a site while the peers send their lines. Returns how many connections ended without fault, how many entries
+/// the closed site has, and the answers that the peers got.
 fn one_of_each<R: Net<Listener = TcpListener, Stream = TcpStream> + Threads + Wait + Clock + Sync>(
     rt: &R,
     alloc: Global,
@@ -133,7 +134,7 @@ fn serve_on_loopback(rt: HostRuntime) -> Result<(), Fail> {
     Ok(())
 }
 
-/// Whether the answers at a door of the tills' listener leave without a delay.
+/// Returns whether the socket of a till's connection sends small answers without delay (`TCP_NODELAY`).
 fn leaves_at_once<R: Net<Listener = TcpListener, Stream = TcpStream> + Clock>(
     rt: &R,
     listener: &TcpListener,

@@ -1,5 +1,5 @@
-//! Slots for programs. Each load makes a new version, whose number is never used again, and a slot holds the number of
-//! its newest version.
+//! The slots that programs are loaded into. Each load makes a new version, whose number is never used again. A slot has
+//! the number of its newest version.
 #![tactic(auto)]
 
 ghost use Rattle.std.specs.Prelude.{◌≡◌, ◌≢◌, ℕ, ◌+◌, MatchOption, OnErr, IfOk, Some, None};
@@ -13,13 +13,13 @@ use std::marker::Model;
 use std::sync::Arc;
 use thiserror::Error;
 
-/// How many versions there can be in total, over all slots.
+/// The greatest number of versions, in all slots together.
 pub const VERSIONS: usize = 4096;
 
-/// How many slots there are.
+/// The number of slots.
 pub const SLOTS: u32 = 16;
 
-/// Why a program wasn't installed.
+/// Why a program wasn't installed in a slot.
 #[derive(Clone, Copy, Debug, PartialEq, Eq, Drop, Error)]
 pub enum SlotFault {
     #[error("there is no such slot: they are 0 to 15 (S32)")]
@@ -30,7 +30,7 @@ pub enum SlotFault {
     OutOfMemory,
 }
 
-/// 16 slots, and the programs of all versions that were ever installed.
+/// The 16 slots, and the programs of all versions that were ever installed.
 #[derive(Drop)]
 pub struct Slots {
     installed: [Option<u32>; 16],
@@ -50,7 +50,7 @@ impl Model for Slots {
 }
 
 impl Slots {
-    /// Makes 16 empty slots with no version. Allocates no memory.
+    /// Makes 16 empty slots, with no version yet. Allocates no memory.
     pub fn new(alloc: Global) -> Self
         ensures { result ≡ no_versions }
     {
@@ -60,11 +60,11 @@ impl Slots {
         }
     }
 
-    /// Makes the program a new version, installs it in the slot and returns its number. Versions are numbered from 1.
-    /// Every other slot keeps its version.
+    /// Installs a program in a slot as a new version, and returns the version's number. Versions are numbered from 1.
+    /// No other slot changes.
     ///
-    /// The error is `NoSuchSlot` for a slot over 15, or else `VersionsFull` where there are 4,096 versions, or else
-    /// `OutOfMemory` where an allocation failed. After an error nothing has changed, and the program is dropped.
+    /// The error is `NoSuchSlot` for a slot over 15, else `VersionsFull` if there are 4,096 versions, else
+    /// `OutOfMemory`. After an error nothing has changed, and the program is dropped.
     pub fn install(&mut self, slot: u32, program: Arc<Program>) -> Result<u32, SlotFault>
         ensures step { IfOk result (λ number. Installs self.old slot (arc_value program) number self.new) }
         ensures refusal { Refuses self.old slot result }
@@ -84,7 +84,7 @@ impl Slots {
         Ok(number)
     }
 
-    /// Returns the number of the version in a slot, or None for an empty slot and for a slot over 15.
+    /// Returns the number of the version in a slot; `None` for an empty slot and for a slot over 15.
     pub fn installed(&self, slot: u32) -> Option<u32>
         ensures { result ≡ number_in self.now slot }
     {
@@ -95,7 +95,7 @@ impl Slots {
         }
     }
 
-    /// Returns the program of a version, or None where there is no version of this number.
+    /// Returns the program of the version of this number, or `None` if there is no such version.
     pub fn version(&self, number: u32) -> Option<&Arc<Program>>
         ensures { MatchOption result (program_of self.now number ≡ None)
             (λ program. program_of self.now number ≡ Some (arc_value program.now)) }

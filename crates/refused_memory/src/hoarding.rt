@@ -1,14 +1,14 @@
-//! All memory, but for a room.
+//! Taking all memory of the process but a small room.
 use std::alloc::Global;
 
-/// A freed block of up to 1,032 bytes serves its own size alone, so a room is a larger block of which that much is
-/// taken again.
+/// The bytes that are taken again from the freed block that becomes the room. The allocator reuses a freed block of up
+/// to 1,032 bytes for its own size only, so the room must be part of a larger one.
 const HELD: usize = 1080;
 
-/// The most rooms that a call is tried in.
+/// The most room sizes with which a call is tried.
 pub const TURNS: usize = 120;
 
-/// Takes every block of `size` bytes that memory still has.
+/// Allocates blocks of `size` bytes until that fails.
 fn take_all(alloc: Global, blocks: &mut Vec<Vec<u8>>, size: usize) {
     for _ in 0..100_000u32 {
         match Vec::with_capacity(alloc, size) {
@@ -22,7 +22,7 @@ fn take_all(alloc: Global, blocks: &mut Vec<Vec<u8>>, size: usize) {
     }
 }
 
-/// Takes all that memory still has, in blocks from 2^46 bytes down to the least.
+/// Allocates all memory that is left, in blocks from 2^46 bytes down to 8.
 fn hoard(alloc: Global, blocks: &mut Vec<Vec<u8>>) {
     for less in 0..36u32 {
         take_all(alloc, blocks, 1usize << (46 - less));
@@ -32,14 +32,14 @@ fn hoard(alloc: Global, blocks: &mut Vec<Vec<u8>>) {
     }
 }
 
-/// All memory but a room. It is given back when this is dropped.
+/// All memory but a room. It is freed when this is dropped.
 #[derive(Drop)]
 pub struct Taken {
     blocks: Vec<Vec<u8>>,
     held: Option<Vec<u8>>,
 }
 
-/// Takes all memory but one room of `size` bytes.
+/// Allocates all memory but one room of `size` bytes.
 pub fn take_but(alloc: Global, size: usize) -> Option<Taken> {
     let room: Vec<u8> = Vec::with_capacity(alloc, size.saturating_add(HELD)).ok()?;
     let mut blocks = Vec::with_capacity(alloc, 200_000).ok()?;
@@ -49,13 +49,13 @@ pub fn take_but(alloc: Global, size: usize) -> Option<Taken> {
     Some(Taken { blocks, held })
 }
 
-/// Takes all memory but 64 MB, which are enough for what a test makes: then each further room costs a hundredth of the
-/// time.
+/// Allocates all memory but 64 MB, which are enough for what a test makes. With so little left, the later calls of
+/// `take_but` take a hundredth of the time.
 pub fn leave_few(alloc: Global) -> Option<Taken> {
     take_but(alloc, 1 << 26)
 }
 
-/// The room of a turn, from 0 on; the last has over 80,000 bytes.
+/// Returns the size of the room in a turn, in bytes: 0 in turn 0, over 80,000 in the last.
 pub fn room_of(turn: usize) -> usize {
     turn.wrapping_mul(turn).wrapping_mul(6)
 }

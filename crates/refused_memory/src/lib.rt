@@ -1,6 +1,6 @@
-//! Refused memory: a test that takes all memory that the process can get, gives back a measured room, and sees that a
-//! line of a play which finds too little of it changes nothing. It is a crate of its own, since it leaves no memory to
-//! others.
+//! A test of plays that run out of memory. It allocates all memory that the process can get, but a room of a certain
+//! size, and checks that a line of a play for which this is too little changes nothing. It is a crate of its own, as it
+//! leaves no memory to other tests.
 #![tactic(auto)]
 
 #[cfg(test)]

@@ -1,4 +1,4 @@
-//! A script at whose line of a number memory runs short.
+//! A script during one line of which there is little memory.
 ghost use Rattle.std.specs.Prelude.{◌≡◌, Some, drop};
 
 use crate::hoarding::{Taken, take_but};
@@ -6,8 +6,8 @@ use std::alloc::Global;
 use till_request::devices::MemoryIn;
 use till_request::{DeviceFault, LineIn};
 
-/// Gives what is in memory. From the first byte of one line on memory has a room alone, and behind that line all is
-/// given back.
+/// An input that gives a script from memory. From the first byte of one line to its end, all memory but a room is
+/// allocated.
 #[derive(Drop)]
 pub struct Narrow {
     input: MemoryIn,
@@ -19,7 +19,7 @@ pub struct Narrow {
 }
 
 impl Narrow {
-    /// The line of this number, from 0, finds `size` bytes of memory.
+    /// Makes an input during whose line number `line`, counted from 0, there are only `size` bytes of memory.
     pub fn new(alloc: Global, input: MemoryIn, line: usize, size: usize) -> Self {
         Narrow {
             input,
@@ -31,7 +31,7 @@ impl Narrow {
         }
     }
 
-    /// Takes all memory but the room where its line begins, and gives it back behind that.
+    /// Allocates all memory but the room if the line begins, and frees it if the line has ended.
     fn turn(&mut self)
         ensures { self.new.input ≡ self.old.input }
     {

@@ -1,6 +1,6 @@
-//! Plays one of whose lines finds too little memory: the line is answered `S31` and changes nothing, or the play ends
-//! out of memory after the answers to the lines before it, or nothing is refused. What the program's own words reach is
-//! refused its memory, one allocation at a time, by tools/faults.py.
+//! Tests of plays with too little memory for one line. The line must be answered `S31` and change nothing, or the play
+//! must end with `OutOfMemory` after the answers to the lines before it. The commands of `fc` are tested in the same
+//! way by tools/faults.py, one allocation at a time.
 use crate::hoarding::{TURNS, leave_few, room_of};
 use crate::narrow::Narrow;
 use console::{play, read_config};
@@ -17,8 +17,8 @@ const STATION: &str =
     "tills = 2\nprice_slot = 2\nprices = [1799, 1849, 0, 0, 0, 0, 0, 0]\n[[point]]\nrelease = 0\npreset = 1\n\
         [[point]]\nrelease = 0\npreset = 1\n[[counter]]\nvalue = 0\nbound = 2\n";
 
-// The history's list begins with room for four entries and is next refused memory at its fifth: this is the release,
-// which is granted when it is sent again.
+// The list of the history begins with memory for four entries, and allocates again for the fifth. Here that is the
+// release, which is granted when it is sent again.
 const RELEASE: &str =
     "load 0 0 79101800000000009500000000000000\ntill 1 show 1\ntill 1 show 1\ntill 1 open 1\n\
         till 1 release 1 8000\ntill 1 release 1 8000\n";
@@ -32,7 +32,7 @@ const DELIVERY: &str =
         disp 1 started\ndisp 1 flow 2500 1390\ndisp 1 down\ntill 1 lock 1 1\ntill 2 lock 1 1\ntill 2 clear 1 1\n\
         till 1 clear 1 1\ntill 1 clear 1 1\ntill 1 show 1\n";
 
-/// How a play ended, and what it wrote.
+/// How a play ended, and what it wrote. `is_want` says that it ended with `OutOfMemory`.
 #[derive(Drop)]
 struct Outcome {
     text: Vec<u8>,
@@ -50,21 +50,21 @@ fn outcome_of(alloc: Global, config: Config, mut input: Narrow, mut output: Memo
     }
 }
 
-/// A script whose line of this number finds this much memory.
+/// Makes an input that gives a script during whose line number `line` there are only `size` bytes of memory.
 fn narrow(alloc: Global, script: &[u8], line: usize, size: usize) -> Option<Narrow> {
     let bytes = Vec::from_slice(alloc, script).ok()?;
     let input = MemoryIn::new(bytes, Vec::new(alloc), None);
     Some(Narrow::new(alloc, input, line, size))
 }
 
-/// A device that takes all answers without growing.
+/// Makes an output that takes all answers without allocating.
 fn output(alloc: Global) -> Option<MemoryOut> {
     let mut output = MemoryOut::new(alloc, Vec::new(alloc), None);
     output.bytes = Vec::with_capacity(alloc, 65_536).ok()?;
     Some(output)
 }
 
-/// A play whose line of this number finds this much memory.
+/// Plays a script during whose line number `line` there are only `size` bytes of memory.
 fn played(alloc: Global, site: &str, script: &[u8], line: usize, size: usize) -> Option<Outcome> {
     let config = read_config(alloc, site.as_bytes()).ok()?.config;
     let output = output(alloc)?;
@@ -72,23 +72,23 @@ fn played(alloc: Global, site: &str, script: &[u8], line: usize, size: usize) ->
     Some(outcome_of(alloc, config, input, output))
 }
 
-/// What is written where nothing is refused, and where one line is answered `S31`.
+/// The two texts that a play may write: `whole` if no memory is refused, and `told` if one line is answered `S31`.
 #[derive(Drop)]
 struct Wanted {
     whole: Vec<u8>,
     told: Vec<u8>,
 }
 
-/// What became of a line that found too little memory.
+/// What happened to a line for which there was little memory.
 #[derive(Clone, Copy)]
 enum Became {
     Answered,
     Refused,
-    /// It ended out of memory, after the answers to the lines before it.
+    /// The play ended with `OutOfMemory`, after the answers to the lines before.
     Ended,
 }
 
-/// What became of a line of this number; none where something else was written.
+/// Returns what happened to line number `line`, or `None` if the play wrote something wrong.
 fn what_became(found: &Outcome, wanted: &Wanted, line: usize) -> Option<Became> {
     let text = found.text.as_slice();
     if found.is_want {
@@ -103,7 +103,7 @@ fn what_became(found: &Outcome, wanted: &Wanted, line: usize) -> Option<Became> 
     (text == wanted.told.as_slice()).then_some(Became::Refused)
 }
 
-/// The first lines of a text, as many as asked.
+/// Returns the first `lines` lines of a text.
 fn first_lines(text: &[u8], lines: usize) -> &[u8] {
     let mut left = lines;
     for (at, byte) in text.iter().enumerate() {
@@ -117,7 +117,7 @@ fn first_lines(text: &[u8], lines: usize) -> &[u8] {
     text
 }
 
-/// The text with this put before its line of a number, and without as many lines from there on.
+/// Returns the text with `put` in place of the `less` lines from line number `line` on.
 fn changed(alloc: Global, text: &[u8], line: usize, put: &[u8], less: usize) -> Option<Vec<u8>> {
     let behind = first_lines(text, line.wrapping_add(less));
     let mut all = Vec::from_slice(alloc, first_lines(text, line)).ok()?;
@@ -126,7 +126,7 @@ fn changed(alloc: Global, text: &[u8], line: usize, put: &[u8], less: usize) -> 
     Some(all)
 }
 
-/// What a play writes without its line of this number, which is answered `S31`.
+/// Returns what a play writes in which line number `line` is answered `S31` and changes nothing.
 fn told_without(alloc: Global, site: &str, script: &str, line: usize) -> Option<Vec<u8>> {
     let less = changed(alloc, script.as_bytes(), line, b"", 1)?;
     let found = played(alloc, site, &less, script.len(), 0)?;
@@ -142,8 +142,8 @@ fn wanted_of(alloc: Global, site: &str, script: &str, line: usize) -> Option<Wan
     })
 }
 
-/// How often a line was answered `S31` and how often its play ended, in rooms that grow until nothing is refused. None
-/// where a refusal left another answer, or nothing ended unhindered.
+/// Plays a script with rooms that grow until the line is answered. Returns how often the line was answered `S31`, and
+/// how often the play ended with `OutOfMemory`; `None` if it wrote something wrong, or no room was enough.
 fn count_refusals(
     alloc: Global,
     site: &str,
@@ -169,8 +169,8 @@ fn refused_at(alloc: Global, site: &str, script: &str, line: usize) -> Option<(u
     count_refusals(alloc, site, script, line, &wanted)
 }
 
-/// Each line in turn: of how many the act was refused, and of how many the line: of the first, whose room serves the
-/// others, and of those that are longer.
+/// Tries each line of a script in turn. Returns for how many lines the act was refused memory (`S31`), and for how many
+/// the play ended with `OutOfMemory`, as no memory could be had for the line itself.
 fn refused_in(alloc: Global, site: &str, script: &str, lines: usize) -> Option<(u32, u32)> {
     let (mut wanted, mut ended) = (0u32, 0u32);
     for line in 0..lines {
@@ -185,7 +185,7 @@ fn refused_in(alloc: Global, site: &str, script: &str, lines: usize) -> Option<(
     Some((wanted, ended))
 }
 
-// A release that is sent again, presets that count, and a delivery.
+// Tests three scripts: a release that is sent again, presets that count, and a delivery.
 #[test]
 fn each_growth_refused(rt: HostRuntime) -> Result<(), Fail> {
     for (site, script, lines) in [

@@ -1,4 +1,4 @@
-// The verifier: register types, facts (abstract states), and programs whose runs never get stuck.
+// The verifier: the types of registers, facts (abstract states), and verified programs, whose runs never get stuck.
 #![tactic(auto)]
 
 mod refusal;

@@ -1,4 +1,4 @@
-// Why programs are refused.
+// The reasons for which the verifier refuses a program.
 
 ghost use Rattle.std.specs.Prelude.{◌≡◌};
 ghost use Rattle.reg_types.specs.Refusals.{located, shown_by, decode_shown, flow_shown, type_shown};
@@ -8,8 +8,9 @@ use bpf_decode::DecodeFault;
 use flow_check::FlowFault;
 use thiserror::Error;
 
-/// What is wrong with an instruction under the fact before it. Each case holds the unit at which the instruction
-/// begins, and the register or the argument (1 or 2) where there is one. The messages leave out the unit.
+/// What is wrong with an instruction, given the fact (the abstract state) before it. The first number in a case is the
+/// unit where the instruction begins; a second number is the register at fault, or the argument (1 or 2). The messages
+/// don't show the unit.
 #[derive(Clone, Copy, Debug, PartialEq, Eq, Error)]
 pub enum TypeFault {
     #[error("the program runs past its last unit")]
@@ -38,7 +39,7 @@ pub enum TypeFault {
     UndeclaredCounter(u32),
 }
 
-/// Why bytes are refused: for a fault of decoding, of a jump or of a type, or because memory ran out.
+/// Why the verifier refuses a program: a fault of decoding, of a jump or of a type; or memory ran out.
 #[derive(Clone, Copy, Debug, PartialEq, Eq, Error)]
 pub enum Refusal {
     #[error("{0}")]
@@ -95,8 +96,8 @@ fn show_type(fault: TypeFault) -> (u32, Option<u32>, Option<u32>)
 }
 
 impl Refusal {
-    /// Returns the number of the V fault, its unit, and its register or argument, as far as it has them; `None` for out
-    /// of memory.
+    /// Returns the number of the fault (1 to 20, which are V1 to V20), then its unit and its register or argument,
+    /// where it has them. Returns `None` for `OutOfMemory`.
     pub fn shown(self) -> Option<(u32, Option<u32>, Option<u32>)>
         ensures { result ≡ shown_by self }
     {
@@ -110,7 +111,7 @@ impl Refusal {
 }
 
 impl Flaw {
-    /// Returns the fault that this flaw is when the instruction at unit `pc` has it.
+    /// Returns this flaw as the fault of the instruction at unit `pc`.
     pub fn at(self, pc: u32) -> TypeFault
         ensures { result ≡ located pc self }
     {

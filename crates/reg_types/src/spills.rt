@@ -1,4 +1,4 @@
-// Pointers that are spilled to the stack: a number for each aligned place of eight bytes.
+// Spills: pointers that are stored in the stack. The verifier has a number for each aligned place of eight bytes.
 
 ghost use Rattle.std.specs.Prelude.{◌≡◌, ◌==◌, if◌then◌else◌, ◌≤◌, ◌+◌};
 ghost use Rattle.reg_types.specs.Rules.{spill_of as spill_by, spilled_type as spilled_by};
@@ -8,7 +8,7 @@ ghost use Rattle.bpf_model.specs.declared.limits.TheConstants.{STACK_BYTES};
 use crate::rules::lowest_by;
 use crate::types::RegType;
 
-/// Returns the number by which `Fact::spills` stores a pointer's type; 0 for a type that is no pointer's.
+/// Returns the number that `Fact::spills` has for a pointer of this type; 0 for a type that isn't a pointer's.
 pub fn spill_of(value: RegType) -> u16
     ensures { result ≡ spill_by value }
 {
@@ -22,7 +22,7 @@ pub fn spill_of(value: RegType) -> u16
     }
 }
 
-/// Returns the type of the pointer that a number of `Fact::spills` means; `Unset` for 0, where no pointer is spilled.
+/// Returns the type of the pointer that a number in `Fact::spills` stands for; `Unset` for 0, which is no pointer.
 pub fn spilled_type(spill: u16) -> RegType
     ensures { result ≡ spilled_by spill }
 {
@@ -42,7 +42,7 @@ fn common_spill(a: u16, b: u16) -> u16
     if a == b { a } else { 0 }
 }
 
-/// Joins spills in place: a spill that both have stays, and where they differ none is left.
+/// Joins spills: a spill that is the same in both is kept, and all others become 0 (no pointer).
 pub fn join_spills(spills: &mut [u16; 64], others: &[u16; 64])
     ensures { spills.new ≡ joined spills.old others.now }
 {
@@ -51,7 +51,7 @@ pub fn join_spills(spills: &mut [u16; 64], others: &[u16; 64])
     }
 }
 
-/// Makes `spill` the spill of each place that the `len` bytes from `at` on touch.
+/// Sets the spill of each aligned place that overlaps the `len` bytes from `at` on.
 pub fn put_spill(spills: &mut [u16; 64], spill: u16, at: u32, len: u32)
     requires { at + len ≤ STACK_BYTES }
     ensures { spills.new ≡ respilled spill at len 0 spills.old }

@@ -1,4 +1,4 @@
-// The facts that the pass stores, each found by its unit without a search.
+// The table of the facts that the verifier stores, each found by its unit without a search.
 
 ghost use Rattle.std.specs.Prelude.{◌≡◌, ℕ, ◌≤◌, ◌+◌, ◌∷◌, [], IfOk, IfSome, OnOk, IsTrue};
 ghost use Rattle.std.specs.Prelude.{false, Some, None, replicate};
@@ -12,11 +12,11 @@ use crate::types::{Fact, StoredFact};
 use std::alloc::{AllocError, Global};
 use std::marker::Model;
 
-/// Facts of some of the units 0 to 512, one for each of them.
+/// The stored facts, at most one for each of the units 0 to 512.
 #[derive(Drop)]
 pub struct Table {
     facts: Vec<StoredFact>,
-    // For each unit, one more than the index of its fact in `facts`, or 0 where none is stored.
+    // For each unit, one more than the index of its fact in `facts`, or 0 if it has no stored fact.
     places: [usize; 513],
 }
 
@@ -32,7 +32,7 @@ impl Model for Table {
     ghost invariant = { λ t. IsIndexed t.facts.items t.places };
 }
 
-// Returns the places of a table that stores a fact for the first unit only.
+// Returns the `places` of a table that has a fact for unit 0 only, at index 0.
 fn first_alone() -> [usize; 513]
     ensures { result ≡ slice_set (replicate (UNITS + 1) 0) 0 1 }
 {
@@ -42,7 +42,7 @@ fn first_alone() -> [usize; 513]
 }
 
 impl Table {
-    /// Makes a table that stores this fact for the first unit, and no other. `Err` is out of memory.
+    /// Makes a table that has this fact for unit 0, and no other fact. The error is that memory ran out.
     pub fn new(alloc: Global, fact: &Fact) -> Result<Table, AllocError>
         ensures { IfOk result (λ table. table ≡ record { at = 0; fact = fact.now } ∷ []) }
     {
@@ -65,7 +65,7 @@ impl Table {
         }
     }
 
-    /// Copies the stored fact of a unit, if it has one, to `fact`. Returns whether it has one.
+    /// Copies the stored fact of a unit to `fact`, if the unit has one, and returns whether it has one.
     pub fn read_at(&self, at: u32, fact: &mut Fact) -> bool
         requires { at ≤ UNITS }
         ensures { fact_if result fact.new ≡ stored self.now at }
@@ -79,8 +79,8 @@ impl Table {
         }
     }
 
-    /// Joins the stored fact of a unit, if it has one, with `fact`: both become the join. Returns whether it has one;
-    /// if not, nothing changes.
+    /// Joins the stored fact of a unit with `fact`, sets both to the join, and returns true. If the unit has no stored
+    /// fact, changes nothing and returns false.
     pub fn join_at(&mut self, at: u32, fact: &mut Fact) -> bool
         requires { at ≤ UNITS }
         ensures joined { IsTrue result → IsJoined at fact.old (stored self.old) (stored self.new) }
@@ -104,8 +104,8 @@ impl Table {
         Ok(())
     }
 
-    /// Takes in the fact with which a jump comes to its target: joins it with the stored one, or stores it where there
-    /// is none. `Err` is out of memory.
+    /// Adds the fact that a jump brings to its target `at`: joins it with the target's stored fact, or stores it if
+    /// there is none. The error is that memory ran out.
     pub fn enter(&mut self, at: u32, fact: &Fact) -> Result<(), AllocError>
         requires { at ≤ UNITS }
         ensures { OnOk result ((q : ℕ) → AreSame (stored self.new q) (arrived q fact.now at (stored self.old q))) }
@@ -118,7 +118,7 @@ impl Table {
         Ok(())
     }
 
-    /// Returns the facts, in the order in which their units were entered.
+    /// Returns the stored facts, in the order in which their units got one.
     pub fn into_facts(self) -> Vec<StoredFact>
         ensures same { result.items ≡ self }
         ensures distinct { AreDistinct result.items }

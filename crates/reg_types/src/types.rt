@@ -1,4 +1,4 @@
-// The verifier's types: what is known before an instruction, and what an instruction does to it.
+// The verifier's types: registers, facts, and what an instruction does to a fact.
 
 ghost use Rattle.std.specs.Prelude.{◌≡◌, ℕ, ◌↔◌, ◌≤◌, ◌+◌};
 ghost use Rattle.stack_map.specs.Places.{Has};
@@ -24,7 +24,8 @@ pub enum RegType {
     Stk(i32),
 }
 
-/// What a program is loaded with: the counters that it declares, as a mask, and the layout of its contexts.
+/// The options that a program is loaded with: the mask of the counters that it declares, and the layout of its
+/// contexts.
 #[derive(Clone, Copy)]
 pub struct LoadOptions {
     pub mask: u32,
@@ -32,9 +33,8 @@ pub struct LoadOptions {
 }
 
 /// The abstract state before an instruction: the types of registers 0 to 10, which bytes of the stack are set, and the
-/// spills: for each of the stack's 64 aligned places of eight bytes, from the lowest on, the pointer that is spilled
-/// there. 0 is none, 1 to 81 are `Ctx(0)` to `Ctx(80)`, and 82 to 594 are `Stk(-512)` to `Stk(0)`, for both layouts
-/// alike.
+/// pointers spilled there. `spills` has a number for each of the 64 aligned places of eight bytes, the lowest first: 0
+/// is no pointer, 1 to 81 are `Ctx(0)` to `Ctx(80)`, and 82 to 594 are `Stk(-512)` to `Stk(0)`.
 #[derive(Clone, Copy)]
 pub struct Fact {
     pub types: [RegType; 11],
@@ -42,23 +42,23 @@ pub struct Fact {
     pub spills: [u16; 64],
 }
 
-/// A fact that is stored: what is known before the unit `at`.
+/// A stored fact: what is known before unit `at`.
 #[derive(Clone, Copy)]
 pub struct StoredFact {
     pub at: u32,
     pub fact: Fact,
 }
 
-/// The fact that is carried from an instruction to the next one, and the unit where that begins. `at` is `None` where
-/// the instruction doesn't go on to the next one.
+/// The fact after an instruction, carried to the next one. `at` is the unit where the next one begins, or `None` if a
+/// run can't continue there.
 #[derive(Clone, Copy)]
 pub struct CarriedFact {
     pub at: Option<u32>,
     pub fact: Fact,
 }
 
-/// The bytes of the stack that an instruction writes: `len` of them from `at` on. `kept` is the type of the pointer
-/// that it spills there, or `Unset` where it sets the bytes.
+/// What an instruction writes to the stack: `len` bytes from place `at` on. `kept` is the type of a pointer that is
+/// spilled there, or `Unset` if the bytes become those of a number.
 #[derive(Clone, Copy)]
 pub struct StackWrite {
     pub at: u32,
@@ -66,7 +66,7 @@ pub struct StackWrite {
     pub kept: RegType,
 }
 
-/// What is wrong with an instruction under a fact: a `TypeFault` without its unit.
+/// What is wrong with an instruction, given the fact before it: a `TypeFault` without its unit.
 #[derive(Clone, Copy)]
 pub enum Flaw {
     FallsOff,
@@ -83,8 +83,8 @@ pub enum Flaw {
     UndeclaredCounter,
 }
 
-/// Where an instruction can lead to: nowhere, to the next instruction, by a jump, or to either, the jump's target
-/// first.
+/// The units at which a run can continue after an instruction: none, the next instruction's, a jump's target, or either
+/// of these two, with the target first.
 #[derive(Clone, Copy)]
 pub enum Successors {
     End,
@@ -94,7 +94,7 @@ pub enum Successors {
 }
 
 impl Successors {
-    /// Returns the unit that the jump goes to, if there is a jump.
+    /// Returns the target of the jump, if the instruction is a jump.
     pub fn jump(self) -> Option<u32>
         ensures { result ≡ jump_of self }
     {
@@ -104,7 +104,7 @@ impl Successors {
         }
     }
 
-    /// Returns the unit of the next instruction, if this one can go on to it.
+    /// Returns the unit of the next instruction, if a run can continue there.
     pub fn next(self) -> Option<u32>
         ensures { result ≡ next_of self }
     {
@@ -137,7 +137,7 @@ impl RegType {
         matches!(self, RegType::Num | RegType::Const(_))
     }
 
-    /// Joins two types: both become the least type above both. They are written only where they change.
+    /// Joins two types: sets both to the most exact type that includes both. Writes nothing if they are the same.
     #[inline(always)]
     pub fn join(&mut self, other: &mut RegType)
         ensures joined { self.new ≡ join_type self.old other.old }
@@ -158,7 +158,8 @@ impl RegType {
 }
 
 impl Fact {
-    /// Returns the fact on entry: R1 points to the context, R10 to the stack's end, and nothing is known of the stack.
+    /// Returns the fact before the first instruction: R1 points to the context, R10 to the stack's end, and no byte of
+    /// the stack is set.
     pub fn entry() -> Fact
         ensures { IsEntry result }
     {
@@ -172,7 +173,7 @@ impl Fact {
         }
     }
 
-    /// Joins two facts: both become what both say.
+    /// Joins two facts: sets both to what holds in either case.
     pub fn join(&mut self, other: &mut Fact)
         ensures joined { IsSame self.new (join_fact self.old other.old) }
         ensures both { other.new ≡ self.new }
@@ -187,8 +188,8 @@ impl Fact {
         other.spills = self.spills;
     }
 
-    /// Becomes the fact after an instruction that makes this write to the stack. The types stay: they are already those
-    /// after the instruction.
+    /// Applies an instruction's write to the stack: changes which bytes are set and which pointers are spilled. The
+    /// types are not changed here.
     pub fn apply(&mut self, mark: StackWrite)
         requires { mark.at + mark.len ≤ STACK_BYTES }
         ensures { IsAfter self.old (effect_of self.old.types mark) self.new }
@@ -198,7 +199,7 @@ impl Fact {
         }
     }
 
-    // Takes in the bytes that an instruction writes: a number's become set, and a pointer's become a spill.
+    // Applies a write of at least one byte: the bytes of a number become set, and those of a pointer become a spill.
     fn write(&mut self, mark: StackWrite)
         requires { mark.at + mark.len ≤ STACK_BYTES }
         ensures types { self.new.types ≡ self.old.types }

@@ -1,4 +1,4 @@
-//! Finds the first place at which the current state differs from what a run was made on.
+//! The comparison of the site's current state with the state that a run was made on.
 
 ghost use Rattle.std.specs.Prelude.{◌≡◌, ◌≢◌, ◌↔◌, ◌<◌, IsTrue, ◌^◌, length, MatchOption, MatchResult, Some, None};
 ghost use Rattle.std.specs.Prelude.{option_map, IfSome};
@@ -63,7 +63,7 @@ pub fn first_price(a: &[u32; 8], b: &[u32; 8]) -> Option<u32>
     None
 }
 
-/// Returns true where the counter isn't declared, or is the same in value and bound.
+/// Returns whether counter `c` is undeclared, or has the same value and bound in both.
 fn is_same_counter(declared: u32, a: &Counters, b: &Counters, c: u32) -> bool
     requires { c < COUNTERS }
     ensures { IsTrue result ↔ (IsTrue (is_declared declared c) → counter a.now c ≡ counter b.now c) }
@@ -77,7 +77,7 @@ fn is_same_counter(declared: u32, a: &Counters, b: &Counters, c: u32) -> bool
 pub fn first_counter(declared: u32, a: &Counters, b: &Counters) -> Option<u32>
     ensures { MatchOption result (Agrees declared b.now a.now) (CounterDiffers declared a.now b.now) }
 {
-    // Reading from both shows the prover that each holds 32 counters.
+    // These reads give the prover that both have 32 counters.
     let _counters = (a.get(0), b.get(0));
     for c in 0..32 {
         if !is_same_counter(declared, a, b, c) {
@@ -93,8 +93,8 @@ fn is_same_program(a: &Program, b: &Program) -> bool
     a.declared() == b.declared() && a.layout() == b.layout() && a.bytes() == b.bytes()
 }
 
-/// Returns Ok where this is the version in the slot. The error is the number of the version that is in the slot now, if
-/// any.
+/// Returns `Ok` if the slot has the version of this number and program. The error is the number of the version that is
+/// in the slot instead, if any is.
 pub fn is_version(
     slots: &Slots,
     slot: u32,

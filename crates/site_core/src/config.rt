@@ -46,8 +46,8 @@ impl Model for Config {
 }
 
 impl Config {
-    /// Makes a configuration. Returns None exactly where a value is out of its range: there are 1 to 64 tills and 1 to
-    /// 32 points, slots are 0 to 15, a price is at most 9,999,999 (0 for none), a counter's value is at most its bound,
+    /// Makes a configuration, or returns `None` if a value is out of its range: there are 1 to 64 tills and 1 to 32
+    /// points, slots are 0 to 15, a price is at most 9,999,999 (0 for none), a counter's value is at most its bound,
     /// and a bound is at most 2^63 - 1. Allocates no memory.
     pub fn new(
         tills: u32,
@@ -155,14 +155,14 @@ impl Config {
         self.counters
     }
 
-    /// Returns the slot of a point's releases, or 0 where there is no such point.
+    /// Returns the slot that decides a point's releases, or 0 if there is no such point.
     pub(crate) fn release_slot(&self, n: u32) -> u32
         ensures { result ≡ (slots_of self.now n).0 }
     {
         self.slots_of(n).0
     }
 
-    /// Returns the slot of a point's presets, or 0 where there is no such point.
+    /// Returns the slot that decides a point's presets, or 0 if there is no such point.
     pub(crate) fn preset_slot(&self, n: u32) -> u32
         ensures { result ≡ (slots_of self.now n).1 }
     {
@@ -180,7 +180,7 @@ impl Config {
         }
     }
 
-    /// Returns for each point the slots of its releases and of its presets: 1 to 32 pairs.
+    /// Returns for each point the slots that decide its releases and its presets: 1 to 32 pairs.
     pub fn points(&self) -> &[(u32, u32)]
         ensures points { result.now ≡ self.now.points }
         ensures range { IsConfig self.now }
@@ -189,7 +189,7 @@ impl Config {
     }
 }
 
-// Each of these two functions states once, as its contract, that comparing pairs decides whether they are equal.
+// The contracts of this function and of the next give the prover that `==` on such lists decides their equality.
 fn is_same_points(a: &[(u32, u32)], b: &[(u32, u32)]) -> bool
     ensures { IsTrue result ↔ (a.now ≡ b.now) }
 {

@@ -1,4 +1,4 @@
-//! The context: the bytes that a program is given.
+//! The context of a decision, and its fields.
 
 ghost use Rattle.std.specs.Prelude.{◌≡◌, length};
 ghost use Rattle.site_core.specs.Context.{kind_number, size_of, field_bytes, laid};
@@ -14,7 +14,7 @@ pub enum Field {
 }
 
 impl Field {
-    /// Returns how many bytes the field takes.
+    /// Returns the number of bytes of the field: 4 or 8.
     fn size(self) -> usize
         ensures { result ≡ size_of self }
     {
@@ -36,7 +36,7 @@ impl Field {
     }
 }
 
-/// Returns the number of a kind in the context.
+/// Returns the number that stands for a kind of request in a context: 1, 2 or 3.
 pub fn kind_number(kind: Kind) -> u32
     ensures { result ≡ kind_number kind }
 {

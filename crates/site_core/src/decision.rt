@@ -1,4 +1,4 @@
-//! What a decision asks, what it grants, and which counters its run changed.
+//! The parts of a decision: the checks before a program is run, what is granted, and the counters that the run changed.
 
 ghost use Rattle.std.specs.Prelude.{◌≡◌, ◌<◌, ◌≤◌, IfOk, None, replicate};
 ghost use Rattle.site_core.specs.Decide.{has_room, asked_at, price_at, granted_point, command_of, counts, count_of};
@@ -19,7 +19,7 @@ const PRODUCTS: u32 = 8;
 /// The greatest price of a litre, in thousandths.
 const GREATEST_PRICE: u64 = 9_999_999;
 
-/// Returns whether a point has room for the transaction that a release makes.
+/// Returns whether a point can have one more unpaid transaction, if the kind of request is one that leads to one.
 fn has_room(kind: Kind, point: &Point) -> bool
     ensures { result ≡ has_room kind point.now }
 {
@@ -29,8 +29,9 @@ fn has_room(kind: Kind, point: &Point) -> bool
     }
 }
 
-/// Returns the question of a release or a preset at its point. The error is the refusal that comes before a program is
-/// looked for: the first that holds of S25, S22 and, for a release, S26.
+/// Checks the question of a release or a preset at its point, and returns it. The error is the refusal for which no
+/// program is run: an amount out of range (S25), else a wrong state (S22), else two unpaid transactions at a release
+/// (S26).
 pub fn asked_at(point: &Point, question: Question) -> Result<Question, Reply>
     ensures question { result ≡ asked_at point.now question }
     ensures same { IfOk result (λ q. q ≡ question) }
@@ -48,8 +49,8 @@ pub fn asked_at(point: &Point, question: Question) -> Result<Question, Reply>
     Ok(question)
 }
 
-/// Returns the question of a price change, if it isn't refused before a program is looked for. The error is its
-/// refusal: S25, or else S22 with the state of the first busy point.
+/// Checks the question of a price change, and returns it. `busy` is the state of the first busy point. The error is the
+/// refusal for which no program is run: a price or product out of range (S25), else a busy point (S22).
 pub fn price_at(busy: Option<State>, question: Question) -> Result<Question, Reply>
     ensures question { result ≡ price_at busy question }
     ensures fits { IfOk result (λ q. (1 ≤ q.product) × (q.product ≤ PRODUCTS) × (q.asked ≤ GREATEST_PRICE)) }
@@ -64,7 +65,8 @@ pub fn price_at(busy: Option<State>, question: Question) -> Result<Question, Rep
     }
 }
 
-/// Returns what is granted for the program's answer `r0`. `preset` is the point's preset, 0 for none.
+/// Returns what is granted where the program answered `r0`: an amount in cents, or a price in thousandths. `preset` is
+/// the point's preset, 0 for none.
 pub fn granted_point(kind: Kind, asked: u64, r0: u64, preset: u64) -> u64
     ensures { result ≡ granted_point kind asked r0 preset }
 {
@@ -76,7 +78,7 @@ pub fn granted_point(kind: Kind, asked: u64, r0: u64, preset: u64) -> u64
     }
 }
 
-/// Returns the command that carries out a grant at its point.
+/// Returns the command that carries out a granted release or preset at its point.
 pub fn command_of(kind: Kind, granted: u64) -> Command
     ensures { result ≡ command_of kind granted }
 {
@@ -86,7 +88,7 @@ pub fn command_of(kind: Kind, granted: u64) -> Command
     }
 }
 
-/// Returns the values of a counter before and after a run, if the mask declares it.
+/// Returns the values of counter `c` before and after a run, or `None` if the mask doesn't declare it.
 fn count_of(mask: u32, before: &Counters, after: &Counters, c: u32) -> Option<(u64, u64)>
     requires { c < COUNTERS }
     ensures { result ≡ count_of mask before.now after.now c }
@@ -98,8 +100,8 @@ fn count_of(mask: u32, before: &Counters, after: &Counters, c: u32) -> Option<(u
     }
 }
 
-/// Writes the values of the declared counters before and after a run into `noted`, each at its counter's place. `noted`
-/// must hold no values yet.
+/// Writes into `noted`, which has no values yet, the values of each declared counter before and after a run, at the
+/// place of the counter's number.
 pub fn note_counts(
     mask: u32,
     before: &Counters,
@@ -110,7 +112,7 @@ pub fn note_counts(
     ensures { noted.new ≡ counts mask before.now after.now }
 {
     for c in 0..32 {
-        // No further counter is declared.
+        // No counter from `c` on is declared.
         if mask >> c == 0 {
             return;
         }

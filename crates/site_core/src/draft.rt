@@ -1,4 +1,5 @@
-//! Decisions whose program is run outside the site.
+//! Decisions whose program is run outside the site: a draft is made under the lock, run without it, and committed under
+//! it.
 
 ghost use Rattle.std.specs.Prelude.{◌≡◌, IfOk, length};
 
@@ -21,7 +22,8 @@ use std::marker::Model;
 use std::sync::Arc;
 use till_request::{Act, Request};
 
-/// What a run needs of a site, as it was when the decision began. The request wasn't refused in that state.
+/// All that the run for a request needs of a site, copied when the decision begins. In that state the site didn't
+/// refuse the request.
 #[derive(Drop)]
 pub struct Draft {
     till: u32,
@@ -68,8 +70,8 @@ impl Draft {
     ghost use Rattle.site_core.specs.Asked.{Drafts, Compares};
     ghost use Rattle.site_core.specs.Outside.{drafted};
 
-    /// Returns a draft of the decision that a request asks for in the current state, or `Direct` where no program would
-    /// be run. The error is that memory ran out.
+    /// Makes the draft for a request in the current state, or returns `Direct` if no program would be run for it. The
+    /// error is that memory ran out.
     pub(crate) fn begin(
         config: &Config,
         station: &Station,
@@ -101,7 +103,7 @@ impl Draft {
         }))
     }
 
-    /// Runs the program. Allocates no memory.
+    /// Runs the draft's program. Allocates no memory.
     pub fn run(self) -> Ready
         ensures { result.draft ≡ self }
     {
@@ -114,8 +116,8 @@ impl Draft {
         }
     }
 
-    /// Returns the question if a run now would be made on the same version, context, view and declared counters. The
-    /// error is the first difference.
+    /// Compares what the draft's run was made on with what a run now would be made on: version, context, view and
+    /// declared counters. Returns the question if they are the same. The error is the first difference.
     fn compare(&self, config: &Config, station: &Station, slots: &Slots) -> Result<Question, Why>
         requires { length station.now.points ≡ length config.now.points }
         ensures { Compares config.now station.now slots.now self.now result }
@@ -146,8 +148,7 @@ impl Draft {
     }
 }
 
-/// A draft that was run. The answer and the counters after the run are those of the draft's program on the draft's own
-/// context, view and counters.
+/// A draft that was run: with the program's answer `r0`, and the counters after the run.
 #[derive(Drop)]
 pub struct Ready {
     draft: Draft,
@@ -175,9 +176,9 @@ impl Ready {
     ghost use Rattle.site_core.specs.Asked.{basis_in};
     ghost use Rattle.site_core.specs.Outside.{IsRunOf};
 
-    /// Does what the program answered and writes the entry, if nothing that the run depends on differs now. Counters
-    /// that the program doesn't declare keep their current values, and a release is bounded by the point's current
-    /// preset. The error is the first difference; the station is then unchanged.
+    /// Carries out what the program answered and fills in the entry, if nothing that the run depends on has changed.
+    /// Counters that the program doesn't declare keep their current values, and a release grants at most the point's
+    /// current preset. The error is the first difference; the station is then unchanged.
     pub(crate) fn settle(
         &self,
         config: &Config,
@@ -231,14 +232,15 @@ impl Ready {
     }
 }
 
-/// How a decision begins: with a draft to run, or directly, as one step under the lock.
+/// How a decision begins: `Run` with a draft to run without the lock, or `Direct` where no program is run.
 #[derive(Drop)]
 pub enum Begin {
     Direct,
     Run(Draft),
 }
 
-/// What became of a decision that was run outside the site: it was entered, or it is stale and changed nothing.
+/// The result of a commit: `Done`, the decision was entered; or `Stale`, something that its run depends on has changed,
+/// and nothing was entered.
 #[derive(Clone, Copy, PartialEq, Eq, Drop)]
 pub enum Commit {
     Done(Answered),

@@ -1,4 +1,4 @@
-//! Laws that follow from the definitions.
+//! Laws that follow from the site's definitions.
 
 ghost use Rattle.std.specs.Prelude.{◌≡◌, ℕ, List, is_some};
 ghost use Rattle.decision_journal.specs.declared.entries.Entry.{Entry};
@@ -12,23 +12,24 @@ ghost use Rattle.site_core.specs.Differences.{IsFresh, Differs};
 ghost use Rattle.site_core.specs.Audit.{OwnAudit};
 ghost use Rattle.site_core.specs.declared.why.Why.{Why};
 
-/// Where nothing differs there is no first difference. So a commit is done exactly where it isn't stale.
+/// A law: a draft that differs from the site in nothing has no first difference. So a commit is done exactly if it
+/// isn't stale.
 pub fn fresh_differs_nowhere()
     ensures { (now : Basis) (draft : DraftValue) (why : Why) → IsFresh now draft → Differs now draft why → ⊥ }
 {}
 
-/// There is only one first difference.
+/// A law: a draft and a site have at most one first difference.
 pub fn one_difference_is_first()
     ensures { (now : Basis) (draft : DraftValue) (a b : Why) → Differs now draft a → Differs now draft b → a ≡ b }
 {}
 
-/// A reply is a grant or S24 exactly where the step runs a program.
+/// A law: the reply is a grant or S24 (a denial by the program) exactly if the step runs a program.
 pub fn programs_alone_decide()
     ensures { (config : ConfigValue) (past : List Entry) (s : SiteState) (moment : ℕ) (act : Act) →
         is_decided (effect config past s moment act).reply ≡ is_some (effect config past s moment act).run }
 {}
 
-/// An audit of a site's own history returns that site, unless memory runs out.
+/// A law: an audit of a site's own history returns that site, unless memory runs out.
 pub fn audit_of_its_own_history()
     ensures { OwnAudit }
 {}

@@ -1,4 +1,4 @@
-//! What an event does: a load makes a version, a dispenser's event and a till's request change the station.
+//! The effects of an event: a load makes a version; a dispenser's event and a till's request change the station.
 
 ghost use Rattle.std.specs.Prelude.{◌≡◌, ℕ, ◌+◌, ◌<◌, IfOk, OnOk, OnErr, None, length, List};
 ghost use Rattle.std.specs.Arc.{arc_value};
@@ -25,7 +25,8 @@ use std::alloc::{AllocError, Global};
 use std::sync::Arc;
 use till_request::{Act, Bytes, Reply, Request};
 
-/// Does what the event asks, and writes it into its entry. All memory is allocated before the first change.
+/// Carries out an event, and fills in its entry. The error is that memory ran out; then nothing has changed, as all
+/// memory is allocated before the first change.
 pub fn perform(
     alloc: Global,
     config: &Config,
@@ -80,7 +81,7 @@ pub fn perform(
     Ok(())
 }
 
-/// Installs a program in a slot as a new version, and returns the reply to the load.
+/// Installs a program in a slot as a new version, and returns the reply to the load. The error is that memory ran out.
 fn load(slots: &mut Slots, slot: u32, program: Arc<Program>) -> Result<Reply, AllocError>
     ensures reply { IfOk result (λ reply. (past : List Entry) → Agrees slots.old past
         → Loads slots.old slot (arc_value program) past reply slots.new) }
@@ -94,7 +95,7 @@ fn load(slots: &mut Slots, slot: u32, program: Arc<Program>) -> Result<Reply, Al
     }
 }
 
-/// Does what a till asks, and returns the reply. Where a program is run, `ran` becomes its run.
+/// Carries out a till's request, and returns the reply. If a program is run, writes its run into `ran`.
 fn ask(
     config: &Config,
     station: &mut Station,
@@ -126,8 +127,8 @@ fn ask(
     }
 }
 
-/// Returns the question that a request asks a program. None where the request is refused before a program is looked
-/// for, and for requests that no program decides.
+/// Returns the question that a request asks a program; `None` if the request is refused before that, or is of a kind
+/// that no program decides.
 pub fn asked_question(
     config: &Config,
     station: &Station,
@@ -146,8 +147,8 @@ pub fn asked_question(
     }
 }
 
-/// Returns the question that a request asks a program, even where the state refuses the request. None where there is no
-/// such till or point, and for requests that no program decides.
+/// Returns the question that a request asks a program, even if the current state refuses it; `None` if there is no such
+/// till or point, or if the request is of a kind that no program decides.
 pub fn routed(config: &Config, station: &Station, till: u32, request: &Request) -> Option<Question>
     ensures { result ≡ routed config.now station.now till request.now }
 {
@@ -160,8 +161,8 @@ pub fn routed(config: &Config, station: &Station, till: u32, request: &Request) 
     }
 }
 
-/// Runs the program in force in the question's slot, if nothing refuses the question before, does what it answers, and
-/// returns the reply.
+/// Decides a question: checks it, runs the newest program in its slot, carries out what that answers, and returns the
+/// reply.
 fn decide(
     station: &mut Station,
     slots: &Slots,

@@ -1,4 +1,4 @@
-//! What a request asks, and what a decision is about.
+//! Requests as questions to a program, or as commands.
 
 ghost use Rattle.std.specs.Prelude.{◌≡◌};
 ghost use Rattle.site_core.specs.Decide.{asks_of};
@@ -7,7 +7,7 @@ use crate::config::Config;
 use fuelling_point::Command;
 use till_request::Request;
 
-/// The kind of thing that is decided.
+/// The kind of request that a program decides.
 #[derive(Clone, Copy, PartialEq, Eq, Drop)]
 pub enum Kind {
     Release,
@@ -15,8 +15,8 @@ pub enum Kind {
     Price,
 }
 
-/// What is asked, and the slot whose program decides it. A price has point 0; releases and presets have product 0.
-/// `asked` is an amount in cents, or a price in thousandths.
+/// The question that a request asks a program, and the slot of that program. `asked` is an amount in cents, or a price
+/// in thousandths. A price has point 0; releases and presets have product 0.
 #[derive(Clone, Copy, Drop)]
 pub struct Question {
     pub kind: Kind,
@@ -26,7 +26,8 @@ pub struct Question {
     pub slot: u32,
 }
 
-/// What a request asks: a question of a program, or of a point a command or its state.
+/// What a request leads to: a question to a program, a command to the point of this number, or the display of that
+/// point.
 #[derive(Clone, Copy, Drop)]
 pub enum Asks {
     Decision(Question),
@@ -34,7 +35,7 @@ pub enum Asks {
     Show(u32),
 }
 
-/// Returns what a request asks.
+/// Returns what a request leads to at a site of this configuration.
 pub fn asks_of(config: &Config, request: &Request) -> Asks
     ensures { result ≡ asks_of config.now request.now }
 {

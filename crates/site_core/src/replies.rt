@@ -1,4 +1,4 @@
-//! The refusals of a site, and the replies for what a point answers.
+//! The refusals of a site, and the replies to what a point returns.
 
 ghost use Rattle.std.specs.Prelude.{◌≡◌};
 ghost use Rattle.site_core.specs.Decide.{wrong_state, no_program, denied};
@@ -16,19 +16,19 @@ pub const NO_SUCH_TILL: Reply = Reply::Refused(21, None);
 /// S25: an amount, a price or a product is out of range.
 pub const BAD_AMOUNT: Reply = Reply::Refused(25, None);
 
-/// S26: two transactions are unpaid.
+/// S26: two transactions of the point are unpaid, which is the most.
 pub const TRANSACTIONS_FULL: Reply = Reply::Refused(26, None);
 
-/// S27: the transaction isn't this till's.
+/// S27: another till holds the transaction, or this till would have to hold it and doesn't.
 const NOT_YOUR_TRANSACTION: Reply = Reply::Refused(27, None);
 
 /// S28: there is no unpaid transaction of this number.
 const NO_SUCH_TRANSACTION: Reply = Reply::Refused(28, None);
 
-/// S30: there are 4,096 versions.
+/// S30: all 4,096 versions are used.
 pub const VERSIONS_FULL: Reply = Reply::Refused(30, None);
 
-/// S32: slots are 0 to 15.
+/// S32: there is no slot of this number; slots are 0 to 15.
 pub const NO_SUCH_SLOT: Reply = Reply::Refused(32, None);
 
 /// S33: no order is pending.
@@ -37,7 +37,7 @@ const NO_ORDER: Reply = Reply::Refused(33, None);
 /// S34: the dispenser's event isn't possible in this state.
 const UNEXPECTED: Reply = Reply::Refused(34, None);
 
-/// S22: the request isn't possible in this state.
+/// S22: the request isn't possible in this state of the point.
 pub fn wrong_state(state: State) -> Reply
     ensures { result ≡ wrong_state state }
 {
@@ -58,7 +58,7 @@ pub fn denied(version: u32) -> Reply
     Reply::Refused(24, Some(version))
 }
 
-/// Returns the reply to a dispenser.
+/// Returns the reply to a dispenser, from what the point returned for its event.
 pub fn event_reply(outcome: Result<Option<Order>, PointFault>) -> Reply
     ensures { result ≡ event_reply outcome }
 {
@@ -69,7 +69,7 @@ pub fn event_reply(outcome: Result<Option<Order>, PointFault>) -> Reply
     }
 }
 
-/// Returns the reply for a refusal by a point.
+/// Returns the reply to a till or a dispenser whose command or event a point refused.
 pub fn fault_reply(fault: PointFault) -> Reply
     ensures { result ≡ fault_reply fault }
 {

@@ -1,4 +1,4 @@
-//! What programs see of the points.
+//! The part of the points' state that programs can see.
 
 ghost use Rattle.std.specs.Prelude.{◌≡◌, ◌≤◌, length};
 ghost use Rattle.site_core.specs.State.{seen, seen_points};
@@ -7,7 +7,7 @@ ghost use Rattle.bpf_model.specs.declared.limits.TheConstants.{POINTS};
 use fuelling_point::Point;
 use helpers::PointView;
 
-/// Returns what a program sees of a point.
+/// Returns the part of a point's state that programs can see.
 pub fn seen(point: &Point) -> PointView
     ensures { result ≡ seen point.now }
 {
@@ -18,8 +18,7 @@ pub fn seen(point: &Point) -> PointView
     }
 }
 
-/// Stores what is seen of a point now in its place. Writes nothing where the place holds it already, so that other
-/// cores keep the place in their caches.
+/// Sets `place` to `now`. Writes nothing if they are the same, so that other cores keep their cached copies of it.
 pub fn renew(place: &mut PointView, now: PointView)
     ensures { place.new ≡ now }
 {
@@ -28,7 +27,7 @@ pub fn renew(place: &mut PointView, now: PointView)
     }
 }
 
-/// Returns what programs see of all points, with zeros in the places of points that don't exist.
+/// Returns what programs can see of all points, with zeros for points that don't exist.
 pub fn seen_points(points: &[Point]) -> [PointView; 32]
     requires { length points.now ≤ POINTS }
     ensures { result ≡ seen_points points.now }

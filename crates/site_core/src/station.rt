@@ -1,4 +1,4 @@
-//! The state of a site between two events.
+//! The station: the state of a site between two events.
 
 ghost use Rattle.std.specs.Prelude.{option_copied, ◌≡◌, ℕ, ◌+◌, ◌<◌, ◌≤◌, IfOk, length, replicate, Some, None};
 ghost use Rattle.std.specs.Bool.{OnTrue, OnFalse};
@@ -35,12 +35,12 @@ use std::alloc::{AllocError, Global};
 use std::marker::Model;
 use till_request::Reply;
 
-/// The state of a site: its points, prices and counters, the total of cleared amounts in cents, and how many
-/// transactions were cleared.
+/// The state of a site: its points, prices and counters, the total of all cleared amounts in cents, and the number of
+/// cleared transactions.
 #[derive(Drop)]
 pub struct Station {
     points: Vec<Point>,
-    /// What programs can ask about the points, updated whenever a point changes, and the prices.
+    /// What helpers can look up: the points, updated whenever a point changes, and the prices.
     view: View,
     counters: Counters,
     cleared: u64,
@@ -67,7 +67,7 @@ impl Model for Station {
 }
 
 impl Station {
-    /// Makes the state in which a site of this configuration starts. The error is that memory ran out.
+    /// Makes the state of a new site of this configuration. The error is that memory ran out.
     pub fn start(alloc: Global, config: &Config) -> Result<Station, AllocError>
         ensures { IfOk result (λ s. s ≡ opening_state config.now) }
     {
@@ -97,7 +97,7 @@ impl Station {
         n >= 1 && n as usize <= self.points.len()
     }
 
-    /// Carries out a till's command at a point that needs no decision, and returns the reply.
+    /// Carries out a till's command at a point, and returns the reply.
     pub fn command(&mut self, till: u32, n: u32, command: Command) -> Reply
         requires bounded { HasRoom self.old }
         requires till { 0 < till }
@@ -122,7 +122,7 @@ impl Station {
         }
     }
 
-    /// Carries out a dispenser's event at a point, and returns the reply: where the dispenser asks for it, the point's
+    /// Carries out a dispenser's event at a point, and returns the reply, which for `TakeOrder` has the point's pending
     /// order.
     pub fn report(&mut self, n: u32, event: DispenserEvent) -> Reply
         requires { HasRoom self.old }
@@ -139,7 +139,7 @@ impl Station {
         event_reply(outcome)
     }
 
-    /// Returns the reply to a till's Show of a point.
+    /// Returns the reply to a till's request to show a point.
     pub fn show(&self, n: u32) -> Reply
         ensures { result ≡ show_reply self.now n }
     {
@@ -158,7 +158,7 @@ impl Station {
         }
     }
 
-    /// Returns the point of this number, counted from 1.
+    /// Returns the point of this number, counted from 1, if there is one.
     pub fn point(&self, n: u32) -> Option<&Point>
         ensures { option_copied result ≡ at_number self.now.points n }
     {
@@ -168,7 +168,7 @@ impl Station {
         self.points.get(n as usize - 1)
     }
 
-    /// Returns the question. The error is the refusal that comes before a program is looked for.
+    /// Checks a question in the current state, and returns it. The error is the refusal for which no program is run.
     pub fn admitted(&self, question: Question) -> Result<Question, Reply>
         ensures question { result ≡ admitted self.now question }
         ensures asked { IfOk result (λ q. WellAsked self.now q) }
@@ -179,8 +179,8 @@ impl Station {
         }
     }
 
-    /// Returns the question of a release or a preset. The error is the refusal that comes before a program is looked
-    /// for.
+    /// Checks the question of a release or a preset in the current state, and returns it. The error is the refusal for
+    /// which no program is run.
     fn asked_at_point(&self, question: Question) -> Result<Question, Reply>
         ensures question { result ≡ asked_at_point self.now question }
         ensures asked { IfOk result (λ q. WellAsked self.now q) }
@@ -191,7 +191,7 @@ impl Station {
         }
     }
 
-    /// Returns the question, even where the state refuses it. None where there is no such point.
+    /// Returns the question, even if the current state refuses it; `None` if there is no such point.
     #[tactic(auto, unfolding(crate::specs::Draft::at_point))]
     pub fn routed(&self, question: Question) -> Option<Question>
         ensures { result ≡ routed_to self.now (Asks.Decision question) }
@@ -205,7 +205,7 @@ impl Station {
         }
     }
 
-    /// Returns the state of the first point at which a delivery is authorised or under way.
+    /// Returns the state of the first point that has a delivery authorised or under way, if there is one.
     #[tactic(auto, unfolding(crate::specs::State::first_busy))]
     fn first_busy(&self) -> Option<State>
         ensures { result ≡ first_busy self.now }
@@ -255,14 +255,14 @@ impl Station {
         }
     }
 
-    /// Returns what a program can ask about the site by calls.
+    /// Returns what a program's helpers can look up.
     pub fn view(&self) -> &View
         ensures { result.now ≡ view_of self.now }
     {
         &self.view
     }
 
-    /// Returns the value and the bound of a counter, for counters 0 to 31.
+    /// Returns the value and the bound of counter `c`, or `None` if `c` is over 31.
     pub fn counter(&self, c: u32) -> Option<(u64, u64)>
         ensures { result ≡ counter_of self.now c }
     {
@@ -279,7 +279,7 @@ impl Station {
         &self.counters
     }
 
-    /// Returns the context of this layout that a program is given for the question.
+    /// Makes the context, in this layout, that a program is run on for a question.
     #[inline(always)]
     pub fn context(&self, layout: Layout, till: u32, moment: u64, question: &Question) -> Context
         ensures context { result ≡ context layout self.now till moment question.now }
@@ -301,8 +301,8 @@ impl Station {
         }
     }
 
-    /// Returns the fields of a context in their order: those that both layouts share, and then those that only the
-    /// second layout has.
+    /// Returns the fields of a context in their order: first the 13 that both layouts have, then the three that only
+    /// the second layout has.
     fn fields(&self, till: u32, moment: u64, question: &Question) -> [Field; 16]
         ensures fields { result ≡ fields Layout.Two self.now till moment question.now }
         ensures fits { FitsContext self.now question.now }
@@ -329,7 +329,7 @@ impl Station {
         ]
     }
 
-    /// Returns the product whose price is asked, or else the number of the point's nozzle.
+    /// Returns the product of a question: the one whose price is asked, or else that of the point's lifted nozzle.
     fn product_of(&self, question: &Question) -> u32
         ensures { result ≡ product_of self.now question.now }
     {
@@ -339,8 +339,8 @@ impl Station {
         }
     }
 
-    /// Runs a program on the current state and returns its answer. Writes the values before and after of each counter
-    /// that it declares into `noted`.
+    /// Runs a program on the current state, and returns its answer. Writes into `noted` the values of each declared
+    /// counter before and after the run.
     pub fn run(
         &mut self,
         program: &Program,
@@ -364,8 +364,9 @@ impl Station {
         r0
     }
 
-    /// Takes over the declared counters that a run outside the site left, and writes their values before and after into
-    /// `noted`. The run must have been made on the current values of these counters and on the current view.
+    /// Sets the declared counters to those after a run that was made outside the site, and writes into `noted` their
+    /// values before and after. The run must have been made on the current values of these counters and on the current
+    /// view.
     pub fn adopt(
         &mut self,
         program: &Program,
@@ -397,7 +398,7 @@ impl Station {
         note_counts(program.declared(), &was, &self.counters, noted);
     }
 
-    /// Does what a version's answer allows, and returns the reply.
+    /// Carries out what a program answered (0 is a denial), and returns the reply. `version` is the program's version.
     pub fn settle(&mut self, till: u32, question: &Question, version: u32, r0: u64) -> Reply
         requires bounded { HasRoom self.old }
         requires till { 0 < till }
@@ -412,7 +413,8 @@ impl Station {
         Reply::Granted(self.grant(till, question, r0), version)
     }
 
-    /// Grants what is asked, as far as the program's answer allows, and returns what was granted.
+    /// Grants what is asked, as far as the program's answer allows, and returns what was granted: cents, or thousandths
+    /// for a price.
     fn grant(&mut self, till: u32, question: &Question, r0: u64) -> u64
         requires bounded { HasRoom self.old }
         requires till { 0 < till }
@@ -433,7 +435,7 @@ impl Station {
         granted
     }
 
-    /// Returns the state, the nozzle and how many unpaid transactions a point has, or zeros where there is no such
+    /// Returns the state of a point, its lifted nozzle and its number of unpaid transactions; zeros if there is no such
     /// point.
     fn told_of(&self, n: u32) -> (u32, u32, u32)
         ensures state { result.0 ≡ told (at_number self.now.points n) (λ p. state_number p.state) }

@@ -1,4 +1,4 @@
--- Definitions: what an answered call gives its pass, which replies fit an event, and how a count of calls rose.
+-- Definitions: the receipt of an answered call, which replies fit an event, and how a count of calls rose.
 use Rattle.std.specs.Prelude.{◌≡◌, ℕ, ◌+◌, ◌≤◌, List, [], ◌∷◌, ◌++◌, Result, Ok, Err}
 use Rattle.decision_journal.specs.declared.entries.Entry.{Entry}
 use Rattle.till_request.specs.Count.{RoseBy}
@@ -18,7 +18,7 @@ use Rattle.site_lock.specs.Passes.{PassView}
 abbrev pub receipt_of : ℕ → Act → Answered → Receipt
 receipt_of moment act a = record { number = a.number; moment = moment; act = act; reply = a.reply }
 
--- The pass counts one call more, and its receipts gain that of this answer.
+-- The pass counts one more call, and has one more receipt, that of this answer.
 pub record Gains (before now : PassView) (moment : ℕ) (act : Act) (a : Answered) : Type 0 where
   pub id : now.id ≡ before.id
   pub amount : now.amount ≡ before.amount + 1
@@ -36,11 +36,11 @@ pub record FitsIn (config : ConfigValue) (pass moment : ℕ) (act : Act) (a : An
   pub does : last.act ≡ act
   pub answers : last.reply ≡ a.reply
 
--- a count of 64 bits that wraps rose, at least so often and at most so often
+-- a count of 64 bits, which wraps, rose by `least` to `most`
 abbrev pub RoseWithin : ℕ → ℕ → ℕ → ℕ → Type 0
 RoseWithin least most before now = (k : ℕ) × (least ≤ k) × (k ≤ most) × RoseBy k before now
 
--- a call's answer where no journal can fail
+-- the result of a call where no journal can fail
 abbrev pub unjournalled_of : Result Answered EnterFault → Result Answered CallFault
 unjournalled_of (Ok a) = Ok a
 unjournalled_of (Err (Call fault)) = Err fault

@@ -1,4 +1,4 @@
--- Promises: what a close answers.
+-- Promises: the result of a close.
 use Rattle.std.specs.Prelude.{◌≡◌, ℕ, ◌-◌, List, ◌++◌, length, sum_by, slice_get, Option, Some, Bool, true, false}
 use Rattle.std.specs.Io.KnownBytes.{Appends}
 use Rattle.decision_journal.specs.declared.entries.Entry.{Entry}
@@ -11,7 +11,8 @@ use Rattle.site_lock.specs.Passes.{PassView, Opened}
 use Rattle.site_lock.specs.LockedSites.{LockedSiteValue, IsWhole, Stands}
 use Rattle.site_lock.specs.Merge.{AreAll, IsFault, IsFaultSince, IsMerge, IsMergeSince}
 
--- The configuration is the kept one, its history is legal and the merge of what the passes were answered, and has as many entries as these were answered calls.
+-- The site has the configuration at the start. Its history is legal, is the merge of the passes' receipts, and has as
+-- many entries as the passes count answered calls.
 pub record Closes (f : Opened) (passes : List PassView) (s : SiteValue) : Type 0 where
   pub all : AreAll f.passes passes
   pub config : s.config ≡ f.config
@@ -19,9 +20,9 @@ pub record Closes (f : Opened) (passes : List PassView) (s : SiteValue) : Type 0
   pub calls : length s.history ≡ sum_by (λ (p : PassView). p.amount) passes
   pub merge : IsMerge s.history passes
 
--- The configuration is the kept one; the history is legal and goes on from the one started with by the merge of what
--- the passes were answered, as many entries as these were answered calls; and the journal took exactly the text of
--- these.
+-- The site has the configuration at the start. Its history is legal, and is the history at the start followed by the
+-- merge of the passes' receipts, with as many entries as the passes count answered calls; and the journal took exactly
+-- the text of these entries.
 pub record ClosesSince (f : Opened) (passes : List PassView) (s : SiteValue) (written : Option (List ℕ)) : Type 0 where
   pub all : AreAll f.passes passes
   pub config : s.config ≡ f.config
@@ -32,13 +33,13 @@ pub record ClosesSince (f : Opened) (passes : List PassView) (s : SiteValue) (wr
   pub merge : IsMergeSince (length f.base) s.history passes
   pub kept : Appends f.taken written (journal_text since)
 
--- A forecourt that could not be closed, whose lock nobody can take: how it was opened, and what lies under it.
+-- A forecourt that couldn't be closed, and which nobody can call: how it was opened, and what the lock protected.
 pub record HaltedValue : Type 0 where
   pub opened : Opened
   pub locked_site : LockedSiteValue
 
--- Its configuration is the one started with, its history is legal and goes on from the one started with by the answered
--- calls, and the journal took the text of these.
+-- It has the configuration at the start. Its history is legal, and is the history at the start followed by the answered
+-- calls' entries, of which the journal took the text; or the journal failed at one more entry.
 pub record IsHalted (may_fail : Type 0) (h : HaltedValue) : Type 0 where
   pub config : h.locked_site.site.config ≡ h.opened.config
   pub legal : Upholds h.locked_site.site
@@ -49,19 +50,19 @@ abbrev pub IsLast : List Entry → ℕ → ℕ → Type 0
 IsLast history id number =
     (last : Entry) × (slice_get history (length history - 1) ≡ Some last) × (last.pass ≡ id) × (last.number ≡ number)
 
--- a receipt or an entry of this pass and number is wrong; where the journal failed it is the last entry, which isn't answered
+-- a receipt or an entry of this pass and number is wrong; if the journal failed, it is the last entry, which wasn't
+-- answered
 abbrev pub IsWrong : Bool → ℕ → List Entry → List PassView → ℕ → ℕ → Type 0
 IsWrong false base history passes id number = IsFaultSince base history passes id number
 IsWrong true base history passes id number = IsLast history id number
 
--- why it isn't closed, by what lies under the lock; a site of another configuration can't be there
+-- why it isn't closed with all its passes; a site of another configuration is impossible there
 abbrev pub HindersSince : ℕ → LockedSiteValue → List PassView → CloseRefusal → Type 0
 HindersSince base v passes PassMissing = ⊥
 HindersSince base v passes (NotInHistory id number) = IsWrong v.stopped base v.site.history passes id number
 HindersSince base v passes OtherConfig = ⊥
 
--- These aren't all passes; or they are, have as many receipts as calls were answered, and the returned history has this
--- fault.
+-- These aren't all passes; or they are, have as many receipts as calls were answered, and the history has this fault.
 abbrev pub RefusesSince : HaltedValue → List PassView → CloseRefusal → Type 0
 RefusesSince h passes PassMissing = ¬ AreAll h.opened.passes passes
 RefusesSince h passes (NotInHistory id number) =
@@ -70,7 +71,7 @@ RefusesSince h passes (NotInHistory id number) =
     × IsWrong h.locked_site.stopped (length h.opened.base) h.locked_site.site.history passes id number
 RefusesSince h passes OtherConfig = ⊥
 
--- the same where nothing was gone on from, and no journal can fail
+-- the same, if the history at the start was empty and no journal can fail
 abbrev pub Refuses : HaltedValue → List PassView → CloseRefusal → Type 0
 Refuses h passes PassMissing = ¬ AreAll h.opened.passes passes
 Refuses h passes (NotInHistory id number) =
@@ -79,7 +80,7 @@ Refuses h passes (NotInHistory id number) =
     × IsFault h.locked_site.site.history passes id number
 Refuses h passes OtherConfig = ⊥
 
--- nothing does
+-- nothing keeps it from being closed
 pub record IsClear (base : List Entry) (taken : Option (List ℕ)) (v : LockedSiteValue) (config : ConfigValue) (passes : List PassView) : Type 0 where
   pub config_is : v.site.config ≡ config
   pub legal : Upholds v.site

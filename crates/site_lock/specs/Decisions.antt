@@ -10,31 +10,32 @@ use Rattle.site_core.specs.Limits.{ConfigValue}
 use Rattle.site_core.specs.Outside.{Commits}
 use Rattle.site_core.specs.Site.{SiteValue}
 
--- these are the runs that a gate made from one state to another, the oldest first
+-- these are the runs, the oldest first, that a gate made from state `before` to state `now`
 abbrev pub Made : {G : Type 0} → (G → ReadyValue → G → Type 0) → G → List ReadyValue → G → Type 0
 Made makes before [] now = now ≡ before
 Made {G} makes before (run ∷ runs) now = (mid : G) × makes before run mid × Made makes mid runs now
 
--- it is the run of what this till asks at this moment
+-- the run is for this till's request at this moment
 abbrev pub IsRunFor : ℕ → ℕ → Request → ReadyValue → Type 0
 IsRunFor till moment request run = (run.draft.till ≡ till) × (run.draft.moment ≡ moment) × (run.draft.request ≡ request)
 
--- The answer is the run's own: at a site of this configuration, where nothing that the run was made on differed, the run was committed with this
--- number and reply, so that the entry's run has its version and its program's answer.
+-- The answer is that of the run: at a site of this configuration, where nothing that the run was made on had changed,
+-- the run was committed with this number and reply, so the entry's run has its version and its program's answer.
 pub record IsAnswerOf (config : ConfigValue) (pass : ℕ) (run : ReadyValue) (a : Answered) : Type 0 where
   pub site : SiteValue
   pub after : SiteValue
   pub config_is : site.config ≡ config
   pub committed : Commits site pass run (Done a) after
 
--- after no run the answer is no program's; after one a program's answer is that run's own; there are never three
+-- after no run the answer isn't a program's; after one run a program's answer is that of the run; there are at most two
+-- runs
 abbrev pub DecidedAfter : ConfigValue → ℕ → List ReadyValue → Answered → Type 0
 DecidedAfter config pass [] a = is_decided a.reply ≡ false
 DecidedAfter config pass (run ∷ []) a = is_decided a.reply ≡ true → IsAnswerOf config pass run a
 DecidedAfter config pass (first ∷ second ∷ []) a = Unit {0}
 DecidedAfter config pass (first ∷ second ∷ third ∷ runs) a = ⊥
 
--- The gate made runs for what this till asks at this moment, and no others, and the answer is decided after them.
+-- The gate made runs only for this till's request at this moment, and the answer follows from them.
 pub record DecidedBy {G : Type 0} (makes : G → ReadyValue → G → Type 0) (config : ConfigValue) (pass till moment : ℕ) (request : Request) (before now : G)
     (a : Answered) : Type 0 where
   pub runs : List ReadyValue

@@ -1,4 +1,4 @@
--- Definitions: what a desk over a forecourt and a pass answers (this profile).
+-- Definitions: the answers of a desk over a forecourt and a pass (this profile).
 use Rattle.std.specs.Prelude.{◌≡◌, ℕ, ◌≤◌, length, true, Option, Some, None, Result, Ok, Err}
 use Rattle.reg_types.specs.declared.refusal.Refusal.{Refusal}
 use Rattle.reg_types.specs.Refusals.{shown_by}
@@ -22,8 +22,8 @@ use Rattle.site_lock.specs.Passes.{PassView}
 use Rattle.site_lock.specs.Calls.{Gains, FitsIn, RoseWithin}
 use Rattle.site_lock.specs.Decisions.{DecidedBy}
 
--- The act was entered: the pass gained the receipt of this number and reply, of the act at its moment (a till's request has its own, all else has 0).
--- The reply fits, and a program that was loaded is good, and the verifier refuses nothing of it.
+-- The act was entered: the pass got the receipt of this number and reply, for the act at its moment (0 unless it is a
+-- till's request). The reply fits, and the program of a load is good and accepted by the verifier.
 pub record DeskEnters (config : ConfigValue) (before now : PassView) (act : Act) (moment number : ℕ) (reply : Reply) : Type 0 where
   pub gains : Gains before now (entered_moment act moment) act (record { number = number; reply = reply })
   pub number_is : length now.receipts ≤ number
@@ -31,7 +31,7 @@ pub record DeskEnters (config : ConfigValue) (before now : PassView) (act : Act)
   pub good : IsGoodAct act
   pub accepted : load_refusal act ≡ None
 
--- The act is a load, of whose bytes, mask and layout this is the verifier's refusal, and nothing has changed.
+-- The act is a load, whose program the verifier refuses so, and nothing has changed.
 pub record DeskRefuses (before now : PassView) (act : Act) (number : ℕ) (unit part : Option ℕ) : Type 0 where
   pub refusal : Refusal
   pub refused : IsRefusedAct act refusal
@@ -39,7 +39,8 @@ pub record DeskRefuses (before now : PassView) (act : Act) (number : ℕ) (unit 
   pub shown : shown_by refusal ≡ Some (number, unit, part)
   pub same : now ≡ before
 
--- after any answer without a number the pass is as before; that the journal failed is answered only where one may fail
+-- after any answer without a number the pass is unchanged; the answer that the journal failed comes only if one can
+-- fail
 abbrev pub DeskAnswers : ConfigValue → Type 0 → PassView → PassView → Act → ℕ → Answer → Type 0
 DeskAnswers config may_fail before now act moment (Entered number reply) = DeskEnters config before now act moment number reply
 DeskAnswers config may_fail before now act moment JournalFull = now ≡ before
@@ -48,7 +49,7 @@ DeskAnswers config may_fail before now act moment (Line fault) = ⊥
 DeskAnswers config may_fail before now act moment (Program number unit part) = DeskRefuses before now act number unit part
 DeskAnswers config may_fail before now act moment JournalFailed = (now ≡ before) × may_fail
 
--- a till is answered a grant or S24 only where the gate was called, once or twice
+-- the answer to a till is a grant or S24 (a denial) only if the gate was called, once or twice
 abbrev pub AsksGate : ℕ → ℕ → Answer → Act → Type 0
 AsksGate before now (Entered number reply) (Till till request) = is_decided reply ≡ true → RoseWithin 1 2 before now
 AsksGate before now (Entered number reply) (Dispenser point event) = Unit {0}
@@ -59,7 +60,7 @@ AsksGate before now (Line fault) act = Unit {0}
 AsksGate before now (Program number unit part) act = Unit {0}
 AsksGate before now JournalFailed act = Unit {0}
 
--- what a till is answered is decided by the runs that the gate made
+-- the answer to a till follows from the runs that the gate made
 abbrev pub DeskDecides : {G : Type 0} → (G → ReadyValue → G → Type 0) → ConfigValue → ℕ → ℕ → G → G → Answer → Act → Type 0
 DeskDecides makes config pass moment before now (Entered number reply) (Till till request) =
     DecidedBy makes config pass till moment request before now (record { number = number; reply = reply })
@@ -71,7 +72,7 @@ DeskDecides makes config pass moment before now (Line fault) act = Unit {0}
 DeskDecides makes config pass moment before now (Program number unit part) act = Unit {0}
 DeskDecides makes config pass moment before now JournalFailed act = Unit {0}
 
--- a call's answer as a desk says it
+-- the desk's answer for the result of a call
 abbrev pub said_of : Result Answered EnterFault → Answer
 said_of (Ok a) = Entered a.number a.reply
 said_of (Err (enter.Call fault.JournalFull)) = JournalFull

@@ -10,7 +10,7 @@ pub record PassView : Type 0 where
   pub amount : ℕ
   pub receipts : List Receipt
 
--- A forecourt's configuration, the number of its passes, the history that it goes on from, and what its journal had taken then.
+-- A forecourt's configuration, the number of its passes, and the history and the bytes of the journal at its start.
 pub record Opened : Type 0 where
   pub config : ConfigValue
   pub passes : ℕ

@@ -1,4 +1,4 @@
-//! Whether a history is what the passes were answered.
+//! The comparison of a history with the receipts of the passes.
 ghost use Rattle.std.specs.Prelude.{◌≡◌, ◌↔◌, IsTrue, IfNone, IfSome, All, Any, count_by, ◌==◌};
 ghost use Rattle.std.specs.Prelude.{◌≤◌, ℕ, length, drop};
 ghost use Rattle.site_lock.specs.Merge.{Matches, IsEntryOf, StandsFrom, FailsFrom, HasNumber, Covers, Covered, IsMerge};
@@ -16,7 +16,7 @@ fn matches(id: u32, receipt: &Receipt, entry: &Entry) -> bool
     entry.act == receipt.act && entry.reply == receipt.reply
 }
 
-// Whether the receipt is the entry at its number.
+// Returns whether a receipt agrees with the entry of its number.
 fn stands(history: &[Entry], id: u32, receipt: &Receipt) -> bool
     ensures { IsTrue result ↔ IsEntryOf history.now id receipt.now }
 {
@@ -29,7 +29,8 @@ fn stands(history: &[Entry], id: u32, receipt: &Receipt) -> bool
     }
 }
 
-// The number of the first receipt that is wrong, where this many entries came before any call.
+// Returns the number of the first wrong receipt of a pass, or `None` if all are right. The first `base` entries are
+// older than the passes.
 fn wrong_receipt(history: &[Entry], base: u32, id: u32, receipts: &[Receipt]) -> Option<u32>
     ensures none { IfNone result (StandsFrom history.now id base receipts.now) }
     ensures some { IfSome result (λ n. FailsFrom history.now id base receipts.now n) }
@@ -65,7 +66,8 @@ fn has_number(receipts: &[Receipt], number: u32) -> bool
     receipts.iter().any(|receipt| receipt.number == number)
 }
 
-// The same, where the numbers rise. False says nothing.
+// Does what `has_number` does, faster, for receipts whose numbers rise. For others it may return false where it
+// shouldn't.
 fn has_rising_number(receipts: &[Receipt], number: u32) -> bool
     ensures { IsTrue result → HasNumber receipts.now number }
 {
@@ -92,7 +94,8 @@ fn is_covered<L: SiteLedger>(passes: &[Pass<L>], entry: &Entry) -> bool
     false
 }
 
-// The same, fast where the passes' numbers rise. False says nothing.
+// Does what `is_covered` does, faster, for passes whose receipts' numbers rise. For others it may return false where it
+// shouldn't.
 fn is_covered_soon<L: SiteLedger>(passes: &[Pass<L>], entry: &Entry) -> bool
     ensures { IsTrue result → Covered passes.now entry.now }
 {
@@ -123,7 +126,7 @@ fn uncovered<L: SiteLedger>(history: &[Entry], passes: &[Pass<L>]) -> Option<(u3
     None
 }
 
-// The entries after the first ones, as many as given.
+// Returns the entries after the first `base`.
 pub(super) fn behind(base: u32, history: &[Entry]) -> &[Entry]
     requires { base ≤ length history.now }
     ensures { result.now ≡ drop base history.now }
@@ -144,10 +147,10 @@ fn uncovered_since<L: SiteLedger>(
     uncovered(behind(base, history), passes)
 }
 
-/// Returns a fault of a history against the receipts of the passes, if there is one, as a pass and a number. Either the
-/// first wrong receipt of this pass has this number: it isn't the entry there by pass, event, moment and reply, or its
-/// number isn't above that of the receipt before it. Or the entry with this pass and number is in no receipt of that
-/// pass.
+/// Compares a history with the receipts of the passes, and returns a fault, if there is one, as the number of a pass
+/// and of an entry. Either the first wrong receipt of this pass has this number: pass, moment, act and reply aren't
+/// those of the entry, or the number isn't above that of the receipt before. Or the entry of this number has no receipt
+/// in this pass, which is the entry's.
 pub fn fault<L: SiteLedger>(history: &[Entry], passes: &[Pass<L>]) -> Option<(u32, u32)>
     ensures none { IfNone result (IsMerge history.now passes.now) }
     ensures some { IfSome result (λ x. IsFault history.now passes.now x.0 x.1) }
@@ -155,8 +158,8 @@ pub fn fault<L: SiteLedger>(history: &[Entry], passes: &[Pass<L>]) -> Option<(u3
     fault_since(0, history, passes)
 }
 
-/// Does what `fault` does for a history whose first `base` entries no pass was answered. A receipt's number must be
-/// above `base`, and each entry after those must be in the receipts of its pass.
+/// Does what `fault` does for a history whose first `base` entries are older than the passes. The number of each
+/// receipt must be above `base`, and each later entry must have a receipt in its pass.
 pub fn fault_since<L: SiteLedger>(
     base: u32,
     history: &[Entry],
@@ -178,7 +181,7 @@ fn count_of<L: SiteLedger>(passes: &[Pass<L>], id: u32) -> usize
     passes.iter().filter(|pass| pass.id() == id).count()
 }
 
-/// Whether these are the passes 1 to `number`, each once.
+/// Returns whether these are the passes 1 to `number`, each once.
 pub fn are_all<L: SiteLedger>(number: u32, passes: &[Pass<L>]) -> bool
     ensures { IsTrue result ↔ AreAll number passes.now }
 {

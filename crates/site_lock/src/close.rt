@@ -1,26 +1,27 @@
-//! Closing a forecourt.
+//! The results of closing a forecourt.
 use super::halted::Halted;
 use super::journal::{Journal, NoJournal};
 use super::pass::{Pass, SiteLedger};
 use site_core::Site;
 use thiserror::Error;
 
-/// Why a forecourt was not closed.
+/// Why a forecourt wasn't closed.
 #[derive(Clone, Copy, Debug, PartialEq, Eq, Drop, Error)]
 pub enum CloseRefusal {
-    /// C1: the passes handed in aren't all of the forecourt's, each once.
+    /// C1: the passes given to the close aren't exactly the passes of the forecourt, each once.
     #[error("the passes handed in aren't all of the site's, each once")]
     PassMissing,
-    /// C2: the receipt of this pass with this number isn't the entry there, or the entry there has no receipt, as that
-    /// at which a journal failed.
+    /// C2: the receipt of this pass and number isn't the entry of that number, or the entry of this pass and number has
+    /// no receipt, as the one at which a journal failed.
     #[error("entry {1} of the history isn't what pass {0} was answered")]
     NotInHistory(u32, u32),
-    /// C3: the site has another configuration.
+    /// C3: the site has another configuration than the forecourt was made for.
     #[error("the site has another configuration")]
     OtherConfig,
 }
 
-/// A forecourt that was not closed, and is unchanged, with the passes that it was to be closed with.
+/// The error of a close: why the forecourt wasn't closed, the forecourt itself, which is unchanged, and the given
+/// passes.
 #[derive(Drop)]
 pub struct CloseFault<L: SiteLedger, J: Journal = NoJournal> {
     pub why: CloseRefusal,
@@ -28,7 +29,7 @@ pub struct CloseFault<L: SiteLedger, J: Journal = NoJournal> {
     pub passes: Vec<Pass<L>>,
 }
 
-/// What a closed forecourt leaves.
+/// What remains of a closed forecourt.
 #[derive(Drop)]
 pub struct Closed {
     pub site: Site,

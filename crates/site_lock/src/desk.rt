@@ -1,4 +1,4 @@
-//! A desk over a forecourt and a pass.
+//! The desk of a forecourt and a pass.
 ghost use Rattle.std.specs.Prelude.{◌≡◌, ℕ, None};
 ghost use Rattle.till_request.specs.declared.act.Act.{Act};
 ghost use Rattle.reg_types.specs.Shown.{IsRefusal};
@@ -22,9 +22,9 @@ use std::alloc::Global;
 use std::sync::Wait;
 use till_request::{Act, Answer};
 
-/// Answers acts by calling a forecourt with one pass; a gate runs the programs that decide. A load's bytes are verified
-/// before the lock is taken: a refused program is answered with its V line and is no event. Once the journal has
-/// failed, each event is answered with `JournalFailed`, which ends the session without a line.
+/// A desk that calls a forecourt with one pass, and whose gate runs the programs that decide. A load's program is
+/// verified before the lock is taken; if it is refused, the answer is its V line, and there is no event. Once the
+/// journal has failed, each event is answered with `JournalFailed`, which ends the session without a line.
 #[derive(Drop)]
 pub struct PassDesk<'a, L: SiteLedger, R: Wait, G: Gate + Drop, J: Journal = NoJournal> {
     rt: &'a R,
@@ -35,7 +35,7 @@ pub struct PassDesk<'a, L: SiteLedger, R: Wait, G: Gate + Drop, J: Journal = NoJ
 }
 
 impl<'a, L: SiteLedger, R: Wait, G: Gate + Drop, J: Journal> PassDesk<'a, L, R, G, J> {
-    /// A desk with this pass and this gate. Takes no memory.
+    /// Makes a desk with this pass and this gate. Allocates no memory.
     pub fn new(
         rt: &'a R,
         alloc: Global,
@@ -55,7 +55,7 @@ impl<'a, L: SiteLedger, R: Wait, G: Gate + Drop, J: Journal> PassDesk<'a, L, R, 
         }
     }
 
-    /// The pass, with the receipts that it gained at the desk.
+    /// Returns the pass, with the receipts that it got at the desk.
     pub fn into_pass(self) -> Pass<L>
         ensures { result ≡ self.entry.pass }
     {
@@ -84,7 +84,7 @@ impl<L: SiteLedger, R: Wait, G: Gate + Drop, J: Journal> Desk for PassDesk<'_, L
     }
 }
 
-// Makes the call that an act asks for; the event is that of the act.
+// Calls the forecourt for an act, whose event is `what`, and returns the answer.
 fn call<L: SiteLedger, R: Wait, G: Gate, J: Journal>(
     rt: &R,
     forecourt: &Forecourt<L, J>,
@@ -102,7 +102,7 @@ fn call<L: SiteLedger, R: Wait, G: Gate, J: Journal>(
     ensures decided { AsksGate (G.calls gate.old) (G.calls gate.new) result act }
     ensures decided_by { DeskDecides G.makes L.config pass.old.id moment gate.old gate.new result act }
 {
-    // Lets the proof know that the configuration is the ledger's.
+    // This call gives the prover that the configuration is the ledger's.
     let _ = forecourt.config();
     match what {
         What::Till { till, request } => said(forecourt.ask(rt, pass, gate, till, moment, request)),
@@ -133,7 +133,7 @@ fn said(called: Result<Answered, EnterFault>) -> Answer
     }
 }
 
-// The answer to a load that is no event.
+// Returns the answer to a load whose program is refused, which makes no event.
 fn refused<G: Gate, J: Journal>(refusal: Refusal) -> Answer
     ensures answers { (config : ConfigValue) (pass : PassView) (act : Act) (moment : ℕ) → IsRefusedAct act refusal
         → IsRefusal (load_refusal act) refusal → DeskAnswers config J.may_fail pass pass act moment result }

@@ -1,11 +1,11 @@
-//! Why an event isn't answered where a journal is kept.
+//! The reasons why an event has no answer at a site that may keep a journal.
 use site_core::CallFault;
 
-/// Why an event has no answer at a site that keeps a journal.
+/// Why an event has no answer at a site that may keep a journal.
 #[derive(Clone, Copy, PartialEq, Eq, Drop)]
 pub enum EnterFault {
-    /// The event wasn't entered: S29 or S31.
+    /// The event wasn't entered: the history is full (S29), or memory ran out (S31).
     Call(CallFault),
-    /// The journal failed, at this event's entry or before: the site takes no event more.
+    /// The journal failed, at this event's entry or before. The site takes no further event.
     Journal,
 }

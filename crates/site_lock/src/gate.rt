@@ -1,18 +1,18 @@
-//! Who runs programs.
+//! The gate, which runs programs while nobody holds the lock.
 ghost use Rattle.std.specs.Prelude.{◌≡◌};
 
 use site_core::{Draft, Ready};
 
-/// Runs drafts, without any lock, and counts its calls in 64 bits that wrap.
+/// A gate: it runs drafts while no lock is held. It counts its calls in 64 bits, and the count wraps.
 pub trait Gate {
     ghost use Rattle.std.specs.Prelude.{◌≡◌, ℕ};
     ghost use Rattle.till_request.specs.Count.{RoseBy};
     ghost use Rattle.site_core.specs.Draft.{ReadyValue};
 
-    /// How often it was called.
+    /// The number of calls so far.
     ghost calls: { Self → ℕ };
 
-    /// States that a call made this run, and which state it left the gate in.
+    /// States that a call made this run, and the state of the gate after it.
     ghost makes: { Self → ReadyValue → Self → Type 0 };
 
     /// Runs the draft of a till's request.
@@ -22,7 +22,7 @@ pub trait Gate {
         ensures counted { RoseBy 1 (calls self.old) (calls self.new) };
 }
 
-/// Runs each draft at once.
+/// A gate that runs each draft at once, on the caller's thread.
 #[derive(Clone, Copy, Drop)]
 pub struct Straight {
     pub calls: u64,

@@ -1,4 +1,4 @@
-//! A forecourt that could not be closed.
+//! A forecourt that couldn't be closed.
 ghost use Rattle.std.specs.Prelude.{◌≡◌, IfNone, IfSome};
 
 use super::check::are_all;
@@ -12,8 +12,8 @@ use site_core::{Config, Site};
 use std::alloc::Global;
 use std::marker::Model;
 
-/// A forecourt that could not be closed. Until it is opened again nobody can call it, so its history doesn't change and
-/// can be read.
+/// A forecourt that couldn't be closed. Until it is reopened nobody can call it, so its history stays the same and can
+/// be read.
 #[derive(Drop)]
 pub struct Halted<L: SiteLedger, J: Journal = NoJournal> {
     pub(super) alloc: Global,
@@ -44,7 +44,7 @@ impl<L: SiteLedger, J: Journal> Model for Halted<L, J> {
 impl<L: SiteLedger, J: Journal> Halted<L, J> {
     ghost use Rattle.site_lock.specs.Closing.{ClosesSince, IsHalted, RefusesSince};
 
-    /// Why it can't be closed with these passes.
+    /// Returns why the forecourt can't be closed with these passes, or `None` if it can.
     pub(super) fn refusal(&mut self, passes: &mut Vec<Pass<L>>) -> Option<CloseRefusal>
         ensures same { (self.new ≡ self.old) × (passes.new.items ≡ passes.old.items) }
         ensures none { IfNone result
@@ -52,7 +52,7 @@ impl<L: SiteLedger, J: Journal> Halted<L, J> {
         ensures some { IfSome result (λ why. RefusesSince self.old passes.old.items why) }
         ensures halted { IsHalted J.may_fail self.new }
     {
-        // Lets the proof know what holds under the lock.
+        // This call gives the prover what holds under the lock.
         let _ = self.history();
         if !are_all(self.passes, passes.as_slice()) {
             return Some(CloseRefusal::PassMissing);
@@ -61,7 +61,7 @@ impl<L: SiteLedger, J: Journal> Halted<L, J> {
         self.locked_site.refusal(&self.config, passes.as_slice())
     }
 
-    /// The site and the journal.
+    /// Returns the site and the journal.
     pub(super) fn into_parts(self) -> (Site, J)
         ensures site { result.0 ≡ self.locked_site.site }
         ensures journal { J.written result.1 ≡ self.locked_site.written }
@@ -69,24 +69,24 @@ impl<L: SiteLedger, J: Journal> Halted<L, J> {
         self.locked_site.into_parts()
     }
 
-    /// The history, as it is.
+    /// Returns the history.
     pub fn history(&self) -> &[Entry]
         ensures same { result.now ≡ self.now.locked_site.site.history }
         ensures stands { IsHalted J.may_fail self.now }
     {
-        // Lets the proof know that the configuration is the ledger's.
+        // Reading a field gives the prover that the configuration is the ledger's.
         let _ = &self.config;
         self.locked_site.history()
     }
 
-    /// Whether the journal failed: then the last entry isn't answered.
+    /// Returns whether the journal failed. If so, the last entry wasn't answered.
     pub fn has_stopped(&self) -> bool
         ensures { result ≡ self.now.locked_site.stopped }
     {
         self.locked_site.has_stopped()
     }
 
-    /// The forecourt, for further calls and another close.
+    /// Returns the forecourt, for further calls and another close.
     pub fn reopen(self) -> Forecourt<L, J>
         ensures { result ≡ self.opened }
     {
@@ -99,13 +99,12 @@ impl<L: SiteLedger, J: Journal> Halted<L, J> {
         Forecourt::over(alloc, config, passes, locked_site)
     }
 
-    /// Returns the journal. It took the text of all entries that were answered, and where it failed a beginning of one
-    /// more line.
+    /// Returns the journal. It took the text of all answered entries, and if it failed, a beginning of one more line.
     pub fn into_journal(self) -> J
         ensures written { J.written result ≡ self.locked_site.written }
         ensures stands { IsHalted J.may_fail self }
     {
-        // Lets the proof know that the configuration is the ledger's.
+        // Reading a field gives the prover that the configuration is the ledger's.
         let _ = &self.config;
         let (_, journal) = self.locked_site.into_parts();
         journal

@@ -1,4 +1,4 @@
-//! A site under one lock. Each caller has a pass, which keeps what the caller was answered. At the end the passes are
+//! A site under one lock. Each caller has a pass, which has a receipt of each answer. At the end the receipts are
 //! compared with the site's history.
 #![tactic(auto)]
 

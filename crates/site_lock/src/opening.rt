@@ -1,11 +1,11 @@
-//! How a till's request goes on once it was opened.
+//! The result of the first step of a till's request.
 use site_core::{Answered, Draft};
 
-/// A request that was opened under the lock.
+/// The result of the first step of a till's request, which is made under the lock.
 #[derive(Drop)]
 pub(super) enum Opening {
-    /// No program would be run: it was entered.
+    /// No program would be run for the request, so it was entered.
     Entered(Answered),
-    /// A program is to be run on this.
+    /// A program is to be run for the request, on this draft.
     Run(Draft),
 }

@@ -1,4 +1,4 @@
-//! Passes: who may call a forecourt, and what he was answered.
+//! Passes: the rights of callers to call a forecourt, with the receipts of what they were answered.
 ghost use Rattle.std.specs.Prelude.{◌≡◌, length, [], None};
 
 use std::alloc::Global;
@@ -6,22 +6,24 @@ use std::marker::{Brand, Model};
 use std::sync::ledger::{Ledger, Share};
 use till_request::{Act, Reply};
 
-/// The call ledger of a forecourt: one part for each pass, the configuration of its site, and what it goes on from.
+/// The ledger of a forecourt's answered calls: one part for each pass, the configuration of the site, and the history
+/// that the forecourt starts from.
 ///
-/// A forecourt lives and ends in one function that is generic over its ledger, and which is called with `Brand` for it;
-/// the call's proof picks name, parts and configuration. So a pass of another forecourt doesn't compile.
+/// A forecourt lives and ends in one function that is generic over its ledger. The function is called with `Brand` as
+/// the ledger, and the proof of the call chooses name, parts and configuration. So a pass of another forecourt doesn't
+/// compile.
 pub trait SiteLedger: Ledger {
     ghost use Rattle.std.specs.Prelude.{List, Option, ℕ};
     ghost use Rattle.decision_journal.specs.declared.entries.Entry.{Entry};
     ghost use Rattle.site_core.specs.Limits.{ConfigValue};
 
-    /// The configuration of its site.
+    /// The configuration of the forecourt's site.
     ghost config: { ConfigValue };
 
-    /// The history that it goes on from: that of an audited site, or none.
+    /// The history that the forecourt starts from: that of an audited site, or an empty one.
     ghost base: { List Entry };
 
-    /// The bytes that the journal had taken when the forecourt was started, where they are known.
+    /// The bytes that the journal had taken when the forecourt was started, if they are known.
     ghost taken: { Option (List ℕ) };
 }
 
@@ -33,7 +35,8 @@ impl SiteLedger for Brand {
     ghost taken = { None };
 }
 
-/// An answer: the entry's number, its moment (0 for a dispenser's event and a load), what was asked, and the reply.
+/// The receipt of an answered call: the entry's number, its moment (0 for a dispenser's event and a load), the act, and
+/// the reply.
 #[derive(Drop)]
 pub struct Receipt {
     pub number: u32,
@@ -42,8 +45,8 @@ pub struct Receipt {
     pub reply: Reply,
 }
 
-/// A caller's pass. It has a number, from 1, a share of the call ledger, and a receipt for each answered call, the
-/// oldest first.
+/// The pass of a caller: its number, counted from 1, its share of the ledger, and the receipts of all answered calls,
+/// the oldest first.
 #[derive(Drop)]
 pub struct Pass<L: SiteLedger> {
     pub(super) id: u32,
@@ -65,7 +68,7 @@ impl<L: SiteLedger> Model for Pass<L> {
 impl<L: SiteLedger> Pass<L> {
     ghost use Rattle.site_lock.specs.Passes.{new_pass};
 
-    /// A pass without receipts.
+    /// Makes a pass without receipts.
     pub(super) fn new(alloc: Global, id: u32, share: Share<L>) -> Pass<L>
         requires { (share.parts ≡ 1) × (share.amount ≡ 0) }
         ensures { result ≡ new_pass id }
@@ -77,14 +80,14 @@ impl<L: SiteLedger> Pass<L> {
         }
     }
 
-    /// Its number.
+    /// Returns the number of the pass.
     pub fn id(&self) -> u32
         ensures { result ≡ self.now.id }
     {
         self.id
     }
 
-    /// What it was answered, the oldest first. There are as many receipts as its share counts.
+    /// Returns the receipts, the oldest first. The contract says that they are as many as the share counts.
     pub fn receipts(&self) -> &[Receipt]
         ensures receipts { result.now ≡ self.now.receipts }
         ensures counted { self.now.amount ≡ length self.now.receipts }
@@ -92,7 +95,7 @@ impl<L: SiteLedger> Pass<L> {
         self.receipts.as_slice()
     }
 
-    /// A share that counts nothing.
+    /// Returns an empty share of the same ledger.
     pub(super) fn lend_none(&mut self) -> Share<L>
         ensures parts { result.parts ≡ 0 }
         ensures amount { result.amount ≡ 0 }

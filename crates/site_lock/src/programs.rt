@@ -1,4 +1,4 @@
-//! Many programs at once.
+//! Verification of many programs, on several threads.
 ghost use Rattle.std.specs.Prelude.{◌≡◌, ℕ, ◌<◌, ◌≤◌, length, IfOk, slice_index_or, vec_len};
 ghost use Rattle.site_lock.specs.Verdicts.{IsVerified};
 
@@ -7,7 +7,8 @@ use std::alloc::{AllocError, Global};
 use std::thread;
 use std::thread::Threads;
 
-/// The value of an item that wasn't verified yet. No program has a unit of this number.
+/// The result that an item has until it is verified. `verify` never returns it, as no program has a unit of this
+/// number.
 const UNDECIDED: Refusal = Refusal::Type(TypeFault::FallsOff(u32::MAX));
 
 fn verified(alloc: Global, item: &(Vec<u8>, u32, Layout)) -> Result<Program, Refusal>
@@ -16,7 +17,7 @@ fn verified(alloc: Global, item: &(Vec<u8>, u32, Layout)) -> Result<Program, Ref
     verify(alloc, item.0.as_slice(), item.1, item.2)
 }
 
-// A place for each answer.
+// Makes a list for `count` results, each of them `UNDECIDED`. The error is that memory ran out.
 fn places(alloc: Global, count: usize) -> Result<Vec<Result<Program, Refusal>>, AllocError>
     ensures { IfOk result (λ v. vec_len v ≡ count) }
 {
@@ -27,9 +28,9 @@ fn places(alloc: Global, count: usize) -> Result<Vec<Result<Program, Refusal>>, 
     Ok(places)
 }
 
-/// Returns what `verify` returns for each item (its bytes, mask and layout), in the items' order. At most `workers`
-/// threads, 1 to 16, do the work. The error means that there was no memory for the list of results. An item for which
-/// memory runs out has that as its own result.
+/// Verifies each item (its bytes, mask and layout), and returns the results of `verify` in the items' order. At most
+/// `workers` threads, 1 to 16, do the work. The error is that there was no memory for the list of results. An item for
+/// which memory runs out has that as its own result.
 pub fn verify_all<R: Threads + Sync>(
     rt: &R,
     alloc: Global,

@@ -1,4 +1,4 @@
-//! Decisions that are run outside the site, and what happens in between.
+//! Tests of decisions that are run outside the site, with changes of the site between the draft and the commit.
 use fuelling_point::DispenserEvent;
 use reg_types::{Layout, verify};
 use site_core::{
@@ -10,7 +10,7 @@ use std::sync::Arc;
 use std::test::Fail;
 use till_request::{Reply, Request};
 
-/// A program, the counters that it declares, and its layout.
+/// A program: its bytes, the mask of the counters that it declares, and its layout.
 #[derive(Clone, Copy)]
 struct Rule {
     bytes: &'static [u8],
@@ -18,21 +18,21 @@ struct Rule {
     layout: Layout,
 }
 
-/// It grants what is asked.
+/// A program that grants what is asked.
 const ASKED: Rule = Rule {
     bytes: &[0x79, 0x10, 0x18, 0, 0, 0, 0, 0, 0x95, 0, 0, 0, 0, 0, 0, 0],
     mask: 0,
     layout: Layout::One,
 };
 
-/// It answers 1, for the second layout.
+/// A program for the second layout that answers 1.
 const ONE: Rule = Rule {
     bytes: &[0xb7, 0, 0, 0, 1, 0, 0, 0, 0x95, 0, 0, 0, 0, 0, 0, 0],
     mask: 0,
     layout: Layout::Two,
 };
 
-/// It adds one to counter 0, where its bound allows, and answers 1, or else 0.
+/// A program that adds one to counter 0 and answers 1, or answers 0 if the counter is at its bound.
 const COUNTED: Rule = Rule {
     bytes: &[
         0xb7, 1, 0, 0, 0, 0, 0, 0, 0xb7, 2, 0, 0, 1, 0, 0, 0, 0x85, 0, 0, 0, 2, 0, 0, 0, 0x95, 0,
@@ -53,13 +53,13 @@ const OPEN: Does = Does::Till(1, Request::OpenPoint(1));
 
 const OPEN_SECOND: Does = Does::Till(2, Request::OpenPoint(2));
 
-/// A rule that grants what is asked is loaded, and point 1 opened.
+/// The events that load a program which grants what is asked, and open point 1.
 const OPENED: &[Does] = &[Does::Load(0, ASKED), OPEN];
 
 const RELEASE: Request = Request::Release(1, 8000);
 
-/// What a site enters, what till 1 asks it then, what is entered between the decision and its commit, and the entry's
-/// number and reply, or why the decision is stale.
+/// A case: the events before a decision, the request of till 1, the events between its draft and its commit, and the
+/// expected result: the entry's number and reply, or why the decision is stale.
 struct Row {
     before: &'static [Does],
     asked: Request,
@@ -68,14 +68,14 @@ struct Row {
 }
 
 const ROWS: [Row; 8] = [
-    // What a run doesn't depend on may change.
+    // A run doesn't depend on what is changed here, so the decision is entered.
     Row {
         before: OPENED,
         asked: RELEASE,
         between: &[Does::Till(2, Request::Show(1))],
         told: Ok((4, Reply::Granted(8000, 1))),
     },
-    // The preset of now bounds a release.
+    // The preset at the time of the commit bounds the release.
     Row {
         before: OPENED,
         asked: RELEASE,
@@ -97,7 +97,7 @@ const ROWS: [Row; 8] = [
         between: &[Does::Disp(1, DispenserEvent::Up(1))],
         told: Err(Why::Context(12)),
     },
-    // The second layout tells how many points are open.
+    // The context of the second layout has the number of open points, so opening one changes it.
     Row {
         before: &[Does::Load(0, ONE), OPEN],
         asked: RELEASE,
@@ -124,8 +124,8 @@ const ROWS: [Row; 8] = [
     },
 ];
 
-/// Two tills, two points whose releases go to slot 0 and presets to slot 1, prices to slot 2, and one counter of at
-/// most 2.
+/// Makes a configuration with two tills and two points, and counter 0 with bound 2. Slot 0 decides releases, slot 1
+/// presets, and slot 2 prices.
 fn config(alloc: Global) -> Option<Config> {
     let points = vec![in alloc; (0, 1), (0, 1)].ok()?;
     let mut counters = [(0, 0); 32];
@@ -160,7 +160,7 @@ fn events(alloc: Global, all: &[Does]) -> Option<Vec<Event>> {
     Some(events)
 }
 
-/// A site that was run on these events.
+/// Makes a new site, and applies these events to it.
 fn played(alloc: Global, all: &[Does]) -> Option<Site> {
     let config = config(alloc)?;
     let (site, _results) = Site::run(alloc, config, events(alloc, all)?).ok()?;
@@ -174,7 +174,7 @@ fn decide(site: &Site, request: Request) -> Option<Ready> {
     }
 }
 
-/// Commits by pass 2.
+/// Commits a decision with pass 2, and returns the entry's number and reply, or why the decision is stale.
 fn commit(site: &mut Site, ready: Ready) -> Option<Result<(u32, Reply), Why>> {
     match site.commit(2, ready).ok()? {
         Commit::Done(answered) => Some(Ok((answered.number, answered.reply))),
@@ -189,7 +189,7 @@ fn enter(alloc: Global, site: &mut Site, all: &[Does]) -> Option<()> {
     Some(())
 }
 
-/// Decides, enters what is entered between, and commits.
+/// Makes and runs the draft of a case, applies the events between, and commits.
 fn late(alloc: Global, site: &mut Site, row: &Row) -> Option<Result<(u32, Reply), Why>> {
     let ready = decide(site, row.asked)?;
     enter(alloc, site, row.between)?;
@@ -201,7 +201,7 @@ fn told(alloc: Global, row: &Row) -> Option<Result<(u32, Reply), Why>> {
     late(alloc, &mut site, row)
 }
 
-/// The place of the first row that is told otherwise.
+/// Returns the place of the first case whose result isn't the expected one.
 fn first_unlike(alloc: Global) -> Option<usize> {
     for (place, row) in ROWS.iter().enumerate() {
         if told(alloc, row) != Some(row.told) {

@@ -1,6 +1,6 @@
-//! Tests of the site and of what it stands on, as far as no word of the program reaches it: drafts, a line by itself,
-//! and words of faults. They are a crate of their own, so that `./check` proves each crate once and not once more with
-//! its tests.
+//! Tests of the site and the crates below it that the commands of the program can't make: drafts, the reading of a
+//! single line, and the words of faults. They are in a crate of their own, so that `./check` proves the tested crates
+//! only once.
 #![tactic(auto)]
 
 #[cfg(test)]

@@ -1,9 +1,9 @@
-//! A line that is read by itself. What lines say is a table of cases, `cases/play/line_forms.table`.
+//! A test that a single line is read. The forms of lines are tested by the table `cases/play/line_forms.table`.
 use std::alloc::Global;
 use till_request::devices::MemoryIn;
 use till_request::{Act, Request, Role, read_line};
 
-/// The act of a line, and how many reads of 100 are left behind it.
+/// Reads a line with at most 100 reads, and returns its act, and how many reads remain.
 fn read(alloc: Global) -> Option<(Option<Act>, u32)> {
     let bytes = Vec::from_slice(alloc, b"till 1 open 1\n").ok()?;
     let mut input = MemoryIn::new(bytes, Vec::new(alloc), None);

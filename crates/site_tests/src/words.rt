@@ -1,4 +1,4 @@
-//! The words of faults, which no answer has.
+//! A test of the words of faults, which no answer contains.
 use fuelling_point::{PointFault, State};
 use program_slots::SlotFault;
 use reg_types::{Refusal, TypeFault};
@@ -6,7 +6,7 @@ use site_core::{AuditFault, CallFault};
 use std::alloc::Global;
 use std::fmt::Display;
 
-/// Whether a fault has these words.
+/// Returns whether a fault is displayed as these words.
 fn says<D: Display + Drop>(alloc: Global, fault: D, words: &str) -> bool {
     match format!(in alloc; "{fault}") {
         Ok(told) => told.as_str() == words,
