@@ -296,7 +296,8 @@ fn takings_of(alloc: Global, points: usize, entries: &[Entry]) -> Result<Takings
     })
 }
 
-/// The loads of a history, and how often its rules granted and denied.
+/// The loads of rules in a history, and how often the rules granted and denied what tills asked: in all, and by version
+/// (`verdicts`).
 #[derive(Drop)]
 struct Decided {
     loads: Vec<Load>,

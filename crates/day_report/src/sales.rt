@@ -1,4 +1,4 @@
-//! The sales of a history: the transactions that tills cleared.
+//! The sales of a history: the transactions that tills cleared, which means that they were paid.
 
 ghost use Rattle.std.specs.Prelude.{◌≡◌, ◌≤◌, ℕ, All, IfOk, length};
 ghost use Rattle.fuelling_point.specs.Table.{PointState};
@@ -33,7 +33,7 @@ pub struct Sold {
     pub points: Vec<Point>,
 }
 
-/// A request to clear a transaction that was done: the till, the point and the transaction's number.
+/// A request that cleared a transaction (it was answered `done`): the till, the point and the transaction's number.
 #[derive(Clone, Copy)]
 struct Clearing {
     till: u32,

@@ -65,7 +65,8 @@ fn steps_of(axis: Axis) -> usize {
     }
 }
 
-/// Returns for each step how many entries come before the step's end.
+/// Divides a history into the steps of a picture's axis: returns for each step how many entries are in it or in an
+/// earlier step. Along time, an entry without a moment is in the step of the entry before it.
 fn cuts(
     alloc: Global,
     entries: &[Entry],

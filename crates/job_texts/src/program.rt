@@ -11,7 +11,8 @@ use reg_types::{Layout, Program, Refusal, verify};
 use std::alloc::{AllocError, Global};
 use till_request::Answer;
 
-/// Returns the line for a program that is accepted, with status 0.
+/// Returns what `fc verify` prints for an accepted program: the line `accepted UNITS`, and 0 as the exit status. The
+/// error is that memory ran out.
 fn told_accepted(alloc: Global, program: &Program) -> Result<Told, AllocError>
     ensures { IfOk result
         (λ told. IsSaid told (codes "accepted " ++ decimal (length program.now.bytes / 8) ++ codes "\n") 0) }

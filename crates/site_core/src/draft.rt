@@ -176,9 +176,10 @@ impl Ready {
     ghost use Rattle.site_core.specs.Asked.{basis_in};
     ghost use Rattle.site_core.specs.Outside.{IsRunOf};
 
-    /// Carries out what the program answered and fills in the entry, if nothing that the run depends on has changed.
-    /// Counters that the program doesn't declare keep their current values, and a release grants at most the point's
-    /// current preset. The error is the first difference; the station is then unchanged.
+    /// Carries out what the program answered and fills in the entry, if nothing that the run depends on has changed
+    /// since. Else the error is the first change that was found, and the station is unchanged. Counters that the program
+    /// doesn't declare keep their current values. If the till asked to release fuel, it is granted at most the amount
+    /// that is preset at the point now, if one is.
     pub(crate) fn settle(
         &self,
         config: &Config,

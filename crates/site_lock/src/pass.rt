@@ -68,7 +68,7 @@ impl<L: SiteLedger> Model for Pass<L> {
 impl<L: SiteLedger> Pass<L> {
     ghost use Rattle.site_lock.specs.Passes.{new_pass};
 
-    /// Makes a pass without receipts.
+    /// Makes the pass with number `id`. No call was made with it yet, so it has no receipts.
     pub(super) fn new(alloc: Global, id: u32, share: Share<L>) -> Pass<L>
         requires { (share.parts ≡ 1) × (share.amount ≡ 0) }
         ensures { result ≡ new_pass id }

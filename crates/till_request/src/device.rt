@@ -34,9 +34,9 @@ pub trait LineIn {
         ensures failed { RoseBy (one_if (is_err result)) (failures self.old) (failures self.new) }
         ensures asked_for { RoseBy (length buffer.new) (asked self.old) (asked self.new) };
 
-    /// Moves bytes of a line that the source already holds into `line`. Each counts as a read of one byte, and uses up
-    /// one of the `left` reads. It moves no LF, and a line grows to 8,400 bytes at most. A source that holds no bytes
-    /// moves none. The error is out of memory, and then nothing was moved.
+    /// Appends to `line` bytes that the source has buffered, and takes them from the source. They end before the next LF,
+    /// and `line` grows to 8,400 bytes at most. Each byte counts as a read of one byte, and takes one from `left`. A
+    /// source without a buffer does nothing here. The error is that memory ran out, and then nothing was moved.
     fn read_held(&mut self, line: &mut Vec<u8>, left: &mut u32) -> Result<(), AllocError>
         requires { IsLine line.old.items }
         ensures taken { OnOk result

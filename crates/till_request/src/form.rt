@@ -225,7 +225,8 @@ fn five_fit(first: Keyword, third: Keyword, words: &[&[u8]]) -> bool
     }
 }
 
-/// Whether the words are a load's for this layout.
+/// Whether the words are those of a line that loads a rule for this layout of its context: `load` or `load2`, and three
+/// values.
 #[inline(always)]
 fn load_fits(layout: Layout, words: &[&[u8]]) -> bool
     ensures { result ≡ fits (template (forms.Load layout)) (map (λ w. w.now) words.now) }
