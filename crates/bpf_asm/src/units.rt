@@ -293,7 +293,8 @@ fn push_units(
     }
 }
 
-/// Returns the units of all rows. The error is that memory ran out.
+/// Returns the units of all rows, in order. A row is a parsed line with the label that it defines, or that it jumps to.
+/// The error is that memory ran out.
 pub fn units_of(
     alloc: Global,
     labels: &[(&[u8], u64)],

@@ -4,7 +4,8 @@ ghost use Rattle.std.specs.Prelude.{◌≡◌};
 use bpf_model::context::Layout;
 use std::alloc::AllocError;
 
-/// The job that a command line asks for. Files are named as in the command line.
+/// The job that a command line asks for. Each `String` is the name of a file, as the command line has it, except the
+/// one of `Show`.
 #[derive(Drop)]
 pub enum Job {
     /// No argument was given: play a script from standard input, where the configuration comes before it.

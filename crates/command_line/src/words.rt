@@ -13,7 +13,7 @@ use clap::ArgMatches;
 use clap::error::ErrorKind;
 use std::alloc::{AllocError, Global};
 
-/// Returns the file that the argument `id` names, if it is given.
+/// Returns the name of a file that the argument `id` gives; `None` if the argument isn't given.
 fn file_of(alloc: Global, matches: &ArgMatches, id: &str) -> Result<Option<String>, AllocError>
     ensures { IfOk result (λ s. first_of id.now (rows_of (found_of matches.now)) ≡ option_map string_bytes s) }
 {
@@ -107,7 +107,7 @@ fn verify_of(alloc: Global, matches: &ArgMatches) -> Result<Option<Job>, AllocEr
     }
 }
 
-/// Returns the files that two arguments name, if both are given.
+/// Returns the names of two files that the arguments `first` and `second` give; `None` unless both are given.
 fn files_of(
     alloc: Global,
     matches: &ArgMatches,

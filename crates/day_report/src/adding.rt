@@ -210,7 +210,7 @@ fn denied_in(decisions: &[Decision]) -> usize
     decisions.iter().filter(|d| !d.is_granted).count()
 }
 
-/// The totals of what was sold at each point, by each till and in each hour.
+/// The totals of what was sold: at each fuelling point, by each till that cleared sales, and in each hour of the day.
 #[derive(Drop)]
 struct Sums {
     points: Vec<Sum>,

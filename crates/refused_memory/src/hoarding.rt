@@ -1,11 +1,11 @@
-//! Taking all memory of the process but a small room.
+//! Allocates all memory of the process but one small block, which stays free.
 use std::alloc::Global;
 
-/// The bytes that are taken again from the freed block that becomes the room. The allocator reuses a freed block of up
-/// to 1,032 bytes for its own size only, so the room must be part of a larger one.
+/// The bytes of a freed block that are allocated again, so that the rest of it is the free block. The allocator reuses
+/// a freed block of up to 1,032 bytes for its own size only, so the free block must be part of a larger one.
 const HELD: usize = 1080;
 
-/// The most room sizes with which a call is tried.
+/// How many sizes of the free block a call is tried with, at most.
 pub const TURNS: usize = 120;
 
 /// Allocates blocks of `size` bytes until that fails.
@@ -32,14 +32,14 @@ fn hoard(alloc: Global, blocks: &mut Vec<Vec<u8>>) {
     }
 }
 
-/// All memory but a room. It is freed when this is dropped.
+/// All memory but one free block. It is freed when this is dropped.
 #[derive(Drop)]
 pub struct Taken {
     blocks: Vec<Vec<u8>>,
     held: Option<Vec<u8>>,
 }
 
-/// Allocates all memory but one room of `size` bytes.
+/// Allocates all memory but one block of `size` bytes, which stays free; `None` if there is too little memory for that.
 pub fn take_but(alloc: Global, size: usize) -> Option<Taken> {
     let room: Vec<u8> = Vec::with_capacity(alloc, size.saturating_add(HELD)).ok()?;
     let mut blocks = Vec::with_capacity(alloc, 200_000).ok()?;
@@ -55,7 +55,7 @@ pub fn leave_few(alloc: Global) -> Option<Taken> {
     take_but(alloc, 1 << 26)
 }
 
-/// Returns the size of the room in a turn, in bytes: 0 in turn 0, over 80,000 in the last.
+/// Returns the size of the free block in a turn, in bytes: 0 in turn 0, over 80,000 in the last.
 pub fn room_of(turn: usize) -> usize {
     turn.wrapping_mul(turn).wrapping_mul(6)
 }

@@ -142,8 +142,9 @@ fn wanted_of(alloc: Global, site: &str, script: &str, line: usize) -> Option<Wan
     })
 }
 
-/// Plays a script with rooms that grow until the line is answered. Returns how often the line was answered `S31`, and
-/// how often the play ended with `OutOfMemory`; `None` if it wrote something wrong, or no room was enough.
+/// Plays a script again and again, with a larger free block each time, until the line is answered. Returns how often
+/// the line was answered `S31`, and how often the play ended with `OutOfMemory`; `None` if it wrote something wrong, or
+/// no free block was enough.
 fn count_refusals(
     alloc: Global,
     site: &str,

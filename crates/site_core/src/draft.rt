@@ -116,8 +116,9 @@ impl Draft {
         }
     }
 
-    /// Compares what the draft's run was made on with what a run now would be made on: version, context, view and
-    /// declared counters. Returns the question if they are the same. The error is the first difference.
+    /// Compares what the draft's run depends on with what a run now would depend on: version, context, view and
+    /// declared counters. Returns the question if nothing has changed since. Else the error is the first change that
+    /// was found.
     fn compare(&self, config: &Config, station: &Station, slots: &Slots) -> Result<Question, Why>
         requires { length station.now.points ≡ length config.now.points }
         ensures { Compares config.now station.now slots.now self.now result }
@@ -177,9 +178,9 @@ impl Ready {
     ghost use Rattle.site_core.specs.Outside.{IsRunOf};
 
     /// Carries out what the program answered and fills in the entry, if nothing that the run depends on has changed
-    /// since. Else the error is the first change that was found, and the station is unchanged. Counters that the program
-    /// doesn't declare keep their current values. If the till asked to release fuel, it is granted at most the amount
-    /// that is preset at the point now, if one is.
+    /// since. Else the error is the first change that was found, and the station is unchanged. Counters that the
+    /// program doesn't declare keep their current values. If the till asked to release fuel, it is granted at most the
+    /// amount that is preset at the point now, if one is.
     pub(crate) fn settle(
         &self,
         config: &Config,
@@ -240,8 +241,8 @@ pub enum Begin {
     Run(Draft),
 }
 
-/// The result of a commit: `Done`, the decision was entered; or `Stale`, something that its run depends on has changed,
-/// and nothing was entered.
+/// The result of a commit: `Done`, the decision was entered; or `Stale`, something that its run depends on has changed
+/// since, and nothing was entered.
 #[derive(Clone, Copy, PartialEq, Eq, Drop)]
 pub enum Commit {
     Done(Answered),

@@ -1,5 +1,5 @@
--- Definitions: the texts of answers (this profile). The entry's number comes before the reply; a refusal is S, L or
--- V with its number and then what it names.
+-- Definitions: the texts of answers (this profile). An entry's number comes before the reply. A refusal or a fault is
+-- a letter (S for the site's, L for a line's, V for a program's) with its number, and then the numbers that it names.
 use Rattle.std.specs.Prelude.{ℕ, List, [], ◌∷◌, ◌++◌, codes, Option, Some, None}
 use Rattle.std.specs.Fmt.{decimal}
 use Rattle.std.specs.List.{join_with_byte}
@@ -12,13 +12,14 @@ use Rattle.till_request.specs.declared.act.Reply.TheVariants as replies
 use Rattle.till_request.specs.declared.act.Answer.{Answer}
 use Rattle.till_request.specs.declared.act.Answer.TheVariants.{Entered, JournalFull, OutOfMemory, Line, Program, JournalFailed}
 
--- the words of a reply
+-- the words of an order
 abbrev pub order_words : Order → List (List ℕ)
 order_words (orders.Authorise amount) = codes "authorise" ∷ decimal amount ∷ []
 order_words orders.Suspend = codes "suspend" ∷ []
 order_words orders.Resume = codes "resume" ∷ []
 order_words orders.Stop = codes "stop" ∷ []
 
+-- the words of a reply
 abbrev pub reply_words : Reply → List (List ℕ)
 reply_words replies.Done = codes "done" ∷ []
 reply_words (replies.Granted amount version) = codes "granted" ∷ decimal amount ∷ codes "by" ∷ decimal version ∷ []
@@ -29,10 +30,11 @@ reply_words (replies.Point state nozzle amount volume limit preset unpaid) =
 reply_words (replies.Refused number None) = (codes "S" ++ decimal number) ∷ []
 reply_words (replies.Refused number (Some value)) = (codes "S" ++ decimal number) ∷ decimal value ∷ []
 
--- the words, with a space between them
+-- the text of a reply: its words, with a space between them
 abbrev pub reply_text : Reply → List ℕ
 reply_text reply = join_with_byte 32 (reply_words reply)
 
+-- the text of a line's fault
 abbrev pub fault_text : LineFault → List ℕ
 fault_text faults.TooLong = codes "L1"
 fault_text faults.BadLine = codes "L2"
@@ -40,13 +42,14 @@ fault_text faults.BadNumber = codes "L3"
 fault_text faults.CutLine = codes "L4"
 fault_text faults.OutOfMemory = codes "S31"
 
--- a V number, and then each of its parts that is there
+-- the words of a program's refusal: V with its number, and then the unit, and the register or argument, that it names
 abbrev pub program_words : ℕ → Option ℕ → Option ℕ → List (List ℕ)
 program_words number None None = (codes "V" ++ decimal number) ∷ []
 program_words number None (Some part) = (codes "V" ++ decimal number) ∷ decimal part ∷ []
 program_words number (Some unit) None = (codes "V" ++ decimal number) ∷ decimal unit ∷ []
 program_words number (Some unit) (Some part) = (codes "V" ++ decimal number) ∷ decimal unit ∷ decimal part ∷ []
 
+-- the text of an answer, without its LF
 abbrev pub answer_text : Answer → List ℕ
 answer_text (Entered number reply) = join_with_byte 32 (decimal number ∷ reply_text reply ∷ [])
 answer_text JournalFull = codes "S29"
@@ -55,6 +58,6 @@ answer_text (Line fault) = fault_text fault
 answer_text (Program number unit part) = join_with_byte 32 (program_words number unit part)
 answer_text JournalFailed = codes "journal failed"
 
--- the line of an answer
+-- the line of an answer: its text, and an LF
 abbrev pub answer_line : Answer → List ℕ
 answer_line answer = answer_text answer ++ 10 ∷ []

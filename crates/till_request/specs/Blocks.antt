@@ -1,5 +1,5 @@
--- Promises: what is taken of a device that is read in blocks. What is ahead is what the block holds, and then what the
--- device has.
+-- Promises: which bytes are removed from a block, a buffer in front of a device. What is still unread is the bytes in
+-- the block, and then those that the device has.
 use Rattle.std.specs.Prelude.{◌≡◌, ◌⊎◌, ℕ, ◌+◌, ◌*◌, ◌<◌, ◌≤◌, List, [], ◌∷◌, ◌++◌, length, take, drop}
 use Rattle.till_request.specs.Line.{HasNoLf, IsLine}
 use Rattle.till_request.specs.declared.block.Piece.{Piece}
@@ -7,40 +7,42 @@ use Rattle.till_request.specs.declared.block.Piece.TheVariants.{Ended, TooLong, 
 use Rattle.till_request.specs.declared.line.InputFault.{InputFault}
 use Rattle.till_request.specs.declared.line.InputFault.TheVariants.{Read, ReadsSpent, OutOfMemory}
 
--- no fewer bytes than can still be taken within this many reads of at most 4,096 bytes
+-- no more bytes than these can still be removed: those of the block, and 4,096 for each read that is left
 abbrev pub most_ahead : ℕ → List ℕ → ℕ
 most_ahead left unread = 4096 * left + length unread
 
--- a block is empty where its device failed, or had no read left
+-- the block is empty after this fault, unless the fault is that memory ran out
 abbrev pub EmptyAfter : InputFault → List ℕ → Type 0
 EmptyAfter Read unread = unread ≡ []
 EmptyAfter ReadsSpent unread = unread ≡ []
 EmptyAfter OutOfMemory unread = Unit {0}
 
--- the first LF comes after this many bytes
+-- the first LF comes after `count` bytes
 abbrev pub EndsBehind : ℕ → List ℕ → Type 0
 EndsBehind count bytes = (count < length bytes) × HasNoLf (take count bytes) × (bytes ≡ take count bytes ++ 10 ∷ drop (count + 1) bytes)
 
--- how a line grew by bytes that were there: up to its LF, by all of them, or beyond what a line may have
+-- the block had the bytes `there` and now has `left`; `line` has grown to `grown` by the bytes before the LF (Ended) or
+-- by all of them (More), or the first 8,401 bytes of the line were removed (TooLong)
 abbrev pub LineGrows : List ℕ → List ℕ → List ℕ → List ℕ → Piece → Type 0
 LineGrows there line left grown Ended = (bytes : List ℕ) × (there ≡ bytes ++ 10 ∷ left) × (grown ≡ line ++ bytes) × IsLine grown
 LineGrows there line left grown TooLong = (bytes : List ℕ) × (there ≡ bytes ++ left) × HasNoLf (line ++ bytes) × (length (line ++ bytes) ≡ 8401)
 LineGrows there line left grown More = (left ≡ []) × (grown ≡ line ++ there) × IsLine grown
 
--- bytes that belong to a line were taken, and lost
+-- at least one byte that belongs to the line was removed from the block and is lost
 abbrev pub LosesPart : List ℕ → List ℕ → List ℕ → Type 0
 LosesPart there line left = (bytes : List ℕ) × (there ≡ bytes ++ left) × IsLine (line ++ bytes) × (0 < length bytes)
 
--- this many bytes at the front have no LF, and there is room for them; no more go on: there is no room, or no byte, or an LF
+-- the first `count` bytes have no LF, and `count` is at most `room`; there can't be one more: `count` is `room`, or
+-- there are no more bytes, or an LF comes next
 abbrev pub Belongs : List ℕ → ℕ → ℕ → Type 0
 Belongs bytes room count =
     (count ≤ length bytes) × HasNoLf (take count bytes) × (count ≤ room)
     × ((count ≡ room) ⊎ (drop count bytes ≡ []) ⊎ (drop count bytes ≡ 10 ∷ drop (count + 1) bytes))
 
--- a line grew by this many bytes that were there
+-- `count` bytes were moved from the block to the end of the line, and none of them is an LF
 abbrev pub GivesHeld : List ℕ → List ℕ → List ℕ → List ℕ → ℕ → Type 0
 GivesHeld there line left grown count = (bytes : List ℕ) × (there ≡ bytes ++ left) × (grown ≡ line ++ bytes) × IsLine grown × (length bytes ≡ count)
 
--- a line can't go on by what is left: it is as long as a line may be, or nothing is left, or an LF comes next
+-- no more bytes can be moved from the block to the line: the line has 8,400, or the block is empty, or an LF comes next
 abbrev pub CannotGoOn : List ℕ → List ℕ → Type 0
 CannotGoOn left grown = (length grown ≡ 8400) ⊎ (left ≡ []) ⊎ ((rest : List ℕ) × (left ≡ 10 ∷ rest))

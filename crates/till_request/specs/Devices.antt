@@ -1,11 +1,12 @@
--- Definitions: how devices in memory cut their bytes, and when they fail (this profile).
+-- Definitions: how many bytes a device in memory moves at a call, and when it fails (this profile).
 use Rattle.std.specs.Prelude.{ℕ, ◌-◌, List, Option, max, slice_index_or}
 use Rattle.std.specs.Option.{option_map}
 
--- the most bytes of the call of this number, from 0: the size that the list has for it, else the one for all others; at least one
+-- the most bytes that a call may move: `sizes` at the index `call`, which counts the calls from 0, or `each` if there
+-- is no such index; at least one
 abbrev pub piece_size : List ℕ → ℕ → ℕ → ℕ
 piece_size sizes each call = max (slice_index_or sizes call each) 1
 
--- the calls that are still good after one more, where they are counted
+-- how many more calls succeed, after one more call; None if no call is made to fail
 abbrev pub one_less : Option ℕ → Option ℕ
 one_less good = option_map (λ k. k - 1) good

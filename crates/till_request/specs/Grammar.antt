@@ -1,6 +1,6 @@
--- Definitions: what a line asks (this profile). A line is words with one space between them. It has a form,
--- which is a list of fixed words and of places for values; a line without a form is a bad line, and only then are
--- the values read, from left to right.
+-- Definitions: which act a line is (this profile). A line is words with one space between them. A form is a list of
+-- fixed words and of places for values. A line without a form is a bad line. If it has one, the values are read, from
+-- left to right.
 use Rattle.std.specs.Prelude.{◌≡◌, ◌==◌, ◌&&◌, not, nat_le, nat_lt, ℕ, ◌^◌, ◌-◌, ◌/◌, ◌%◌, List, [], ◌∷◌, length, slice_index, codes, Bool, true, false, Option, Some, None, Result, Ok}
 use Rattle.std.specs.Prelude.{Err, if◌then◌else◌, find}
 use Rattle.std.specs.List.{slice_split, list_all}
@@ -37,11 +37,11 @@ use Rattle.till_request.specs.declared.form.Form.TheVariants as forms
 use Rattle.till_request.specs.declared.form.Part.{Part}
 use Rattle.till_request.specs.declared.form.Part.TheVariants.{Word, Value}
 
--- the words of a line
+-- the words of a line, which is split at each space
 abbrev pub words : List ℕ → List (List ℕ)
 words line = slice_split (λ b. b == 32) line
 
--- how a fixed word is spelled
+-- the spelling of a fixed word
 abbrev pub text : Keyword → List ℕ
 text keywords.Till = codes "till"
 text keywords.Disp = codes "disp"
@@ -78,7 +78,7 @@ template forms.Up = Word keywords.Disp ∷ Value ∷ Word keywords.Up ∷ Value 
 template forms.Flow = Word keywords.Disp ∷ Value ∷ Word keywords.Flow ∷ Value ∷ Value ∷ []
 template (forms.Load layout) = Word (keywords.Load layout) ∷ Value ∷ Value ∷ Value ∷ []
 
--- the forms
+-- all forms
 unfoldable pub all_forms : List Form
 all_forms =
     forms.Amount amounts.Release ∷ forms.Amount amounts.Preset ∷ forms.Amount amounts.Price
@@ -88,7 +88,7 @@ all_forms =
     ∷ forms.Report reports.Down ∷ forms.Report reports.Started ∷ forms.Report reports.Fault ∷ forms.Report reports.Repaired ∷ forms.Report reports.Order
     ∷ forms.Up ∷ forms.Flow ∷ forms.Load layouts.One ∷ forms.Load layouts.Two ∷ []
 
--- who sends lines of this form, beside those who may send all
+-- whose lines have this form: a till's, a dispenser's or the owner's
 abbrev pub sender : Form → Role
 sender (forms.Amount verb) = roles.Till
 sender (forms.Point verb) = roles.Till
@@ -98,6 +98,7 @@ sender forms.Up = roles.Dispenser
 sender forms.Flow = roles.Dispenser
 sender (forms.Load layout) = roles.Owner
 
+-- a sender of the first role may send lines of the second
 abbrev pub allows : Role → Role → Bool
 allows roles.All by = true
 allows roles.Till roles.Till = true
@@ -107,29 +108,29 @@ allows (roles.OneTill number) roles.Till = true
 allows (roles.SomePoints points) roles.Dispenser = true
 allows role by = false
 
--- there is something
+-- the word isn't empty
 abbrev pub is_some_word : List ℕ → Bool
 is_some_word [] = false
 is_some_word (b ∷ word) = true
 
--- the word fits there: a fixed word as it is spelled, for a value any word that isn't empty
+-- the word fits this part of a form: it is the fixed word, or for a value any word that isn't empty
 abbrev pub part_fits : Part → List ℕ → Bool
 part_fits (Word keyword) word = bytes_eq word (text keyword)
 part_fits Value word = is_some_word word
 
--- word for word
+-- there are as many words as parts, and each word fits its part
 abbrev pub fits : List Part → List (List ℕ) → Bool
 fits parts ws = pointwise part_fits parts ws
 
--- the role may send the form, and the words have it
+-- the role may send lines of this form, and the words have it
 abbrev pub suits : Role → List (List ℕ) → Form → Bool
 suits role ws form = allows role (sender form) && fits (template form) ws
 
--- the words have the form of a load, and the role may send it: only the bytes of such a line take memory
+-- the words have the form of a load, and the role may send it; to read any other line needs no memory
 abbrev pub IsLoad : Role → List (List ℕ) → Type 0
 IsLoad role ws = (layout : Layout) × (suits role ws (forms.Load layout) ≡ true)
 
--- something, and a zero in front only alone
+-- the word isn't empty, and doesn't begin with a zero unless it is that zero alone
 abbrev pub has_no_leading_zero : List ℕ → Bool
 has_no_leading_zero word = if length word == 1 then true else nat_lt 0 (length word) && not (slice_index word 0 == 48)
 
@@ -137,21 +138,22 @@ has_no_leading_zero word = if length word == 1 then true else nat_lt 0 (length w
 abbrev pub is_decimal : List ℕ → Bool
 is_decimal word = list_all is_ascii_digit word && has_no_leading_zero word
 
--- the number below 2^k that a word spells
+-- the number that a word spells in decimal; a bad number if the word isn't decimal, or the number isn't below 2^k
 abbrev pub number : ℕ → List ℕ → Result ℕ LineFault
 number k word = if is_decimal word && nat_lt (digits_value 10 word) (2 ^ k) then Ok (digits_value 10 word) else Err BadNumber
 
--- the bytes that hexadecimal digits of both cases spell
+-- the bytes that were decoded from hexadecimal digits of either case; a bad number if that wasn't possible
 abbrev pub bytes_from : Result (List ℕ) FromHexError → Result (List ℕ) LineFault
 bytes_from (Ok bytes) = Ok bytes
 bytes_from (Err e) = Err BadNumber
 
+-- the second step with the first one's result, or the first one's fault
 infixl 10 ◌>>=◌
 abbrev pub ◌>>=◌ : {A B : Type 0} → Result A LineFault → (A → Result B LineFault) → Result B LineFault
 (Ok x) >>= f = f x
 (Err e) >>= f = Err e
 
--- what the verbs ask and report
+-- the request or the event of a verb with its numbers
 abbrev pub amount_request : AmountVerb → ℕ → ℕ → Request
 amount_request amounts.Release point amount = requests.Release point amount
 amount_request amounts.Preset point amount = requests.Preset point amount
@@ -177,7 +179,7 @@ report_event reports.Fault = events.Fault
 report_event reports.Repaired = events.Repaired
 report_event reports.Order = events.TakeOrder
 
--- what the values of each form are: amounts, prices and volumes have 64 bits, other numbers 32
+-- the act of each form, by its values: amounts, prices and volumes are below 2^64, other numbers below 2^32
 unfoldable pub amount_of : AmountVerb → List ℕ → List ℕ → List ℕ → Result Act LineFault
 amount_of verb till point amount = do
   till' ← number 32 till
@@ -234,45 +236,45 @@ act_in forms.Flow (k0 ∷ point ∷ k1 ∷ amount ∷ volume ∷ []) = flow_of p
 act_in (forms.Load layout) (k0 ∷ slot ∷ mask ∷ hex ∷ []) = load_of layout slot mask hex
 act_in form ws = Err BadLine
 
--- the act of words, by their form
+-- the act of words that have this form; a bad line for none
 abbrev pub act_by : Option Form → List (List ℕ) → Result Act LineFault
 act_by None ws = Err BadLine
 act_by (Some form) ws = act_in form ws
 
--- the act of words that have a form which the role may send
+-- the act of words, by a form that they have and that the role may send
 abbrev pub act_said : Role → List (List ℕ) → Result Act LineFault
 act_said role ws = act_by (find (suits role ws) all_forms) ws
 
--- the act is that of the till with this number
+-- the act is a request of the till with this number
 abbrev pub names_till : ℕ → Act → Bool
 names_till number (acts.Till till request) = till == number
 names_till number act = false
 
--- the act is a report of one of these points, 1 to 32: point p is bit p - 1
+-- the act is a dispenser's event at one of these points: bit p - 1 is set for point p, which is 1 to 32
 abbrev pub names_point : ℕ → Act → Bool
 names_point points (acts.Dispenser point event) = nat_le 1 point && (nat_le point 32 && (points / 2 ^ (point - 1) % 2 == 1))
 names_point points act = false
 
--- the act is of the till, or of one of the points, to which the role is limited
+-- the act is of the till, or of one of the points, to which the role is limited; true if it isn't limited so
 abbrev pub is_own : Role → Act → Bool
 is_own (roles.OneTill number) act = names_till number act
 is_own (roles.SomePoints points) act = names_point points act
 is_own role act = true
 
--- an act that isn't the role's own is a bad line
+-- the act, or a bad line if the role is limited to one till or to some points, and the act is of another
 abbrev pub own_act : Role → Result Act LineFault → Result Act LineFault
 own_act (roles.OneTill number) said = said >>= (λ act. if names_till number act then Ok act else Err BadLine)
 own_act (roles.SomePoints points) said = said >>= (λ act. if names_point points act then Ok act else Err BadLine)
 own_act role said = said
 
--- the act of words that somebody of this role sends
+-- the act of a line's words, from a sender of this role
 abbrev pub act_of_words : Role → List (List ℕ) → Result Act LineFault
 act_of_words role ws = own_act role (act_said role ws)
 
--- what a line asks that somebody of this role sends
+-- the act of a line from a sender of this role, however long the line is
 abbrev pub act_of_line : Role → List ℕ → Result Act LineFault
 act_of_line role line = act_of_words role (words line)
 
--- what a line of any length is read as: one of more than 8,400 bytes is too long, whatever is in it
+-- the same, but a line of more than 8,400 bytes is too long, whatever its bytes are
 abbrev pub line_read : Role → List ℕ → Result Act LineFault
 line_read role line = if nat_lt 8400 (length line) then Err TooLong else act_of_line role line

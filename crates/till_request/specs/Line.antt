@@ -1,5 +1,6 @@
--- Promises: what is taken from an input line by line. IsLine and Takes are also definitions: a line has no LF and at
--- most 8,400 bytes; one byte more is too long; an end without LF behind at least one byte is a cut line.
+-- Promises: which bytes are read from an input that is read line by line: it had the bytes `old`, and then has `new`.
+-- IsLine and Takes are also definitions: a line has no LF and at most 8,400 bytes; with one byte more it is too long;
+-- if the input ends after at least one byte and without an LF, the line is cut.
 use Rattle.std.specs.Prelude.{◌≡◌, ◌≢◌, ◌⊎◌, ℕ, ◌<◌, ◌≤◌, List, [], ◌∷◌, ◌++◌, length, Option, Some, None, Result, Ok, Err, Bool, true, false}
 use Rattle.std.specs.List.{AllByRecursion}
 use Rattle.std.specs.Io.KnownBytes.{Consumes, IsAtEnd}
@@ -17,71 +18,71 @@ use Rattle.till_request.specs.declared.line.InputFault.TheVariants as input
 use Rattle.till_request.specs.declared.line.LineReadFault.{LineReadFault}
 use Rattle.till_request.specs.declared.line.LineReadFault.TheVariants as reading
 
--- no LF
+-- none of the bytes is an LF
 abbrev pub HasNoLf : List ℕ → Type 0
 HasNoLf bytes = AllByRecursion (λ b. b ≢ 10) bytes
 
--- bytes that a line may have before its LF
+-- the bytes can be a line's before its LF, or the first of them
 abbrev pub IsLine : List ℕ → Type 0
 IsLine bytes = HasNoLf bytes × (length bytes ≤ 8400)
 
--- a beginning of a line that is too long was taken
+-- the first 8,401 bytes of a line that is too long were read
 abbrev pub TakesTooLong : Option (List ℕ) → Option (List ℕ) → Type 0
 TakesTooLong old new = (bytes : List ℕ) × Consumes old new bytes × HasNoLf bytes × (length bytes ≡ 8401)
 
--- a line without LF was taken, and nothing is left
+-- at least one byte of a line was read, no LF, and the input has ended
 abbrev pub TakesCut : Option (List ℕ) → Option (List ℕ) → Type 0
 TakesCut old new = (bytes : List ℕ) × Consumes old new bytes × IsLine bytes × (0 < length bytes) × IsAtEnd new
 
--- a beginning of a line was taken
+-- the first bytes of a line were read, or none
 abbrev pub TakesPart : Option (List ℕ) → Option (List ℕ) → Type 0
 TakesPart old new = (bytes : List ℕ) × Consumes old new bytes × IsLine bytes
 
--- a beginning of a line was taken, or a line with its LF
+-- the first bytes of a line were read, or none, or a line with its LF
 abbrev pub TakesUpTo : Option (List ℕ) → Option (List ℕ) → Type 0
 TakesUpTo old new = TakesPart old new ⊎ ((line : List ℕ) × Consumes old new (line ++ 10 ∷ []) × IsLine line)
 
--- bytes that belong to a line were taken, and follow those that it had
+-- bytes were read, or none, and appended to the line, which has at most 8,400 bytes and no LF
 abbrev pub TakesHeld : Option (List ℕ) → Option (List ℕ) → List ℕ → List ℕ → Type 0
 TakesHeld old new line grown = (bytes : List ℕ) × Consumes old new bytes × (grown ≡ line ++ bytes) × IsLine grown
 
--- bytes that belong to a line were taken, and then another, or the end came
+-- bytes were read and appended to the line, and then one byte more was read, which isn't appended; or the input ended
 abbrev pub GoesOn : Option (List ℕ) → Option (List ℕ) → List ℕ → List ℕ → Option ℕ → Type 0
 GoesOn old new line grown None = TakesHeld old new line grown × IsAtEnd new
 GoesOn old new line grown (Some byte) = (bytes : List ℕ) × Consumes old new (bytes ++ byte ∷ []) × (grown ≡ line ++ bytes) × IsLine grown
 
--- bytes that belong to a line were taken
+-- bytes were read that belong to the line; nothing is said of what the line has then
 abbrev pub GoesPart : Option (List ℕ) → Option (List ℕ) → List ℕ → Type 0
 GoesPart old new line = (bytes : List ℕ) × Consumes old new bytes × IsLine (line ++ bytes)
 
--- some bytes were taken
+-- some bytes were read, or none
 abbrev pub TakesSome : Option (List ℕ) → Option (List ℕ) → Type 0
 TakesSome old new = (bytes : List ℕ) × Consumes old new bytes
 
--- what was taken from the input, by what was found
+-- the bytes that were read, by what was found in the input
 abbrev pub Takes : Option (List ℕ) → Option (List ℕ) → NextLine → Type 0
 Takes old new (Line line) = Consumes old new (line.items ++ 10 ∷ []) × IsLine line.items
 Takes old new TooLong = TakesTooLong old new
 Takes old new Cut = TakesCut old new
 Takes old new End = Consumes old new [] × IsAtEnd new
 
--- what was taken from the input, by what was found, where the line is this
+-- the bytes that were read, by what was found in the input; `line` is the line that was found
 abbrev pub Finds : Option (List ℕ) → Option (List ℕ) → List ℕ → Found → Type 0
 Finds old new line found.Line = Consumes old new (line ++ 10 ∷ []) × IsLine line
 Finds old new line found.TooLong = TakesTooLong old new
 Finds old new line found.Cut = TakesCut old new
 Finds old new line found.End = Consumes old new [] × IsAtEnd new
 
--- a line was taken with its LF, and it asks this
+-- a line was read with its LF, and `given` is its act or its fault
 abbrev pub TakesLine : Option (List ℕ) → Option (List ℕ) → Role → Result Act LineFault → Type 0
 TakesLine old new role given = (line : List ℕ) × Consumes old new (line ++ 10 ∷ []) × IsLine line × (line_read role line ≡ given)
 
--- what was taken from the input, by the act that was read
+-- the bytes that were read, by the act that was found; for none, no byte was read and the input has ended
 abbrev pub TakesAct : Option (List ℕ) → Option (List ℕ) → Role → Option Act → Type 0
 TakesAct old new role (Some act) = TakesLine old new role (Ok act)
 TakesAct old new role None = Consumes old new [] × IsAtEnd new
 
--- what was taken from the input, by the fault
+-- the bytes that were read, by the fault that was found
 abbrev pub TakesFault : Option (List ℕ) → Option (List ℕ) → Role → LineReadFault → Type 0
 TakesFault old new role (reading.Line line.TooLong) = TakesTooLong old new
 TakesFault old new role (reading.Line line.BadLine) = TakesLine old new role (Err line.BadLine)
@@ -91,20 +92,21 @@ TakesFault old new role (reading.Line line.OutOfMemory) = TakesUpTo old new
 TakesFault old new role reading.Read = TakesPart old new
 TakesFault old new role reading.ReadsSpent = TakesPart old new
 
--- the device failed
+-- the result is that the device failed
 abbrev pub is_input_fault : {T : Type 0} → Result T InputFault → Bool
 is_input_fault (Err input.Read) = true
 is_input_fault (Err input.ReadsSpent) = false
 is_input_fault (Err input.OutOfMemory) = false
 is_input_fault (Ok x) = false
 
+-- the result is that the device failed
 abbrev pub is_read_fault : {T : Type 0} → Result T LineReadFault → Bool
 is_read_fault (Err reading.Read) = true
 is_read_fault (Err reading.ReadsSpent) = false
 is_read_fault (Err (reading.Line fault)) = false
 is_read_fault (Ok x) = false
 
--- a fault of the input, as a line's
+-- a fault of the input, as the fault of reading a line
 abbrev pub read_fault : InputFault → LineReadFault
 read_fault input.Read = reading.Read
 read_fault input.ReadsSpent = reading.ReadsSpent

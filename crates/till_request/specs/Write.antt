@@ -1,9 +1,9 @@
--- Promises: faults of writing.
+-- Promises: whether a write's fault is the device's.
 use Rattle.std.specs.Prelude.{Result, Ok, Err, Bool, true, false}
 use Rattle.till_request.specs.declared.write.WriteFault.{WriteFault}
 use Rattle.till_request.specs.declared.write.WriteFault.TheVariants.{Write, OutOfMemory}
 
--- the device failed
+-- the result is that the device failed
 abbrev pub is_write_fault : {T : Type 0} → Result T WriteFault → Bool
 is_write_fault (Err Write) = true
 is_write_fault (Err OutOfMemory) = false

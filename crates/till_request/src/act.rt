@@ -1,4 +1,4 @@
-//! Requests, acts, replies and answers.
+//! What a line asks for or reports (requests, acts), and what it is answered (replies, answers).
 
 ghost use Rattle.std.specs.Prelude.{◌≡◌, ◌==◌, ◌↔◌, IsTrue, IfOk};
 ghost use Rattle.std.proofs.Common.{rules};
@@ -10,7 +10,7 @@ use fuelling_point::{DispenserEvent, Order};
 use std::alloc::{AllocError, Global};
 use std::marker::Model;
 
-/// A list of bytes.
+/// A list of bytes, such as a program's. Contracts see it as a list of numbers.
 #[derive(Drop)]
 pub struct Bytes {
     items: Vec<u8>,
@@ -25,12 +25,14 @@ impl Model for Bytes {
 }
 
 impl Bytes {
+    /// Makes a `Bytes` of a vector's bytes.
     pub fn new(items: Vec<u8>) -> Self
         ensures { result ≡ items.items }
     {
         Bytes { items }
     }
 
+    /// Makes a `Bytes` with a copy of a slice's bytes. The error is that memory ran out.
     pub fn from_slice(alloc: Global, items: &[u8]) -> Result<Self, AllocError>
         ensures { IfOk result (λ b. b ≡ items.now) }
     {
@@ -39,12 +41,14 @@ impl Bytes {
         })
     }
 
+    /// Returns whether both lists have the same bytes in the same order.
     pub fn is_same(&self, other: &Bytes) -> bool
         ensures { IsTrue result ↔ self.now ≡ other.now }
     {
         self == other
     }
 
+    /// Returns all bytes of the list as a slice.
     pub fn as_slice(&self) -> &[u8]
         ensures { result.now ≡ self.now }
     {
@@ -62,25 +66,32 @@ impl PartialEq for Bytes {
     }
 }
 
-/// What a till asks. A point comes first; Release and Preset have an amount, Price a product and a
-/// price, Lock, Unlock and Clear a transaction's number.
+/// A till's request. The first number is a point's, or for `Price` a product's; a second one of 32 bits is the number
+/// of one of the point's transactions.
 #[derive(Clone, Copy, PartialEq, Eq, Drop)]
 pub enum Request {
+    /// Allow a delivery of at most this amount, in cents.
     Release(u32, u64),
+    /// Limit the point's next release to this amount, in cents.
     Preset(u32, u64),
+    /// Set the product's price, in thousandths of the currency per litre.
     Price(u32, u64),
     OpenPoint(u32),
     ClosePoint(u32),
     Suspend(u32),
     Resume(u32),
     Stop(u32),
+    /// Reserve the transaction for this till.
     Lock(u32, u32),
+    /// Give the transaction back, so that any till can lock it.
     Unlock(u32, u32),
+    /// Remove the transaction: it was paid.
     Clear(u32, u32),
+    /// Return the point as it is.
     Show(u32),
 }
 
-/// What happens at the site.
+/// What a line asks for or reports: a till's request, a dispenser's event, or the load of a program.
 #[derive(PartialEq, Drop)]
 pub enum Act {
     Till {
@@ -91,7 +102,8 @@ pub enum Act {
         point: u32,
         event: DispenserEvent,
     },
-    /// A program, with the counters that it declares and the layout of the context that it is given.
+    /// A program is put into a slot. Bit c of `mask` is set if the program declares counter c, and `layout` is that of
+    /// the context that it is given.
     Load {
         slot: u32,
         mask: u32,
@@ -100,14 +112,19 @@ pub enum Act {
     },
 }
 
-/// The reply to an act. `Refused` has the refusal's number, and its value if there is one.
+/// The site's reply to an act.
 #[derive(Clone, Copy, Debug, PartialEq, Eq, Drop)]
 pub enum Reply {
     Done,
-    /// The amount or the price, and the version that granted it.
+    /// A rule granted the request: the amount in cents, or the price in thousandths of the currency per litre, and the
+    /// rule's version.
     Granted(u64, u32),
+    /// A program was loaded: the number of its version.
     Version(u32),
+    /// The order that was pending at the dispenser's point.
     Order(Order),
+    /// A point as it is: its state 1 to 9, the lifted nozzle or 0, its amount, limit and preset in cents, its volume in
+    /// centilitres, and how many transactions are unpaid.
     Point {
         state: u32,
         nozzle: u32,
@@ -117,49 +134,58 @@ pub enum Reply {
         preset: u64,
         unpaid: u32,
     },
+    /// The site refused the act: the refusal's number, such as 22 for `S22`, and the state, slot or version that it
+    /// names, if it names one.
     Refused(u32, Option<u32>),
 }
 
-/// Who sends lines, and so which lines he may send.
+/// Who sends the lines. It decides which lines are accepted; any other line is a `BadLine`.
 #[derive(Clone, Copy, Drop)]
 pub enum Role {
+    /// The lines of any till.
     Till,
+    /// The lines of any dispenser.
     Dispenser,
+    /// The lines that load programs.
     Owner,
-    /// Every line.
+    /// All lines.
     All,
-    /// The lines of the till that has this number.
+    /// The lines of the till with this number.
     OneTill(u32),
-    /// A dispenser's lines that name one of these points: point p is bit p - 1.
+    /// The lines of dispensers that name one of these points: bit p - 1 is set for point p, which is 1 to 32.
     SomePoints(u32),
 }
 
-/// Why a line asks for nothing.
+/// Why a line is no act. Each fault is given with its text.
 #[derive(Clone, Copy, PartialEq, Eq, Drop)]
 pub enum LineFault {
-    /// L1: over 8,400 bytes before its LF or the end.
+    /// `L1`: the line has more than 8,400 bytes before its LF, or before the end of the input.
     TooLong,
-    /// L2: a wrong word, count of words or role.
+    /// `L2`: the words have no form of a line, or the sender may not send this line.
     BadLine,
-    /// L3: a malformed number, one over its type, or bad hexadecimal.
+    /// `L3`: a number isn't in decimal digits without leading zeros, or is too large for its type; or hexadecimal is
+    /// malformed.
     BadNumber,
-    /// L4: the input ended in the line.
+    /// `L4`: the input ended before the line's LF.
     CutLine,
+    /// `S31`: an allocation failed.
     OutOfMemory,
 }
 
-/// What a line is answered.
+/// The answer to a line.
 #[derive(Clone, Copy, Drop)]
 pub enum Answer {
-    /// An entry's number and the site's reply.
+    /// The line's act was entered in the history: the entry's number, and the site's reply.
     Entered { number: u32, reply: Reply },
-    /// S29: the history has all the entries that it can have.
+    /// `S29`: the history has as many entries as it can have, and nothing was entered.
     JournalFull,
-    /// S31: memory was refused.
+    /// `S31`: an allocation failed, and nothing was entered.
     OutOfMemory,
+    /// The line is no act.
     Line(LineFault),
-    /// A program's refusal: its V number, the unit, and the register or the argument.
+    /// A program was refused: the refusal's number, such as 11 for `V11`, and the unit, and the register or the
+    /// argument, that it names.
     Program(u32, Option<u32>, Option<u32>),
-    /// The journal failed: the site takes no further event. It has no line, and ends the session.
+    /// The journal failed, and the site accepts no further event. Sessions end without writing this answer.
     JournalFailed,
 }

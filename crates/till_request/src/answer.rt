@@ -1,4 +1,4 @@
-//! Answers written as text.
+//! The texts of replies, of lines' faults and of answers.
 use crate::act::{Answer, LineFault, Reply};
 use crate::short_text::{ShortText, fault_word, put_answer, put_reply};
 use std::fmt;
@@ -12,7 +12,7 @@ impl fmt::Display for Reply {
     fn fmt<W: fmt::Write>(&self, f: &mut fmt::Formatter<W>) -> fmt::Result {
         let mut text = ShortText::new();
         put_reply(&mut text, self);
-        // A space comes before the first word too.
+        // `put_reply` writes a space before each word. The text begins with a word, so the first space is left out.
         match text.as_str().strip_prefix(' ') {
             Some(words) => f.write_str(words),
             None => Ok(()),

@@ -1,4 +1,4 @@
-//! What lines are read from and answers are written to.
+//! The sources that lines are read from, and the sinks that answers are written to.
 ghost use Rattle.std.specs.Prelude.{◌≡◌, ◌<◌, ◌≤◌, ◌-◌, ℕ, List, [], Option, length, IfOk, OnOk, OnErr, is_err};
 ghost use Rattle.std.specs.Io.KnownBytes.{Consumes, ReadConsumes, WriteAppends};
 ghost use Rattle.till_request.specs.Count.{RoseBy, one_if};
@@ -7,26 +7,27 @@ ghost use Rattle.till_request.specs.Line.{IsLine, TakesHeld};
 use std::alloc::AllocError;
 use thiserror::Error;
 
-/// The device failed.
+/// The error of a read or a write that failed. The cause isn't kept.
 #[derive(Clone, Copy, Debug, PartialEq, Eq, Drop, Error)]
 #[error("the device failed")]
 pub struct DeviceFault;
 
-/// A source of bytes.
+/// A source of bytes that lines are read from: a file, a socket, a list in memory.
 pub trait LineIn {
-    /// The bytes that reads will give from here on, where they are known.
+    /// All bytes that later reads will return, if they are known.
     ghost remaining: { Self → Option (List ℕ) };
 
-    /// How many reads were made, modulo 2^64.
+    /// The number of reads that were made, modulo 2^64.
     ghost reads: { Self → ℕ };
 
-    /// How many reads failed, modulo 2^64.
+    /// The number of reads that failed, modulo 2^64.
     ghost failures: { Self → ℕ };
 
-    /// How many bytes they asked for, which is the length of their buffers, modulo 2^64.
+    /// The number of bytes that the reads asked for, modulo 2^64. A read asks for as many as its buffer is long.
     ghost asked: { Self → ℕ };
 
-    /// Reads bytes into the beginning of the buffer, and returns how many: 0 at the end.
+    /// Reads bytes into the beginning of `buffer` and returns how many: 0 only at the end of the source, or if `buffer`
+    /// is empty. The error is that the device failed; no byte was read then.
     fn read(&mut self, buffer: &mut [u8]) -> Result<usize, DeviceFault>
         ensures bound { IfOk result (λ n. n ≤ length buffer.new) }
         ensures bytes { ReadConsumes (remaining self.old) (remaining self.new) result buffer.new }
@@ -34,9 +35,9 @@ pub trait LineIn {
         ensures failed { RoseBy (one_if (is_err result)) (failures self.old) (failures self.new) }
         ensures asked_for { RoseBy (length buffer.new) (asked self.old) (asked self.new) };
 
-    /// Appends to `line` bytes that the source has buffered, and takes them from the source. They end before the next LF,
-    /// and `line` grows to 8,400 bytes at most. Each byte counts as a read of one byte, and takes one from `left`. A
-    /// source without a buffer does nothing here. The error is that memory ran out, and then nothing was moved.
+    /// Moves bytes that the source has buffered to the end of `line`: only bytes before the next LF, and only until
+    /// `line` has 8,400. Each byte counts as a read of one byte and subtracts 1 from `left`. A source without a buffer
+    /// moves nothing. The error is that memory ran out; nothing was moved then.
     fn read_held(&mut self, line: &mut Vec<u8>, left: &mut u32) -> Result<(), AllocError>
         requires { IsLine line.old.items }
         ensures taken { OnOk result
@@ -52,15 +53,16 @@ pub trait LineIn {
     }
 }
 
-/// A sink of bytes.
+/// A sink of bytes that answers are written to: a file, a socket, a list in memory.
 pub trait LineOut {
-    /// The bytes that it took, where they are known.
+    /// All bytes that were written so far, if they are known.
     ghost written: { Self → Option (List ℕ) };
 
-    /// How many writes failed, modulo 2^64.
+    /// The number of writes that failed, modulo 2^64.
     ghost failures: { Self → ℕ };
 
-    /// Takes bytes from the beginning of the piece, and returns how many: at least one of a piece that isn't empty.
+    /// Writes bytes from the beginning of `piece` and returns how many: at least one if `piece` isn't empty. The error
+    /// is that the device failed; no byte was written then.
     fn write(&mut self, piece: &[u8]) -> Result<usize, DeviceFault>
         ensures bound { IfOk result (λ n. n ≤ length piece.now) }
         ensures some { IfOk result (λ n. 0 < length piece.now → 0 < n) }

@@ -1,4 +1,5 @@
-//! Readers and writers in memory, which cut and fail as they are asked to, and those of the system.
+//! Sources and sinks: lists in memory, which can be made to return or accept few bytes at a time and to fail, and the
+//! readers and writers of `std`.
 ghost use Rattle.std.specs.Prelude.{◌≡◌, ◌↔◌, ◌<◌, ◌≤◌, ◌-◌, ◌^◌};
 ghost use Rattle.std.specs.Prelude.{min, [], Some, IfOk, IsTrue, is_err, drop, take, length, true, false, ℕ};
 ghost use Rattle.std.specs.Io.KnownBytes.{ReadConsumes, WriteAppends, prepend_known};
@@ -12,10 +13,10 @@ use crate::device::{DeviceFault, LineIn, LineOut};
 use std::alloc::{AllocError, Global};
 use std::io::{Read, Write};
 
-/// Bytes in memory, given out in any cut.
+/// A source that returns the bytes of a list in memory, from index `at` on.
 ///
-/// The nth read since the counter was 0 gives at most `sizes[n]` bytes, and at least one where
-/// there is one; reads past the list give at most `each`. After `good` more reads each read fails.
+/// Read n, counted from 0, returns at most `sizes[n]` bytes, or `each` if `sizes` has no index n. A size of 0 counts as
+/// size 1. If `good` is `Some(k)`, the next k reads succeed, and every later one fails.
 #[derive(Drop)]
 pub struct MemoryIn {
     pub bytes: Vec<u8>,
@@ -30,7 +31,8 @@ pub struct MemoryIn {
 }
 
 impl MemoryIn {
-    /// All the bytes, in pieces of these sizes and then in whole; after `good` reads each read fails.
+    /// Makes a source that returns `bytes`: at most `sizes[n]` of them at read n, and after that as many as the reader
+    /// asks for. If `good` is `Some(k)`, every read after the first k fails.
     pub fn new(bytes: Vec<u8>, sizes: Vec<usize>, good: Option<u64>) -> Self
         ensures bytes { result.bytes ≡ bytes }
         ensures start { result.at ≡ 0 }
@@ -52,7 +54,8 @@ impl MemoryIn {
     }
 }
 
-/// The size of a call's piece: the one at its number, if there is one, and at least 1.
+/// Returns the most bytes that call number `call`, counted from 0, may move: `sizes[call]`, or `each` if there is no
+/// such index; at least 1.
 fn size_at(sizes: &[usize], each: usize, call: u64) -> usize
     ensures { result ≡ piece_size sizes.now each call }
 {
@@ -64,7 +67,7 @@ fn size_at(sizes: &[usize], each: usize, call: u64) -> usize
     }
 }
 
-/// Copies at most `most` bytes, and returns how many.
+/// Copies bytes from the beginning of `from` to the beginning of `buffer`, at most `most`, and returns how many.
 fn give(from: &[u8], most: usize, buffer: &mut [u8]) -> usize
     requires { 0 < most }
     ensures count { result ≡ min (min (length from.now) (length buffer.new)) most }
@@ -115,8 +118,8 @@ impl LineIn for MemoryIn {
     }
 }
 
-/// Bytes from a reader of `std`, as standard input, a file or a socket. Give it a buffered one:
-/// lines are read by the byte.
+/// A source that reads from a reader of `std`, such as standard input, a file or a socket. Lines are read byte by byte,
+/// so use a buffered reader, or an `Ahead` in front of this.
 #[derive(Drop)]
 pub struct StreamIn<R: Read> {
     pub reader: R,
@@ -139,7 +142,7 @@ impl<R: Read + Drop> LineIn for StreamIn<R> {
         self.asked = self.asked.wrapping_add(buffer.len() as u64);
         match self.reader.read(buffer) {
             Ok(count) => Ok(count),
-            // Whatever the reader says, the session ends.
+            // The reader's own error is dropped: a session ends at any error.
             Err(_) => {
                 self.failures = self.failures.wrapping_add(1);
                 Err(DeviceFault)
@@ -148,11 +151,11 @@ impl<R: Read + Drop> LineIn for StreamIn<R> {
     }
 }
 
-/// How many bytes `Ahead` reads at once.
+/// The number of bytes that `Ahead` asks its source for at once.
 const AHEAD_BYTES: usize = 4096;
 
-/// A device that is read ahead, in blocks of 4,096 bytes. So a read of one byte, as lines are read by, costs few
-/// instructions. Its counts are those of the reads that it is asked for.
+/// A source that reads another one ahead, in blocks of 4,096 bytes. So a read of one byte, as lines are read, costs few
+/// instructions. It counts the reads that are made of it, not those that it makes of `input`.
 #[derive(Drop)]
 pub struct Ahead<I: LineIn> {
     pub input: I,
@@ -163,7 +166,7 @@ pub struct Ahead<I: LineIn> {
 }
 
 impl<I: LineIn + Drop> Ahead<I> {
-    /// Nothing was read ahead yet.
+    /// Makes a source in front of `input`; nothing was read ahead yet.
     pub fn new(input: I) -> Self
         ensures input { result.input ≡ input }
         ensures empty { result.block ≡ [] }
@@ -178,7 +181,8 @@ impl<I: LineIn + Drop> Ahead<I> {
         }
     }
 
-    /// Whether an LF was read ahead, so that the line which ends there can be read without the device.
+    /// Returns whether a line feed was read ahead. If so, the line that ends there can be read without a read of
+    /// `input`.
     pub fn holds_line(&self) -> bool
         ensures there { result ≡ true → (count : ℕ) × EndsBehind count self.now.block }
         ensures none { result ≡ false → HasNoLf self.now.block }
@@ -200,7 +204,7 @@ impl<I: LineIn + Drop> LineIn for Ahead<I> {
         self.calls = self.calls.wrapping_add(1);
         self.asked = self.asked.wrapping_add(buffer.len() as u64);
         let mut left = 1;
-        // A read is left and none takes memory, so only the device can fail.
+        // `left` is 1 and `fill` allocates nothing, so the only possible error is that the device failed.
         if self.block.fill(&mut self.input, &mut left).is_err() {
             self.failures = self.failures.wrapping_add(1);
             return Err(DeviceFault);
@@ -217,10 +221,10 @@ impl<I: LineIn + Drop> LineIn for Ahead<I> {
     }
 }
 
-/// A sink that keeps in memory what was written.
+/// A sink that appends what is written to a list in memory.
 ///
-/// The nth write takes at most `sizes[n]` bytes, and at least one of a piece that isn't empty; writes past the list
-/// take at most `each`. After `good` more writes each write fails, as does one for which memory runs out.
+/// Write n, counted from 0, accepts at most `sizes[n]` bytes, or `each` if `sizes` has no index n. A size of 0 counts
+/// as size 1. If `good` is `Some(k)`, every write after the next k fails. A write also fails if memory runs out.
 #[derive(Drop)]
 pub struct MemoryOut {
     pub bytes: Vec<u8>,
@@ -232,7 +236,8 @@ pub struct MemoryOut {
 }
 
 impl MemoryOut {
-    /// No byte yet; takes pieces of these sizes and then whole ones, and after `good` writes each write fails.
+    /// Makes a sink to which nothing was written yet: write n accepts at most `sizes[n]` bytes, and each later write
+    /// all of them. If `good` is `Some(k)`, every write after the first k fails.
     pub fn new(alloc: Global, sizes: Vec<usize>, good: Option<u64>) -> Self
         ensures bytes { result.bytes.items ≡ [] }
         ensures sizes { result.sizes ≡ sizes }
@@ -282,7 +287,8 @@ impl LineOut for MemoryOut {
     }
 }
 
-/// Bytes to a writer of `std`. A write that takes nothing of a piece counts as failed.
+/// A sink that writes to a writer of `std`. A write of a piece that isn't empty fails if the writer accepts no byte of
+/// it.
 #[derive(Drop)]
 pub struct StreamOut<W: Write> {
     pub writer: W,

@@ -1,4 +1,4 @@
-//! The forms of lines.
+//! The forms that a line can have: which fixed words it has, and where its values are.
 ghost use Rattle.std.specs.Prelude.{◌≡◌, ◌∷◌, [], map, find, IfSome, true};
 ghost use Rattle.till_request.specs.Grammar.{text, template, sender, allows, amount_request, point_request};
 ghost use Rattle.till_request.specs.Grammar.{transaction_request, report_event, all_forms, part_fits, fits, suits};
@@ -9,7 +9,7 @@ use crate::act::{Request, Role};
 use bpf_model::context::Layout;
 use fuelling_point::DispenserEvent;
 
-/// What a till asks with an amount or a price: `till T release P A`.
+/// The verb of a till's request with an amount or a price, as in `till T release P A`.
 #[derive(Clone, Copy)]
 pub enum AmountVerb {
     Release,
@@ -17,7 +17,7 @@ pub enum AmountVerb {
     Price,
 }
 
-/// What a till asks of a point: `till T open P`.
+/// The verb of a till's request with a point alone, as in `till T open P`.
 #[derive(Clone, Copy)]
 pub enum PointVerb {
     Open,
@@ -28,7 +28,7 @@ pub enum PointVerb {
     Stop,
 }
 
-/// What a till asks of a transaction: `till T lock P X`.
+/// The verb of a till's request with a transaction, as in `till T lock P X`.
 #[derive(Clone, Copy)]
 pub enum TransactionVerb {
     Lock,
@@ -36,7 +36,7 @@ pub enum TransactionVerb {
     Clear,
 }
 
-/// What a dispenser reports without a number: `disp P down`.
+/// The verb of a dispenser's line that has no value after it, as in `disp P down`.
 #[derive(Clone, Copy)]
 pub enum ReportVerb {
     Down,
@@ -46,7 +46,7 @@ pub enum ReportVerb {
     Order,
 }
 
-/// A fixed word.
+/// A fixed word of a line, such as `till` or `release`.
 #[derive(Clone, Copy)]
 pub enum Keyword {
     Till,
@@ -60,7 +60,7 @@ pub enum Keyword {
     Report(ReportVerb),
 }
 
-/// The form of a line.
+/// The form of a line: its fixed words, and the places of its values.
 #[derive(Clone, Copy)]
 pub enum Form {
     Amount(AmountVerb),
@@ -69,18 +69,18 @@ pub enum Form {
     Report(ReportVerb),
     Up,
     Flow,
-    /// `load SLOT MASK HEX`, and `load2 ..` for the longer context.
+    /// `load SLOT MASK HEX`, or `load2 SLOT MASK HEX` for a program whose context has 80 bytes.
     Load(Layout),
 }
 
-/// A word of a form: a fixed one, or a place for a value.
+/// A word of a form: a fixed one, or a place where a line has a value.
 #[derive(Clone, Copy)]
 pub enum Part {
     Word(Keyword),
     Value,
 }
 
-/// The forms of three words, a row for each verb, in the order in which words are compared with them.
+/// The forms of three words, in the order in which a line is compared with them.
 const THREE: [Form; 5] = [
     Form::Report(ReportVerb::Down),
     Form::Report(ReportVerb::Started),
@@ -89,7 +89,7 @@ const THREE: [Form; 5] = [
     Form::Report(ReportVerb::Order),
 ];
 
-/// The forms of four words.
+/// The forms of four words, in the order in which a line is compared with them.
 const FOUR: [Form; 9] = [
     Form::Point(PointVerb::Open),
     Form::Point(PointVerb::Close),
@@ -102,7 +102,7 @@ const FOUR: [Form; 9] = [
     Form::Load(Layout::Two),
 ];
 
-/// The forms of five words.
+/// The forms of five words, in the order in which a line is compared with them.
 const FIVE: [Form; 7] = [
     Form::Amount(AmountVerb::Release),
     Form::Amount(AmountVerb::Preset),
@@ -113,7 +113,7 @@ const FIVE: [Form; 7] = [
     Form::Flow,
 ];
 
-/// How a fixed word is spelled.
+/// Returns the spelling of a fixed word.
 #[inline(always)]
 pub fn text_of(keyword: Keyword) -> &'static str
     ensures { result.now ≡ text keyword }
@@ -145,7 +145,7 @@ pub fn text_of(keyword: Keyword) -> &'static str
     }
 }
 
-/// Whether the role may send what `by` sends.
+/// Returns whether a sender of this role may send lines of `by`, which is `Till`, `Dispenser` or `Owner`.
 #[inline(always)]
 pub fn may_send(role: Role, by: Role) -> bool
     ensures { result ≡ allows role by }
@@ -158,7 +158,7 @@ pub fn may_send(role: Role, by: Role) -> bool
     }
 }
 
-/// Who sends lines of this form, beside those who may send all.
+/// Returns whose lines have this form: `Till`, `Dispenser` or `Owner`.
 #[inline(always)]
 pub fn sender_of(form: Form) -> Role
     ensures { result ≡ sender form }
@@ -170,7 +170,7 @@ pub fn sender_of(form: Form) -> Role
     }
 }
 
-/// Whether the word is this fixed one.
+/// Returns whether a word is this fixed word.
 #[inline(always)]
 fn is_word(word: &[u8], keyword: Keyword) -> bool
     ensures { result ≡ part_fits (Word keyword) word.now }
@@ -178,7 +178,7 @@ fn is_word(word: &[u8], keyword: Keyword) -> bool
     word == text_of(keyword).as_bytes()
 }
 
-/// Whether a value may be there.
+/// Returns whether a word can be a value, which is any word that isn't empty.
 #[inline(always)]
 fn is_value(word: &[u8]) -> bool
     ensures { result ≡ part_fits Value word.now }
@@ -186,8 +186,8 @@ fn is_value(word: &[u8]) -> bool
     !word.is_empty()
 }
 
-/// Whether the words are these fixed ones with a value between them. The verb is compared first, since forms differ
-/// most in it.
+/// Returns whether the words are `first`, a value and `third`. The verb, which is `third`, is compared first, since
+/// forms differ most in it.
 #[tactic(auto, using(crate::proofs::Fitting::third_last))]
 #[inline(always)]
 fn three_fit(first: Keyword, third: Keyword, words: &[&[u8]]) -> bool
@@ -199,7 +199,7 @@ fn three_fit(first: Keyword, third: Keyword, words: &[&[u8]]) -> bool
     }
 }
 
-/// Whether the words are these fixed ones with a value between them, and a value.
+/// Returns whether the words are `first`, a value, `third` and a value.
 #[tactic(auto, using(crate::proofs::Fitting::third_first))]
 #[inline(always)]
 fn four_fit(first: Keyword, third: Keyword, words: &[&[u8]]) -> bool
@@ -211,7 +211,7 @@ fn four_fit(first: Keyword, third: Keyword, words: &[&[u8]]) -> bool
     }
 }
 
-/// Whether the words are these fixed ones with a value between them, and two values.
+/// Returns whether the words are `first`, a value, `third` and two values.
 #[tactic(auto, using(crate::proofs::Fitting::third_first))]
 #[inline(always)]
 fn five_fit(first: Keyword, third: Keyword, words: &[&[u8]]) -> bool
@@ -225,8 +225,8 @@ fn five_fit(first: Keyword, third: Keyword, words: &[&[u8]]) -> bool
     }
 }
 
-/// Whether the words are those of a line that loads a rule for this layout of its context: `load` or `load2`, and three
-/// values.
+/// Returns whether the words are those of a line that loads a program for this layout of its context: `load` or
+/// `load2`, and three values.
 #[inline(always)]
 fn load_fits(layout: Layout, words: &[&[u8]]) -> bool
     ensures { result ≡ fits (template (forms.Load layout)) (map (λ w. w.now) words.now) }
@@ -239,7 +239,7 @@ fn load_fits(layout: Layout, words: &[&[u8]]) -> bool
     }
 }
 
-/// Whether the words have this form.
+/// Returns whether the words have this form.
 #[inline(always)]
 fn has_form(form: Form, words: &[&[u8]]) -> bool
     ensures { result ≡ fits (template form) (map (λ w. w.now) words.now) }
@@ -255,7 +255,7 @@ fn has_form(form: Form, words: &[&[u8]]) -> bool
     }
 }
 
-/// Whether the role may send the form, and the words have it.
+/// Returns whether the role may send lines of this form, and the words have it.
 #[inline(always)]
 fn is_suited(role: Role, words: &[&[u8]], form: Form) -> bool
     ensures { result ≡ suits role (map (λ w. w.now) words.now) form }
@@ -263,7 +263,7 @@ fn is_suited(role: Role, words: &[&[u8]], form: Form) -> bool
     may_send(role, sender_of(form)) && has_form(form, words)
 }
 
-/// The first of these forms that the role may send and the words have.
+/// Returns the first of `forms` that the role may send and the words have; `None` if there is none.
 #[inline(always)]
 fn first_suited(role: Role, words: &[&[u8]], forms: &[Form]) -> Option<Form>
     ensures found { result ≡ find (suits role (map (λ w. w.now) words.now)) forms.now }
@@ -277,7 +277,7 @@ fn first_suited(role: Role, words: &[&[u8]], forms: &[Form]) -> Option<Form>
     None
 }
 
-/// The form that the role may send and the words have.
+/// Returns the form that the words have, if the role may send lines of it; `None` otherwise.
 pub fn form_of(role: Role, words: &[&[u8]]) -> Option<Form>
     ensures found { result ≡ find (suits role (map (λ w. w.now) words.now)) all_forms }
     ensures suited { IfSome result (λ form. suits role (map (λ w. w.now) words.now) form ≡ true) }
@@ -290,7 +290,8 @@ pub fn form_of(role: Role, words: &[&[u8]]) -> Option<Form>
     }
 }
 
-/// The request of a verb with an amount or a price.
+/// Returns the request of a verb with a point and an amount in cents, or for `Price` with a product and a price in
+/// thousandths of the currency per litre.
 pub fn request_of_amount(verb: AmountVerb, subject: u32, amount: u64) -> Request
     ensures { result ≡ amount_request verb subject amount }
 {
@@ -301,7 +302,7 @@ pub fn request_of_amount(verb: AmountVerb, subject: u32, amount: u64) -> Request
     }
 }
 
-/// The request of a verb with a point alone.
+/// Returns the request of a verb with a point alone.
 pub fn request_of_point(verb: PointVerb, point: u32) -> Request
     ensures { result ≡ point_request verb point }
 {
@@ -315,7 +316,7 @@ pub fn request_of_point(verb: PointVerb, point: u32) -> Request
     }
 }
 
-/// The request of a verb with a transaction.
+/// Returns the request of a verb with a point and the number of one of its transactions.
 pub fn request_of_transaction(verb: TransactionVerb, point: u32, number: u32) -> Request
     ensures { result ≡ transaction_request verb point number }
 {
@@ -326,7 +327,7 @@ pub fn request_of_transaction(verb: TransactionVerb, point: u32, number: u32) ->
     }
 }
 
-/// What a dispenser reports by a verb alone.
+/// Returns the event of a dispenser's line that has no value after its verb.
 pub fn event_of_report(verb: ReportVerb) -> DispenserEvent
     ensures { result ≡ report_event verb }
 {

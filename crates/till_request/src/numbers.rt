@@ -1,4 +1,4 @@
-//! Numbers in decimal digits.
+//! Parses numbers in decimal digits.
 ghost use Rattle.std.specs.Prelude.{◌≡◌, ◌≢◌, ◌⊎◌, ◌+◌, ◌*◌, ◌^◌, ◌≤◌, ◌&&◌, nat_lt, true, false, IfSome, IfNone, Err};
 ghost use Rattle.std.specs.Char.{digit_value, is_ascii_digit};
 ghost use Rattle.std.specs.List.{list_all};
@@ -7,7 +7,8 @@ ghost use Rattle.till_request.specs.Grammar.{number, has_no_leading_zero};
 
 use crate::act::LineFault;
 
-/// Returns a number with one more decimal digit at its end, if the byte is a digit and the result is below 2^64.
+/// Returns a number with one more decimal digit at its end; `None` if the byte is no digit, or the result isn't below
+/// 2^64.
 fn with_digit(value: u64, byte: u8) -> Option<u64>
     ensures some { IfSome result (λ more. (is_ascii_digit byte ≡ true) × (more ≡ value * 10 + digit_value byte)) }
     ensures none { IfNone result ((is_ascii_digit byte ≡ false) ⊎ (2 ^ 64 ≤ value * 10 + digit_value byte)) }
@@ -18,7 +19,8 @@ fn with_digit(value: u64, byte: u8) -> Option<u64>
     value.checked_mul(10)?.checked_add(u64::from(byte - b'0'))
 }
 
-/// The number that digits spell, where it is below 2^64.
+/// Returns the number that decimal digits spell; `None` if a byte is no digit, or the number isn't below 2^64. Leading
+/// zeros are allowed, and an empty word is 0.
 fn value_of(word: &[u8]) -> Option<u64>
     ensures some { IfSome result (λ n. (list_all is_ascii_digit word.now ≡ true) × (n ≡ digits_value 10 word.now)) }
     ensures none { IfNone result
@@ -31,7 +33,7 @@ fn value_of(word: &[u8]) -> Option<u64>
     Some(value)
 }
 
-/// Returns whether the word isn't empty, and begins with a zero only where that is all of it.
+/// Returns whether a word isn't empty and has no leading zero. The word `0` has none.
 fn is_canonical(word: &[u8]) -> bool
     ensures { result ≡ has_no_leading_zero word.now }
 {
@@ -42,7 +44,8 @@ fn is_canonical(word: &[u8]) -> bool
     }
 }
 
-/// The number that the word spells in decimal digits without leading zeros, or `BadNumber`.
+/// Returns the number that a word spells in decimal digits without leading zeros. The error is `BadNumber` if the word
+/// isn't such digits, or the number isn't below 2^64.
 pub fn number_u64(word: &[u8]) -> Result<u64, LineFault>
     ensures value { result ≡ number 64 word.now }
     ensures memory { result ≢ Err LineFault.OutOfMemory }
@@ -56,7 +59,8 @@ pub fn number_u64(word: &[u8]) -> Result<u64, LineFault>
     }
 }
 
-/// The number of 32 bits that the word spells in decimal digits without leading zeros, or `BadNumber`.
+/// Returns the number that a word spells in decimal digits without leading zeros. The error is `BadNumber` if the word
+/// isn't such digits, or the number isn't below 2^32.
 pub fn number_u32(word: &[u8]) -> Result<u32, LineFault>
     ensures value { result ≡ number 32 word.now }
     ensures memory { result ≢ Err LineFault.OutOfMemory }

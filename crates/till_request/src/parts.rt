@@ -1,17 +1,17 @@
-//! Parts of a line, without memory.
+//! Splits texts into parts without allocating memory.
 ghost use Rattle.std.specs.Prelude.{◌≡◌, ◌==◌, ◌<◌, ◌∷◌, [], length, map, MatchOption};
 ghost use Rattle.std.specs.List.{position, slice_split};
 
 use arrayvec::ArrayVec;
 
-/// The place of the first separator.
+/// Returns the index of the first separator; `None` if there is none.
 fn place_of(text: &[u8], separator: u8) -> Option<usize>
     ensures { result ≡ position (λ b. b == separator) text.now }
 {
     text.iter().position(|b| *b == separator)
 }
 
-/// Returns the bytes before the first separator, and the bytes after it, if there is one.
+/// Returns the bytes before the first separator, and the bytes after it; the whole text and `None` if there is none.
 pub fn first_part(text: &[u8], separator: u8) -> (&[u8], Option<&[u8]>)
     ensures { MatchOption result.1 (slice_split (λ b. b == separator) text.now ≡ result.0.now ∷ [])
         (λ rest. (slice_split (λ b. b == separator) text.now
@@ -24,7 +24,8 @@ pub fn first_part(text: &[u8], separator: u8) -> (&[u8], Option<&[u8]>)
     }
 }
 
-/// The parts of a text, or `None` where there are more than `N`.
+/// Splits a text at each separator and returns the parts, some of which may be empty; `None` if there are more than
+/// `N`.
 pub fn few_parts<'a, const N: usize>(text: &'a [u8], separator: u8) -> Option<ArrayVec<&'a [u8], N>>
     ensures { MatchOption result (N < length (slice_split (λ b. b == separator) text.now))
         (λ parts. map (λ w. w.now) parts.items ≡ slice_split (λ b. b == separator) text.now) }

@@ -1,4 +1,4 @@
-//! Answers and replies spelled into short texts, which need no memory.
+//! Writes answers and replies into texts of fixed size, without allocating memory.
 ghost use Rattle.std.specs.Prelude.{◌≡◌, ◌+◌, ◌≤◌, ◌∷◌, ◌++◌, [], decimal, length, map};
 ghost use Rattle.std.specs.Option.{option_to_list};
 ghost use Rattle.till_request.specs.Answer.{answer_line, answer_text, fault_text, order_words, reply_words};
@@ -9,13 +9,13 @@ use arrayvec::ArrayString;
 use fuelling_point::Order;
 use itoa::Buffer;
 
-/// The most bytes of a short text.
+/// The most bytes that a `ShortText` can have.
 const SHORT: usize = 192;
 
-/// A text of at most 192 bytes. An answer's line is shorter.
+/// A text of at most 192 bytes. An answer's line has at most 174.
 pub type ShortText = ArrayString<SHORT>;
 
-/// Appends a number to a text.
+/// Appends a number in decimal digits to a text.
 fn put_number(text: &mut ShortText, number: u64)
     requires { length text.old.bytes + 20 ≤ SHORT }
     ensures text { text.new.bytes ≡ text.old.bytes ++ decimal number }
@@ -35,7 +35,7 @@ fn put_word(text: &mut ShortText, word: &str)
     text.push_str(word);
 }
 
-/// Appends a space and a number to a text.
+/// Appends a space and a number in decimal digits to a text.
 fn put_word_number(text: &mut ShortText, number: u64)
     requires { length text.old.bytes + 21 ≤ SHORT }
     ensures text { text.new.bytes ≡ with_words text.old.bytes (decimal number ∷ []) }
@@ -45,7 +45,7 @@ fn put_word_number(text: &mut ShortText, number: u64)
     put_number(text, number);
 }
 
-/// Appends a space and a refusal's number to a text.
+/// Appends a space and a refusal's number with an S before it, such as `S22`, to a text.
 fn put_refusal(text: &mut ShortText, number: u32)
     requires { length text.old.bytes + 22 ≤ SHORT }
     ensures text { text.new.bytes ≡ with_words text.old.bytes ((83 ∷ decimal number) ∷ []) }
@@ -55,6 +55,7 @@ fn put_refusal(text: &mut ShortText, number: u32)
     put_number(text, u64::from(number));
 }
 
+/// Appends an order's words to a text, with a space before each word, the first too.
 fn put_order(text: &mut ShortText, order: Order)
     requires { length text.old.bytes + 31 ≤ SHORT }
     ensures text { text.new.bytes ≡ with_words text.old.bytes (order_words order) }
@@ -71,7 +72,7 @@ fn put_order(text: &mut ShortText, order: Order)
     }
 }
 
-/// Appends a reply's words to a text, a space before each.
+/// Appends a reply's words to a text, with a space before each word, the first too.
 pub fn put_reply(text: &mut ShortText, reply: &Reply)
     requires { length text.old.bytes + 153 ≤ SHORT }
     ensures text { text.new.bytes ≡ with_words text.old.bytes (reply_words reply.now) }
@@ -119,7 +120,7 @@ pub fn put_reply(text: &mut ShortText, reply: &Reply)
     }
 }
 
-/// The word of a line's fault.
+/// Returns the text of a line's fault: `L1` to `L4`, or `S31` if memory ran out.
 pub fn fault_word(fault: LineFault) -> &'static str
     ensures text { result.now ≡ fault_text fault }
     ensures short { length result.now ≤ 3 }
@@ -133,7 +134,7 @@ pub fn fault_word(fault: LineFault) -> &'static str
     }
 }
 
-/// Appends a space and a part of a program's refusal to a text, if there is one.
+/// Appends a space and a number that a program's refusal names, such as its unit, to a text; nothing for `None`.
 fn put_part(text: &mut ShortText, part: Option<u32>)
     requires { length text.old.bytes + 21 ≤ SHORT }
     ensures text { text.new.bytes ≡ with_words text.old.bytes (map decimal (option_to_list part)) }
@@ -144,7 +145,8 @@ fn put_part(text: &mut ShortText, part: Option<u32>)
     }
 }
 
-/// The answer to a program's refusal, in an empty text.
+/// Writes the answer to a refused program into an empty text: the refusal's number with a V before it, and then the
+/// unit, and the register or argument, that it names.
 fn put_program(text: &mut ShortText, number: u32, unit: Option<u32>, part: Option<u32>)
     requires { text.old.bytes ≡ [] }
     ensures text { text.new.bytes ≡ answer_text (Answer.Program number unit part) }
@@ -156,7 +158,7 @@ fn put_program(text: &mut ShortText, number: u32, unit: Option<u32>, part: Optio
     put_part(text, part);
 }
 
-/// Puts a numbered reply into an empty text.
+/// Writes an entry's number and its reply into an empty text.
 #[tactic(auto, using(crate::proofs::Short::entered))]
 fn put_entered(text: &mut ShortText, number: u32, reply: &Reply)
     requires { text.old.bytes ≡ [] }
@@ -167,7 +169,7 @@ fn put_entered(text: &mut ShortText, number: u32, reply: &Reply)
     put_reply(text, reply);
 }
 
-/// Puts an answer into an empty text.
+/// Writes an answer, without an LF, into an empty text.
 pub fn put_answer(text: &mut ShortText, answer: &Answer)
     requires { text.old.bytes ≡ [] }
     ensures text { text.new.bytes ≡ answer_text answer.now }
@@ -183,7 +185,7 @@ pub fn put_answer(text: &mut ShortText, answer: &Answer)
     }
 }
 
-/// Puts an answer's line into an empty text.
+/// Writes an answer with its LF into an empty text.
 pub fn put_line(text: &mut ShortText, answer: &Answer)
     requires { text.old.bytes ≡ [] }
     ensures { text.new.bytes ≡ answer_line answer.now }

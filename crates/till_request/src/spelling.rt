@@ -1,4 +1,4 @@
-//! Acts written as lines.
+//! Writes acts as lines.
 ghost use Rattle.std.specs.Prelude.{◌≡◌, ◌∷◌, IfOk, Some, decimal, map, slice_get, string_bytes};
 ghost use Rattle.std.specs.Option.{option_to_list};
 ghost use Rattle.till_request.specs.Grammar.{text};
@@ -16,12 +16,12 @@ use fuelling_point::DispenserEvent;
 use std::alloc::{AllocError, Global};
 use std::fmt;
 
-/// Each act is read from its spelling, whatever the numbers and the bytes.
+/// States that the line of each act is read as that same act, if a load has at least one byte. Does nothing.
 pub fn spelling_is_read()
     ensures { ReadsBack }
 {}
 
-/// A request's verb, and its one or two numbers.
+/// Returns a request's verb, the number after it, and the second number, if there is one.
 fn words_of(request: Request) -> (Keyword, u32, Option<u64>)
     ensures { request_words request ≡ text result.0 ∷ decimal result.1 ∷ map decimal (option_to_list result.2) }
 {
@@ -57,7 +57,7 @@ impl fmt::Display for Request {
     }
 }
 
-/// An event's verb.
+/// Returns the verb of a dispenser's event.
 fn verb_of(event: DispenserEvent) -> Keyword
     ensures { slice_get (event_words event) 0 ≡ Some (text result) }
 {
@@ -72,7 +72,7 @@ fn verb_of(event: DispenserEvent) -> Keyword
     }
 }
 
-/// The line of a dispenser's event, without its LF.
+/// Returns the line of a dispenser's event, without its LF. The error is that memory ran out.
 fn spell_event(alloc: Global, point: u32, event: DispenserEvent) -> Result<String, AllocError>
     ensures { IfOk result (λ text. string_bytes text ≡ spelling (Act.Dispenser point event)) }
 {
@@ -90,7 +90,7 @@ fn spell_event(alloc: Global, point: u32, event: DispenserEvent) -> Result<Strin
     }
 }
 
-/// The line of a load, without its LF.
+/// Returns the line that loads a program, without its LF. The error is that memory ran out.
 #[tactic(auto, using(crate::proofs::Fitting::load_text))]
 fn spell_load(
     alloc: Global,
@@ -106,7 +106,8 @@ fn spell_load(
     format!(in alloc; "{word} {slot} {mask} {hex}")
 }
 
-/// The one spelling of an act: its line, without the LF.
+/// Returns the line of an act, without its LF. Each act has one spelling: hexadecimal is in lower case. The error is
+/// that memory ran out.
 pub fn spell_act(alloc: Global, act: &Act) -> Result<String, AllocError>
     ensures { IfOk result (λ text. string_bytes text ≡ spelling act.now) }
 {

@@ -1,4 +1,4 @@
-//! Answers written out.
+//! Writes answers to a device.
 ghost use Rattle.std.specs.Prelude.{◌≡◌, ◌≢◌, ℕ, take, OnOk, IfErr, Err, is_err};
 ghost use Rattle.std.specs.Io.KnownBytes.{Appends};
 ghost use Rattle.till_request.specs.Count.{RoseBy, one_if};
@@ -10,15 +10,16 @@ use crate::device::{DeviceFault, LineOut};
 use crate::short_text::{ShortText, put_line};
 use std::alloc::Global;
 
-/// Why an answer was not written.
+/// Why an answer wasn't written, or not all of it.
 #[derive(Clone, Copy, PartialEq, Eq, Drop)]
 pub enum WriteFault {
-    /// N2: the device failed.
+    /// The device failed (fault `N2`).
     Write,
+    /// Memory ran out. `write_answer` never returns this.
     OutOfMemory,
 }
 
-/// Writes all the bytes, or a front of them where the device fails.
+/// Writes all of `bytes`. The error is that the device failed; some of the first bytes may have been written before.
 pub fn write_all<O: LineOut>(output: &mut O, bytes: &[u8]) -> Result<(), DeviceFault>
     ensures ok { OnOk result (Appends (O.written output.old) (O.written output.new) bytes.now) }
     ensures err { IfErr result
@@ -32,7 +33,8 @@ pub fn write_all<O: LineOut>(output: &mut O, bytes: &[u8]) -> Result<(), DeviceF
     Ok(())
 }
 
-/// Writes an answer with its LF, or a front of that where the device fails. Takes no memory.
+/// Writes an answer with its LF, without allocating memory. The error is `Write`: the device failed, and some of the
+/// first bytes may have been written before.
 pub fn write_answer<O: LineOut>(
     alloc: Global,
     output: &mut O,
@@ -44,7 +46,7 @@ pub fn write_answer<O: LineOut>(
     ensures memory { result ≢ Err WriteFault.OutOfMemory }
     ensures failed { RoseBy (one_if (is_write_fault result)) (O.failures output.old) (O.failures output.new) }
 {
-    // An answer's line needs no memory.
+    // The allocator isn't needed: the line is made in a text of fixed size.
     let _ = alloc;
     let mut line = ShortText::new();
     put_line(&mut line, answer);
