@@ -141,6 +141,10 @@ module _ (config : ConfigValue) (may_fail : Type 0) (connections : ℕ) {P : Typ
 abbrev pub waiting_of : PassView × Worker → Option (PassView × Role)
 waiting_of pair = Some (pair.0, pair.1.role)
 
+pub seen_again : (pairs : List (PassView × Worker)) → map waiting_of pairs ≡ map waiting_of (map (λ (pair : PassView × Worker). (pair.0, pair.1)) pairs)
+seen_again [] = refl
+seen_again (pair ∷ pairs) = ap (λ (more : List (Option (PassView × Role))). waiting_of pair ∷ more) (seen_again pairs)
+
 abbrev IsNone : Option PassView → Type 0
 IsNone None = Unit {0}
 IsNone (Some p) = ⊥

@@ -23,7 +23,7 @@ pub(crate) fn tasks_of<L: SiteLedger>(
     workers: Vec<Worker>,
 ) -> Result<Vec<WorkerTask<L>>, AllocError>
     ensures { IfOk result (λ tasks. map (λ p. waits p.waiting) tasks.items
-        ≡ map (λ pair. Some (pair.0, pair.1.role)) (zip passes.items workers.items)) }
+        ≡ map (λ pair. waits (Some pair)) (zip passes.items workers.items)) }
 {
     let mut tasks = Vec::with_capacity(alloc, passes.len())?;
     for pair in passes.into_iter().zip(workers) {

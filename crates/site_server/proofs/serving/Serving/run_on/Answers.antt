@@ -23,7 +23,7 @@ collect_passes-clean-requires-clause-few g c =
     c.in-Ok.ensures.tasks
     (λ k e lt.
     let at = (c.for_each_mut.ensures k e lt).1 in
-    manned_so config may_fail roles s.connections (λ p. waits p.waiting) (λ p. p.done) _ _ _ _ at.argument_is at.left at.call) in
+    manned_so config may_fail s.connections (λ p. waits p.waiting) (λ p. p.done) _ _ _ _ at.argument_is at.left at.call) in
     let few = well_few may_fail roles s.connections from config c.requires.config 0 (map (λ p. p.done) c.for_each_mut.new.s) done.0 c.prove_few.ensures in
     omega (arith, few, done.1, s.crew.few)
 
@@ -43,7 +43,7 @@ returns-clause-ok g c =
     c.in-Ok.ensures.tasks
     (λ k e lt.
     let at = (c.for_each_mut.ensures k e lt).1 in
-    manned_so config may_fail roles s.connections (λ p. waits p.waiting) (λ p. p.done) _ _ _ _ at.argument_is at.left at.call) in
+    manned_so config may_fail s.connections (λ p. waits p.waiting) (λ p. p.done) _ _ _ _ at.argument_is at.left at.call) in
     let worked = have_worked may_fail roles s.connections plan.from config c.requires.config (map (λ p. p.done) c.for_each_mut.new.s)
     c.in-Ok.prepared.room.items c.collect_passes-clean.new.passes.items c.collect_passes-clean.result done.0 c.in-Ok.ensures.room.0
     c.collect_passes-clean.ensures.items c.collect_passes-clean.ensures.clean in
@@ -68,7 +68,7 @@ returns-clause-err g c =
     c.in-Ok.ensures.tasks
     (λ k e lt.
     let at = (c.for_each_mut.ensures k e lt).1 in
-    manned_so config may_fail roles s.connections (λ p. waits p.waiting) (λ p. p.done) _ _ _ _ at.argument_is at.left at.call) in
+    manned_so config may_fail s.connections (λ p. waits p.waiting) (λ p. p.done) _ _ _ _ at.argument_is at.left at.call) in
     let tasks = map (λ p. p.done) c.for_each_mut.new.s in
     let worked = have_worked may_fail roles s.connections plan.from config c.requires.config tasks c.in-Ok.prepared.room.items
     c.collect_passes-clean.new.passes.items c.collect_passes-clean.result done.0 c.in-Ok.ensures.room.0 c.collect_passes-clean.ensures.items
