@@ -1,7 +1,9 @@
 //! Serving over loopback: the peers are a thread of the test.
 use line_session::Doors;
 use site_core::{Config, Site};
-use site_server::{AtOnce, Crew, Listeners, NoJournal, Notices, Serving, SessionFailure, TcpDoors};
+use site_server::{
+    AtOnce, Crew, Listener, NoJournal, Notices, Serving, SessionFailure, SocketDoors, Stream, Worker,
+};
 use std::alloc::Global;
 use std::io;
 use std::io::{BufRead, BufReader, Write};
@@ -20,6 +22,8 @@ impl Notices for Silent {
     fn accept_failed(&self, _role: Role, _pass: u32, _error: &io::Error) {}
 
     fn session_failed(&self, _role: Role, _pass: u32, _breach: SessionFailure) {}
+
+    fn fell_silent(&self, _role: Role, _pass: u32, _seconds: u32) {}
 }
 
 fn ports<R: Net<Listener = TcpListener, Stream = TcpStream>>(

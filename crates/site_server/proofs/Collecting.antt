@@ -2,15 +2,21 @@
 use Rattle.std.proofs.Common.{◌≡◌, ℕ, ◌+◌, ◌<◌, List, [], ◌∷◌, ◌++◌, length, map, slice_index_or, Option, Some, None, slice_get, refl, sym, ◌∙◌, ap, subst}
 use Rattle.std.proofs.Common.{◌*◌, ◌≤◌, Ok, Err, arith, zero, suc}
 use Rattle.std.proofs.lemmas.List.{length-map}
+use Rattle.std.proofs.lemmas.Slice.Zip.{length-zip}
+use Rattle.std.specs.List.{zip}
+use Rattle.std.specs.Option.{option_map}
+use Rattle.till_request.specs.declared.act.Role.{Role}
 use Rattle.line_session.specs.Serving.{Outcome, good}
 use Rattle.site_lock.specs.Merge.{AreAll}
 use Rattle.site_lock.specs.Passes.{PassView, Opened, new_pass, AreNew}
 use Rattle.site_core.specs.Limits.{ConfigValue}
-use Rattle.site_server.specs.declared.crew.Crew.{Crew}
+use Rattle.site_server.specs.declared.crew.Worker.{Worker}
+use Rattle.site_server.specs.Crews.{roles_of}
 use Rattle.site_server.specs.Plans.{Plan}
 use Rattle.site_server.specs.Ending.{HandedBack, HandsBack, HaveWorked, all_clean}
-use Rattle.site_server.specs.Collecting.{AreWaiting, RunsWorker, collected, waits, clean_in}
-use Rattle.site_server.proofs.Numbering.{handed_back, all_worked}
+use Rattle.site_server.specs.Collecting.{AreWaiting, RunsWorker, collected, clean_in}
+use Rattle.site_server.specs.Tasks.{Worked}
+use Rattle.site_server.proofs.Numbering.{all_worked}
 
 -- what stands in those tasks that handed something back
 abbrev pub results : List (Option (PassView × ℕ)) → List (PassView × ℕ)
@@ -35,18 +41,10 @@ good_few (None ∷ outcomes) = omega (arith, good_few outcomes)
 good_few (Some (Ok ended) ∷ outcomes) = omega (arith, good_few outcomes)
 good_few (Some (Err fault) ∷ outcomes) = omega (arith, good_few outcomes)
 
-abbrev IsThere : Option PassView → Type 0
-IsThere None = ⊥
-IsThere (Some p) = Unit {0}
-
-abbrev or_first : Option PassView → PassView
-or_first None = new_pass 0
-or_first (Some p) = p
-
-module _ (may_fail : Type 0) (crew : Crew) (connections : ℕ) (from : Opened) (own : ConfigValue) (same : from.config ≡ own) where
+module _ (may_fail : Type 0) (roles : List Role) (connections : ℕ) (from : Opened) (own : ConfigValue) (same : from.config ≡ own) where
   -- what is served
   abbrev pub plan : Plan
-  plan = record { from = from; may_fail = may_fail; tills = crew.tills; dispensers = crew.dispensers; connections = connections }
+  plan = record { from = from; may_fail = may_fail; roles = roles; connections = connections }
 
   -- all workers from the number b + 1 on have handed their pass back
   abbrev pub AllBack : ℕ → List (Option (PassView × ℕ)) → Type 0
@@ -54,41 +52,47 @@ module _ (may_fail : Type 0) (crew : Crew) (connections : ℕ) (from : Opened) (
   AllBack b (None ∷ tasks) = ⊥
   AllBack b (Some r ∷ tasks) = HandedBack plan b r × AllBack (b + 1) tasks
 
-  one_back : {A : Type 0} (b : ℕ) (x : Option (PassView × A)) (y : Option (PassView × ℕ)) (rest : List (Option (PassView × ℕ)))
-      → waits x ≡ Some (new_pass (b + 1))
-      → RunsWorker own may_fail crew connections x y → AllBack (b + 1) rest → AllBack b (y ∷ rest)
-  one_back b None y rest e h more = absurd (subst IsThere (sym e) tt)
-  one_back b (Some w) None rest e h more = absurd h
-  one_back b (Some w) (Some r) rest e h more = (handed_back plan own same b w.0 r (ap or_first e) h.0 h.1, more)
+  one_back : (b : ℕ) (role : Role) (y : Option (PassView × ℕ)) (rest : List (Option (PassView × ℕ))) → slice_get roles b ≡ Some role
+      → RunsWorker own may_fail connections (Some (new_pass (b + 1), role)) y → AllBack (b + 1) rest → AllBack b (y ∷ rest)
+  one_back b role None rest at h more = absurd h
+  one_back b role (Some r) rest at h more = (
+    (h.0, role, at, subst (λ (c : ConfigValue). Worked c may_fail role connections r.1 (new_pass (b + 1)) r.0) (sym same) h.1),
+    more,
+  )
 
-  all_back : {P A : Type 0} (w : P → Option (PassView × A)) (d : P → Option (PassView × ℕ)) (b : ℕ) (xs ys : List P) → length ys ≡ length xs
-      → ((k n : ℕ) (e : Option PassView) → n ≡ b + k + 1 → k < length xs → slice_index_or (map (λ p. waits (w p)) xs) k e ≡ Some (new_pass n))
-      → ((k : ℕ) (e : P) → k < length xs → RunsWorker own may_fail crew connections (w (slice_index_or xs k e)) (d (slice_index_or ys k e)))
+  -- in the task at place k of these the pass with the number n + 1 waits, with the role at place n
+  abbrev WaitsAt : List (Option (PassView × Role)) → ℕ → ℕ → Option (PassView × Role) → Type 0
+  WaitsAt tasks k n e = (role : Role) × (slice_get roles n ≡ Some role) × (slice_index_or tasks k e ≡ Some (new_pass (n + 1), role))
+
+  all_back : {P : Type 0} (w : P → Option (PassView × Role)) (d : P → Option (PassView × ℕ)) (b : ℕ) (xs ys : List P) → length ys ≡ length xs
+      → ((k n : ℕ) (e : Option (PassView × Role)) → n ≡ b + k → k < length xs → WaitsAt (map w xs) k n e)
+      → ((k : ℕ) (e : P) → k < length xs → RunsWorker own may_fail connections (w (slice_index_or xs k e)) (d (slice_index_or ys k e)))
       → AllBack b (map d ys)
   all_back w d b [] [] is waiting manned = tt
   all_back w d b [] (y ∷ ys) is waiting manned = absurd (omega arith)
   all_back w d b (x ∷ xs) [] is waiting manned = absurd (omega arith)
   all_back w d b (x ∷ xs) (y ∷ ys) is waiting manned =
-      one_back b (w x) (d y) (map d ys) (waiting 0 (b + 1) None (omega arith) (omega arith)) (manned 0 x (omega arith))
+      let first : WaitsAt (map w (x ∷ xs)) 0 b None = waiting 0 b None (omega arith) (omega arith) in
+      one_back b first.0 (d y) (map d ys) first.1
+      (subst (λ (z : Option (PassView × Role)). RunsWorker own may_fail connections z (d y)) first.2 (manned 0 x (omega arith)))
       (all_back w d (b + 1) xs ys (omega arith) (λ k n e num lt. waiting (suc k) n e (omega arith) (omega arith)) (λ k e lt. manned (suc k) e (omega arith)))
 
   -- the same of the tasks that waited, with their number
-  pub all_done : {P A : Type 0} (w : P → Option (PassView × A)) (d : P → Option (PassView × ℕ)) (n : ℕ) (tasks xs ys : List P) → tasks ≡ xs
-      → length ys ≡ length xs → AreWaiting n (map (λ p. waits (w p)) tasks)
-      → ((k : ℕ) (e : P) → k < length xs → RunsWorker own may_fail crew connections (w (slice_index_or xs k e)) (d (slice_index_or ys k e)))
+  pub all_done : {P : Type 0} (w : P → Option (PassView × Role)) (d : P → Option (PassView × ℕ)) (n : ℕ) (tasks xs ys : List P) → length roles ≡ n
+      → tasks ≡ xs → length ys ≡ length xs → AreWaiting roles (map w tasks)
+      → ((k : ℕ) (e : P) → k < length xs → RunsWorker own may_fail connections (w (slice_index_or xs k e)) (d (slice_index_or ys k e)))
       → AllBack 0 (map d ys) × (length (map d ys) ≡ n)
-  all_done {P} {A} w d n tasks xs ys same_tasks as_many waiting manned =
-      let W : List P → Type 0 = λ l. AreWaiting n (map (λ p. waits (w p)) l) in
-      let there : AreWaiting n (map (λ p. waits (w p)) xs) = subst W same_tasks waiting in (
+  all_done w d n tasks xs ys many same_tasks as_many waiting manned =
+      let there : AreWaiting roles (map w xs) = subst (λ l. AreWaiting roles (map w l)) same_tasks waiting in (
         all_back w d 0 xs ys as_many
-            (λ k m e num lt. subst (λ (j : ℕ). slice_index_or (map (λ p. waits (w p)) xs) k e ≡ Some (new_pass j)) (omega (arith, num))
-            (there.1 k e (omega (arith, lt, there.0, length-map xs (λ p. waits (w p))))))
+            (λ k m e num lt. subst (λ (j : ℕ). WaitsAt (map w xs) k j e) (omega (arith, num))
+            (there.1 k e (omega (arith, lt, there.0, length-map xs w))))
             manned,
-        length-map ys d ∙ as_many ∙ sym (length-map xs (λ p. waits (w p))) ∙ there.0,
+        length-map ys d ∙ as_many ∙ sym (length-map xs w) ∙ there.0 ∙ many,
       )
 
   one_few : (b : ℕ) (r : PassView × ℕ) → HandedBack plan b r → r.1 ≤ connections
-  one_few b r h = omega (arith, h.1.counted, h.1.all_asked, good_few h.1.outcomes)
+  one_few b r h = omega (arith, h.3.counted, h.3.all_asked, good_few h.3.outcomes)
 
   -- so few end without fault that they can be counted
   pub well_few : (b : ℕ) (tasks : List (Option (PassView × ℕ))) → AllBack b tasks → connections < 4294967296 → clean_in tasks ≤ 4294967296 * length tasks
@@ -126,27 +130,46 @@ module _ (may_fail : Type 0) (crew : Crew) (connections : ℕ) (from : Opened) (
   are_all n tasks room passes clean back many none are worked =
       all_worked plan passes n clean (ap length (are ∙ ap (λ (ps : List PassView). ps ++ collected tasks) none) ∙ handed_length 0 tasks back ∙ many) worked
 
-module _ (config : ConfigValue) (may_fail : Type 0) (crew : Crew) (connections : ℕ) {P A : Type 0} (w : P → Option (PassView × A)) (d : P
+module _ (config : ConfigValue) (may_fail : Type 0) (connections : ℕ) {P : Type 0} (w : P → Option (PassView × Role)) (d : P
     → Option (PassView × ℕ)) where
-  pub manned_so : (x y a b : P) → a ≡ x → b ≡ y → RunsWorker config may_fail crew connections (w a) (d b)
-      → RunsWorker config may_fail crew connections (w x) (d y)
-  manned_so x y a b is left h = subst (λ (p : P). RunsWorker config may_fail crew connections (w p) (d y)) is
-      (subst (λ (p : P). RunsWorker config may_fail crew connections (w a) (d p)) left h)
+  pub manned_so : (x y a b : P) → a ≡ x → b ≡ y → RunsWorker config may_fail connections (w a) (d b)
+      → RunsWorker config may_fail connections (w x) (d y)
+  manned_so x y a b is left h = subst (λ (p : P). RunsWorker config may_fail connections (w p) (d y)) is
+      (subst (λ (p : P). RunsWorker config may_fail connections (w a) (d p)) left h)
 
--- new passes that wait in tasks
-module _ {P A : Type 0} (w : P → Option (PassView × A)) where
-  waits_at : (k : ℕ) (d : Option PassView) (p : PassView) (ps : List PassView) → slice_get ps k ≡ Some p
-      → slice_index_or (map (λ (q : PassView). Some q) ps) k d ≡ Some p
-  waits_at k d p [] is = absurd (subst IsThere (sym is) tt)
-  waits_at zero d p (q ∷ ps) is = is
-  waits_at (suc k) d p (q ∷ ps) is = waits_at k d p ps is
+-- what waits where a pass and a worker stand side by side
+abbrev pub waiting_of : PassView × Worker → Option (PassView × Role)
+waiting_of pair = Some (pair.0, pair.1.role)
 
-  pub are_waiting : (n : ℕ) (tasks : List P) (ps : List PassView) → map (λ p. waits (w p)) tasks ≡ map (λ (q : PassView). Some q) ps → AreNew n ps
-      → AreWaiting n (map (λ p. waits (w p)) tasks)
-  are_waiting n tasks ps is new = rw is (
-    length-map ps (λ (q : PassView). Some q) ∙ new.0,
-    λ k d lt. waits_at k d (new_pass (k + 1)) ps (new.1 k lt),
+abbrev IsNone : Option PassView → Type 0
+IsNone None = Unit {0}
+IsNone (Some p) = ⊥
+
+none_is : (k : ℕ) (p : PassView) → slice_get [] k ≡ Some p → ⊥
+none_is k p is = subst (λ (o : Option PassView). IsNone o) is tt
+
+waits_at : (k : ℕ) (e : Option (PassView × Role)) (p : PassView) (ps : List PassView) (workers : List Worker) → slice_get ps k ≡ Some p → k < length workers
+    → (role : Role) × (slice_get (roles_of workers) k ≡ Some role) × (slice_index_or (map waiting_of (zip ps workers)) k e ≡ Some (p, role))
+waits_at k e p [] workers is lt = absurd (none_is k p is)
+waits_at k e p (q ∷ ps) [] is lt = absurd (omega arith)
+waits_at zero e p (q ∷ ps) (worker ∷ workers) is lt = (worker.role, refl, ap (λ (o : Option PassView). option_map (λ (x : PassView). (x, worker.role)) o) is)
+waits_at (suc k) e p (q ∷ ps) (worker ∷ workers) is lt = waits_at k e p ps workers is (omega arith)
+
+-- new passes that wait in tasks, each beside the worker at its place
+module _ {P : Type 0} (w : P → Option (PassView × Role)) (tasks : List P) (ps : List PassView) (workers : List Worker)
+    (are : map w tasks ≡ map waiting_of (zip ps workers)) (new : AreNew (length workers) ps) where
+  pub are_waiting : AreWaiting (roles_of workers) (map w tasks)
+  are_waiting = rw are (
+    omega (
+      arith,
+      length-map (zip ps workers) waiting_of,
+      length-zip ps workers,
+      new.0,
+      length-map workers (λ (x : Worker). x.role),
+    ),
+    λ k e lt. let low : k < length workers = omega (arith, lt, length-map workers (λ (x : Worker). x.role)) in
+        waits_at k e (new_pass (k + 1)) ps workers (new.1 k low) low,
   )
 
-  pub as_many : (tasks : List P) (ps : List PassView) → map (λ p. waits (w p)) tasks ≡ map (λ (q : PassView). Some q) ps → length tasks ≡ length ps
-  as_many tasks ps is = sym (length-map tasks (λ p. waits (w p))) ∙ ap length is ∙ length-map ps (λ (q : PassView). Some q)
+  pub as_many : length tasks ≡ length workers
+  as_many = sym (length-map tasks w) ∙ are_waiting.0 ∙ length-map workers (λ (x : Worker). x.role)

@@ -7,11 +7,8 @@ use Rattle.std.proofs.lemmas.List.{length-map}
 use Rattle.std.proofs.lemmas.List.Recursion.{is_count_by}
 use Rattle.site_lock.specs.Passes.{PassView, new_pass}
 use Rattle.site_lock.specs.Merge.{AreAll}
-use Rattle.site_core.specs.Limits.{ConfigValue}
-use Rattle.site_server.specs.Crews.{role_of}
 use Rattle.site_server.specs.Plans.{Plan}
-use Rattle.site_server.specs.Tasks.{Worked}
-use Rattle.site_server.specs.Ending.{HandedBack, HaveWorked}
+use Rattle.site_server.specs.Ending.{HaveWorked}
 
 -- the numbers from `before` + 1 on
 abbrev Numbers : ℕ → List ℕ → Type 0
@@ -78,14 +75,6 @@ module _ (plan : Plan) where
   first_of [] k d = refl
   first_of (x ∷ xs) zero d = refl
   first_of (x ∷ xs) (suc k) d = first_of xs k d
-
-  pub handed_back : (own : ConfigValue) → plan.from.config ≡ own → (k : ℕ) (job : PassView) (r : PassView × ℕ) → job ≡ new_pass (k + 1) → r.0.id ≡ job.id
-      → Worked own plan.may_fail (role_of plan.tills plan.dispensers job.id) plan.connections r.1 job r.0 → HandedBack plan k r
-  handed_back own same k job r is id w = (
-    id ∙ ap (λ (p : PassView). p.id) is,
-    subst (λ (c : ConfigValue). Worked c plan.may_fail (role_of plan.tills plan.dispensers (k + 1)) plan.connections r.1 (new_pass (k + 1)) r.0) (sym same)
-        (subst (λ (p : PassView). Worked own plan.may_fail (role_of plan.tills plan.dispensers p.id) plan.connections r.1 p r.0) is w),
-  )
 
   pub all_worked : (ps : List PassView) (n clean : ℕ) → length ps ≡ n → HaveWorked plan ps clean → AreAll n ps
   all_worked ps n clean is h = all_numbered ps n is (λ k d lt.

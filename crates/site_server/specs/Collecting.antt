@@ -1,31 +1,28 @@
 -- Promises: what the workers' tasks hold, before they serve and after it.
-use Rattle.std.specs.Prelude.{◌≡◌, ℕ, ◌+◌, ◌<◌, List, [], ◌∷◌, length, slice_index_or, Option, Some, None}
+use Rattle.std.specs.Prelude.{◌≡◌, ℕ, ◌+◌, ◌<◌, List, [], ◌∷◌, length, slice_get, slice_index_or, Option, Some, None}
+use Rattle.till_request.specs.declared.act.Role.{Role}
 use Rattle.site_core.specs.Limits.{ConfigValue}
 use Rattle.site_lock.specs.Passes.{PassView, new_pass}
-use Rattle.site_server.specs.Crews.{role_of}
-use Rattle.site_server.specs.declared.crew.Crew.{Crew}
+use Rattle.site_server.specs.declared.crew.Worker.{Worker}
 use Rattle.site_server.specs.Tasks.{Worked}
 
--- the pass that a task waits with, whatever its port
-abbrev pub waits : {A : Type 0} → Option (PassView × A) → Option PassView
+-- the pass that a task waits with, and whose lines its worker takes
+abbrev pub waits : Option (PassView × Worker) → Option (PassView × Role)
 waits None = None
-waits (Some w) = Some w.0
+waits (Some w) = Some (w.0, w.1.role)
 
--- the same with its port, as that is seen
-abbrev pub waits_at : {A B : Type 0} → (A → B) → Option (PassView × A) → Option (PassView × B)
-waits_at port None = None
-waits_at port (Some w) = Some (w.0, port w.1)
+-- in task k the pass with the number k + 1 waits, without receipts, with the role at place k
+abbrev pub AreWaiting : List Role → List (Option (PassView × Role)) → Type 0
+AreWaiting roles tasks =
+    (length tasks ≡ length roles)
+    × ((k : ℕ) (d : Option (PassView × Role)) → k < length roles
+    → (role : Role) × (slice_get roles k ≡ Some role) × (slice_index_or tasks k d ≡ Some (new_pass (k + 1), role)))
 
--- the passes 1 to n, without receipts, wait in n tasks
-abbrev pub AreWaiting : ℕ → List (Option PassView) → Type 0
-AreWaiting n tasks = (length tasks ≡ n) × ((k : ℕ) (d : Option PassView) → k < n → slice_index_or tasks k d ≡ Some (new_pass (k + 1)))
-
--- the pass that waited was handed back, after its connections in its role
-abbrev pub RunsWorker : {A : Type 0} → ConfigValue → Type 0 → Crew → ℕ → Option (PassView × A) → Option (PassView × ℕ) → Type 0
-RunsWorker config may_fail crew connections None after = Unit {0}
-RunsWorker config may_fail crew connections (Some w) None = ⊥
-RunsWorker config may_fail crew connections (Some w) (Some d) =
-    (d.0.id ≡ w.0.id) × Worked config may_fail (role_of crew.tills crew.dispensers w.0.id) connections d.1 w.0 d.0
+-- the pass that waited was handed back, after its connections in the role that waited with it
+abbrev pub RunsWorker : ConfigValue → Type 0 → ℕ → Option (PassView × Role) → Option (PassView × ℕ) → Type 0
+RunsWorker config may_fail connections None after = Unit {0}
+RunsWorker config may_fail connections (Some w) None = ⊥
+RunsWorker config may_fail connections (Some w) (Some d) = (d.0.id ≡ w.0.id) × Worked config may_fail w.1 connections d.1 w.0 d.0
 
 -- the passes that were handed back, in their order
 abbrev pub collected : List (Option (PassView × ℕ)) → List PassView

@@ -1,22 +1,13 @@
--- Definitions: who serves whom (this profile). Passes are numbered from 1; they go to the tills' workers, then to the
--- dispensers', and the last one to the owner's.
-use Rattle.std.specs.Prelude.{ℕ, ◌+◌, ◌<◌, ◌≤◌, nat_le, if◌then◌else◌}
+-- Definitions: who serves whom (this profile). Passes are numbered from 1: the one with the number k + 1 is that of the
+-- worker at place k, counted from 0.
+use Rattle.std.specs.Prelude.{ℕ, ◌<◌, ◌≤◌, List, map}
 use Rattle.till_request.specs.declared.act.Role.{Role}
-use Rattle.till_request.specs.declared.act.Role.TheVariants.{Till, Dispenser, Owner, All}
+use Rattle.site_server.specs.declared.crew.Worker.{Worker}
 
--- at least one worker for tills and one for dispensers, and at most as many as there are tills, and fewer than there may be points
-abbrev pub IsCrew : ℕ → ℕ → Type 0
-IsCrew tills dispensers = (0 < tills) × (tills ≤ 64) × (0 < dispensers) × (dispensers ≤ 31)
+-- so many workers are a crew: at least one, and at most as many as there are tills and points, of 64 and 31, and an owner
+abbrev pub IsCrew : ℕ → Type 0
+IsCrew workers = (0 < workers) × (workers ≤ 96)
 
-abbrev pub passes_of : ℕ → ℕ → ℕ
-passes_of tills dispensers = tills + dispensers + 1
-
-abbrev pub role_of : ℕ → ℕ → ℕ → Role
-role_of tills dispensers pass = if nat_le pass tills then Till else if nat_le pass (tills + dispensers) then Dispenser else Owner
-
--- the port of a role, of those of tills, dispensers and the owner; who may send all lines connects as the owner
-abbrev pub port_of : {A : Type 0} → A → A → A → Role → A
-port_of till dispenser owner Till = till
-port_of till dispenser owner Dispenser = dispenser
-port_of till dispenser owner Owner = owner
-port_of till dispenser owner All = owner
+-- whose lines each worker takes
+abbrev pub roles_of : List Worker → List Role
+roles_of workers = map (λ (w : Worker). w.role) workers

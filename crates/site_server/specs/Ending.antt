@@ -1,21 +1,21 @@
 -- Promises: how serving ends.
-use Rattle.std.specs.Prelude.{◌≡◌, ℕ, ◌+◌, ◌<◌, Bool, true, false, List, [], ◌∷◌, length, map, slice_index_or, Option, if◌then◌else◌}
+use Rattle.std.specs.Prelude.{◌≡◌, ℕ, ◌+◌, ◌<◌, Bool, true, false, List, [], ◌∷◌, length, map, slice_get, slice_index_or, Option, Some, if◌then◌else◌}
+use Rattle.till_request.specs.declared.act.Role.{Role}
 use Rattle.site_core.specs.Site.{SiteValue}
 use Rattle.site_lock.specs.declared.close.CloseRefusal.{CloseRefusal}
 use Rattle.site_lock.specs.Passes.{PassView, Opened, new_pass}
 use Rattle.site_lock.specs.Closing.{ClosesSince, HaltedValue, IsHalted, RefusesSince}
 use Rattle.site_lock.specs.Merge.{AreAll}
-use Rattle.site_server.specs.Crews.{role_of}
 use Rattle.site_server.specs.Plans.{Plan}
 use Rattle.site_server.specs.Tasks.{Worked}
 use Rattle.site_server.specs.declared.serving.ServeFault.{ServeFault}
 use Rattle.site_server.specs.declared.serving.ServeFault.TheVariants.{OutOfMemory, Journal, NotClosed}
 
--- what the worker with pass k + 1 hands back: that pass, after its connections in its role, and the number of those that ended without fault
+-- what the worker with pass k + 1 hands back: that pass, after its connections in the role at place k, and the number of those that ended without fault
 abbrev pub HandedBack : Plan → ℕ → PassView × ℕ → Type 0
 HandedBack plan k done =
-    (done.0.id ≡ k + 1)
-    × Worked plan.from.config plan.may_fail (role_of plan.tills plan.dispensers (k + 1)) plan.connections done.1 (new_pass (k + 1)) done.0
+    (done.0.id ≡ k + 1) × (role : Role) × (slice_get plan.roles k ≡ Some role)
+    × Worked plan.from.config plan.may_fail role plan.connections done.1 (new_pass (k + 1)) done.0
 
 -- what all workers hand back, in their order
 abbrev pub HandsBack : Plan → List (PassView × ℕ) → Type 0

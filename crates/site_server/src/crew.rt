@@ -1,49 +1,44 @@
 //! Who serves whom.
-ghost use Rattle.std.specs.Prelude.{◌≡◌, ◌<◌, ◌≤◌, ◌↔◌, IsSome, IfSome};
-ghost use Rattle.site_server.specs.Crews.{IsCrew, passes_of, role_of};
+ghost use Rattle.std.specs.Prelude.{◌≡◌, ◌<◌, ◌≤◌, ◌↔◌, IsSome, IfSome, length};
+ghost use Rattle.site_server.specs.Crews.{IsCrew};
 
+use crate::listener::Listener;
+use std::sync::Arc;
 use till_request::Role;
 
-/// How many workers serve tills, 1 to 64, and how many serve dispensers, 1 to 31. One more serves the owner.
-#[derive(Clone, Copy)]
+/// A worker of a site: whose lines it takes, and where its connections come in. The workers of one door share its
+/// listener, which is closed with the last of them.
+#[derive(Drop)]
+pub struct Worker {
+    pub role: Role,
+    pub listener: Arc<Listener>,
+}
+
+/// The workers of a site, 1 to 96. The one at place k, counted from 0, has the pass with the number k + 1.
+#[derive(Drop)]
 pub struct Crew {
-    tills: u32,
-    dispensers: u32,
-    ghost few: { IsCrew tills dispensers },
+    pub(crate) workers: Vec<Worker>,
+    ghost few: { IsCrew (length workers.items) },
 }
 
 impl Crew {
-    /// A crew of these numbers, exactly where they are allowed.
-    pub fn new(tills: u32, dispensers: u32) -> Option<Crew>
-        ensures there { IsSome result ↔ IsCrew tills dispensers }
-        ensures numbers { IfSome result (λ crew. (crew.tills ≡ tills) × (crew.dispensers ≡ dispensers)) }
+    /// A crew of these workers, exactly where they are 1 to 96.
+    pub fn new(workers: Vec<Worker>) -> Option<Crew>
+        ensures there { IsSome result ↔ IsCrew (length workers.items) }
+        ensures workers { IfSome result (λ crew. crew.workers ≡ workers) }
     {
-        if (1..=64).contains(&tills) && (1..=31).contains(&dispensers) {
-            Some(Crew { tills, dispensers })
+        if (1..=96).contains(&workers.len()) {
+            Some(Crew { workers })
         } else {
             None
         }
     }
 
-    /// The number of its workers, and so of the passes that they have: at most 96.
+    /// The number of its workers, and so of the passes that they have.
     pub fn passes(&self) -> u32
-        ensures number { result ≡ passes_of self.now.tills self.now.dispensers }
+        ensures number { result ≡ length self.now.workers.items }
         ensures some { (0 < result) × (result ≤ 96) }
     {
-        self.tills + self.dispensers + 1
-    }
-
-    /// Whom the worker with this pass serves: the passes go to the tills' workers first, then to the dispensers', then
-    /// to the owner's.
-    pub fn role(&self, pass: u32) -> Role
-        ensures { result ≡ role_of self.now.tills self.now.dispensers pass }
-    {
-        if pass <= self.tills {
-            Role::Till
-        } else if pass <= self.tills + self.dispensers {
-            Role::Dispenser
-        } else {
-            Role::Owner
-        }
+        self.workers.len() as u32
     }
 }

@@ -3,28 +3,33 @@ ghost use Rattle.std.specs.Prelude.{◌≡◌};
 ghost use Rattle.till_request.specs.Count.{RoseBy};
 ghost use Rattle.site_server.specs.Pauses.{longer_pause, told_of};
 
+use crate::listener::Listener;
 use crate::notices::{Notices, SessionFailure};
+use crate::silence::Hearing;
+use crate::stream::Stream;
 use line_session::{Doors, Ended, SessionFault};
-use std::net::{TcpListener, TcpStream};
 use std::time::{Clock, Duration};
 use std::{io, thread};
 use till_request::devices::{Ahead, StreamIn, StreamOut};
 use till_request::{DeviceFault, Role};
 
-type Connection = (Ahead<StreamIn<TcpStream>>, StreamOut<TcpStream>);
+type Connection<'a, N> = (Ahead<StreamIn<Hearing<'a, N>>>, StreamOut<Stream>);
 
 /// The connections of a listener, which other workers may share.
 ///
 /// A connection's lines are read ahead, in blocks of 4,096 bytes, and its answers leave at once, without a delay that
 /// gathers them. Where a connection can't be opened, as without descriptors, an operator hears of it the first time,
 /// and the worker waits before it asks again: 10 milliseconds at first, then twice as long each time, at most a second.
+/// Where `idle_seconds` is above 0, a connection whose peer sends nothing for so long ends, and an operator hears of
+/// it; an answer that its peer doesn't take for so long is a failed write.
 #[derive(Drop)]
-pub struct TcpDoors<'a, R: Clock, N: Notices> {
+pub struct SocketDoors<'a, R: Clock, N: Notices> {
     rt: &'a R,
-    listener: &'a TcpListener,
+    listener: &'a Listener,
     notices: &'a N,
     role: Role,
     pass: u32,
+    idle_seconds: u32,
     asked: u64,
     pause: u64,
 }
@@ -52,38 +57,50 @@ fn failure_of(outcome: &Result<Ended, SessionFault>) -> Option<SessionFailure>
     }
 }
 
-impl<'a, R: Clock, N: Notices> TcpDoors<'a, R, N> {
-    /// The doors of a listener, for the worker of a role with a pass. None was asked for yet.
+impl<'a, R: Clock, N: Notices> SocketDoors<'a, R, N> {
+    /// The doors of a listener, for the worker of a role with a pass. None was asked for yet. A peer may be silent for
+    /// `idle_seconds`; where they are 0, as long as it wants.
     pub fn new(
         rt: &'a R,
-        listener: &'a TcpListener,
+        listener: &'a Listener,
         notices: &'a N,
         role: Role,
         pass: u32,
-    ) -> TcpDoors<'a, R, N>
+        idle_seconds: u32,
+    ) -> SocketDoors<'a, R, N>
         ensures listener { result.listener.now ≡ listener.now }
         ensures role { result.role ≡ role }
         ensures pass { result.pass ≡ pass }
+        ensures idle { result.idle_seconds ≡ idle_seconds }
         ensures asked { result.asked ≡ 0 }
         ensures pause { result.pause ≡ 0 }
     {
-        TcpDoors {
+        SocketDoors {
             rt,
             listener,
             notices,
             role,
             pass,
+            idle_seconds,
             asked: 0,
             pause: 0,
         }
     }
 
-    fn connect(&self) -> io::Result<Connection> {
-        let (writer, _) = self.listener.accept()?;
-        writer.set_nodelay(true)?;
-        let reader = writer.try_clone()?;
+    fn connect(&self) -> io::Result<Connection<'a, N>> {
+        let writer = self.listener.accept()?;
+        if self.idle_seconds > 0 {
+            writer.limit_waits(Duration::from_secs(u64::from(self.idle_seconds)))?;
+        }
+        let stream = writer.try_clone()?;
         let input = Ahead::new(StreamIn {
-            reader,
+            reader: Hearing {
+                stream,
+                notices: self.notices,
+                role: self.role,
+                pass: self.pass,
+                idle_seconds: self.idle_seconds,
+            },
             reads: 0,
             failures: 0,
             asked: 0,
@@ -108,10 +125,10 @@ impl<'a, R: Clock, N: Notices> TcpDoors<'a, R, N> {
     }
 }
 
-impl<R: Clock, N: Notices> Doors for TcpDoors<'_, R, N> {
-    type In = Ahead<StreamIn<TcpStream>>;
+impl<'a, R: Clock, N: Notices> Doors for SocketDoors<'a, R, N> {
+    type In = Ahead<StreamIn<Hearing<'a, N>>>;
 
-    type Out = StreamOut<TcpStream>;
+    type Out = StreamOut<Stream>;
 
     ghost opens = { λ before _ _ after. RoseBy 1 before.asked after.asked × (after.pause ≡ 0) };
 

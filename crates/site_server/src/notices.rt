@@ -32,4 +32,7 @@ pub trait Notices {
 
     /// A session of the worker of this role with this pass ended with this failure.
     fn session_failed(&self, role: Role, pass: u32, failure: SessionFailure);
+
+    /// Nothing came for so many seconds from the peer of the worker of this role with this pass, so its input ended.
+    fn fell_silent(&self, role: Role, pass: u32, seconds: u32);
 }

@@ -1,13 +1,12 @@
 //! Serving a site.
 ghost use Rattle.std.specs.Prelude.{◌≡◌, ◌<◌, ◌≤◌, ◌^◌, [], IfErr, IfOk, Some, length, map, vec_capacity};
 ghost use Rattle.site_lock.specs.Closing.{ClosesSince};
-ghost use Rattle.site_server.specs.Crews.{passes_of};
+ghost use Rattle.site_server.specs.Crews.{roles_of};
 ghost use Rattle.site_server.specs.Plans.{plan_of};
 ghost use Rattle.site_server.specs.Ending.{Leaves, Refuses, Spoils, fault_of_close};
 ghost use Rattle.site_server.specs.Collecting.{AreWaiting, RunsWorker, waits};
 
 use crate::crew::Crew;
-use crate::listeners::Listeners;
 use crate::notices::Notices;
 use crate::tasks::{WorkerTask, collect_passes, tasks_of};
 use crate::workers::Workers;
@@ -23,15 +22,17 @@ use std::thread::Threads;
 use std::time::Clock;
 use thiserror::Error;
 
-/// A site that is served: where its entries are kept, by whom it is served, at which ports, and for how long.
+/// A site that is served: where its entries are kept, by whom it is served, and for how long.
 #[derive(Drop)]
 pub struct Serving<J: Journal = NoJournal> {
     pub site: Site,
     pub journal: J,
     pub crew: Crew,
-    pub listeners: Listeners,
     /// The number of connections that each worker serves, one after another.
     pub connections: u32,
+    /// For how many seconds the peer of a connection may be silent, and an answer may wait until its peer takes it; 0
+    /// is no limit.
+    pub idle_seconds: u32,
 }
 
 /// What serving leaves.
@@ -90,23 +91,22 @@ fn prepare<L: SiteLedger>(
     config: &Config,
     blank: Blank,
     crew: Crew,
-    listeners: &Listeners,
 ) -> Result<Prepared<L>, AllocError>
     requires name { blank.name ≡ L.name }
     requires parts { blank.parts ≡ L.parts }
     requires config { config.now ≡ L.config }
-    requires passes { blank.parts ≡ passes_of crew.tills crew.dispensers }
+    requires passes { blank.parts ≡ length crew.workers.items }
     ensures config { IfOk result (λ p. p.builder.config ≡ config.now) }
-    ensures passes { IfOk result (λ p. p.builder.passes ≡ passes_of crew.tills crew.dispensers) }
+    ensures passes { IfOk result (λ p. p.builder.passes ≡ length crew.workers.items) }
     ensures base { IfOk result (λ p. p.builder.base ≡ L.base) }
     ensures taken { IfOk result (λ p. p.builder.taken ≡ L.taken) }
     ensures tasks { IfOk result
-        (λ p. AreWaiting (passes_of crew.tills crew.dispensers) (map (λ q. waits q.waiting) p.tasks.items)) }
+        (λ p. AreWaiting (roles_of crew.workers.items) (map (λ q. waits q.waiting) p.tasks.items)) }
     ensures room { IfOk result (λ p. (p.room.items ≡ []) × (length p.tasks.items ≤ vec_capacity p.room)) }
 {
     let room = Vec::with_capacity(alloc, crew.passes() as usize)?;
     let (builder, passes) = ForecourtBuilder::new(alloc, config, crew.passes(), blank)?;
-    let tasks = tasks_of(alloc, passes, listeners, crew)?;
+    let tasks = tasks_of(alloc, passes, crew.workers)?;
     Ok(Prepared {
         builder,
         tasks,
@@ -157,7 +157,7 @@ fn prove_few(connections: u32)
 impl<J: Journal + Send> Serving<J> {
     /// Serves the site: each worker of the crew serves its connections, one after another, and then the site is closed.
     /// Each entry's line is passed to the journal before the entry is answered, and the answer is sent once `release`
-    /// allows it. A role's port is closed when its last worker ends.
+    /// allows it. A listener is closed when the last worker with a share of it ends.
     ///
     /// `OutOfMemory` comes only before anything is served, and returns the site and the journal.
     pub fn run<N: Notices + Sync, A: Release + Sync, R: Threads + Wait + Clock + Sync>(
@@ -196,7 +196,7 @@ impl<J: Journal + Send> Serving<J> {
         requires config { self.site.config ≡ L.config }
         requires base { self.site.history ≡ L.base }
         requires taken { J.written self.journal ≡ L.taken }
-        requires passes { blank.parts ≡ passes_of self.crew.tills self.crew.dispensers }
+        requires passes { blank.parts ≡ length self.crew.workers.items }
         ensures ok { IfOk result
             (λ served. Leaves (plan_of J.written J.may_fail self) served.clean served.site (J.written served.journal)) }
         ensures err { IfErr result (λ unclosed. Spoils (plan_of J.written J.may_fail self) unclosed.why) }
@@ -207,26 +207,24 @@ impl<J: Journal + Send> Serving<J> {
             site,
             journal,
             crew,
-            listeners,
             connections,
+            idle_seconds,
         } = self;
-        let Ok(prepared) = prepare::<L>(alloc, site.config(), blank, crew, &listeners) else {
+        let Ok(prepared) = prepare::<L>(alloc, site.config(), blank, crew) else {
             return Err(Unclosed {
                 why: ServeFault::OutOfMemory,
                 back: Some((site, journal)),
             });
         };
-        // Each task has its own share of its port, which so is closed with its last worker.
-        drop(listeners);
         let (mut tasks, mut passes) = (prepared.tasks, prepared.room);
         let workers = Workers {
             rt,
             alloc,
             forecourt: prepared.builder.open(site, journal),
-            crew,
             notices,
             release,
             connections,
+            idle_seconds,
         };
         prove_few(connections);
         let most = tasks.len().max(1);
@@ -236,8 +234,8 @@ impl<J: Journal + Send> Serving<J> {
             all,
             most,
             &|_: usize, task: &mut WorkerTask<L>|
-                ensures { RunsWorker L.config J.may_fail workers.entry.crew workers.entry.connections
-                    task.entry.now.waiting task.exit.now.done }
+                ensures { RunsWorker L.config J.may_fail workers.entry.connections
+                    (waits task.entry.now.waiting) task.exit.now.done }
             { workers.work(task) },
         );
         let clean = collect_passes(all, &mut passes);

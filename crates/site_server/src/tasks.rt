@@ -1,64 +1,36 @@
 //! What each worker is started with, and what it leaves.
 ghost use Rattle.std.specs.Prelude.{◌≡◌, ◌++◌, ◌∷◌, ◌+◌, ◌^◌, ◌<◌, ◌≤◌, [], IfOk, Some, length, map};
 ghost use Rattle.std.specs.Prelude.{vec_capacity, vec_len};
-ghost use Rattle.std.specs.Arc.{arc_value};
-ghost use Rattle.site_server.specs.Crews.{port_of, role_of};
-ghost use Rattle.site_server.specs.Collecting.{collected, waits, waits_at, clean_at, clean_in};
+ghost use Rattle.std.specs.List.{zip};
+ghost use Rattle.site_server.specs.Collecting.{collected, waits, clean_at, clean_in};
 
-use crate::crew::Crew;
-use crate::listeners::Listeners;
+use crate::crew::Worker;
 use site_lock::{Pass, SiteLedger};
 use std::alloc::{AllocError, Global};
-use std::net::TcpListener;
-use std::sync::Arc;
 
-/// A worker's task: the pass and the share of its role's port that the worker starts with, and then the pass that it
-/// returns, with the number of connections that ended without fault.
+/// A worker's task: the pass and the worker that it starts with, and then the pass that it returns, with the number of
+/// connections that ended without fault.
 #[derive(Drop)]
 pub struct WorkerTask<L: SiteLedger> {
-    pub waiting: Option<(Pass<L>, Arc<TcpListener>)>,
+    pub waiting: Option<(Pass<L>, Worker)>,
     pub done: Option<(Pass<L>, u64)>,
 }
 
-/// The task of a pass, at the port of its role.
-fn task_of<L: SiteLedger>(
-    pass: Pass<L>,
-    listeners: &Listeners,
-    crew: Crew,
-) -> Result<WorkerTask<L>, AllocError>
-    ensures pass { IfOk result (λ task. waits task.waiting ≡ Some pass) }
-    ensures port { IfOk result (λ task. waits_at arc_value task.waiting ≡ Some (
-      pass,
-      arc_value (port_of listeners.now.till listeners.now.dispenser listeners.now.owner
-          (role_of crew.tills crew.dispensers pass.id)),
-    )) }
-{
-    let port = Arc::try_clone(listeners.of(crew.role(pass.id())))?;
-    Ok(WorkerTask {
-        waiting: Some((pass, port)),
-        done: None,
-    })
-}
-
-/// A task for each pass, at the port of its role.
+/// A task for each pass, with the worker at its place.
 pub(crate) fn tasks_of<L: SiteLedger>(
     alloc: Global,
     passes: Vec<Pass<L>>,
-    listeners: &Listeners,
-    crew: Crew,
+    workers: Vec<Worker>,
 ) -> Result<Vec<WorkerTask<L>>, AllocError>
-    ensures passes { IfOk result (λ tasks. map (λ p. waits p.waiting) tasks.items ≡ map (λ p. Some p) passes.items) }
-    ensures ports { IfOk result (λ tasks. map (λ p. waits_at arc_value p.waiting) tasks.items
-        ≡ map (λ p. Some (
-          p,
-          arc_value (port_of listeners.now.till listeners.now.dispenser listeners.now.owner
-              (role_of crew.tills crew.dispensers p.id)),
-        )) passes.items) }
+    ensures { IfOk result (λ tasks. map (λ p. waits p.waiting) tasks.items
+        ≡ map (λ pair. Some (pair.0, pair.1.role)) (zip passes.items workers.items)) }
 {
     let mut tasks = Vec::with_capacity(alloc, passes.len())?;
-    for pass in passes {
-        let task = task_of(pass, listeners, crew)?;
-        tasks.push(task)?;
+    for pair in passes.into_iter().zip(workers) {
+        tasks.push(WorkerTask {
+            waiting: Some(pair),
+            done: None,
+        })?;
     }
     Ok(tasks)
 }

@@ -1,12 +1,11 @@
 //! The workers of a served site.
 ghost use Rattle.std.specs.Prelude.{◌≡◌, ℕ};
 ghost use Rattle.line_session.specs.Serving.{Serves, SitsAtDesk, Visits};
-ghost use Rattle.site_server.specs.Collecting.{RunsWorker};
+ghost use Rattle.site_server.specs.Collecting.{RunsWorker, waits};
 ghost use Rattle.site_server.specs.Tasks.{Worked, pass_answers, tells};
 
 use crate::clock::MachineClock;
-use crate::crew::Crew;
-use crate::doors::TcpDoors;
+use crate::doors::SocketDoors;
 use crate::notices::Notices;
 use crate::tasks::WorkerTask;
 use group_sync::{HeldDoors, Release};
@@ -23,12 +22,13 @@ pub struct Workers<'a, L: SiteLedger, J: Journal, N: Notices, A: Release, R: Wai
     pub rt: &'a R,
     pub alloc: Global,
     pub forecourt: Forecourt<L, J>,
-    pub crew: Crew,
     pub notices: &'a N,
     /// What lets an answer leave.
     pub release: &'a A,
     /// The number of connections that each worker serves.
     pub connections: u32,
+    /// For how many seconds a peer may be silent; where 0, as long as it wants.
+    pub idle_seconds: u32,
 }
 
 impl<L: SiteLedger, J: Journal, N: Notices, A: Release, R: Wait + Clock> Workers<
@@ -39,15 +39,22 @@ impl<L: SiteLedger, J: Journal, N: Notices, A: Release, R: Wait + Clock> Workers
     A,
     R,
 > {
-    /// Does a worker's task. Its share of the port is given up at the end, so the last worker of a role closes it.
+    /// Does a worker's task. Its share of the listener is given up at the end, so the last worker of a door closes it.
     pub fn work(&self, task: &mut WorkerTask<L>)
-        ensures { RunsWorker L.config J.may_fail self.now.crew self.now.connections task.old.waiting task.new.done }
+        ensures { RunsWorker L.config J.may_fail self.now.connections (waits task.old.waiting) task.new.done }
     {
-        let Some((pass, port)) = task.waiting.take() else {
+        let Some((pass, worker)) = task.waiting.take() else {
             return;
         };
-        let role = self.crew.role(pass.id());
-        let doors = TcpDoors::new(self.rt, &port, self.notices, role, pass.id());
+        let (role, number) = (worker.role, pass.id());
+        let doors = SocketDoors::new(
+            self.rt,
+            &worker.listener,
+            self.notices,
+            role,
+            number,
+            self.idle_seconds,
+        );
         let mut doors = HeldDoors {
             doors,
             release: self.release,

@@ -9,6 +9,7 @@ use Rattle.hex.specs.declared.error.FromHexError.{FromHexError}
 use Rattle.bpf_model.specs.declared.context.Layout.{Layout}
 use Rattle.till_request.specs.declared.act.Act.{Act}
 use Rattle.till_request.specs.declared.act.Role.{Role}
+use Rattle.till_request.specs.declared.act.Role.TheVariants as roles
 use Rattle.till_request.specs.declared.act.LineFault.{LineFault}
 use Rattle.till_request.specs.declared.act.LineFault.TheVariants.{TooLong, BadLine, BadNumber, CutLine, OutOfMemory}
 use Rattle.till_request.specs.declared.form.Form.{Form}
@@ -21,7 +22,7 @@ use Rattle.till_request.specs.declared.line.LineReadFault.TheVariants as reading
 use Rattle.till_request.specs.Gives.{Fails}
 use Rattle.till_request.specs.Line.{IsLine, TakesFault}
 use Rattle.till_request.specs.Grammar.{number, is_decimal, bytes_from, ◌>>=◌, amount_of, point_of, transaction_of, report_of, up_of, flow_of, load_of, act_in}
-use Rattle.till_request.specs.Grammar.{act_by, act_of_line, line_read, suits, all_forms, words}
+use Rattle.till_request.specs.Grammar.{act_by, act_of_line, act_said, own_act, names_point, names_till, line_read, suits, all_forms, words}
 
 -- no fault but these two
 abbrev pub IsBad : {A : Type 0} → Result A LineFault → Type 0
@@ -97,8 +98,20 @@ IsBad-act_by : (form : Option Form) (ws : List (List ℕ)) → IsBad (act_by for
 IsBad-act_by None ws = tt
 IsBad-act_by (Some form) ws = IsBad-act_in form ws
 
+IsBad-own : (b : Bool) (act : Act) → IsBad (cond b (Ok act) (Err BadLine))
+IsBad-own true act = tt
+IsBad-own false act = tt
+
+IsBad-own_act : (role : Role) (said : Result Act LineFault) → IsBad said → IsBad (own_act role said)
+IsBad-own_act roles.Till said h = h
+IsBad-own_act roles.Dispenser said h = h
+IsBad-own_act roles.Owner said h = h
+IsBad-own_act roles.All said h = h
+IsBad-own_act (roles.OneTill number) said h = IsBad-bind said _ h (λ act. IsBad-own (names_till number act) act)
+IsBad-own_act (roles.SomePoints points) said h = IsBad-bind said _ h (λ act. IsBad-own (names_point points act) act)
+
 pub IsBad-act_of_line : (role : Role) (line : List ℕ) → IsBad (act_of_line role line)
-IsBad-act_of_line role line = IsBad-act_by (find (suits role (words line)) all_forms) (words line)
+IsBad-act_of_line role line = IsBad-own_act role (act_said role (words line)) (IsBad-act_by (find (suits role (words line)) all_forms) (words line))
 
 bad_along : {r s : Result Act LineFault} → r ≡ s → IsBad r → IsBad s
 bad_along e h = subst IsBad e h

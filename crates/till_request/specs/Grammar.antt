@@ -1,7 +1,7 @@
 -- Definitions: what a line asks (this profile). A line is words with one space between them. It has a form,
 -- which is a list of fixed words and of places for values; a line without a form is a bad line, and only then are
 -- the values read, from left to right.
-use Rattle.std.specs.Prelude.{◌≡◌, ◌==◌, ◌&&◌, not, nat_lt, ℕ, ◌^◌, List, [], ◌∷◌, length, slice_index, codes, Bool, true, false, Option, Some, None, Result, Ok}
+use Rattle.std.specs.Prelude.{◌≡◌, ◌==◌, ◌&&◌, not, nat_le, nat_lt, ℕ, ◌^◌, ◌-◌, ◌/◌, ◌%◌, List, [], ◌∷◌, length, slice_index, codes, Bool, true, false, Option, Some, None, Result, Ok}
 use Rattle.std.specs.Prelude.{Err, if◌then◌else◌, find}
 use Rattle.std.specs.List.{slice_split, list_all}
 use Rattle.std.specs.Str.{bytes_eq}
@@ -103,6 +103,8 @@ allows roles.All by = true
 allows roles.Till roles.Till = true
 allows roles.Dispenser roles.Dispenser = true
 allows roles.Owner roles.Owner = true
+allows (roles.OneTill number) roles.Till = true
+allows (roles.SomePoints points) roles.Dispenser = true
 allows role by = false
 
 -- there is something
@@ -237,9 +239,35 @@ abbrev pub act_by : Option Form → List (List ℕ) → Result Act LineFault
 act_by None ws = Err BadLine
 act_by (Some form) ws = act_in form ws
 
+-- the act of words that have a form which the role may send
+abbrev pub act_said : Role → List (List ℕ) → Result Act LineFault
+act_said role ws = act_by (find (suits role ws) all_forms) ws
+
+-- the act is that of the till with this number
+abbrev pub names_till : ℕ → Act → Bool
+names_till number (acts.Till till request) = till == number
+names_till number act = false
+
+-- the act is a report of one of these points, 1 to 32: point p is bit p - 1
+abbrev pub names_point : ℕ → Act → Bool
+names_point points (acts.Dispenser point event) = nat_le 1 point && (nat_le point 32 && (points / 2 ^ (point - 1) % 2 == 1))
+names_point points act = false
+
+-- the act is of the till, or of one of the points, to which the role is limited
+abbrev pub is_own : Role → Act → Bool
+is_own (roles.OneTill number) act = names_till number act
+is_own (roles.SomePoints points) act = names_point points act
+is_own role act = true
+
+-- an act that isn't the role's own is a bad line
+abbrev pub own_act : Role → Result Act LineFault → Result Act LineFault
+own_act (roles.OneTill number) said = said >>= (λ act. if names_till number act then Ok act else Err BadLine)
+own_act (roles.SomePoints points) said = said >>= (λ act. if names_point points act then Ok act else Err BadLine)
+own_act role said = said
+
 -- the act of words that somebody of this role sends
 abbrev pub act_of_words : Role → List (List ℕ) → Result Act LineFault
-act_of_words role ws = act_by (find (suits role ws) all_forms) ws
+act_of_words role ws = own_act role (act_said role ws)
 
 -- what a line asks that somebody of this role sends
 abbrev pub act_of_line : Role → List ℕ → Result Act LineFault

@@ -128,6 +128,10 @@ pub enum Role {
     Owner,
     /// Every line.
     All,
+    /// The lines of the till that has this number.
+    OneTill(u32),
+    /// A dispenser's lines that name one of these points: point p is bit p - 1.
+    SomePoints(u32),
 }
 
 /// Why a line asks for nothing.

@@ -1,0 +1,48 @@
+//! Where connections come in.
+ghost use Rattle.std.specs.Prelude.{◌≡◌, ◌<◌, IsErrAnd};
+ghost use Rattle.std.specs.IoError.{error_kind};
+
+use crate::stream::Stream;
+use std::io::{self, ErrorKind};
+use std::net::{Net, SocketAddr, TcpListener, TcpStream};
+use std::os::unix::net::UnixListener;
+
+/// Where connections come in. It is closed where it is dropped.
+#[derive(Drop)]
+pub enum Listener {
+    /// A port.
+    Port(TcpListener),
+    /// A local socket, whose file is its maker's.
+    Socket(UnixListener),
+}
+
+impl Listener {
+    /// Opens a port of 127.0.0.1 alone; 0 is a free one. A port above 65,535 is `InvalidInput`.
+    pub fn on_port<R: Net<Listener = TcpListener, Stream = TcpStream>>(
+        rt: &R,
+        port: u32,
+    ) -> io::Result<Listener>
+        ensures high { 65535 < port → IsErrAnd result (λ error. error_kind error ≡ ErrorKind.InvalidInput) }
+    {
+        let Ok(number) = u16::try_from(port) else {
+            return Err(io::Error::from(ErrorKind::InvalidInput));
+        };
+        let address = SocketAddr::from(([127, 0, 0, 1], number));
+        Ok(Listener::Port(TcpListener::bind(rt, address)?))
+    }
+
+    /// Waits for the next connection. What is written to it leaves at once, without a delay that gathers bytes.
+    pub(crate) fn accept(&self) -> io::Result<Stream> {
+        match self {
+            Listener::Port(listener) => {
+                let (stream, _) = listener.accept()?;
+                stream.set_nodelay(true)?;
+                Ok(Stream::Port(stream))
+            }
+            Listener::Socket(listener) => {
+                let (stream, _) = listener.accept()?;
+                Ok(Stream::Socket(stream))
+            }
+        }
+    }
+}

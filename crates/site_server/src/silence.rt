@@ -1,0 +1,39 @@
+//! Peers that say nothing.
+ghost use Rattle.std.specs.Prelude.{◌≡◌, ◌<◌, ◌↔◌, IsTrue};
+ghost use Rattle.std.specs.IoError.{error_kind};
+
+use crate::notices::Notices;
+use crate::stream::Stream;
+use std::io::{self, ErrorKind, Read};
+use till_request::Role;
+
+/// The reading half of a connection. Where its peer sends nothing for `idle_seconds`, an operator hears of it, and the
+/// input ends as if the peer had closed it. Where they are 0, it waits for its peer as long as that takes.
+#[derive(Drop)]
+pub struct Hearing<'a, N: Notices> {
+    pub(crate) stream: Stream,
+    pub(crate) notices: &'a N,
+    pub(crate) role: Role,
+    pub(crate) pass: u32,
+    pub(crate) idle_seconds: u32,
+}
+
+/// Returns whether a read failed since nothing came for so many seconds; 0 is no limit.
+fn is_silence(error: &io::Error, idle_seconds: u32) -> bool
+    ensures { IsTrue result ↔ (0 < idle_seconds) × (error_kind error.now ≡ ErrorKind.WouldBlock) }
+{
+    idle_seconds > 0 && error.kind() == ErrorKind::WouldBlock
+}
+
+impl<N: Notices> Read for Hearing<'_, N> {
+    fn read(&mut self, buf: &mut [u8]) -> io::Result<usize> {
+        match self.stream.read(buf) {
+            Err(error) if is_silence(&error, self.idle_seconds) => {
+                self.notices
+                    .fell_silent(self.role, self.pass, self.idle_seconds);
+                Ok(0)
+            }
+            read => read,
+        }
+    }
+}

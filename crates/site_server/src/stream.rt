@@ -1,0 +1,63 @@
+//! A connection, over a port or a local socket.
+use std::io::{self, Read, Write};
+use std::net::TcpStream;
+use std::os::unix::net::UnixStream;
+use std::time::Duration;
+
+/// A connection. It is closed where its last handle is dropped.
+#[derive(Drop)]
+pub enum Stream {
+    /// One that came in at a port.
+    Port(TcpStream),
+    /// One that came in at a local socket.
+    Socket(UnixStream),
+}
+
+impl Stream {
+    /// Another handle of the same connection.
+    pub(crate) fn try_clone(&self) -> io::Result<Stream> {
+        match self {
+            Stream::Port(stream) => Ok(Stream::Port(stream.try_clone()?)),
+            Stream::Socket(stream) => Ok(Stream::Socket(stream.try_clone()?)),
+        }
+    }
+
+    /// Limits how long a read or a write of any of its handles waits: one that waits for longer gives `WouldBlock`.
+    pub(crate) fn limit_waits(&self, limit: Duration) -> io::Result<()> {
+        match self {
+            Stream::Port(stream) => {
+                stream.set_read_timeout(Some(limit))?;
+                stream.set_write_timeout(Some(limit))
+            }
+            Stream::Socket(stream) => {
+                stream.set_read_timeout(Some(limit))?;
+                stream.set_write_timeout(Some(limit))
+            }
+        }
+    }
+}
+
+impl Read for Stream {
+    fn read(&mut self, buf: &mut [u8]) -> io::Result<usize> {
+        match self {
+            Stream::Port(stream) => stream.read(buf),
+            Stream::Socket(stream) => stream.read(buf),
+        }
+    }
+}
+
+impl Write for Stream {
+    fn write(&mut self, buf: &[u8]) -> io::Result<usize> {
+        match self {
+            Stream::Port(stream) => stream.write(buf),
+            Stream::Socket(stream) => stream.write(buf),
+        }
+    }
+
+    fn flush(&mut self) -> io::Result<()> {
+        match self {
+            Stream::Port(stream) => stream.flush(),
+            Stream::Socket(stream) => stream.flush(),
+        }
+    }
+}
