@@ -4,11 +4,11 @@ use site_core::{Config, Site};
 use site_server::{
     AtOnce, Crew, Listener, NoJournal, Notices, Serving, SessionFailure, SocketDoors, Stream, Worker,
 };
-use std::alloc::Global;
+use std::alloc::{AllocError, Global};
 use std::io;
 use std::io::{BufRead, BufReader, Write};
 use std::net::{Net, SocketAddr, TcpListener, TcpStream};
-use std::sync::Wait;
+use std::sync::{Arc, Wait};
 use std::test::Fail;
 use std::thread::{Threads, join};
 use std::time::Clock;
@@ -26,12 +26,10 @@ impl Notices for Silent {
     fn fell_silent(&self, _role: Role, _pass: u32, _seconds: u32) {}
 }
 
-fn ports<R: Net<Listener = TcpListener, Stream = TcpStream>>(
-    rt: &R,
-    alloc: Global,
-) -> Result<Listeners, Fail> {
-    match Listeners::open(rt, alloc, 0, 0, 0) {
-        Ok(listeners) => Ok(listeners),
+/// A free port.
+fn port<R: Net<Listener = TcpListener, Stream = TcpStream>>(rt: &R) -> Result<Listener, Fail> {
+    match Listener::on_port(rt, 0) {
+        Ok(listener) => Ok(listener),
         Err(_) => Err(Fail::from("a port")),
     }
 }
@@ -52,12 +50,49 @@ struct Addresses {
     owner: SocketAddr,
 }
 
-fn addresses_of(listeners: &Listeners) -> io::Result<Addresses> {
-    Ok(Addresses {
-        till: listeners.till.local_addr()?,
-        dispenser: listeners.dispenser.local_addr()?,
-        owner: listeners.owner.local_addr()?,
+fn address_of(listener: &Listener) -> io::Result<SocketAddr> {
+    match listener {
+        Listener::Port(listener) => listener.local_addr(),
+        Listener::Socket(_) => Err(io::Error::from(io::ErrorKind::Unsupported)),
+    }
+}
+
+/// Where the workers of a till, of dispensers and of the owner serve.
+#[derive(Drop)]
+struct Ports {
+    till: Listener,
+    dispenser: Listener,
+    owner: Listener,
+}
+
+fn ports<R: Net<Listener = TcpListener, Stream = TcpStream>>(rt: &R) -> Result<Ports, Fail> {
+    Ok(Ports {
+        till: port(rt)?,
+        dispenser: port(rt)?,
+        owner: port(rt)?,
     })
+}
+
+fn addresses_of(ports: &Ports) -> io::Result<Addresses> {
+    Ok(Addresses {
+        till: address_of(&ports.till)?,
+        dispenser: address_of(&ports.dispenser)?,
+        owner: address_of(&ports.owner)?,
+    })
+}
+
+/// A worker for each port.
+fn workers_at(alloc: Global, ports: Ports) -> Result<Vec<Worker>, AllocError> {
+    let mut workers = Vec::new(alloc);
+    for (role, listener) in [
+        (Role::OneTill(1), ports.till),
+        (Role::Dispenser, ports.dispenser),
+        (Role::Owner, ports.owner),
+    ] {
+        let listener = Arc::new(alloc, listener)?;
+        workers.push(Worker { role, listener })?;
+    }
+    Ok(workers)
 }
 
 /// Sends lines as a peer, and hears as many answers.
@@ -96,14 +131,14 @@ fn in_turn<R: Net<Listener = TcpListener, Stream = TcpStream>>(
 }
 
 /// A site that serves one connection of each kind.
-fn serving(alloc: Global, listeners: Listeners) -> Result<Serving, Fail> {
-    let crew = Crew::new(1, 1).ok_or("a crew")?;
+fn serving(alloc: Global, ports: Ports) -> Result<Serving, Fail> {
+    let crew = Crew::new(workers_at(alloc, ports)?).ok_or("a crew")?;
     Ok(Serving {
         site: site(alloc)?,
         journal: NoJournal,
         crew,
-        listeners,
         connections: 1,
+        idle_seconds: 0,
     })
 }
 
@@ -128,31 +163,34 @@ fn one_of_each<R: Net<Listener = TcpListener, Stream = TcpStream> + Threads + Wa
 
 #[test]
 fn serve_on_loopback(rt: HostRuntime) -> Result<(), Fail> {
-    let listeners = ports(&rt, rt.alloc())?;
-    let at = addresses_of(&listeners)?;
-    let serving = serving(rt.alloc(), listeners)?;
+    let ports = ports(&rt)?;
+    let at = addresses_of(&ports)?;
+    let serving = serving(rt.alloc(), ports)?;
     let (clean, entries, heard) = one_of_each(&rt, rt.alloc(), serving, at)?;
     let wanted = "1 version 1\n2 done\n3 granted 8000 by 1\n4 order authorise 8000\n";
     assert!(rt; heard.as_str() == wanted && clean == 3 && entries == 4);
     Ok(())
 }
 
-/// Whether the answers at a door of the tills' listener leave without a delay.
+/// Whether the answers at a door of a tills' port leave without a delay.
 fn leaves_at_once<R: Net<Listener = TcpListener, Stream = TcpStream> + Clock>(
     rt: &R,
-    listener: &TcpListener,
+    listener: &Listener,
 ) -> io::Result<bool> {
-    let _peer = TcpStream::connect(rt, listener.local_addr()?)?;
-    let mut doors = TcpDoors::new(rt, listener, &Silent, Role::Till, 1);
+    let _peer = TcpStream::connect(rt, address_of(listener)?)?;
+    let mut doors = SocketDoors::new(rt, listener, &Silent, Role::Till, 1, 0);
     match doors.next() {
-        Ok((_input, output)) => output.writer.nodelay(),
+        Ok((_input, output)) => match output.writer {
+            Stream::Port(stream) => stream.nodelay(),
+            Stream::Socket(_stream) => Ok(false),
+        },
         Err(_) => Ok(false),
     }
 }
 
 #[test]
 fn answers_leave_without_a_delay(rt: HostRuntime) -> Result<(), Fail> {
-    let listener = TcpListener::bind(&rt, "127.0.0.1:0")?;
+    let listener = port(&rt)?;
     assert!(rt; leaves_at_once(&rt, &listener)?);
     Ok(())
 }

@@ -55,11 +55,19 @@ impl<L: SiteLedger, J: Journal, N: Notices, A: Release, R: Wait + Clock> Workers
             number,
             self.idle_seconds,
         );
+        task.done = Some(self.serve_held(pass, role, doors));
+    }
+
+    /// Serves the connections of a role with one pass. Their answers wait until they may leave.
+    fn serve_held<S: Doors + Drop>(&self, pass: Pass<L>, role: Role, doors: S) -> (Pass<L>, u64)
+        ensures worked { Worked L.config J.may_fail role self.now.connections result.1 pass result.0 }
+        ensures id { result.0.id ≡ pass.id }
+    {
         let mut doors = HeldDoors {
             doors,
             release: self.release,
         };
-        task.done = Some(self.serve(pass, role, &mut doors));
+        self.serve(pass, role, &mut doors)
     }
 
     /// Serves the connections of a role with one pass, whose programs run while nobody holds the site's lock. Returns
