@@ -90,7 +90,7 @@ class Site:
 
 
 class Served:
-    """`fc serve` over a whole configuration, run in a folder: there the paths of its local sockets begin. `said` is what
+    """`fc serve` over a whole configuration, run in a folder, where the paths of its local sockets begin. `said` is what
     standard error says up to the line of the doors, or to its end."""
 
     def __init__(self, fc, config, folder, prepare=None, before=()):
