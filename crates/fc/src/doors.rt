@@ -45,10 +45,6 @@ fn write_points<W: fmt::Write>(f: &mut fmt::Formatter<W>, points: u32) -> fmt::R
     Ok(())
 }
 
-/// The doors that are open, as an operator reads them.
-#[derive(Clone, Copy)]
-pub struct OpenDoors<'a>(pub &'a [Door]);
-
 fn is_port(door: &Door) -> bool {
     match door.address {
         Address::Port(_) => true,
@@ -56,19 +52,22 @@ fn is_port(door: &Door) -> bool {
     }
 }
 
-impl OpenDoors<'_> {
-    fn write_address<W: fmt::Write>(
-        f: &mut fmt::Formatter<W>,
-        address: &Address,
-        are_ports: bool,
-    ) -> fmt::Result {
-        match address {
-            Address::Port(port) if are_ports => write!(f, "{port}"),
-            Address::Port(port) => write!(f, "127.0.0.1:{port}"),
-            Address::Socket(path) => f.write_str(path),
-        }
+/// Writes where a door is. Where all doors are ports of 127.0.0.1, that is said once before them.
+fn write_address<W: fmt::Write>(
+    f: &mut fmt::Formatter<W>,
+    address: &Address,
+    are_ports: bool,
+) -> fmt::Result {
+    match address {
+        Address::Port(port) if are_ports => write!(f, "{port}"),
+        Address::Port(port) => write!(f, "127.0.0.1:{port}"),
+        Address::Socket(path) => f.write_str(path),
     }
 }
+
+/// The doors that are open, as an operator reads them.
+#[derive(Clone, Copy)]
+pub struct OpenDoors<'a>(pub &'a [Door]);
 
 impl Display for OpenDoors<'_> {
     fn fmt<W: fmt::Write>(&self, f: &mut fmt::Formatter<W>) -> fmt::Result {
@@ -81,7 +80,7 @@ impl Display for OpenDoors<'_> {
         let mut between = " ";
         for door in self.0 {
             write!(f, "{between}{} ", Name(door.role))?;
-            OpenDoors::write_address(f, &door.address, are_ports)?;
+            write_address(f, &door.address, are_ports)?;
             between = ", ";
         }
         Ok(())
