@@ -16,11 +16,7 @@ use std::time::Clock;
 /// `host` is the same runtime: only `main` can lend it as one that starts threads and opens sockets.
 pub fn do_job<
     H: Files + Net<Listener = TcpListener, Stream = TcpStream> + Threads + Wait + Clock + Sync,
->(
-    rt: &HostRuntime,
-    host: &H,
-    job: &Job,
-) -> Result<u8, Stop> {
+>(rt: &HostRuntime, host: &H, job: &Job) -> Result<u8, Stop> {
     match job {
         Job::NoWords => play_input(rt),
         Job::Show(text) => Ok(say(rt, text, DONE)),
