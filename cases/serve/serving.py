@@ -90,18 +90,16 @@ class Site:
 
 
 class Served:
-    """`fc serve` over a whole configuration, run in a folder, where the paths of its local sockets begin. `said` is what
-    standard error says up to the line of the doors, or to its end."""
+    """`fc serve` over a whole configuration, run in a folder, where the paths of its local sockets begin, with further
+    words of the command line, and of a command before it. `said` is what standard error says up to the line of the doors,
+    or to its end."""
 
-    def __init__(self, fc, config, folder, prepare=None, before=()):
-        self.fc = fc
-        self.folder = folder
-        self.config = os.path.join(folder, "site.toml")
-        with open(self.config, "w") as file:
+    def __init__(self, fc, config, folder, words=(), prepare=None, before=()):
+        with open(os.path.join(folder, "site.toml"), "w") as file:
             file.write(config)
         self.journal = tempfile.TemporaryFile("w+b")
         self.program = subprocess.Popen(
-            [*before, fc, "serve", "site.toml"],
+            [*before, fc, "serve", *words, "site.toml"],
             cwd=folder,
             stdin=subprocess.DEVNULL,
             stdout=self.journal,
@@ -109,9 +107,6 @@ class Served:
             preexec_fn=prepare,
         )
         self.said = lines_until_open(self.program)
-
-    def path(self, name):
-        return os.path.join(self.folder, name)
 
     def end(self):
         """The status, what was printed, and what standard error said behind the line of the doors."""
