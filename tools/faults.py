@@ -10,6 +10,7 @@ tools/faults.c, preloaded, refuses the Nth of a kind, N from 1 until a call ends
 - with status 3 a line on standard error says why; each line there begins with 'fc: ' and has no debug text, or is the
   beginning of one that the unhindered call says;
 - a kept journal's file has each answered line, and its whole lines are legal;
+- a served site leaves no local socket, and no folder in which it makes one;
 - where each read and write is cut to one byte, all is as unhindered.
 Where no C compiler is there (CC, or cc), nothing is tried, and said. The last line is 'N passed, M failed', of calls,
 each with one kind and one way of refusing.
@@ -47,6 +48,15 @@ SERVE = """[serve]
 till_port = %d
 dispenser_port = %d
 owner_port = %d
+till_workers = 1
+dispenser_workers = 1
+connections = 1
+"""
+SOCKETS = ("till.socket", "dispenser.socket", "owner.socket")
+SERVE_AT_SOCKETS = """[serve]
+till_socket = "%s"
+dispenser_socket = "%s"
+owner_socket = "%s"
 till_workers = 1
 dispenser_workers = 1
 connections = 1
@@ -147,7 +157,7 @@ def ended_ill(told, plain):
     """What is wrong with a call's status or with what it says on standard error."""
     if told.status not in (plain.status, 3):
         return f"status {told.status}, unhindered {plain.status}"
-    said = [line for line in told.said.splitlines() if not line.startswith("fc: serving on ")]
+    said = [line for line in told.said.splitlines() if not line.startswith("fc: serving")]
     if told.status == 3 and not said:
         return "status 3 without a word"
     usage = plain.said.splitlines()
@@ -233,11 +243,16 @@ class Start(Call):
 
 
 class Peer:
-    """A connection of a served site, until it isn't answered any more."""
+    """A connection of a served site, to a port or to a path, until it isn't answered any more."""
 
-    def __init__(self, port):
+    def __init__(self, where):
         try:
-            self.socket = socket.create_connection(("127.0.0.1", port), timeout=SILENCE)
+            if isinstance(where, str):
+                self.socket = socket.socket(socket.AF_UNIX)
+                self.socket.settimeout(SILENCE)
+                self.socket.connect(where)
+            else:
+                self.socket = socket.create_connection(("127.0.0.1", where), timeout=SILENCE)
             self.reader = self.socket.makefile("rb")
         except OSError:
             self.socket = self.reader = None
@@ -272,25 +287,32 @@ def free_ports(count):
 
 
 class Served(Call):
-    """A day of a till, a dispenser and the owner, by the lines of a script."""
+    """A day of a till, a dispenser and the owner, by the lines of a script, over ports or over local sockets."""
 
-    def __init__(self, name, *words):
+    def __init__(self, name, *words, at_sockets=False):
         super().__init__(name, "serve", *words, "site.toml")
-        self.is_kept = "--journal" in words
+        self.is_kept, self.at_sockets = "--journal" in words, at_sockets
+
+    def doors(self, folder):
+        """The part of the configuration that names the doors, and where a peer finds them."""
+        if self.at_sockets:
+            return SERVE_AT_SOCKETS % SOCKETS, [os.path.join(folder, name) for name in SOCKETS]
+        ports = free_ports(3)
+        return SERVE % tuple(ports), ports
 
     def run(self, shim, fault=UNHINDERED):
         folder, counts = shim.path("served"), shim.path("counts")
         os.mkdir(folder)
         journal, said = (os.path.join(folder, name) for name in ("day.journal" if self.is_kept else "printed", "said"))
         for _ in range(5):
-            ports = free_ports(3)
-            write(os.path.join(folder, "site.toml"), SITE + SERVE % tuple(ports))
+            serve, doors = self.doors(folder)
+            write(os.path.join(folder, "site.toml"), SITE + serve)
             with open(os.path.join(folder, "printed"), "wb") as out, open(said, "wb") as errors:
                 program = subprocess.Popen(
                     [shim.program, *self.words], stdin=subprocess.DEVNULL, stdout=out, stderr=errors, cwd=folder,
                     env=shim.environment(fault, counts),
                 )
-            answers = self.talk(program, ports, said)
+            answers = self.talk(program, doors, said)
             if "Address already in use" not in text_of(said):
                 break
         try:
@@ -302,18 +324,19 @@ class Served(Call):
         printed = "" if not self.is_kept else text_of(os.path.join(folder, "printed"))
         kept = text_of(journal) if os.path.exists(journal) else ""
         told = Told(status, printed, text_of(said), shim.counted(counts), kept, answers)
+        told.left = sorted(name for name in os.listdir(folder) if name.endswith(".socket"))
         shutil.rmtree(folder)
         return told
 
     @staticmethod
-    def talk(program, ports, said):
-        """Sends the lines, each to its port, once the ports are open, and gives each with its answer."""
+    def talk(program, doors, said):
+        """Sends the lines, each to its door, once the doors are open, and gives each with its answer."""
         until = time.monotonic() + PATIENCE
-        while "fc: serving on " not in text_of(said) and program.poll() is None and time.monotonic() < until:
+        while "fc: serving" not in text_of(said) and program.poll() is None and time.monotonic() < until:
             time.sleep(0.005)
         if program.poll() is not None:
             return []
-        peers = dict(zip(("till", "disp", "load"), map(Peer, ports)))
+        peers = dict(zip(("till", "disp", "load"), map(Peer, doors)))
         answers = []
         for line in SCRIPT.splitlines():
             answer = peers.get(line[:4], peers["till"]).ask(line)
@@ -332,6 +355,8 @@ class Served(Call):
             return f"an audit of its journal says {audited.printed!r}"
         if not told.is_refused and told.answers != plain.answers:
             return f"it was refused nothing, and answers {told.answers}"
+        if told.left:
+            return f"it leaves {told.left}"
         return ended_ill(told, plain)
 
     @staticmethod
@@ -402,6 +427,7 @@ def calls_of_sites(shim, taken):
     yield Served("served day, printed")
     yield Served("served day, kept", "--journal", "day.journal")
     yield Served("served day, synced", "--journal", "day.journal", "--sync")
+    yield Served("served day over sockets", at_sockets=True)
 
 
 def look(shim, call, pool):

@@ -26,6 +26,19 @@ def free_ports(count):
     return ports
 
 
+def lines_until_open(program):
+    """What standard error says up to the line of the doors, or to its end."""
+    until = time.monotonic() + PATIENCE
+    said = b""
+    while not (said.endswith(b"\n") and b"fc: serving" in said) and time.monotonic() < until:
+        if select.select([program.stderr], [], [], 1)[0]:
+            piece = os.read(program.stderr.fileno(), 4096)
+            if not piece:
+                break
+            said += piece
+    return said.decode()
+
+
 class Site:
     """`fc serve` over a configuration without its `[serve]`, on ports that are free. Another program may take a port
     between the choice and the start: then others are chosen. `kept` is the file that keeps the journal, if one does,
@@ -52,7 +65,7 @@ class Site:
                 stderr=subprocess.PIPE,
                 preexec_fn=prepare,
             )
-            said = self.lines_until_open()
+            said = lines_until_open(self.program)
             if said.endswith(
                 f"fc: serving on 127.0.0.1: tills {self.till}, dispensers {self.dispenser}, owner {self.owner}\n"
             ):
@@ -62,18 +75,6 @@ class Site:
             if self.program.wait() != 3:
                 raise SystemExit(f"fc serve said {said!r}")
         raise SystemExit("no free ports")
-
-    def lines_until_open(self):
-        """What standard error says up to the line of the ports, or to its end."""
-        until = time.monotonic() + PATIENCE
-        said = b""
-        while not (said.endswith(b"\n") and b"fc: serving on" in said) and time.monotonic() < until:
-            if select.select([self.program.stderr], [], [], 1)[0]:
-                piece = os.read(self.program.stderr.fileno(), 4096)
-                if not piece:
-                    break
-                said += piece
-        return said.decode()
 
     def end(self):
         """The status, once all workers have ended, and the journal."""
@@ -88,12 +89,47 @@ class Site:
         return told.returncode, told.stdout
 
 
-class Peer:
-    """A connection, and what was said and heard on it."""
+class Served:
+    """`fc serve` over a whole configuration, run in a folder, where the paths of its local sockets begin, with further
+    words of the command line, and of a command before it. `said` is what standard error says up to the line of the doors,
+    or to its end."""
 
-    def __init__(self, port):
-        self.socket = socket.create_connection(("127.0.0.1", port), timeout=PATIENCE)
-        self.socket.setsockopt(socket.IPPROTO_TCP, socket.TCP_NODELAY, 1)
+    def __init__(self, fc, config, folder, words=(), prepare=None, before=()):
+        with open(os.path.join(folder, "site.toml"), "w") as file:
+            file.write(config)
+        self.journal = tempfile.TemporaryFile("w+b")
+        self.program = subprocess.Popen(
+            [*before, fc, "serve", *words, "site.toml"],
+            cwd=folder,
+            stdin=subprocess.DEVNULL,
+            stdout=self.journal,
+            stderr=subprocess.PIPE,
+            preexec_fn=prepare,
+        )
+        self.said = lines_until_open(self.program)
+
+    def end(self):
+        """The status, what was printed, and what standard error said behind the line of the doors."""
+        status = self.program.wait(timeout=PATIENCE)
+        self.journal.seek(0)
+        return status, self.journal.read().decode(), self.program.stderr.read().decode()
+
+    def stop(self):
+        self.program.kill()
+        self.program.wait()
+
+
+class Peer:
+    """A connection to a port or to a path, and what was said and heard on it."""
+
+    def __init__(self, where):
+        if isinstance(where, str):
+            self.socket = socket.socket(socket.AF_UNIX)
+            self.socket.settimeout(PATIENCE)
+            self.socket.connect(where)
+        else:
+            self.socket = socket.create_connection(("127.0.0.1", where), timeout=PATIENCE)
+            self.socket.setsockopt(socket.IPPROTO_TCP, socket.TCP_NODELAY, 1)
         self.reader = self.socket.makefile("rb")
         self.said = []
         self.heard = []

@@ -1,8 +1,8 @@
 #!/usr/bin/env python3
 """A dispenser with one customer, who lifts a nozzle, waits for a release, fuels and hangs up.
 
-    dispenser.py PORT POINT NOZZLE CENTS PRICE     CENTS is what the customer wants at most,
-                                                   PRICE is in thousandths a litre
+    dispenser.py PORT|PATH POINT NOZZLE CENTS PRICE     a port of 127.0.0.1, or the path of a local socket; CENTS is
+                                                        what the customer wants at most, PRICE is in thousandths a litre
 """
 
 import socket
@@ -18,9 +18,14 @@ STEPS = 5
 class Controller:
     """A connection to the site: a line, and its answer."""
 
-    def __init__(self, port):
-        self.socket = socket.create_connection(("127.0.0.1", port), timeout=PATIENCE)
-        self.socket.setsockopt(socket.IPPROTO_TCP, socket.TCP_NODELAY, 1)
+    def __init__(self, where):
+        if where.isdigit():
+            self.socket = socket.create_connection(("127.0.0.1", int(where)), timeout=PATIENCE)
+            self.socket.setsockopt(socket.IPPROTO_TCP, socket.TCP_NODELAY, 1)
+        else:
+            self.socket = socket.socket(socket.AF_UNIX)
+            self.socket.settimeout(PATIENCE)
+            self.socket.connect(where)
         self.answers = self.socket.makefile("r", encoding="ascii", newline="\n")
 
     def ask(self, line):
@@ -67,8 +72,8 @@ def fuel(site, point, cents, price):
 
 
 def main():
-    port, point, nozzle, cents, price = map(int, sys.argv[1:6])
-    site = Controller(port)
+    point, nozzle, cents, price = map(int, sys.argv[2:6])
+    site = Controller(sys.argv[1])
     print(f"point {point}: up {' '.join(site.ask(f'disp {point} up {nozzle}'))}")
     limit = wait_for_release(site, point)
     print(f"point {point}: authorised for {limit} cents")

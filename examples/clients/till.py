@@ -2,8 +2,9 @@
 """A till that sells one delivery at a point which it alone sells: opens the point, waits for a customer, asks for a
 release, reads the amount while the site tells it, and settles the transaction.
 
-    till.py PORT TILL POINT CENTS [LAST]     CENTS is the most that is asked for; LAST the number of the point's last
-                                             transaction that this till knows of, 0 at the start of a day
+    till.py PORT|PATH TILL POINT CENTS [LAST]     a port of 127.0.0.1, or the path of a local socket; CENTS is the most
+                                                  that is asked for; LAST the number of the point's last transaction
+                                                  that this till knows of, 0 at the start of a day
 """
 
 import socket
@@ -18,9 +19,14 @@ CLOSED, CALLING, AUTHORISED, SUSPENDED_FUELLING = 2, 4, 5, 9
 class Controller:
     """A connection to the site: a line, and its answer."""
 
-    def __init__(self, port):
-        self.socket = socket.create_connection(("127.0.0.1", port), timeout=PATIENCE)
-        self.socket.setsockopt(socket.IPPROTO_TCP, socket.TCP_NODELAY, 1)
+    def __init__(self, where):
+        if where.isdigit():
+            self.socket = socket.create_connection(("127.0.0.1", int(where)), timeout=PATIENCE)
+            self.socket.setsockopt(socket.IPPROTO_TCP, socket.TCP_NODELAY, 1)
+        else:
+            self.socket = socket.socket(socket.AF_UNIX)
+            self.socket.settimeout(PATIENCE)
+            self.socket.connect(where)
         self.answers = self.socket.makefile("r", encoding="ascii", newline="\n")
 
     def ask(self, line):
@@ -71,9 +77,9 @@ def settle(site, till, point, last):
 
 
 def main():
-    port, till, point, cents = map(int, sys.argv[1:5])
+    till, point, cents = map(int, sys.argv[2:5])
     last = int(sys.argv[5]) if len(sys.argv) > 5 else 0
-    site = Controller(port)
+    site = Controller(sys.argv[1])
     wait_for_a_nozzle(site, till, point)
     answer = site.ask(f"till {till} release {point} {cents}")
     print(f"point {point}: release {' '.join(answer)}")

@@ -5,6 +5,7 @@ use command_line::Job;
 use file_jobs::{
     DONE, Stop, Tell, audit_files, play_files, play_input, report_files, say, tell_file,
 };
+use std::fs::Files;
 use std::net::{Net, TcpListener, TcpStream};
 use std::sync::Wait;
 use std::thread::Threads;
@@ -13,11 +14,9 @@ use std::time::Clock;
 /// Does a job, and answers the exit status. What goes wrong with a file or a device is said on standard error.
 ///
 /// `host` is the same runtime: only `main` can lend it as one that starts threads and opens sockets.
-pub fn do_job<H: Net<Listener = TcpListener, Stream = TcpStream> + Threads + Wait + Clock + Sync>(
-    rt: &HostRuntime,
-    host: &H,
-    job: &Job,
-) -> Result<u8, Stop> {
+pub fn do_job<
+    H: Files + Net<Listener = TcpListener, Stream = TcpStream> + Threads + Wait + Clock + Sync,
+>(rt: &HostRuntime, host: &H, job: &Job) -> Result<u8, Stop> {
     match job {
         Job::NoWords => play_input(rt),
         Job::Show(text) => Ok(say(rt, text, DONE)),

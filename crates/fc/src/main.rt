@@ -2,12 +2,14 @@
 #![tactic(auto)]
 
 mod closing;
+mod doors;
 mod jobs;
 mod journal_file;
 mod kept;
 mod operator;
 mod printed;
 mod serve;
+mod sockets;
 
 use command_line::{CommandFault, Job, command};
 use file_jobs::{FAILED, Stop, USAGE, out_of_memory, tell};

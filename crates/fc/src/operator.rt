@@ -1,5 +1,6 @@
 //! What an operator reads on standard error while a site is served.
 use site_server::{Limiter, Notices, SessionFailure, SessionFault};
+use std::fmt::{self, Display};
 use std::io;
 use std::sync::{Mutex, Wait};
 use std::time::{Clock, SystemTime, UNIX_EPOCH};
@@ -14,11 +15,18 @@ pub struct Operator<'a, H: Wait + Clock> {
     limiter: Mutex<Limiter>,
 }
 
-fn name_of(role: Role) -> &'static str {
-    match role {
-        Role::Till | Role::OneTill(_) => "a till",
-        Role::Dispenser | Role::SomePoints(_) => "a dispenser",
-        Role::Owner | Role::All => "the owner",
+/// Whom a worker serves, as an operator reads it.
+#[derive(Clone, Copy)]
+struct Peer(Role);
+
+impl Display for Peer {
+    fn fmt<W: fmt::Write>(&self, f: &mut fmt::Formatter<W>) -> fmt::Result {
+        match self.0 {
+            Role::Till => f.write_str("a till"),
+            Role::OneTill(number) => write!(f, "till {number}"),
+            Role::Dispenser | Role::SomePoints(_) => f.write_str("a dispenser"),
+            Role::Owner | Role::All => f.write_str("the owner"),
+        }
     }
 }
 
@@ -77,15 +85,24 @@ impl<'a, H: Wait + Clock> Operator<'a, H> {
 impl<H: Wait + Clock> Notices for Operator<'_, H> {
     fn accept_failed(&self, role: Role, pass: u32, error: &io::Error) {
         if self.is_admitted() {
-            let who = name_of(role);
+            let who = Peer(role);
             let _ = eprintln!(self.rt; "fc: pass {pass}: no connection for {who}: {error}");
         }
     }
 
     fn session_failed(&self, role: Role, pass: u32, failure: SessionFailure) {
         if self.is_admitted() {
-            let (who, code) = (name_of(role), code_of(failure));
+            let (who, code) = (Peer(role), code_of(failure));
             let _ = eprintln!(self.rt; "fc: pass {pass}: the session of {who}: {failure}{code}");
+        }
+    }
+
+    fn fell_silent(&self, role: Role, pass: u32, seconds: u32) {
+        if self.is_admitted() {
+            let (who, unit) = (Peer(role), if seconds == 1 { "second" } else { "seconds" });
+            let _ = eprintln!(self.rt;
+                "fc: pass {pass}: the connection of {who} was closed: nothing came for {seconds} {unit}"
+            );
         }
     }
 }

@@ -3,7 +3,8 @@ use Rattle.std.proofs.Common.{◌≡◌, ℕ, ℤ, List, [], ◌∷◌, ◌++◌
 use Rattle.site_config.specs.declared.fault.ConfigFault.{ConfigFault}
 use Rattle.site_config.specs.declared.fault.ConfigFault.TheVariants.{K1, K2, K3, OutOfMemory}
 use Rattle.site_config.specs.Document.{◌>>=◌, Fails, with_front}
-use Rattle.site_config.specs.Ranges.{ranged, all_ranged}
+use Rattle.site_config.specs.Demands.{ranged}
+use Rattle.site_config.specs.Ranges.{all_ranged}
 
 fails_on : {A B : Type 0} (f : ConfigFault) (r : Result A ConfigFault) (g : A → Result B ConfigFault) → Fails f r → Fails f (r >>= g)
 fails_on K1 r g e = rw e

@@ -1,16 +1,17 @@
 -- Definitions: the fault number of each flaw of a configuration, and the position that it reports (this profile).
-use Rattle.std.specs.Prelude.{◌≡◌, ℕ, ◌≤◌, List, length, Bool, Option, Some, None, Result, Ok, Err}
+use Rattle.std.specs.Prelude.{◌≡◌, ℕ, ◌≤◌, List, length, Bool, true, false, Option, Some, None, Result, Ok, Err}
 use Rattle.site_config.specs.declared.fault.ConfigFault.{ConfigFault}
 use Rattle.site_config.specs.declared.fault.ConfigFault.TheVariants as fault
 use Rattle.site_config.specs.declared.flaw.ConfigFlaw.{ConfigFlaw}
 use Rattle.site_config.specs.declared.flaw.ConfigFlaw.TheVariants.{NotUtf8, NotToml, UnknownKey, Missing, WrongType, OutOfRange, WrongCount, OverBound}
-use Rattle.site_config.specs.declared.flaw.ConfigFlaw.TheVariants.{SamePort, OutOfMemory}
+use Rattle.site_config.specs.declared.flaw.ConfigFlaw.TheVariants.{BothThere, Needless, Empty, SamePort, SameSocket, SameTill, PointTwice}
+use Rattle.site_config.specs.declared.flaw.ConfigFlaw.TheVariants.{TooManyWorkers, WithoutDoor, OutOfMemory}
 use Rattle.site_config.specs.declared.flaw.Section.{Section}
-use Rattle.site_config.specs.declared.flaw.Section.TheVariants.{Top, Point, Counter, Serve}
+use Rattle.site_config.specs.declared.flaw.Section.TheVariants.{Top, Point, Counter, Serve, Till, Dispenser}
 use Rattle.std.specs.Str.Lossy.{utf8_valid_len}
 use Rattle.site_config.specs.Document.{Fails}
 use Rattle.site_config.specs.Positions.{position_at}
-use Rattle.site_config.specs.Typed.{is_top_key, is_point_key, is_counter_key, is_serve_key}
+use Rattle.site_config.specs.Typed.{is_top_key, is_point_key, is_counter_key, is_serve_key, is_till_key, is_dispenser_key}
 
 abbrev pub fault_of : ConfigFlaw → ConfigFault
 fault_of (NotUtf8 line column) = fault.K1
@@ -21,7 +22,15 @@ fault_of (WrongType place kind) = fault.K2
 fault_of (OutOfRange place value low high) = fault.K3
 fault_of (WrongCount place count low high) = fault.K3
 fault_of (OverBound counter value bound) = fault.K3
+fault_of (BothThere first second) = fault.K2
+fault_of (Needless place port socket) = fault.K2
+fault_of (Empty place) = fault.K3
 fault_of (SamePort first second port) = fault.K3
+fault_of (SameSocket first second) = fault.K3
+fault_of (SameTill first second till) = fault.K3
+fault_of (PointTwice place point) = fault.K3
+fault_of (TooManyWorkers side count most) = fault.K3
+fault_of (WithoutDoor side number) = fault.K3
 fault_of OutOfMemory = fault.OutOfMemory
 
 -- The line and the column of a flaw in a text that isn't a document; other flaws have no position.
@@ -42,9 +51,16 @@ abbrev pub Finds : {X Y : Type 0} → (X → Y) → Result X ConfigFlaw → Resu
 Finds view (Ok x) read = read ≡ Ok (view x)
 Finds view (Err flaw) read = Fails (fault_of flaw) read
 
+-- What a check found: nothing exactly where its condition holds, and else a flaw that is a K3.
+abbrev pub Checks : Bool → Option ConfigFlaw → Type 0
+Checks holds None = holds ≡ true
+Checks holds (Some flaw) = (holds ≡ false) × (fault_of flaw ≡ fault.K3)
+
 -- The section has a key of this name.
 abbrev pub is_key_of : Section → List ℕ → Bool
 is_key_of Top name = is_top_key name
 is_key_of (Point place) name = is_point_key name
 is_key_of (Counter place) name = is_counter_key name
 is_key_of Serve name = is_serve_key name
+is_key_of (Till place) name = is_till_key name
+is_key_of (Dispenser place) name = is_dispenser_key name

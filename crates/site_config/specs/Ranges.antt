@@ -1,23 +1,14 @@
 -- Definitions: the ranges, lengths, counts and conditions of a configuration (K3).
 use Rattle.std.specs.Prelude.{◌≡◌, ◌==◌, ◌&&◌, ◌||◌, ◌-◌, not, nat_le, ℕ, ℤ, pos, negsuc, List, [], ◌∷◌, ◌++◌, length, replicate, Bool, true, false, Option}
-use Rattle.std.specs.Prelude.{Some, None, Result, Ok, Err, if◌then◌else◌}
+use Rattle.std.specs.Prelude.{Some, None, Result, Ok, Err, option_map}
 use Rattle.site_config.specs.declared.fault.ConfigFault.{ConfigFault}
 use Rattle.site_config.specs.declared.fault.ConfigFault.TheVariants.{K1, K2, K3, OutOfMemory}
-use Rattle.site_config.specs.declared.raw.Served.{Served}
-use Rattle.site_config.specs.declared.settings.Serve.{Serve}
 use Rattle.site_config.specs.declared.settings.Settings.{Settings}
 use Rattle.site_core.specs.Limits.{ConfigValue}
 use Rattle.site_config.specs.Document.{◌>>=◌, document_of}
-use Rattle.site_config.specs.Typed.{Typed, typed_of}
-
--- The number if it is from low to high, or K3.
-abbrev pub ranged : ℕ → ℕ → ℤ → Result ℕ ConfigFault
-ranged low high (pos n) = if nat_le low n && nat_le n high then Ok n else Err K3
-ranged low high (negsuc n) = Err K3
-
-abbrev pub demand : Bool → Result (Unit {0}) ConfigFault
-demand true = Ok tt
-demand false = Err K3
+use Rattle.site_config.specs.Typed.{Typed, TypedServe, typed_of}
+use Rattle.site_config.specs.Demands.{ranged, demand}
+use Rattle.site_config.specs.Doors.{ServeValue, serve_of, serve_seen}
 
 -- The numbers if each is from low to high, or K3.
 abbrev pub all_ranged : ℕ → ℕ → List ℤ → Result (List ℕ) ConfigFault
@@ -68,28 +59,16 @@ counters_of ps = do
   qs ← each_of counter_of ps
   Ok (qs ++ replicate (32 - length qs) (0, 0))
 
--- Where and how to serve: three ports that are all different, how many workers, and how many connections.
-unfoldable pub serve_of : Served → Result Serve ConfigFault
-serve_of s = do
-  t ← ranged 1 65535 s.till_port
-  d ← ranged 1 65535 s.dispenser_port
-  o ← ranged 1 65535 s.owner_port
-  different ← demand (not (t == d) && (not (t == o) && not (d == o)))
-  tw ← ranged 1 64 s.till_workers
-  dw ← ranged 1 31 s.dispenser_workers
-  n ← ranged 1 1000000 s.connections
-  Ok (record { till_port = t; dispenser_port = d; owner_port = o; till_workers = tw; dispenser_workers = dw; connections = n })
-
-abbrev pub serve_from : Option Served → Result (Option Serve) ConfigFault
-serve_from None = Ok None
-serve_from (Some s) = do
-  r ← serve_of s
+abbrev pub serve_from : ℕ → ℕ → Option TypedServe → Result (Option ServeValue) ConfigFault
+serve_from tills points None = Ok None
+serve_from tills points (Some s) = do
+  r ← serve_of tills points s
   Ok (Some r)
 
 -- The values that a configuration says.
 pub record Told : Type 0 where
   pub config : ConfigValue
-  pub serve : Option Serve
+  pub serve : Option ServeValue
 
 unfoldable pub told_of : Typed → Result Told ConfigFault
 told_of d = do
@@ -98,11 +77,11 @@ told_of d = do
   prices ← prices_of d.prices
   points ← points_of d.points
   counters ← counters_of d.counters
-  serve ← serve_from d.serve
+  serve ← serve_from tills (length points) d.serve
   Ok (record { config = record { tills = tills; price_slot = slot; prices = prices; points = points; counters = counters }; serve = serve })
 
 abbrev pub told : Settings → Told
-told s = record { config = s.config; serve = s.serve }
+told s = record { config = s.config; serve = option_map serve_seen s.serve }
 
 -- What the text of a configuration says, or its fault: K1 comes before K2, and K2 before K3.
 unfoldable pub config_of : List ℕ → Result Told ConfigFault

@@ -22,6 +22,16 @@ pub enum Key {
     TillWorkers,
     DispenserWorkers,
     Connections,
+    IdleSeconds,
+    TillSocket,
+    DispenserSocket,
+    OwnerSocket,
+    Till,
+    Dispenser,
+    Number,
+    Points,
+    Port,
+    Socket,
 }
 
 impl Key {
@@ -49,6 +59,16 @@ impl Key {
             Key::TillWorkers => "till_workers",
             Key::DispenserWorkers => "dispenser_workers",
             Key::Connections => "connections",
+            Key::IdleSeconds => "idle_seconds",
+            Key::TillSocket => "till_socket",
+            Key::DispenserSocket => "dispenser_socket",
+            Key::OwnerSocket => "owner_socket",
+            Key::Till => "till",
+            Key::Dispenser => "dispenser",
+            Key::Number => "number",
+            Key::Points => "points",
+            Key::Port => "port",
+            Key::Socket => "socket",
         }
     }
 }
@@ -69,45 +89,75 @@ fn write_item<W: fmt::Write>(
     write!(f, "{list}[{number}]{end}")
 }
 
-/// A table of a configuration: the whole document, one of its points or counters, by its place counted from 0, or
-/// `[serve]`.
+/// A table of a configuration: the whole document, one of its points or counters, by its place counted from 0,
+/// `[serve]`, or one of `[[serve.till]]` or `[[serve.dispenser]]`, by its place counted from 0.
 #[derive(Clone, Copy)]
 pub enum Section {
     Top,
     Point(usize),
     Counter(usize),
     Serve,
+    Till(usize),
+    Dispenser(usize),
 }
 
 impl fmt::Display for Section {
-    /// Writes what comes before a key. Points are counted from 1 and counters from 0, as the site counts them.
+    /// Writes what comes before a key. Points and doors are counted from 1 and counters from 0, as the site counts them.
     fn fmt<W: fmt::Write>(&self, f: &mut fmt::Formatter<W>) -> fmt::Result {
         match *self {
             Section::Top => Ok(()),
             Section::Point(place) => write_item(f, "point", place.saturating_add(1), "."),
             Section::Counter(place) => write_item(f, "counter", place, "."),
             Section::Serve => f.write_str("serve."),
+            Section::Till(place) => write_item(f, "serve.till", place.saturating_add(1), "."),
+            Section::Dispenser(place) => {
+                write_item(f, "serve.dispenser", place.saturating_add(1), ".")
+            }
         }
     }
 }
 
-/// A value of a configuration: the value of a key, or an item of a list, by its place counted from 0.
+/// A value of a configuration: the value of a key, or an item of its list, by its place counted from 0.
 #[derive(Clone, Copy)]
 pub enum Place {
     At(Section, Key),
-    Price(usize),
-    Point(usize),
+    Item(Section, Key, usize),
     Counter(usize),
 }
 
 impl fmt::Display for Place {
-    /// Writes the place. Prices and points are counted from 1 and counters from 0, as the site counts them.
+    /// Writes the place. Counters are counted from 0, as the site counts them, and all other items from 1.
     fn fmt<W: fmt::Write>(&self, f: &mut fmt::Formatter<W>) -> fmt::Result {
         match *self {
             Place::At(section, key) => write!(f, "{section}{key}"),
-            Place::Price(place) => write_item(f, "prices", place.saturating_add(1), ""),
-            Place::Point(place) => write_item(f, "point", place.saturating_add(1), ""),
+            Place::Item(section, key, place) => {
+                write!(f, "{section}")?;
+                write_item(f, key.name(), place.saturating_add(1), "")
+            }
             Place::Counter(place) => write_item(f, "counter", place, ""),
+        }
+    }
+}
+
+/// Who sends lines by number: tills, or dispensers, whose lines name points.
+#[derive(Clone, Copy)]
+pub enum Side {
+    Tills,
+    Dispensers,
+}
+
+impl Side {
+    fn plural(self) -> &'static str {
+        match self {
+            Side::Tills => "tills",
+            Side::Dispensers => "dispensers",
+        }
+    }
+
+    fn singular(self) -> &'static str {
+        match self {
+            Side::Tills => "till",
+            Side::Dispensers => "point",
         }
     }
 }
@@ -116,6 +166,7 @@ impl fmt::Display for Place {
 #[derive(Clone, Copy)]
 pub enum Type {
     Integer,
+    Text,
     Array,
     Table,
 }
@@ -124,6 +175,7 @@ impl fmt::Display for Type {
     fn fmt<W: fmt::Write>(&self, f: &mut fmt::Formatter<W>) -> fmt::Result {
         f.write_str(match self {
             Type::Integer => "a whole number",
+            Type::Text => "a string",
             Type::Array => "an array",
             Type::Table => "a table",
         })
@@ -166,15 +218,63 @@ pub enum ConfigFlaw {
     Missing(Place),
     /// K2: a value isn't of the type that it must have.
     WrongType(Place, Type),
+    /// K2: two keys are there, of which there must be one.
+    BothThere(Place, Place),
+    /// K2: a number of workers is there, but neither of the keys that name the address of their door.
+    Needless(Place, Place, Place),
     /// K3: a value, and the least and the most that it may be.
     OutOfRange(Place, i64, u64, u64),
     /// K3: how many items a list has, and the least and the most that it may have.
     WrongCount(Place, usize, usize, usize),
     /// K3: a counter, by its place counted from 0, with its value and its bound.
     OverBound(usize, u64, u64),
-    /// K3: two keys of `[serve]` that name the same port.
-    SamePort(Key, Key, u32),
+    /// K3: the path of a socket that is empty.
+    Empty(Place),
+    /// K3: two keys that name the same port.
+    SamePort(Place, Place, i64),
+    /// K3: two keys that name the same path of a socket.
+    SameSocket(Place, Place),
+    /// K3: two keys that each name an address for this till alone.
+    SameTill(Place, Place, i64),
+    /// K3: a list of points that has this point twice.
+    PointTwice(Place, u32),
+    /// K3: how many workers the doors of one side have, and the most that they may have.
+    TooManyWorkers(Side, usize, usize),
+    /// K3: a till, or a point, whose lines no door takes.
+    WithoutDoor(Side, u32),
     OutOfMemory,
+}
+
+/// Writes what is wrong with the doors of `[serve]`: their keys, their addresses and whose lines they take.
+fn write_doors<W: fmt::Write>(f: &mut fmt::Formatter<W>, flaw: &ConfigFlaw) -> fmt::Result {
+    match flaw {
+        ConfigFlaw::BothThere(first, second) => {
+            write!(f, "'{first}' and '{second}' are both there")
+        }
+        ConfigFlaw::Needless(place, port, socket) => {
+            write!(f, "'{place}' is there without '{port}' or '{socket}'")
+        }
+        ConfigFlaw::Empty(place) => write!(f, "{place} is empty"),
+        ConfigFlaw::SamePort(first, second, port) => {
+            write!(f, "{first} and {second} are both {port}")
+        }
+        ConfigFlaw::SameSocket(first, second) => {
+            write!(f, "{first} and {second} are the same path")
+        }
+        ConfigFlaw::SameTill(first, second, till) => {
+            write!(f, "{first} and {second} are both for till {till}")
+        }
+        ConfigFlaw::PointTwice(place, point) => write!(f, "{place} has point {point} twice"),
+        ConfigFlaw::TooManyWorkers(side, count, most) => {
+            let whose = side.plural();
+            write!(f, "{whose} have {count} workers, and not 1 to {most}")
+        }
+        ConfigFlaw::WithoutDoor(side, number) => {
+            let whose = side.singular();
+            write!(f, "{whose} {number} has no door")
+        }
+        _ => Ok(()),
+    }
 }
 
 impl fmt::Display for ConfigFlaw {
@@ -197,10 +297,8 @@ impl fmt::Display for ConfigFlaw {
                     "counter[{counter}].value = {value} is over its bound, {bound}"
                 )
             }
-            ConfigFlaw::SamePort(first, second, port) => {
-                write!(f, "serve.{first} and serve.{second} are both {port}")
-            }
             ConfigFlaw::OutOfMemory => f.write_str("out of memory"),
+            _ => write_doors(f, self),
         }
     }
 }
@@ -215,13 +313,21 @@ impl ConfigFlaw {
     {
         match self {
             ConfigFlaw::NotUtf8 { .. } | ConfigFlaw::NotToml { .. } => ConfigFault::K1,
-            ConfigFlaw::UnknownKey(..) | ConfigFlaw::Missing(..) | ConfigFlaw::WrongType(..) => {
-                ConfigFault::K2
-            }
+            ConfigFlaw::UnknownKey(..)
+            | ConfigFlaw::Missing(..)
+            | ConfigFlaw::WrongType(..)
+            | ConfigFlaw::BothThere(..)
+            | ConfigFlaw::Needless(..) => ConfigFault::K2,
             ConfigFlaw::OutOfRange(..)
             | ConfigFlaw::WrongCount(..)
             | ConfigFlaw::OverBound(..)
-            | ConfigFlaw::SamePort(..) => ConfigFault::K3,
+            | ConfigFlaw::Empty(..)
+            | ConfigFlaw::SamePort(..)
+            | ConfigFlaw::SameSocket(..)
+            | ConfigFlaw::SameTill(..)
+            | ConfigFlaw::PointTwice(..)
+            | ConfigFlaw::TooManyWorkers(..)
+            | ConfigFlaw::WithoutDoor(..) => ConfigFault::K3,
             ConfigFlaw::OutOfMemory => ConfigFault::OutOfMemory,
         }
     }

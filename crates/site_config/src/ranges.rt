@@ -1,17 +1,21 @@
 //! Checks the ranges, lengths, counts and conditions of a configuration (K3), and makes the settings.
-ghost use Rattle.std.specs.Prelude.{◌≡◌, ◌≤◌, ◌-◌, ◌++◌, length, replicate, IfErr, IfOk, All, Err};
+ghost use Rattle.std.specs.Prelude.{◌≡◌, ◌≤◌, ◌-◌, ◌++◌, length, replicate, option_map, IfErr, IfOk, All, Err};
 ghost use Rattle.toml.specs.View.{table_view};
 ghost use Rattle.site_core.specs.Limits.{IsCounter};
 ghost use Rattle.site_config.specs.Document.{Gives, document_of};
 ghost use Rattle.site_config.specs.Flaws.{Finds, StandsAt};
-ghost use Rattle.site_config.specs.Typed.{seen};
-ghost use Rattle.site_config.specs.Ranges.{ranged, all_ranged, point_of, counter_of, each_of, prices_of, points_of};
-ghost use Rattle.site_config.specs.Ranges.{counters_of, serve_of, serve_from, told_of, told, config_of};
+ghost use Rattle.site_config.specs.Typed.{seen, seen_serve};
+ghost use Rattle.site_config.specs.Demands.{ranged};
+ghost use Rattle.site_config.specs.Doors.{serve_seen};
+ghost use Rattle.site_config.specs.Ranges.{all_ranged, point_of, counter_of, each_of, prices_of, points_of};
+ghost use Rattle.site_config.specs.Ranges.{counters_of, serve_from, told_of, told, config_of};
 ghost use Rattle.bpf_model.specs.declared.limits.TheConstants.{COUNTERS, POINTS};
 
 use crate::document::read_document;
 use crate::fault::ConfigFault;
 use crate::flaw::{ConfigFlaw, Key, Place, Section};
+use crate::doors::make_serve;
+use crate::number::in_range;
 use crate::raw::{Raw, Served};
 use crate::settings::{Serve, Settings};
 use crate::typed::read_typed;
@@ -23,17 +27,6 @@ const MOST_COUNTER: u64 = 9_223_372_036_854_775_807;
 
 /// The greatest price of a litre, in thousandths.
 const MOST_PRICE: u32 = 9_999_999;
-
-/// Returns the number if it is from low to high. The error is `OutOfRange`.
-fn in_range(place: Place, value: i64, low: u32, high: u32) -> Result<u32, ConfigFlaw>
-    ensures read { Finds (λ x. x) result (ranged low high value) }
-    ensures range { IfOk result (λ n. (low ≤ n) × (n ≤ high)) }
-{
-    match u32::try_from(value) {
-        Ok(number) if low <= number && number <= high => Ok(number),
-        _ => Err(ConfigFlaw::OutOfRange(place, value, u64::from(low), u64::from(high))),
-    }
-}
 
 /// Returns the number if it is not below 0. The error is `OutOfRange`.
 fn not_negative(place: Place, value: i64) -> Result<u64, ConfigFlaw>
@@ -82,7 +75,7 @@ fn make_price(place: usize, value: i64) -> Result<u32, ConfigFlaw>
     ensures read { Finds (λ x. x) result (ranged 0 MOST_PRICE value) }
     ensures range { IfOk result (λ price. price ≤ MOST_PRICE) }
 {
-    in_range(Place::Price(place), value, 0, MOST_PRICE)
+    in_range(Place::Item(Section::Top, Key::Prices, place), value, 0, MOST_PRICE)
 }
 
 fn each_price(alloc: Global, values: &[i64]) -> Result<Vec<u32>, ConfigFlaw>
@@ -146,42 +139,6 @@ fn make_points(alloc: Global, pairs: &[(i64, i64)]) -> Result<Vec<(u32, u32)>, C
     each_point(alloc, pairs)
 }
 
-/// Returns a number of `[serve]` if it is from 1 to high.
-fn serve_number(key: Key, value: i64, high: u32) -> Result<u32, ConfigFlaw>
-    ensures { Finds (λ x. x) result (ranged 1 high value) }
-{
-    in_range(Place::At(Section::Serve, key), value, 1, high)
-}
-
-#[tactic(auto, unfolding(crate::specs::Ranges::serve_of))]
-fn make_serve(served: &Served) -> Result<Serve, ConfigFlaw>
-    ensures { Finds (λ x. x) result (serve_of served.now) }
-{
-    let till_port = serve_number(Key::TillPort, served.till_port, 65_535)?;
-    let dispenser_port = serve_number(Key::DispenserPort, served.dispenser_port, 65_535)?;
-    let owner_port = serve_number(Key::OwnerPort, served.owner_port, 65_535)?;
-    if till_port == dispenser_port {
-        return Err(ConfigFlaw::SamePort(Key::TillPort, Key::DispenserPort, till_port));
-    }
-    if till_port == owner_port {
-        return Err(ConfigFlaw::SamePort(Key::TillPort, Key::OwnerPort, till_port));
-    }
-    if dispenser_port == owner_port {
-        return Err(ConfigFlaw::SamePort(Key::DispenserPort, Key::OwnerPort, owner_port));
-    }
-    let till_workers = serve_number(Key::TillWorkers, served.till_workers, 64)?;
-    let dispenser_workers = serve_number(Key::DispenserWorkers, served.dispenser_workers, 31)?;
-    let connections = serve_number(Key::Connections, served.connections, 1_000_000)?;
-    Ok(Serve {
-        till_port,
-        dispenser_port,
-        owner_port,
-        till_workers,
-        dispenser_workers,
-        connections,
-    })
-}
-
 fn each_counter(alloc: Global, pairs: &[(i64, i64)]) -> Result<Vec<(u64, u64)>, ConfigFlaw>
     ensures read { Finds (λ v. v.items) result (each_of counter_of pairs.now) }
     ensures each { IfOk result (λ v. length v.items ≡ length pairs.now) }
@@ -218,11 +175,17 @@ fn make_counters(alloc: Global, pairs: &[(i64, i64)]) -> Result<[(u64, u64); 32]
     Ok(table_of(counters.as_slice()))
 }
 
-fn maybe_serve(served: &Option<Served>) -> Result<Option<Serve>, ConfigFlaw>
-    ensures { Finds (λ x. x) result (serve_from served.now) }
+fn maybe_serve(
+    alloc: Global,
+    tills: u32,
+    points: u32,
+    served: &Option<Served>,
+) -> Result<Option<Serve>, ConfigFlaw>
+    requires { points ≤ POINTS }
+    ensures { Finds (option_map serve_seen) result (serve_from tills points (option_map seen_serve served.now)) }
 {
     match served {
-        Some(served) => Ok(Some(make_serve(served)?)),
+        Some(served) => Ok(Some(make_serve(alloc, tills, points, served)?)),
         None => Ok(None),
     }
 }
@@ -243,7 +206,7 @@ fn make_settings(alloc: Global, raw: &Raw) -> Result<Settings, ConfigFlaw>
     let prices = make_prices(alloc, &raw.prices)?;
     let points = make_points(alloc, &raw.points)?;
     let counters = make_counters(alloc, &raw.counters)?;
-    let serve = maybe_serve(&raw.serve)?;
+    let serve = maybe_serve(alloc, tills, points.len() as u32, &raw.serve)?;
     match Config::new(tills, price_slot, prices, points, counters) {
         Some(config) => Ok(Settings { config, serve }),
         None => unreachable!(),

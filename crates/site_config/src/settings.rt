@@ -1,16 +1,37 @@
 //! The settings: what a configuration says.
+use crate::flaw::Place;
 use site_core::Config;
+use till_request::Role;
 
-/// Where and how to serve the site: its ports, how many workers there are for tills and for dispensers, and how many
-/// connections.
-#[derive(Clone, Copy)]
+/// Where connections come in.
+#[derive(Drop)]
+pub enum Address {
+    /// A port of 127.0.0.1, 1 to 65,535.
+    Port(u32),
+    /// The path of a local socket. It isn't empty.
+    Socket(String),
+}
+
+/// A door of a served site: where connections come in, whose lines they may send, and how many are served at the same
+/// time. The place is the key that names the address.
+#[derive(Drop)]
+pub struct Door {
+    pub place: Place,
+    pub address: Address,
+    pub role: Role,
+    pub workers: u32,
+}
+
+/// Where and how to serve the site: its doors, how many connections, and how many seconds a connection may be silent
+/// before it ends (0: for ever). The doors are in the order in which workers get their passes: the tills' shared one,
+/// those of one till each, the dispensers' shared one, those of some points each, the owner's. No two have the same
+/// address, and no two are for the same till alone. Tills have 1 to 64 workers in all, dispensers 1 to 31, and the owner
+/// has one.
+#[derive(Drop)]
 pub struct Serve {
-    pub till_port: u32,
-    pub dispenser_port: u32,
-    pub owner_port: u32,
-    pub till_workers: u32,
-    pub dispenser_workers: u32,
+    pub doors: Vec<Door>,
     pub connections: u32,
+    pub idle_seconds: u32,
 }
 
 /// What a configuration says: the site, and where and how to serve it, if it says that.

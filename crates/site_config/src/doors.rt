@@ -1,0 +1,440 @@
+//! Checks the doors of `[serve]`, and makes them (K3).
+ghost use Rattle.std.specs.Prelude.{◌≡◌, ◌≤◌, ◌+◌, length, map, not, is_some, IfOk};
+ghost use Rattle.std.specs.List.{list_any};
+ghost use Rattle.site_config.specs.Demands.{demand};
+ghost use Rattle.site_config.specs.Flaws.{Finds, Checks, fault_of};
+ghost use Rattle.site_config.specs.Typed.{seen_serve};
+ghost use Rattle.site_config.specs.Doors.{address_of, with_point, with_points, bits_of, role_of, door_fits, doors_fit};
+ghost use Rattle.site_config.specs.Doors.{same_address, same_till, are_apart, is_apart, each_apart, shared_workers};
+ghost use Rattle.site_config.specs.Doors.{workers_of, is_single, count_single, takes, each_taken, side_fits, door_of};
+ghost use Rattle.site_config.specs.Doors.{each_door, serve_of, address_seen, door_seen, serve_seen};
+ghost use Rattle.bpf_model.specs.declared.limits.TheConstants.{POINTS};
+
+use crate::flaw::{ConfigFlaw, Key, Place, Section, Side};
+use crate::number::in_range;
+use crate::raw::{RawAddress, RawDoor, RawRole, Served};
+use crate::settings::{Address, Door, Serve};
+use std::alloc::Global;
+use till_request::Role;
+
+/// The most workers that tills may have in all, and the most that dispensers may have.
+const MOST_OF_TILLS: u32 = 64;
+const MOST_OF_DISPENSERS: u32 = 31;
+
+/// Returns the place of another key of the same table.
+fn beside(place: Place, key: Key) -> Place {
+    match place {
+        Place::At(section, _) => Place::At(section, key),
+        _ => place,
+    }
+}
+
+/// Returns the place of an item of a list, by its place counted from 0.
+fn item_of(list: Place, place: usize) -> Place {
+    match list {
+        Place::At(section, key) => Place::Item(section, key, place),
+        _ => list,
+    }
+}
+
+/// Makes the address of a door. The error is `OutOfRange` or `Empty`, or that memory ran out.
+#[tactic(auto, unfolding(crate::specs::Doors::address_of))]
+fn make_address(
+    alloc: Global,
+    place: Place,
+    address: &RawAddress,
+) -> Result<Address, ConfigFlaw>
+    ensures { Finds address_seen result (address_of address.now) }
+{
+    match address {
+        RawAddress::Port(port) => Ok(Address::Port(in_range(place, *port, 1, 65_535)?)),
+        RawAddress::Socket(path) => {
+            if path.as_str().is_empty() {
+                return Err(ConfigFlaw::Empty(place));
+            }
+            Ok(Address::Socket(String::from_str(alloc, path.as_str())?))
+        }
+    }
+}
+
+/// Adds a point to some points. Point p is bit p - 1. The error is `OutOfRange` or `PointTwice`.
+#[tactic(auto, unfolding(crate::specs::Doors::with_point))]
+fn add_point(
+    list: Place,
+    place: usize,
+    points: u32,
+    bits: u32,
+    value: i64,
+) -> Result<u32, ConfigFlaw>
+    requires { points ≤ POINTS }
+    ensures { Finds (λ x. x) result (with_point points bits value) }
+{
+    let point = in_range(item_of(list, place), value, 1, points)?;
+    if (bits >> (point - 1)) % 2 != 0 {
+        return Err(ConfigFlaw::PointTwice(list, point));
+    }
+    Ok(bits | 1 << (point - 1))
+}
+
+fn add_points(list: Place, points: u32, values: &[i64]) -> Result<u32, ConfigFlaw>
+    requires { points ≤ POINTS }
+    ensures { Finds (λ x. x) result (with_points points 0 values.now) }
+{
+    let mut bits = 0;
+    let mut place = 0;
+    for value in values {
+        bits = add_point(list, place, points, bits, *value)?;
+        place += 1;
+    }
+    Ok(bits)
+}
+
+/// Returns some points of a site as bits. The error is `WrongCount`, `OutOfRange` or `PointTwice`.
+#[tactic(auto, unfolding(crate::specs::Doors::bits_of))]
+fn make_bits(list: Place, points: u32, values: &[i64]) -> Result<u32, ConfigFlaw>
+    requires { points ≤ POINTS }
+    ensures { Finds (λ x. x) result (bits_of points values.now) }
+{
+    if values.is_empty() {
+        return Err(ConfigFlaw::WrongCount(list, 0, 1, points as usize));
+    }
+    add_points(list, points, values)
+}
+
+/// Makes the role of a door, whose address is at this place. The error is that a number isn't one of a till or a point
+/// of the site, or that a point is there twice or none at all.
+#[tactic(auto, unfolding(crate::specs::Doors::role_of))]
+fn make_role(tills: u32, points: u32, place: Place, role: &RawRole) -> Result<Role, ConfigFlaw>
+    requires { points ≤ POINTS }
+    ensures { Finds (λ x. x) result (role_of tills points role.now) }
+{
+    match role {
+        RawRole::Tills => Ok(Role::Till),
+        RawRole::OneTill(number) => {
+            let place = beside(place, Key::Number);
+            Ok(Role::OneTill(in_range(place, *number, 1, tills)?))
+        }
+        RawRole::Dispensers => Ok(Role::Dispenser),
+        RawRole::SomePoints(numbers) => {
+            let place = beside(place, Key::Points);
+            Ok(Role::SomePoints(make_bits(place, points, numbers.as_slice())?))
+        }
+        RawRole::Owner => Ok(Role::Owner),
+    }
+}
+
+/// Checks that the address and the role of a door are in their ranges.
+#[tactic(auto, unfolding(crate::specs::Doors::door_fits))]
+fn check_door(alloc: Global, tills: u32, points: u32, door: &RawDoor) -> Result<(), ConfigFlaw>
+    requires { points ≤ POINTS }
+    ensures { Finds (λ x. x) result (door_fits tills points door.now) }
+{
+    let _address = make_address(alloc, door.place, &door.address)?;
+    let _role = make_role(tills, points, door.place, &door.role)?;
+    Ok(())
+}
+
+fn check_doors(
+    alloc: Global,
+    tills: u32,
+    points: u32,
+    doors: &[RawDoor],
+) -> Result<(), ConfigFlaw>
+    requires { points ≤ POINTS }
+    ensures { Finds (λ x. x) result (doors_fit tills points doors.now) }
+{
+    for door in doors {
+        check_door(alloc, tills, points, door)?;
+    }
+    Ok(())
+}
+
+/// Returns the flaw of two doors that have the same address.
+fn address_clash(first: &RawDoor, second: &RawDoor) -> Option<ConfigFlaw>
+    ensures { Checks (not (same_address first.now.address second.now.address)) result }
+{
+    match (&first.address, &second.address) {
+        (RawAddress::Port(port), RawAddress::Port(other)) if port == other => {
+            Some(ConfigFlaw::SamePort(first.place, second.place, *port))
+        }
+        (RawAddress::Socket(path), RawAddress::Socket(other))
+            if path.as_str() == other.as_str() =>
+        {
+            Some(ConfigFlaw::SameSocket(first.place, second.place))
+        }
+        _ => None,
+    }
+}
+
+/// Returns the flaw of two doors that are for the same till alone.
+fn till_clash(first: &RawDoor, second: &RawDoor) -> Option<ConfigFlaw>
+    ensures { Checks (not (same_till first.now.role second.now.role)) result }
+{
+    match (&first.role, &second.role) {
+        (RawRole::OneTill(till), RawRole::OneTill(other)) if till == other => {
+            Some(ConfigFlaw::SameTill(first.place, second.place, *till))
+        }
+        _ => None,
+    }
+}
+
+fn pair_clash(first: &RawDoor, second: &RawDoor) -> Option<ConfigFlaw>
+    ensures { Checks (are_apart first.now second.now) result }
+{
+    match address_clash(first, second) {
+        Some(flaw) => Some(flaw),
+        None => till_clash(first, second),
+    }
+}
+
+fn clash_with(door: &RawDoor, others: &[RawDoor]) -> Option<ConfigFlaw>
+    ensures { Checks (is_apart door.now others.now) result }
+{
+    for other in others {
+        if let Some(flaw) = pair_clash(door, other) {
+            return Some(flaw);
+        }
+    }
+    None
+}
+
+/// Returns the flaw of the first two doors that have the same address, or are for the same till alone.
+fn first_clash(doors: &[RawDoor]) -> Option<ConfigFlaw>
+    ensures { Checks (each_apart doors.now) result }
+{
+    let mut rest = doors;
+    while let [first, others @ ..] = rest {
+        if let Some(flaw) = clash_with(first, others) {
+            return Some(flaw);
+        }
+        rest = others;
+    }
+    None
+}
+
+/// Checks that each address is that of one door, and that each till has one door of its own at most. The error is
+/// `SamePort`, `SameSocket` or `SameTill`.
+fn check_apart(doors: &[RawDoor]) -> Result<(), ConfigFlaw>
+    ensures { Finds (λ x. x) result (demand (each_apart doors.now)) }
+{
+    match first_clash(doors) {
+        Some(flaw) => Err(flaw),
+        None => Ok(()),
+    }
+}
+
+/// Returns how many workers a shared door has, 0 where there is no such door. The error is `OutOfRange`.
+fn shared_of(key: Key, value: Option<i64>, most: u32) -> Result<u32, ConfigFlaw>
+    ensures read { Finds (λ x. x) result (shared_workers most value) }
+    ensures range { IfOk result (λ n. n ≤ most) }
+{
+    match value {
+        Some(value) => in_range(Place::At(Section::Serve, key), value, 1, most),
+        None => Ok(0),
+    }
+}
+
+fn is_one(side: Side, role: &RawRole) -> bool
+    ensures { result ≡ is_single side role.now }
+{
+    match (side, role) {
+        (Side::Tills, RawRole::OneTill(_)) => true,
+        (Side::Dispensers, RawRole::SomePoints(_)) => true,
+        _ => false,
+    }
+}
+
+/// Returns how many doors are one till's, or some points'.
+fn count_of(side: Side, doors: &[RawDoor]) -> usize
+    ensures count { result ≡ count_single side doors.now }
+    ensures bound { result ≤ length doors.now }
+{
+    let mut count = 0;
+    for door in doors {
+        count += usize::from(is_one(side, &door.role));
+    }
+    count
+}
+
+/// Returns whether a door of this role takes the lines of a till, or those that name a point, by its number.
+fn takes_lines(side: Side, number: u32, role: &RawRole) -> bool
+    ensures { result ≡ takes side number role.now }
+{
+    match (side, role) {
+        (Side::Tills, RawRole::Tills) => true,
+        (Side::Tills, RawRole::OneTill(till)) => *till == i64::from(number),
+        (Side::Dispensers, RawRole::Dispensers) => true,
+        (Side::Dispensers, RawRole::SomePoints(points)) => {
+            points.as_slice().contains(&i64::from(number))
+        }
+        _ => false,
+    }
+}
+
+fn is_taken(side: Side, number: u32, doors: &[RawDoor]) -> bool
+    ensures { result ≡ list_any (λ d. takes side number d.role) doors.now }
+{
+    doors
+        .iter()
+        .any(|door| takes_lines(side, number, &door.role))
+}
+
+/// Returns whether each number from 1 to this one has a door that takes its lines.
+fn is_each_taken(side: Side, doors: &[RawDoor], most: u32) -> bool
+    ensures { result ≡ each_taken side doors.now most }
+{
+    let mut number = most;
+    while number > 0 {
+        if !is_taken(side, number, doors) {
+            return false;
+        }
+        number -= 1;
+    }
+    true
+}
+
+/// Returns the first number from 1 on whose lines no door takes.
+fn first_left(side: Side, doors: &[RawDoor], most: u32) -> u32 {
+    for number in 1..most {
+        if !is_taken(side, number, doors) {
+            return number;
+        }
+    }
+    most
+}
+
+/// Returns the flaw of the doors of one side: they have too many workers, of which the shared door has so many, or there
+/// is a till, or a point, whose lines none of them takes.
+#[tactic(auto, unfolding(crate::specs::Doors::side_fits))]
+fn side_flaw(
+    side: Side,
+    shared: u32,
+    most: u32,
+    numbers: u32,
+    doors: &[RawDoor],
+) -> Option<ConfigFlaw>
+    requires { shared ≤ most }
+    ensures { Checks (side_fits side shared most numbers doors.now) result }
+{
+    let own = count_of(side, doors);
+    if own > (most - shared) as usize {
+        let count = own.saturating_add(shared as usize);
+        return Some(ConfigFlaw::TooManyWorkers(side, count, most as usize));
+    }
+    if !is_each_taken(side, doors, numbers) {
+        let number = first_left(side, doors, numbers);
+        return Some(ConfigFlaw::WithoutDoor(side, number));
+    }
+    None
+}
+
+/// Checks the doors of one side. The error is `TooManyWorkers` or `WithoutDoor`.
+fn check_side(
+    side: Side,
+    shared: u32,
+    most: u32,
+    numbers: u32,
+    doors: &[RawDoor],
+) -> Result<(), ConfigFlaw>
+    requires { shared ≤ most }
+    ensures { Finds (λ x. x) result (demand (side_fits side shared most numbers doors.now)) }
+{
+    match side_flaw(side, shared, most, numbers, doors) {
+        Some(flaw) => Err(flaw),
+        None => Ok(()),
+    }
+}
+
+/// Returns how many workers a door of this role has.
+fn workers_for(till_workers: u32, dispenser_workers: u32, role: &RawRole) -> u32
+    ensures { result ≡ workers_of till_workers dispenser_workers role.now }
+{
+    match role {
+        RawRole::Tills => till_workers,
+        RawRole::Dispensers => dispenser_workers,
+        _ => 1,
+    }
+}
+
+/// How many tills and points a site has, and how many workers its shared doors have.
+#[derive(Clone, Copy)]
+struct Counts {
+    tills: u32,
+    points: u32,
+    till_workers: u32,
+    dispenser_workers: u32,
+}
+
+#[tactic(auto, unfolding(crate::specs::Doors::door_of))]
+fn make_door(alloc: Global, counts: Counts, door: &RawDoor) -> Result<Door, ConfigFlaw>
+    requires { counts.points ≤ POINTS }
+    ensures { Finds door_seen result
+        (door_of counts.tills counts.points counts.till_workers counts.dispenser_workers door.now) }
+{
+    let address = make_address(alloc, door.place, &door.address)?;
+    let role = make_role(counts.tills, counts.points, door.place, &door.role)?;
+    let workers = workers_for(counts.till_workers, counts.dispenser_workers, &door.role);
+    Ok(Door {
+        place: door.place,
+        address,
+        role,
+        workers,
+    })
+}
+
+fn make_doors(alloc: Global, counts: Counts, doors: &[RawDoor]) -> Result<Vec<Door>, ConfigFlaw>
+    requires { counts.points ≤ POINTS }
+    ensures { Finds (λ v. map door_seen v.items) result
+        (each_door (door_of counts.tills counts.points counts.till_workers counts.dispenser_workers) doors.now) }
+{
+    let mut made = Vec::new(alloc);
+    for door in doors {
+        made.push(make_door(alloc, counts, door)?)?;
+    }
+    Ok(made)
+}
+
+/// Returns a number of `[serve]` if it is from low to high. The error is `OutOfRange`.
+fn number_of(key: Key, value: i64, low: u32, high: u32) -> Result<u32, ConfigFlaw>
+    ensures { Finds (λ x. x) result (ranged low high value) }
+{
+    in_range(Place::At(Section::Serve, key), value, low, high)
+}
+
+/// Makes what `[serve]` says of a site that has this many tills and points, 32 points at most. The error is the first
+/// K3, or that memory ran out.
+#[tactic(auto, unfolding(crate::specs::Doors::serve_of))]
+pub fn make_serve(
+    alloc: Global,
+    tills: u32,
+    points: u32,
+    served: &Served,
+) -> Result<Serve, ConfigFlaw>
+    requires { points ≤ POINTS }
+    ensures { Finds serve_seen result (serve_of tills points (seen_serve served.now)) }
+{
+    check_doors(alloc, tills, points, &served.doors)?;
+    check_apart(&served.doors)?;
+    let till_workers = shared_of(Key::TillWorkers, served.till_workers, MOST_OF_TILLS)?;
+    let dispenser_workers = shared_of(
+        Key::DispenserWorkers,
+        served.dispenser_workers,
+        MOST_OF_DISPENSERS,
+    )?;
+    let connections = number_of(Key::Connections, served.connections, 1, 1_000_000)?;
+    let idle_seconds = number_of(Key::IdleSeconds, served.idle_seconds, 0, 86_400)?;
+    let doors = &served.doors;
+    check_side(Side::Tills, till_workers, MOST_OF_TILLS, tills, doors)?;
+    check_side(Side::Dispensers, dispenser_workers, MOST_OF_DISPENSERS, points, doors)?;
+    let counts = Counts {
+        tills,
+        points,
+        till_workers,
+        dispenser_workers,
+    };
+    Ok(Serve {
+        doors: make_doors(alloc, counts, doors)?,
+        connections,
+        idle_seconds,
+    })
+}

@@ -1,0 +1,283 @@
+//! Reads the table `[serve]` and those of its doors, and checks their types (K2).
+ghost use Rattle.std.specs.Prelude.{◌≡◌, ◌++◌, ◌∷◌, [], string_bytes};
+ghost use Rattle.toml.specs.View.{view, table_view, items_view};
+ghost use Rattle.toml.specs.Data.{get_member};
+ghost use Rattle.site_config.specs.Document.{with_front};
+ghost use Rattle.site_config.specs.Flaws.{Finds};
+ghost use Rattle.site_config.specs.Keys.{name_of};
+ghost use Rattle.site_config.specs.Typed.{has_shared, door_at, shared_if, shared_at, workers_if, workers_at, till_in};
+ghost use Rattle.site_config.specs.Typed.{dispenser_in, each_table, tills_at, dispensers_at, owner_at, doors_at};
+ghost use Rattle.site_config.specs.Typed.{idle_from, served_in, served_at, seen_serve};
+
+use crate::flaw::{ConfigFlaw, Key, Place, Section};
+use crate::raw::{Numbers, RawAddress, RawDoor, RawRole, Served, Text};
+use crate::values::{
+    array_of, check_keys, find_array, find_value, has_key, integer_of, read_integer, read_integers,
+    table_of, text_of,
+};
+use std::alloc::Global;
+use toml::{Table, Value};
+
+/// The keys that name the address of the tills' shared door: its port and its socket.
+const TILL_KEYS: (Key, Key) = (Key::TillPort, Key::TillSocket);
+
+/// The keys that name the address of the dispensers' shared door.
+const DISPENSER_KEYS: (Key, Key) = (Key::DispenserPort, Key::DispenserSocket);
+
+/// The keys that name the address of the owner's door.
+const OWNER_KEYS: (Key, Key) = (Key::OwnerPort, Key::OwnerSocket);
+
+/// The keys that name the address of a door in a table of its own.
+const KEYS: (Key, Key) = (Key::Port, Key::Socket);
+
+/// Returns a value as a text that is the caller's own. The error is `WrongType`, or that memory ran out.
+fn read_text(alloc: Global, value: &Value, place: Place) -> Result<Text, ConfigFlaw>
+    ensures { Finds (λ t. t) result (or_fault K2 (as_str (view value.now))) }
+{
+    let text = text_of(value, place)?;
+    Ok(Text::new(String::from_str(alloc, text)?))
+}
+
+/// Reads a door whose port is the value of one key, or whose socket is that of another. Exactly one of them must be
+/// there. The error is `Missing`, `BothThere` or `WrongType`, or that memory ran out.
+#[tactic(auto, unfolding(crate::specs::Typed::door_at))]
+fn read_door(
+    alloc: Global,
+    table: &Table,
+    section: Section,
+    keys: (Key, Key),
+    role: RawRole,
+) -> Result<RawDoor, ConfigFlaw>
+    ensures { Finds (λ x. x) result (door_at section keys role (table_view table.now)) }
+{
+    let port = Place::At(section, keys.0);
+    let socket = Place::At(section, keys.1);
+    match (
+        find_value(table, keys.0.name()),
+        find_value(table, keys.1.name()),
+    ) {
+        (Some(value), None) => Ok(RawDoor {
+            place: port,
+            address: RawAddress::Port(integer_of(value, port)?),
+            role,
+        }),
+        (None, Some(value)) => Ok(RawDoor {
+            place: socket,
+            address: RawAddress::Socket(read_text(alloc, value, socket)?),
+            role,
+        }),
+        (None, None) => Err(ConfigFlaw::Missing(port)),
+        (Some(_), Some(_)) => Err(ConfigFlaw::BothThere(port, socket)),
+    }
+}
+
+/// Returns whether there is a shared door: whether one of its keys is there.
+fn is_shared(table: &Table, keys: (Key, Key)) -> bool
+    ensures { result ≡ has_shared keys (table_view table.now) }
+{
+    has_key(table, keys.0) || has_key(table, keys.1)
+}
+
+/// Reads the shared door of tills or of dispensers, and returns it behind the doors so far. There may be none only where
+/// there are tables of doors, at the key `tables`. The error is `Missing`, `BothThere` or `WrongType`, or that memory
+/// ran out.
+#[tactic(auto, unfolding(crate::specs::Typed::shared_at))]
+fn add_shared(
+    alloc: Global,
+    table: &Table,
+    keys: (Key, Key),
+    tables: Key,
+    role: RawRole,
+    mut doors: Vec<RawDoor>,
+) -> Result<Vec<RawDoor>, ConfigFlaw>
+    ensures { Finds (λ v. v.items) result (with_front doors.items (shared_at keys tables role (table_view table.now))) }
+{
+    if is_shared(table, keys) {
+        doors.push(read_door(alloc, table, Section::Serve, keys, role)?)?;
+        return Ok(doors);
+    }
+    if !has_key(table, tables) {
+        return Err(ConfigFlaw::Missing(Place::At(Section::Serve, keys.0)));
+    }
+    Ok(doors)
+}
+
+/// Reads how many workers a shared door has. The key must be there exactly if the door is. The error is `Missing`,
+/// `Needless` or `WrongType`.
+#[tactic(auto, unfolding(crate::specs::Typed::workers_at))]
+fn read_workers(table: &Table, keys: (Key, Key), key: Key) -> Result<Option<i64>, ConfigFlaw>
+    ensures { Finds (λ x. x) result (workers_at keys key (table_view table.now)) }
+{
+    if is_shared(table, keys) {
+        return Ok(Some(read_integer(table, Section::Serve, key)?));
+    }
+    if has_key(table, key) {
+        return Err(ConfigFlaw::Needless(
+            Place::At(Section::Serve, key),
+            Place::At(Section::Serve, keys.0),
+            Place::At(Section::Serve, keys.1),
+        ));
+    }
+    Ok(None)
+}
+
+/// Reads the door of one till from its table, whose place is counted from 0.
+#[tactic(auto, unfolding(crate::specs::Typed::till_in))]
+fn read_till(alloc: Global, value: &Value, place: usize) -> Result<RawDoor, ConfigFlaw>
+    ensures { Finds (λ x. x) result (till_in place (view value.now)) }
+{
+    let section = Section::Till(place);
+    let table = table_of(value, Place::Item(Section::Serve, Key::Till, place))?;
+    check_keys(alloc, table, section)?;
+    let number = read_integer(table, section, Key::Number)?;
+    read_door(alloc, table, section, KEYS, RawRole::OneTill(number))
+}
+
+/// Reads the door of some points from its table, whose place is counted from 0.
+#[tactic(auto, unfolding(crate::specs::Typed::dispenser_in, crate::specs::Typed::integers_at))]
+fn read_dispenser(alloc: Global, value: &Value, place: usize) -> Result<RawDoor, ConfigFlaw>
+    ensures { Finds (λ x. x) result (dispenser_in place (view value.now)) }
+{
+    let section = Section::Dispenser(place);
+    let table = table_of(
+        value,
+        Place::Item(Section::Serve, Key::Dispenser, place),
+    )?;
+    check_keys(alloc, table, section)?;
+    let values = find_array(table, section, Key::Points)?;
+    let points = read_integers(alloc, values, section, Key::Points)?;
+    let role = RawRole::SomePoints(Numbers::new(points));
+    read_door(alloc, table, section, KEYS, role)
+}
+
+/// Reads the doors of single tills, and returns them behind the doors so far.
+fn each_till(
+    alloc: Global,
+    values: &[Value],
+    mut doors: Vec<RawDoor>,
+) -> Result<Vec<RawDoor>, ConfigFlaw>
+    ensures { Finds (λ v. v.items) result (with_front doors.items (each_table till_in 0 (items_view values.now))) }
+{
+    let mut place = 0;
+    for value in values {
+        doors.push(read_till(alloc, value, place)?)?;
+        place += 1;
+    }
+    Ok(doors)
+}
+
+/// Reads the doors of some points each, and returns them behind the doors so far.
+fn each_dispenser(
+    alloc: Global,
+    values: &[Value],
+    mut doors: Vec<RawDoor>,
+) -> Result<Vec<RawDoor>, ConfigFlaw>
+    ensures { Finds (λ v. v.items) result (with_front doors.items (each_table dispenser_in 0 (items_view values.now))) }
+{
+    let mut place = 0;
+    for value in values {
+        doors.push(read_dispenser(alloc, value, place)?)?;
+        place += 1;
+    }
+    Ok(doors)
+}
+
+#[tactic(auto, unfolding(crate::specs::Typed::tills_at))]
+fn add_tills(
+    alloc: Global,
+    table: &Table,
+    doors: Vec<RawDoor>,
+) -> Result<Vec<RawDoor>, ConfigFlaw>
+    ensures { Finds (λ v. v.items) result (with_front doors.items (tills_at (table_view table.now))) }
+{
+    match find_value(table, Key::Till.name()) {
+        Some(value) => {
+            let values = array_of(value, Place::At(Section::Serve, Key::Till))?;
+            each_till(alloc, values, doors)
+        }
+        None => Ok(doors),
+    }
+}
+
+#[tactic(auto, unfolding(crate::specs::Typed::dispensers_at))]
+fn add_dispensers(
+    alloc: Global,
+    table: &Table,
+    doors: Vec<RawDoor>,
+) -> Result<Vec<RawDoor>, ConfigFlaw>
+    ensures { Finds (λ v. v.items) result (with_front doors.items (dispensers_at (table_view table.now))) }
+{
+    match find_value(table, Key::Dispenser.name()) {
+        Some(value) => {
+            let values = array_of(value, Place::At(Section::Serve, Key::Dispenser))?;
+            each_dispenser(alloc, values, doors)
+        }
+        None => Ok(doors),
+    }
+}
+
+#[tactic(auto, unfolding(crate::specs::Typed::owner_at))]
+fn add_owner(
+    alloc: Global,
+    table: &Table,
+    mut doors: Vec<RawDoor>,
+) -> Result<Vec<RawDoor>, ConfigFlaw>
+    ensures { Finds (λ v. v.items) result (with_front doors.items (owner_at (table_view table.now))) }
+{
+    doors.push(read_door(alloc, table, Section::Serve, OWNER_KEYS, RawRole::Owner)?)?;
+    Ok(doors)
+}
+
+/// Reads all doors, in the order in which workers get their passes.
+#[tactic(auto, unfolding(crate::specs::Typed::doors_at))]
+fn read_doors(alloc: Global, table: &Table) -> Result<Vec<RawDoor>, ConfigFlaw>
+    ensures { Finds (λ v. v.items) result (doors_at (table_view table.now)) }
+{
+    let doors = Vec::new(alloc);
+    let doors = add_shared(alloc, table, TILL_KEYS, Key::Till, RawRole::Tills, doors)?;
+    let doors = add_tills(alloc, table, doors)?;
+    let role = RawRole::Dispensers;
+    let doors = add_shared(alloc, table, DISPENSER_KEYS, Key::Dispenser, role, doors)?;
+    let doors = add_dispensers(alloc, table, doors)?;
+    add_owner(alloc, table, doors)
+}
+
+fn read_idle(table: &Table) -> Result<i64, ConfigFlaw>
+    ensures { Finds (λ x. x) result (idle_from (get_member (name_of Key.IdleSeconds) (table_view table.now))) }
+{
+    match find_value(table, Key::IdleSeconds.name()) {
+        Some(value) => integer_of(value, Place::At(Section::Serve, Key::IdleSeconds)),
+        None => Ok(0),
+    }
+}
+
+#[tactic(auto, unfolding(crate::specs::Typed::served_in))]
+fn read_served(alloc: Global, value: &Value) -> Result<Served, ConfigFlaw>
+    ensures { Finds seen_serve result (served_in (view value.now)) }
+{
+    let table = table_of(value, Place::At(Section::Top, Key::Serve))?;
+    check_keys(alloc, table, Section::Serve)?;
+    let doors = read_doors(alloc, table)?;
+    let till_workers = read_workers(table, TILL_KEYS, Key::TillWorkers)?;
+    let dispenser_workers = read_workers(table, DISPENSER_KEYS, Key::DispenserWorkers)?;
+    let connections = read_integer(table, Section::Serve, Key::Connections)?;
+    let idle_seconds = read_idle(table)?;
+    Ok(Served {
+        doors,
+        till_workers,
+        dispenser_workers,
+        connections,
+        idle_seconds,
+    })
+}
+
+/// Reads the table `[serve]`, if there is one. The error is the first K2 in it, or that memory ran out.
+#[tactic(auto, unfolding(crate::specs::Typed::served_at))]
+pub fn find_served(alloc: Global, table: &Table) -> Result<Option<Served>, ConfigFlaw>
+    ensures { Finds (option_map seen_serve) result (served_at (table_view table.now)) }
+{
+    match find_value(table, Key::Serve.name()) {
+        Some(value) => Ok(Some(read_served(alloc, value)?)),
+        None => Ok(None),
+    }
+}

@@ -1,0 +1,224 @@
+//! Reads values by their keys, and checks which keys are there and what types they have (K2).
+ghost use Rattle.std.specs.Prelude.{◌≡◌, option_map, option_and_then, string_bytes};
+ghost use Rattle.std.specs.List.{list_all};
+ghost use Rattle.std.specs.BTreeMap.{keys};
+ghost use Rattle.toml.specs.View.{view, table_view, items_view};
+ghost use Rattle.toml.specs.Data.{get_member, as_integer, as_str, as_table, as_array};
+ghost use Rattle.site_config.specs.Document.{or_fault};
+ghost use Rattle.site_config.specs.Flaws.{Finds, is_key_of};
+ghost use Rattle.site_config.specs.Keys.{name_of};
+ghost use Rattle.site_config.specs.declared.fault.ConfigFault.TheVariants.{K2};
+ghost use Rattle.site_config.specs.Typed.{is_top_key, is_point_key, is_counter_key, is_serve_key, is_till_key};
+ghost use Rattle.site_config.specs.Typed.{is_port_key, is_socket_key, is_number_key, is_dispenser_key};
+ghost use Rattle.site_config.specs.Typed.{has_only, has_key, integer_at, integers, require};
+
+use crate::flaw::{ConfigFlaw, Key, Place, Section, Type};
+use std::alloc::Global;
+use toml::{Table, Value};
+
+/// Returns the value of a key.
+pub fn find_value<'a>(table: &'a Table, key: &str) -> Option<&'a Value>
+    ensures { option_map (λ v. view v.now) result ≡ get_member key.now (table_view table.now) }
+{
+    table.get(key)
+}
+
+/// Returns whether a table has a value at a key.
+pub fn has_key(table: &Table, key: Key) -> bool
+    ensures { result ≡ has_key key (table_view table.now) }
+{
+    find_value(table, key.name()).is_some()
+}
+
+/// Returns whether a section has a key of this name.
+fn is_known(section: Section, key: &str) -> bool
+    ensures { result ≡ is_key_of section key.now }
+{
+    match section {
+        Section::Top => is_top(key),
+        Section::Point(_) => is_point(key),
+        Section::Counter(_) => is_counter(key),
+        Section::Serve => is_serve(key),
+        Section::Till(_) => is_till(key),
+        Section::Dispenser(_) => is_dispenser(key),
+    }
+}
+
+/// Returns the first key of a table, in the table's order, that its section doesn't have.
+fn unknown_key(table: &Table, section: Section) -> &str {
+    match table.keys().find(|key| !is_known(section, key.as_str())) {
+        Some(key) => key.as_str(),
+        None => "",
+    }
+}
+
+/// Returns a value as a number. The error is `WrongType`.
+pub fn integer_of(value: &Value, place: Place) -> Result<i64, ConfigFlaw>
+    ensures { Finds (λ x. x) result (or_fault K2 (as_integer (view value.now))) }
+{
+    value
+        .as_integer()
+        .ok_or(ConfigFlaw::WrongType(place, Type::Integer))
+}
+
+/// Returns a value as a text. The error is `WrongType`.
+pub fn text_of(value: &Value, place: Place) -> Result<&str, ConfigFlaw>
+    ensures { Finds (λ t. t.now) result (or_fault K2 (as_str (view value.now))) }
+{
+    value.as_str().ok_or(ConfigFlaw::WrongType(place, Type::Text))
+}
+
+/// Returns a value as a table. The error is `WrongType`.
+pub fn table_of(value: &Value, place: Place) -> Result<&Table, ConfigFlaw>
+    ensures { Finds (λ t. table_view t.now) result (or_fault K2 (as_table (view value.now))) }
+{
+    value
+        .as_table()
+        .ok_or(ConfigFlaw::WrongType(place, Type::Table))
+}
+
+/// Returns a value as an array. The error is `WrongType`.
+pub fn array_of(value: &Value, place: Place) -> Result<&Vec<Value>, ConfigFlaw>
+    ensures { Finds (λ v. items_view v.now.items) result (or_fault K2 (as_array (view value.now))) }
+{
+    value
+        .as_array()
+        .ok_or(ConfigFlaw::WrongType(place, Type::Array))
+}
+
+/// Returns the number of a key. The error is `Missing` or `WrongType`.
+pub fn read_integer(table: &Table, section: Section, key: Key) -> Result<i64, ConfigFlaw>
+    ensures { Finds (λ x. x) result (integer_at (name_of key) (table_view table.now)) }
+{
+    let place = Place::At(section, key);
+    match find_value(table, key.name()) {
+        Some(value) => integer_of(value, place),
+        None => Err(ConfigFlaw::Missing(place)),
+    }
+}
+
+#[tactic(auto, unfolding(crate::specs::Typed::is_top_key))]
+fn is_top(key: &str) -> bool
+    ensures { result ≡ is_top_key key.now }
+{
+    key == "tills"
+        || key == "price_slot"
+        || key == "prices"
+        || key == "point"
+        || key == "counter"
+        || key == "serve"
+}
+
+#[tactic(auto, unfolding(crate::specs::Typed::is_point_key))]
+fn is_point(key: &str) -> bool
+    ensures { result ≡ is_point_key key.now }
+{
+    key == "release" || key == "preset"
+}
+
+#[tactic(auto, unfolding(crate::specs::Typed::is_counter_key))]
+fn is_counter(key: &str) -> bool
+    ensures { result ≡ is_counter_key key.now }
+{
+    key == "value" || key == "bound"
+}
+
+#[tactic(auto, unfolding(crate::specs::Typed::is_port_key))]
+fn is_port(key: &str) -> bool
+    ensures { result ≡ is_port_key key.now }
+{
+    key == "till_port" || key == "dispenser_port" || key == "owner_port"
+}
+
+#[tactic(auto, unfolding(crate::specs::Typed::is_socket_key))]
+fn is_socket(key: &str) -> bool
+    ensures { result ≡ is_socket_key key.now }
+{
+    key == "till_socket" || key == "dispenser_socket" || key == "owner_socket"
+}
+
+#[tactic(auto, unfolding(crate::specs::Typed::is_number_key))]
+fn is_number(key: &str) -> bool
+    ensures { result ≡ is_number_key key.now }
+{
+    key == "till_workers"
+        || key == "dispenser_workers"
+        || key == "connections"
+        || key == "idle_seconds"
+}
+
+#[tactic(auto, unfolding(crate::specs::Typed::is_serve_key))]
+fn is_serve(key: &str) -> bool
+    ensures { result ≡ is_serve_key key.now }
+{
+    is_port(key) || is_socket(key) || is_number(key) || key == "till" || key == "dispenser"
+}
+
+#[tactic(auto, unfolding(crate::specs::Typed::is_till_key))]
+fn is_till(key: &str) -> bool
+    ensures { result ≡ is_till_key key.now }
+{
+    key == "number" || key == "port" || key == "socket"
+}
+
+#[tactic(auto, unfolding(crate::specs::Typed::is_dispenser_key))]
+fn is_dispenser(key: &str) -> bool
+    ensures { result ≡ is_dispenser_key key.now }
+{
+    key == "points" || key == "port" || key == "socket"
+}
+
+fn all_known(table: &Table, section: Section) -> bool
+    ensures { result ≡ list_all (λ k. is_key_of section (string_bytes k)) (keys table.now) }
+{
+    table.keys().all(|key| is_known(section, key.as_str()))
+}
+
+/// Returns whether a section has each key of its table.
+fn has_known_keys(table: &Table, section: Section) -> bool
+    ensures { result ≡ has_only (is_key_of section) (table_view table.now) }
+{
+    all_known(table, section)
+}
+
+/// Checks that a section has each key of its table. The error is `UnknownKey`.
+pub fn check_keys(alloc: Global, table: &Table, section: Section) -> Result<(), ConfigFlaw>
+    ensures { Finds (λ x. x) result (require (has_only (is_key_of section) (table_view table.now))) }
+{
+    if has_known_keys(table, section) {
+        return Ok(());
+    }
+    let name = String::from_str(alloc, unknown_key(table, section))?;
+    Err(ConfigFlaw::UnknownKey(section, name))
+}
+
+/// Returns the items of a key's list as numbers. The error is `WrongType`.
+pub fn read_integers(
+    alloc: Global,
+    values: &[Value],
+    section: Section,
+    key: Key,
+) -> Result<Vec<i64>, ConfigFlaw>
+    ensures { Finds (λ v. v.items) result (integers (items_view values.now)) }
+{
+    let mut numbers = Vec::new(alloc);
+    for value in values {
+        let place = Place::Item(section, key, numbers.len());
+        numbers.push(integer_of(value, place)?)?;
+    }
+    Ok(numbers)
+}
+
+/// Returns the array of a key. The error is `Missing` or `WrongType`.
+pub fn find_array(table: &Table, section: Section, key: Key) -> Result<&Vec<Value>, ConfigFlaw>
+    ensures { Finds
+        (λ v. items_view v.now.items) result
+        (or_fault K2 (option_and_then as_array (get_member (name_of key) (table_view table.now)))) }
+{
+    let place = Place::At(section, key);
+    match find_value(table, key.name()) {
+        Some(value) => array_of(value, place),
+        None => Err(ConfigFlaw::Missing(place)),
+    }
+}
+
