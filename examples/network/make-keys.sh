@@ -1,18 +1,19 @@
 #!/bin/sh
 # Makes a station's own authority and its keys, for tunnels whose both ends check each other (docs/use/network.md).
 #
-#   make-keys.sh [--days N] FOLDER NAME..           a key and a certificate of N days (730) for each name; in a new FOLDER
-#                                                   the authority (3650 days) and the controller's key come first
-#   make-keys.sh [--days N] --renew FOLDER NAME..   a new key for each name; the certificates before it stay accepted
-#   make-keys.sh --latest FOLDER NAME..             from now on only the latest certificate of each name is accepted
-#   make-keys.sh --revoke FOLDER NAME..             from now on no certificate of these names is accepted; their keys go
+#   make-keys.sh [--days N] FOLDER NAME..          a key and a certificate of N days (730) for each name; in a new
+#                                                  FOLDER the authority (3650 days) and the controller's key come first
+#   make-keys.sh [--days N] --renew FOLDER NAME..  a new key for each name; the certificates before it stay accepted
+#   make-keys.sh --latest FOLDER NAME..            from now on only the latest certificate of each name is accepted
+#   make-keys.sh --revoke FOLDER NAME..            from now on no certificate of these names is accepted; their keys go
 #
-# A name is that of a till's or a dispensers' controller's machine, as till1: small letters, digits and hyphens. FOLDER gets
+# A name is that of a till's or a dispensers' controller's machine, as till1: small letters, digits and hyphens. FOLDER
+# gets
 #   authority.key            signs all certificates, and never leaves this folder
 #   authority.crt            what a till knows the controller by
 #   NAME.key  NAME.crt       for the machine of that name alone; so also controller.key and controller.crt
 #   accepted/NAME.pem        for the controller's machine: what it accepts as NAME
-# Keys have mode 0600. Nothing that is there is overwritten, but what --renew, --latest and --revoke are asked to change.
+# Keys have mode 0600. Nothing is overwritten but what --renew, --latest and --revoke are asked to change.
 # Status: 0 done, 1 it can't be done, 2 the words are wrong.
 set -eu
 umask 077
@@ -123,7 +124,7 @@ look_at_name() {
             ;;
         renew) [ -f "$folder/$1.crt" ] || stop "there is no $folder/$1.crt: nothing is changed" ;;
         *)
-            [ "$1" != controller ] || stop "tills know the controller by the authority: make all keys anew, in a new folder"
+            [ "$1" != controller ] || stop "tills know the controller by its authority: make all anew, in a new folder"
             [ -f "$folder/accepted/$1.pem" ] || stop "there is no $folder/accepted/$1.pem: nothing is changed"
             [ "$task" = revoke ] || [ -f "$folder/$1.crt" ] || stop "there is no $folder/$1.crt: nothing is changed"
             ;;
