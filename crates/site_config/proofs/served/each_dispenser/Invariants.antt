@@ -8,6 +8,6 @@ use Rattle.site_config.proofs.served.each_dispenser.Given as goal
 abbrev pub invariant-loop-value : goal.invariant-loop-value
 invariant-loop-value l = record {
   read : with_front l.doors.items (each_table dispenser_in l.place (items_view (drop l.value-index l.values)))
-    ≡ with_front l.initial.doors.items (each_table dispenser_in 0 (items_view l.values));
+      ≡ with_front l.initial.doors.items (each_table dispenser_in 0 (items_view l.values));
   counted : l.place ≡ l.value-index;
 }
