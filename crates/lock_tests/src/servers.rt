@@ -2,7 +2,8 @@
 use line_session::Doors;
 use site_core::{Config, Site};
 use site_server::{
-    AtOnce, Crew, Listener, NoJournal, Notices, Serving, SessionFailure, SocketDoors, Stream, Worker,
+    AtOnce, Crew, Listener, NoJournal, Notices, Serving, SessionFailure, SocketDoors, Stream,
+    Worker,
 };
 use std::alloc::{AllocError, Global};
 use std::io;
