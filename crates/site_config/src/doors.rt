@@ -409,11 +409,8 @@ pub fn make_serve(
     check_doors(alloc, tills, points, &served.doors)?;
     check_apart(&served.doors)?;
     let till_workers = shared_of(Key::TillWorkers, served.till_workers, MOST_OF_TILLS)?;
-    let dispenser_workers = shared_of(
-        Key::DispenserWorkers,
-        served.dispenser_workers,
-        MOST_OF_DISPENSERS,
-    )?;
+    let workers = served.dispenser_workers;
+    let dispenser_workers = shared_of(Key::DispenserWorkers, workers, MOST_OF_DISPENSERS)?;
     let connections = number_of(Key::Connections, served.connections, 1, 1_000_000)?;
     let idle_seconds = number_of(Key::IdleSeconds, served.idle_seconds, 0, 86_400)?;
     let doors = &served.doors;
