@@ -4,6 +4,7 @@ use Rattle.site_config.specs.declared.fault.ConfigFault.{ConfigFault}
 use Rattle.site_config.specs.declared.fault.ConfigFault.TheVariants.{K1, K2, K3, OutOfMemory}
 use Rattle.site_config.specs.Document.{◌>>=◌, Fails, with_front}
 use Rattle.site_config.specs.Demands.{ranged}
+use Rattle.site_config.specs.Doors.{with_point, with_points}
 use Rattle.site_config.specs.Ranges.{all_ranged}
 
 fails_on : {A B : Type 0} (f : ConfigFault) (r : Result A ConfigFault) (g : A → Result B ConfigFault) → Fails f r → Fails f (r >>= g)
@@ -33,3 +34,9 @@ read_front front low high zs z rest n whole read split e =
     ∙ ap (λ (r : Result ℕ ConfigFault). with_front front (r >>= (λ m. all_ranged low high rest >>= (λ ns. Ok (m ∷ ns))))) (sym e)
     ∙ ap (λ xs. with_front front (all_ranged low high xs)) (sym split)
     ∙ read
+
+-- Where a point can't be added to those so far, reading all points fails.
+pub fails_points : (f : ConfigFault) (points bits : ℕ) (zs : List ℤ) (z : ℤ) (rest : List ℤ) (whole : Result ℕ ConfigFault)
+    → with_points points bits zs ≡ whole → zs ≡ z ∷ rest → Fails f (with_point points bits z) → Fails f whole
+fails_points f points bits zs z rest whole read split e =
+    rw (sym read, split) (fails_on f (with_point points bits z) (λ more. with_points points more rest) e)

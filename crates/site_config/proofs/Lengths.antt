@@ -1,9 +1,9 @@
 -- A list that was read is as long as the list that it was read from.
-use Rattle.std.proofs.Common.{◌≡◌, ℕ, ℤ, pos, negsuc, suc, ◌≤◌, List, [], ◌∷◌, length, Bool, true, false, ◌&&◌, nat_le, cond, Result, Ok, Err, refl, ap, sym}
+use Rattle.std.proofs.Common.{◌≡◌, ℕ, ℤ, suc, List, [], ◌∷◌, length, Result, Ok, Err, refl}
 use Rattle.site_config.specs.declared.fault.ConfigFault.{ConfigFault}
 use Rattle.site_config.specs.Document.{◌>>=◌}
 use Rattle.site_config.specs.Demands.{ranged}
-use Rattle.site_config.specs.Ranges.{all_ranged, each_of}
+use Rattle.site_config.specs.Ranges.{all_ranged}
 
 bind_length : (r : Result ℕ ConfigFault) (rest : Result (List ℕ) ConfigFault) (ns : List ℕ) (k : ℕ) → ((ms : List ℕ) → rest ≡ Ok ms → length ms ≡ k)
     → (r >>= (λ n. rest >>= (λ ms. Ok (n ∷ ms)))) ≡ Ok ns → length ns ≡ suc k

@@ -4,7 +4,7 @@ use Rattle.std.specs.Str.{is_utf8}
 use Rattle.toml.specs.Data.{Members}
 use Rattle.toml.specs.Parse.{parse_document}
 use Rattle.site_config.specs.declared.fault.ConfigFault.{ConfigFault}
-use Rattle.site_config.specs.declared.fault.ConfigFault.TheVariants.{K1, K2, K3, OutOfMemory}
+use Rattle.site_config.specs.declared.fault.ConfigFault.TheVariants.{K1, OutOfMemory}
 
 infixl 10 ◌>>=◌
 abbrev pub ◌>>=◌ : {A B : Type 0} → Result A ConfigFault → (A → Result B ConfigFault) → Result B ConfigFault

@@ -1,13 +1,12 @@
 -- Definitions: the doors of a served site, and what is demanded of them (K3).
 use Rattle.std.specs.Prelude.{◌==◌, ◌&&◌, not, ◌+◌, ◌-◌, ◌/◌, ◌%◌, ◌^◌, nat_le, bit_or, ℕ, zero, suc, ℤ, pos, List, [], ◌∷◌, length, map, Bool, true, false}
-use Rattle.std.specs.Prelude.{Option, Some, None, Result, Ok, Err, string_bytes, if◌then◌else◌}
+use Rattle.std.specs.Prelude.{Option, Some, None, Result, Ok, string_bytes, if◌then◌else◌}
 use Rattle.std.specs.Ordering.{int_eq}
 use Rattle.std.specs.List.{list_any}
 use Rattle.std.specs.Str.{bytes_eq}
 use Rattle.till_request.specs.declared.act.Role.{Role}
 use Rattle.till_request.specs.declared.act.Role.TheVariants as roles
 use Rattle.site_config.specs.declared.fault.ConfigFault.{ConfigFault}
-use Rattle.site_config.specs.declared.fault.ConfigFault.TheVariants.{K3}
 use Rattle.site_config.specs.declared.flaw.Place.{Place}
 use Rattle.site_config.specs.declared.flaw.Side.{Side}
 use Rattle.site_config.specs.declared.flaw.Side.TheVariants as sides

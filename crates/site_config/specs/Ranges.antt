@@ -1,8 +1,7 @@
 -- Definitions: the ranges, lengths, counts and conditions of a configuration (K3).
-use Rattle.std.specs.Prelude.{◌≡◌, ◌==◌, ◌&&◌, ◌||◌, ◌-◌, not, nat_le, ℕ, ℤ, pos, negsuc, List, [], ◌∷◌, ◌++◌, length, replicate, Bool, true, false, Option}
-use Rattle.std.specs.Prelude.{Some, None, Result, Ok, Err, option_map}
+use Rattle.std.specs.Prelude.{◌==◌, ◌&&◌, ◌-◌, nat_le, ℕ, ℤ, List, [], ◌∷◌, ◌++◌, length, replicate, Option}
+use Rattle.std.specs.Prelude.{Some, None, Result, Ok, option_map}
 use Rattle.site_config.specs.declared.fault.ConfigFault.{ConfigFault}
-use Rattle.site_config.specs.declared.fault.ConfigFault.TheVariants.{K1, K2, K3, OutOfMemory}
 use Rattle.site_config.specs.declared.settings.Settings.{Settings}
 use Rattle.site_core.specs.Limits.{ConfigValue}
 use Rattle.site_config.specs.Document.{◌>>=◌, document_of}

@@ -1,8 +1,8 @@
 -- Definitions: the keys of a document, and the types of their values (K2).
-use Rattle.std.specs.Prelude.{◌==◌, ◌&&◌, ◌||◌, not, ◌+◌, ℕ, ℤ, pos, List, [], ◌∷◌, codes, Bool, true, false, Option, Some, None, Result, Ok, Err}
-use Rattle.std.specs.Prelude.{option_and_then, option_map, is_some, if◌then◌else◌}
+use Rattle.std.specs.Prelude.{◌&&◌, ◌||◌, not, ◌+◌, ℕ, ℤ, pos, List, [], ◌∷◌, codes, Bool, true, false, Option, Some, None, Result, Ok, Err}
+use Rattle.std.specs.Prelude.{option_and_then, option_map, is_some}
 use Rattle.std.specs.Str.{bytes_eq}
-use Rattle.toml.specs.Data.{Data, Items, Members, no_items, item, no_members, member, table, get_member, as_integer, as_str, as_array, as_table}
+use Rattle.toml.specs.Data.{Data, Items, Members, no_items, item, no_members, member, get_member, as_integer, as_str, as_array, as_table}
 use Rattle.site_config.specs.declared.fault.ConfigFault.{ConfigFault}
 use Rattle.site_config.specs.declared.fault.ConfigFault.TheVariants.{K2}
 use Rattle.site_config.specs.declared.flaw.Key.{Key}
@@ -14,7 +14,6 @@ use Rattle.site_config.specs.declared.flaw.Place.TheVariants.{At}
 use Rattle.site_config.specs.declared.raw.Raw.{Raw}
 use Rattle.site_config.specs.declared.raw.Served.{Served}
 use Rattle.site_config.specs.declared.raw.RawDoor.{RawDoor}
-use Rattle.site_config.specs.declared.raw.RawAddress.{RawAddress}
 use Rattle.site_config.specs.declared.raw.RawAddress.TheVariants.{Port, Socket}
 use Rattle.site_config.specs.declared.raw.RawRole.{RawRole}
 use Rattle.site_config.specs.declared.raw.RawRole.TheVariants.{Tills, OneTill, Dispensers, SomePoints, Owner}

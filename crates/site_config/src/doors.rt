@@ -1,7 +1,7 @@
 //! Checks the doors of `[serve]`, and makes them (K3).
 ghost use Rattle.std.specs.Prelude.{◌≡◌, ◌≤◌, ◌+◌, length, map, not, is_some, IfOk};
 ghost use Rattle.std.specs.List.{list_any};
-ghost use Rattle.site_config.specs.Demands.{demand};
+ghost use Rattle.site_config.specs.Demands.{demand, ranged};
 ghost use Rattle.site_config.specs.Flaws.{Finds, Checks, fault_of};
 ghost use Rattle.site_config.specs.Typed.{seen_serve};
 ghost use Rattle.site_config.specs.Doors.{address_of, with_point, with_points, bits_of, role_of, door_fits, doors_fit};
@@ -19,6 +19,7 @@ use till_request::Role;
 
 /// The most workers that tills may have in all, and the most that dispensers may have.
 const MOST_OF_TILLS: u32 = 64;
+
 const MOST_OF_DISPENSERS: u32 = 31;
 
 /// Returns the place of another key of the same table.
@@ -39,11 +40,7 @@ fn item_of(list: Place, place: usize) -> Place {
 
 /// Makes the address of a door. The error is `OutOfRange` or `Empty`, or that memory ran out.
 #[tactic(auto, unfolding(crate::specs::Doors::address_of))]
-fn make_address(
-    alloc: Global,
-    place: Place,
-    address: &RawAddress,
-) -> Result<Address, ConfigFlaw>
+fn make_address(alloc: Global, place: Place, address: &RawAddress) -> Result<Address, ConfigFlaw>
     ensures { Finds address_seen result (address_of address.now) }
 {
     match address {
@@ -83,7 +80,10 @@ fn add_points(list: Place, points: u32, values: &[i64]) -> Result<u32, ConfigFla
     let mut bits = 0;
     let mut place = 0;
     for value in values {
-        bits = add_point(list, place, points, bits, *value)?;
+        bits = match add_point(list, place, points, bits, *value) {
+            Ok(more) => more,
+            Err(flaw) => return Err(flaw),
+        };
         place += 1;
     }
     Ok(bits)
@@ -134,12 +134,7 @@ fn check_door(alloc: Global, tills: u32, points: u32, door: &RawDoor) -> Result<
     Ok(())
 }
 
-fn check_doors(
-    alloc: Global,
-    tills: u32,
-    points: u32,
-    doors: &[RawDoor],
-) -> Result<(), ConfigFlaw>
+fn check_doors(alloc: Global, tills: u32, points: u32, doors: &[RawDoor]) -> Result<(), ConfigFlaw>
     requires { points ≤ POINTS }
     ensures { Finds (λ x. x) result (doors_fit tills points doors.now) }
 {
@@ -157,9 +152,7 @@ fn address_clash(first: &RawDoor, second: &RawDoor) -> Option<ConfigFlaw>
         (RawAddress::Port(port), RawAddress::Port(other)) if port == other => {
             Some(ConfigFlaw::SamePort(first.place, second.place, *port))
         }
-        (RawAddress::Socket(path), RawAddress::Socket(other))
-            if path.as_str() == other.as_str() =>
-        {
+        (RawAddress::Socket(path), RawAddress::Socket(other)) if path.is_same(other) => {
             Some(ConfigFlaw::SameSocket(first.place, second.place))
         }
         _ => None,
@@ -425,7 +418,13 @@ pub fn make_serve(
     let idle_seconds = number_of(Key::IdleSeconds, served.idle_seconds, 0, 86_400)?;
     let doors = &served.doors;
     check_side(Side::Tills, till_workers, MOST_OF_TILLS, tills, doors)?;
-    check_side(Side::Dispensers, dispenser_workers, MOST_OF_DISPENSERS, points, doors)?;
+    check_side(
+        Side::Dispensers,
+        dispenser_workers,
+        MOST_OF_DISPENSERS,
+        points,
+        doors,
+    )?;
     let counts = Counts {
         tills,
         points,

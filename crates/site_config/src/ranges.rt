@@ -12,9 +12,9 @@ ghost use Rattle.site_config.specs.Ranges.{counters_of, serve_from, told_of, tol
 ghost use Rattle.bpf_model.specs.declared.limits.TheConstants.{COUNTERS, POINTS};
 
 use crate::document::read_document;
+use crate::doors::make_serve;
 use crate::fault::ConfigFault;
 use crate::flaw::{ConfigFlaw, Key, Place, Section};
-use crate::doors::make_serve;
 use crate::number::in_range;
 use crate::raw::{Raw, Served};
 use crate::settings::{Serve, Settings};
@@ -75,7 +75,12 @@ fn make_price(place: usize, value: i64) -> Result<u32, ConfigFlaw>
     ensures read { Finds (λ x. x) result (ranged 0 MOST_PRICE value) }
     ensures range { IfOk result (λ price. price ≤ MOST_PRICE) }
 {
-    in_range(Place::Item(Section::Top, Key::Prices, place), value, 0, MOST_PRICE)
+    in_range(
+        Place::Item(Section::Top, Key::Prices, place),
+        value,
+        0,
+        MOST_PRICE,
+    )
 }
 
 fn each_price(alloc: Global, values: &[i64]) -> Result<Vec<u32>, ConfigFlaw>

@@ -1,11 +1,12 @@
 //! Reads the table `[serve]` and those of its doors, and checks their types (K2).
-ghost use Rattle.std.specs.Prelude.{◌≡◌, ◌++◌, ◌∷◌, [], string_bytes};
+ghost use Rattle.std.specs.Prelude.{◌≡◌, option_map};
 ghost use Rattle.toml.specs.View.{view, table_view, items_view};
-ghost use Rattle.toml.specs.Data.{get_member};
-ghost use Rattle.site_config.specs.Document.{with_front};
+ghost use Rattle.toml.specs.Data.{get_member, as_str};
+ghost use Rattle.site_config.specs.Document.{or_fault, with_front};
 ghost use Rattle.site_config.specs.Flaws.{Finds};
 ghost use Rattle.site_config.specs.Keys.{name_of};
-ghost use Rattle.site_config.specs.Typed.{has_shared, door_at, shared_if, shared_at, workers_if, workers_at, till_in};
+ghost use Rattle.site_config.specs.declared.fault.ConfigFault.TheVariants.{K2};
+ghost use Rattle.site_config.specs.Typed.{has_shared, door_at, shared_at, workers_at, till_in};
 ghost use Rattle.site_config.specs.Typed.{dispenser_in, each_table, tills_at, dispensers_at, owner_at, doors_at};
 ghost use Rattle.site_config.specs.Typed.{idle_from, served_in, served_at, seen_serve};
 
@@ -139,10 +140,7 @@ fn read_dispenser(alloc: Global, value: &Value, place: usize) -> Result<RawDoor,
     ensures { Finds (λ x. x) result (dispenser_in place (view value.now)) }
 {
     let section = Section::Dispenser(place);
-    let table = table_of(
-        value,
-        Place::Item(Section::Serve, Key::Dispenser, place),
-    )?;
+    let table = table_of(value, Place::Item(Section::Serve, Key::Dispenser, place))?;
     check_keys(alloc, table, section)?;
     let values = find_array(table, section, Key::Points)?;
     let points = read_integers(alloc, values, section, Key::Points)?;
@@ -183,11 +181,7 @@ fn each_dispenser(
 }
 
 #[tactic(auto, unfolding(crate::specs::Typed::tills_at))]
-fn add_tills(
-    alloc: Global,
-    table: &Table,
-    doors: Vec<RawDoor>,
-) -> Result<Vec<RawDoor>, ConfigFlaw>
+fn add_tills(alloc: Global, table: &Table, doors: Vec<RawDoor>) -> Result<Vec<RawDoor>, ConfigFlaw>
     ensures { Finds (λ v. v.items) result (with_front doors.items (tills_at (table_view table.now))) }
 {
     match find_value(table, Key::Till.name()) {

@@ -9,7 +9,9 @@ ghost use Rattle.site_config.specs.Typed.{counters_at, typed_of, seen};
 use crate::flaw::{ConfigFlaw, Key, Place, Section};
 use crate::raw::Raw;
 use crate::served::find_served;
-use crate::values::{array_of, check_keys, find_array, find_value, read_integer, read_integers, table_of};
+use crate::values::{
+    array_of, check_keys, find_array, find_value, read_integer, read_integers, table_of,
+};
 use std::alloc::Global;
 use toml::{Table, Value};
 

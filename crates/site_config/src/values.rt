@@ -65,7 +65,9 @@ pub fn integer_of(value: &Value, place: Place) -> Result<i64, ConfigFlaw>
 pub fn text_of(value: &Value, place: Place) -> Result<&str, ConfigFlaw>
     ensures { Finds (λ t. t.now) result (or_fault K2 (as_str (view value.now))) }
 {
-    value.as_str().ok_or(ConfigFlaw::WrongType(place, Type::Text))
+    value
+        .as_str()
+        .ok_or(ConfigFlaw::WrongType(place, Type::Text))
 }
 
 /// Returns a value as a table. The error is `WrongType`.
@@ -221,4 +223,3 @@ pub fn find_array(table: &Table, section: Section, key: Key) -> Result<&Vec<Valu
         None => Err(ConfigFlaw::Missing(place)),
     }
 }
-

@@ -1,4 +1,4 @@
-use Rattle.std.proofs.Common.{◌≡◌, ◌≤◌, drop, length, All}
+use Rattle.std.proofs.Common.{◌≡◌, drop, length, All}
 use Rattle.site_core.specs.Limits.{IsCounter}
 use Rattle.site_config.specs.Document.{with_front}
 use Rattle.site_config.specs.Ranges.{each_of, counter_of}

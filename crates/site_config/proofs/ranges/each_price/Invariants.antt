@@ -1,4 +1,4 @@
-use Rattle.std.proofs.Common.{◌≡◌, ◌≤◌, drop, length, All}
+use Rattle.std.proofs.Common.{◌≡◌, ◌≤◌, drop, All}
 use Rattle.site_config.specs.Document.{with_front}
 use Rattle.site_config.specs.Ranges.{all_ranged}
 use Rattle.site_config.proofs.ranges.each_price.Given as goal

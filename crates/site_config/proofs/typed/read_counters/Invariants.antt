@@ -1,7 +1,7 @@
 use Rattle.std.proofs.Common.{◌≡◌, drop}
 use Rattle.toml.specs.View.{items_view}
 use Rattle.site_config.specs.Document.{with_front}
-use Rattle.site_config.specs.Typed.{integers, each_in, point_in, counter_in}
+use Rattle.site_config.specs.Typed.{each_in, counter_in}
 use Rattle.site_config.proofs.typed.read_counters.Given as goal
 
 -- What was read so far, followed by what the rest reads as, is what the whole list reads as.

@@ -1,0 +1,10 @@
+use Rattle.std.proofs.Common.{◌≡◌, drop}
+use Rattle.site_config.specs.Doors.{with_points}
+use Rattle.site_config.proofs.doors.add_points.Given as goal
+
+-- The points so far, with the rest, are all points.
+abbrev pub invariant-loop-value : goal.invariant-loop-value
+invariant-loop-value l = record {
+  read : with_points l.points l.bits (drop l.value-index l.values) ≡ with_points l.points 0 l.values;
+  counted : l.place ≡ l.value-index;
+}

@@ -1,0 +1,7 @@
+use Rattle.std.proofs.Common.{◌≡◌, drop}
+use Rattle.site_config.specs.Doors.{is_apart}
+use Rattle.site_config.proofs.doors.clash_with.Given as goal
+
+-- The door is apart from the others if it is from the rest of them.
+abbrev pub invariant-loop-other : goal.invariant-loop-other
+invariant-loop-other l = is_apart l.door (drop l.other-index l.others) ≡ is_apart l.door l.others

@@ -1,0 +1,10 @@
+use Rattle.std.proofs.Common.{◌≡◌, length}
+use Rattle.site_config.specs.Doors.{each_apart}
+use Rattle.site_config.proofs.doors.first_clash.Given as goal
+
+-- Each door is apart from the others if each of the rest is.
+abbrev pub invariant-loop-rest : goal.invariant-loop-rest
+invariant-loop-rest l = each_apart l.rest ≡ each_apart l.doors
+
+abbrev pub decreases-loop-rest : goal.decreases-loop-rest
+decreases-loop-rest l = length l.rest

@@ -1,0 +1,11 @@
+use Rattle.std.proofs.Common.{◌≡◌, drop, map}
+use Rattle.site_config.specs.Document.{with_front}
+use Rattle.site_config.specs.Doors.{each_door, door_of, door_seen}
+use Rattle.site_config.proofs.doors.make_doors.Given as goal
+
+-- What was made so far, followed by what the rest of the doors makes, is what all doors make.
+abbrev pub invariant-loop-door : goal.invariant-loop-door
+invariant-loop-door l =
+    with_front (map door_seen l.made.items)
+    (each_door (door_of l.counts.tills l.counts.points l.counts.till_workers l.counts.dispenser_workers) (drop l.door-index l.doors))
+    ≡ each_door (door_of l.counts.tills l.counts.points l.counts.till_workers l.counts.dispenser_workers) l.doors
