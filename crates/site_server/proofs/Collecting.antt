@@ -5,7 +5,6 @@ use Rattle.std.proofs.lemmas.List.{length-map}
 use Rattle.std.proofs.lemmas.Slice.Zip.{length-zip}
 use Rattle.std.specs.List.{zip}
 use Rattle.std.specs.Option.{option_map}
-use Rattle.till_request.specs.declared.act.Role.{Role}
 use Rattle.line_session.specs.Serving.{Outcome, good}
 use Rattle.site_lock.specs.Merge.{AreAll}
 use Rattle.site_lock.specs.Passes.{PassView, Opened, new_pass, AreNew}
@@ -41,10 +40,22 @@ good_few (None ∷ outcomes) = omega (arith, good_few outcomes)
 good_few (Some (Ok ended) ∷ outcomes) = omega (arith, good_few outcomes)
 good_few (Some (Err fault) ∷ outcomes) = omega (arith, good_few outcomes)
 
-module _ (may_fail : Type 0) (roles : List Role) (connections : ℕ) (from : Opened) (own : ConfigValue) (same : from.config ≡ own) where
+abbrev IsNone : {A : Type 0} → Option A → Type 0
+IsNone None = Unit {0}
+IsNone (Some p) = ⊥
+
+none_is : {A : Type 0} (k : ℕ) (p : A) → slice_get [] k ≡ Some p → ⊥
+none_is {A} k p is = subst (λ (o : Option A). IsNone o) is tt
+
+role_at : (workers : List Worker) (k : ℕ) (worker : Worker) → slice_get workers k ≡ Some worker → slice_get (roles_of workers) k ≡ Some worker.role
+role_at [] k worker is = absurd (none_is k worker is)
+role_at (first ∷ workers) zero worker is = ap (λ (o : Option Worker). option_map (λ (w : Worker). w.role) o) is
+role_at (first ∷ workers) (suc k) worker is = role_at workers k worker is
+
+module _ (may_fail : Type 0) (workers : List Worker) (connections : ℕ) (from : Opened) (own : ConfigValue) (same : from.config ≡ own) where
   -- what is served
   abbrev pub plan : Plan
-  plan = record { from = from; may_fail = may_fail; roles = roles; connections = connections }
+  plan = record { from = from; may_fail = may_fail; roles = roles_of workers; connections = connections }
 
   -- all workers from the number b + 1 on have handed their pass back
   abbrev pub AllBack : ℕ → List (Option (PassView × ℕ)) → Type 0
@@ -52,20 +63,25 @@ module _ (may_fail : Type 0) (roles : List Role) (connections : ℕ) (from : Ope
   AllBack b (None ∷ tasks) = ⊥
   AllBack b (Some r ∷ tasks) = HandedBack plan b r × AllBack (b + 1) tasks
 
-  one_back : (b : ℕ) (role : Role) (y : Option (PassView × ℕ)) (rest : List (Option (PassView × ℕ))) → slice_get roles b ≡ Some role
-      → RunsWorker own may_fail connections (Some (new_pass (b + 1), role)) y → AllBack (b + 1) rest → AllBack b (y ∷ rest)
-  one_back b role None rest at h more = absurd h
-  one_back b role (Some r) rest at h more = (
-    (h.0, role, at, subst (λ (c : ConfigValue). Worked c may_fail role connections r.1 (new_pass (b + 1)) r.0) (sym same) h.1),
+  one_back : (b : ℕ) (worker : Worker) (y : Option (PassView × ℕ)) (rest : List (Option (PassView × ℕ))) → slice_get workers b ≡ Some worker
+      → RunsWorker own may_fail connections (Some (new_pass (b + 1), worker)) y → AllBack (b + 1) rest → AllBack b (y ∷ rest)
+  one_back b worker None rest at h more = absurd h
+  one_back b worker (Some r) rest at h more = (
+    (
+      h.0,
+      worker.role,
+      role_at workers b worker at,
+      subst (λ (c : ConfigValue). Worked c may_fail worker.role connections r.1 (new_pass (b + 1)) r.0) (sym same) h.1,
+    ),
     more,
   )
 
-  -- in the task at place k of these the pass with the number n + 1 waits, with the role at place n
-  abbrev WaitsAt : List (Option (PassView × Role)) → ℕ → ℕ → Option (PassView × Role) → Type 0
-  WaitsAt tasks k n e = (role : Role) × (slice_get roles n ≡ Some role) × (slice_index_or tasks k e ≡ Some (new_pass (n + 1), role))
+  -- in the task at place k of these the pass with the number n + 1 waits, with the worker at place n
+  abbrev WaitsAt : List (Option (PassView × Worker)) → ℕ → ℕ → Option (PassView × Worker) → Type 0
+  WaitsAt tasks k n e = (worker : Worker) × (slice_get workers n ≡ Some worker) × (slice_index_or tasks k e ≡ Some (new_pass (n + 1), worker))
 
-  all_back : {P : Type 0} (w : P → Option (PassView × Role)) (d : P → Option (PassView × ℕ)) (b : ℕ) (xs ys : List P) → length ys ≡ length xs
-      → ((k n : ℕ) (e : Option (PassView × Role)) → n ≡ b + k → k < length xs → WaitsAt (map w xs) k n e)
+  all_back : {P : Type 0} (w : P → Option (PassView × Worker)) (d : P → Option (PassView × ℕ)) (b : ℕ) (xs ys : List P) → length ys ≡ length xs
+      → ((k n : ℕ) (e : Option (PassView × Worker)) → n ≡ b + k → k < length xs → WaitsAt (map w xs) k n e)
       → ((k : ℕ) (e : P) → k < length xs → RunsWorker own may_fail connections (w (slice_index_or xs k e)) (d (slice_index_or ys k e)))
       → AllBack b (map d ys)
   all_back w d b [] [] is waiting manned = tt
@@ -74,21 +90,21 @@ module _ (may_fail : Type 0) (roles : List Role) (connections : ℕ) (from : Ope
   all_back w d b (x ∷ xs) (y ∷ ys) is waiting manned =
       let first : WaitsAt (map w (x ∷ xs)) 0 b None = waiting 0 b None (omega arith) (omega arith) in
       one_back b first.0 (d y) (map d ys) first.1
-      (subst (λ (z : Option (PassView × Role)). RunsWorker own may_fail connections z (d y)) first.2 (manned 0 x (omega arith)))
+      (subst (λ (z : Option (PassView × Worker)). RunsWorker own may_fail connections z (d y)) first.2 (manned 0 x (omega arith)))
       (all_back w d (b + 1) xs ys (omega arith) (λ k n e num lt. waiting (suc k) n e (omega arith) (omega arith)) (λ k e lt. manned (suc k) e (omega arith)))
 
   -- the same of the tasks that waited, with their number
-  pub all_done : {P : Type 0} (w : P → Option (PassView × Role)) (d : P → Option (PassView × ℕ)) (n : ℕ) (tasks xs ys : List P) → length roles ≡ n
-      → tasks ≡ xs → length ys ≡ length xs → AreWaiting roles (map w tasks)
+  pub all_done : {P : Type 0} (w : P → Option (PassView × Worker)) (d : P → Option (PassView × ℕ)) (tasks xs ys : List P)
+      → tasks ≡ xs → length ys ≡ length xs → AreWaiting workers (map w tasks)
       → ((k : ℕ) (e : P) → k < length xs → RunsWorker own may_fail connections (w (slice_index_or xs k e)) (d (slice_index_or ys k e)))
-      → AllBack 0 (map d ys) × (length (map d ys) ≡ n)
-  all_done w d n tasks xs ys many same_tasks as_many waiting manned =
-      let there : AreWaiting roles (map w xs) = subst (λ l. AreWaiting roles (map w l)) same_tasks waiting in (
+      → AllBack 0 (map d ys) × (length (map d ys) ≡ length workers)
+  all_done w d tasks xs ys same_tasks as_many waiting manned =
+      let there : AreWaiting workers (map w xs) = subst (λ l. AreWaiting workers (map w l)) same_tasks waiting in (
         all_back w d 0 xs ys as_many
             (λ k m e num lt. subst (λ (j : ℕ). WaitsAt (map w xs) k j e) (omega (arith, num))
             (there.1 k e (omega (arith, lt, there.0, length-map xs w))))
             manned,
-        length-map ys d ∙ as_many ∙ sym (length-map xs w) ∙ there.0 ∙ many,
+        length-map ys d ∙ as_many ∙ sym (length-map xs w) ∙ there.0,
       )
 
   one_few : (b : ℕ) (r : PassView × ℕ) → HandedBack plan b r → r.1 ≤ connections
@@ -130,46 +146,35 @@ module _ (may_fail : Type 0) (roles : List Role) (connections : ℕ) (from : Ope
   are_all n tasks room passes clean back many none are worked =
       all_worked plan passes n clean (ap length (are ∙ ap (λ (ps : List PassView). ps ++ collected tasks) none) ∙ handed_length 0 tasks back ∙ many) worked
 
-module _ (config : ConfigValue) (may_fail : Type 0) (connections : ℕ) {P : Type 0} (w : P → Option (PassView × Role)) (d : P
+module _ (config : ConfigValue) (may_fail : Type 0) (connections : ℕ) {P : Type 0} (w : P → Option (PassView × Worker)) (d : P
     → Option (PassView × ℕ)) where
   pub manned_so : (x y a b : P) → a ≡ x → b ≡ y → RunsWorker config may_fail connections (w a) (d b)
       → RunsWorker config may_fail connections (w x) (d y)
   manned_so x y a b is left h = subst (λ (p : P). RunsWorker config may_fail connections (w p) (d y)) is
       (subst (λ (p : P). RunsWorker config may_fail connections (w a) (d p)) left h)
 
--- what waits where a pass and a worker stand side by side
-abbrev pub waiting_of : PassView × Worker → Option (PassView × Role)
-waiting_of pair = Some (pair.0, pair.1.role)
+abbrev pub here : PassView × Worker → Option (PassView × Worker)
+here pair = Some pair
 
-abbrev IsNone : Option PassView → Type 0
-IsNone None = Unit {0}
-IsNone (Some p) = ⊥
+pub seen_again : (pairs : List (PassView × Worker)) → map here pairs ≡ map here (map (λ (pair : PassView × Worker). (pair.0, pair.1)) pairs)
+seen_again [] = refl
+seen_again (pair ∷ pairs) = ap (λ (more : List (Option (PassView × Worker))). here pair ∷ more) (seen_again pairs)
 
-none_is : (k : ℕ) (p : PassView) → slice_get [] k ≡ Some p → ⊥
-none_is k p is = subst (λ (o : Option PassView). IsNone o) is tt
-
-waits_at : (k : ℕ) (e : Option (PassView × Role)) (p : PassView) (ps : List PassView) (workers : List Worker) → slice_get ps k ≡ Some p → k < length workers
-    → (role : Role) × (slice_get (roles_of workers) k ≡ Some role) × (slice_index_or (map waiting_of (zip ps workers)) k e ≡ Some (p, role))
+waits_at : (k : ℕ) (e : Option (PassView × Worker)) (p : PassView) (ps : List PassView) (workers : List Worker) → slice_get ps k ≡ Some p
+    → k < length workers → (worker : Worker) × (slice_get workers k ≡ Some worker) × (slice_index_or (map here (zip ps workers)) k e ≡ Some (p, worker))
 waits_at k e p [] workers is lt = absurd (none_is k p is)
 waits_at k e p (q ∷ ps) [] is lt = absurd (omega arith)
-waits_at zero e p (q ∷ ps) (worker ∷ workers) is lt = (worker.role, refl, ap (λ (o : Option PassView). option_map (λ (x : PassView). (x, worker.role)) o) is)
+waits_at zero e p (q ∷ ps) (worker ∷ workers) is lt = (worker, refl, ap (λ (o : Option PassView). option_map (λ (x : PassView). (x, worker)) o) is)
 waits_at (suc k) e p (q ∷ ps) (worker ∷ workers) is lt = waits_at k e p ps workers is (omega arith)
 
 -- new passes that wait in tasks, each beside the worker at its place
-module _ {P : Type 0} (w : P → Option (PassView × Role)) (tasks : List P) (ps : List PassView) (workers : List Worker)
-    (are : map w tasks ≡ map waiting_of (zip ps workers)) (new : AreNew (length workers) ps) where
-  pub are_waiting : AreWaiting (roles_of workers) (map w tasks)
+module _ {P : Type 0} (w : P → Option (PassView × Worker)) (tasks : List P) (ps : List PassView) (workers : List Worker)
+    (are : map w tasks ≡ map here (zip ps workers)) (new : AreNew (length workers) ps) where
+  pub are_waiting : AreWaiting workers (map w tasks)
   are_waiting = rw are (
-    omega (
-      arith,
-      length-map (zip ps workers) waiting_of,
-      length-zip ps workers,
-      new.0,
-      length-map workers (λ (x : Worker). x.role),
-    ),
-    λ k e lt. let low : k < length workers = omega (arith, lt, length-map workers (λ (x : Worker). x.role)) in
-        waits_at k e (new_pass (k + 1)) ps workers (new.1 k low) low,
+    omega (arith, length-map (zip ps workers) here, length-zip ps workers, new.0),
+    λ k e lt. waits_at k e (new_pass (k + 1)) ps workers (new.1 k lt) lt,
   )
 
   pub as_many : length tasks ≡ length workers
-  as_many = sym (length-map tasks w) ∙ are_waiting.0 ∙ length-map workers (λ (x : Worker). x.role)
+  as_many = sym (length-map tasks w) ∙ are_waiting.0

@@ -1,28 +1,22 @@
 -- Promises: what the workers' tasks hold, before they serve and after it.
 use Rattle.std.specs.Prelude.{◌≡◌, ℕ, ◌+◌, ◌<◌, List, [], ◌∷◌, length, slice_get, slice_index_or, Option, Some, None}
-use Rattle.till_request.specs.declared.act.Role.{Role}
 use Rattle.site_core.specs.Limits.{ConfigValue}
 use Rattle.site_lock.specs.Passes.{PassView, new_pass}
 use Rattle.site_server.specs.declared.crew.Worker.{Worker}
 use Rattle.site_server.specs.Tasks.{Worked}
 
--- the pass that a task waits with, and whose lines its worker takes
-abbrev pub waits : Option (PassView × Worker) → Option (PassView × Role)
-waits None = None
-waits (Some w) = Some (w.0, w.1.role)
+-- in task k the pass with the number k + 1 waits, without receipts, with the worker at place k
+abbrev pub AreWaiting : List Worker → List (Option (PassView × Worker)) → Type 0
+AreWaiting workers tasks =
+    (length tasks ≡ length workers)
+    × ((k : ℕ) (d : Option (PassView × Worker)) → k < length workers
+    → (worker : Worker) × (slice_get workers k ≡ Some worker) × (slice_index_or tasks k d ≡ Some (new_pass (k + 1), worker)))
 
--- in task k the pass with the number k + 1 waits, without receipts, with the role at place k
-abbrev pub AreWaiting : List Role → List (Option (PassView × Role)) → Type 0
-AreWaiting roles tasks =
-    (length tasks ≡ length roles)
-    × ((k : ℕ) (d : Option (PassView × Role)) → k < length roles
-    → (role : Role) × (slice_get roles k ≡ Some role) × (slice_index_or tasks k d ≡ Some (new_pass (k + 1), role)))
-
--- the pass that waited was handed back, after its connections in the role that waited with it
-abbrev pub RunsWorker : ConfigValue → Type 0 → ℕ → Option (PassView × Role) → Option (PassView × ℕ) → Type 0
+-- the pass that waited was handed back, after its connections in the role of the worker that waited with it
+abbrev pub RunsWorker : ConfigValue → Type 0 → ℕ → Option (PassView × Worker) → Option (PassView × ℕ) → Type 0
 RunsWorker config may_fail connections None after = Unit {0}
 RunsWorker config may_fail connections (Some w) None = ⊥
-RunsWorker config may_fail connections (Some w) (Some d) = (d.0.id ≡ w.0.id) × Worked config may_fail w.1 connections d.1 w.0 d.0
+RunsWorker config may_fail connections (Some w) (Some d) = (d.0.id ≡ w.0.id) × Worked config may_fail w.1.role connections d.1 w.0 d.0
 
 -- the passes that were handed back, in their order
 abbrev pub collected : List (Option (PassView × ℕ)) → List PassView

@@ -1,10 +1,9 @@
 //! Serving a site.
 ghost use Rattle.std.specs.Prelude.{◌≡◌, ◌<◌, ◌≤◌, ◌^◌, [], IfErr, IfOk, Some, length, map, vec_capacity};
 ghost use Rattle.site_lock.specs.Closing.{ClosesSince};
-ghost use Rattle.site_server.specs.Crews.{roles_of};
 ghost use Rattle.site_server.specs.Plans.{plan_of};
 ghost use Rattle.site_server.specs.Ending.{Leaves, Refuses, Spoils, fault_of_close};
-ghost use Rattle.site_server.specs.Collecting.{AreWaiting, RunsWorker, waits};
+ghost use Rattle.site_server.specs.Collecting.{AreWaiting, RunsWorker};
 
 use crate::crew::Crew;
 use crate::notices::Notices;
@@ -100,8 +99,7 @@ fn prepare<L: SiteLedger>(
     ensures passes { IfOk result (λ p. p.builder.passes ≡ length crew.workers.items) }
     ensures base { IfOk result (λ p. p.builder.base ≡ L.base) }
     ensures taken { IfOk result (λ p. p.builder.taken ≡ L.taken) }
-    ensures tasks { IfOk result
-        (λ p. AreWaiting (roles_of crew.workers.items) (map (λ q. waits q.waiting) p.tasks.items)) }
+    ensures tasks { IfOk result (λ p. AreWaiting crew.workers.items (map (λ q. q.waiting) p.tasks.items)) }
     ensures room { IfOk result (λ p. (p.room.items ≡ []) × (length p.tasks.items ≤ vec_capacity p.room)) }
 {
     let room = Vec::with_capacity(alloc, crew.passes() as usize)?;
@@ -235,7 +233,7 @@ impl<J: Journal + Send> Serving<J> {
             most,
             &|_: usize, task: &mut WorkerTask<L>|
                 ensures { RunsWorker L.config J.may_fail workers.entry.connections
-                    (waits task.entry.now.waiting) task.exit.now.done }
+                    task.entry.now.waiting task.exit.now.done }
             { workers.work(task) },
         );
         let clean = collect_passes(all, &mut passes);

@@ -2,7 +2,7 @@
 ghost use Rattle.std.specs.Prelude.{◌≡◌, ◌++◌, ◌∷◌, ◌+◌, ◌^◌, ◌<◌, ◌≤◌, [], IfOk, Some, length, map};
 ghost use Rattle.std.specs.Prelude.{vec_capacity, vec_len};
 ghost use Rattle.std.specs.List.{zip};
-ghost use Rattle.site_server.specs.Collecting.{collected, waits, clean_at, clean_in};
+ghost use Rattle.site_server.specs.Collecting.{collected, clean_at, clean_in};
 
 use crate::crew::Worker;
 use site_lock::{Pass, SiteLedger};
@@ -22,8 +22,8 @@ pub(crate) fn tasks_of<L: SiteLedger>(
     passes: Vec<Pass<L>>,
     workers: Vec<Worker>,
 ) -> Result<Vec<WorkerTask<L>>, AllocError>
-    ensures { IfOk result (λ tasks. map (λ p. waits p.waiting) tasks.items
-        ≡ map (λ pair. Some (pair.0, pair.1.role)) (zip passes.items workers.items)) }
+    ensures { IfOk result (λ tasks. map (λ p. p.waiting) tasks.items
+        ≡ map (λ pair. Some pair) (zip passes.items workers.items)) }
 {
     let mut tasks = Vec::with_capacity(alloc, passes.len())?;
     for pair in passes.into_iter().zip(workers) {

@@ -1,7 +1,7 @@
 //! The workers of a served site.
 ghost use Rattle.std.specs.Prelude.{◌≡◌, ℕ};
 ghost use Rattle.line_session.specs.Serving.{Serves, SitsAtDesk, Visits};
-ghost use Rattle.site_server.specs.Collecting.{RunsWorker, waits};
+ghost use Rattle.site_server.specs.Collecting.{RunsWorker};
 ghost use Rattle.site_server.specs.Tasks.{Worked, pass_answers, tells};
 
 use crate::clock::MachineClock;
@@ -41,7 +41,7 @@ impl<L: SiteLedger, J: Journal, N: Notices, A: Release, R: Wait + Clock> Workers
 > {
     /// Does a worker's task. Its share of the listener is given up at the end, so the last worker of a door closes it.
     pub fn work(&self, task: &mut WorkerTask<L>)
-        ensures { RunsWorker L.config J.may_fail self.now.connections (waits task.old.waiting) task.new.done }
+        ensures { RunsWorker L.config J.may_fail self.now.connections task.old.waiting task.new.done }
     {
         let Some((pass, worker)) = task.waiting.take() else {
             return;

@@ -1,8 +1,4 @@
 use Rattle.std.proofs.Common.{rules, arith, ◌≡◌, map, length}
-use Rattle.std.proofs.lemmas.List.{length-map}
-use Rattle.site_server.specs.declared.crew.Worker.{Worker}
-use Rattle.site_server.specs.Collecting.{waits}
-use Rattle.site_server.specs.Crews.{roles_of}
 use Rattle.site_server.specs.Plans.{plan_of}
 use Rattle.site_server.proofs.Closing.{if_err_more, if_ok_both, leaves_so, spoils_so}
 use Rattle.site_server.proofs.Collecting.{all_done, are_all, have_worked, manned_so, well_few}
@@ -13,18 +9,16 @@ collect_passes-clean-requires-clause-few g c =
     let s = c.args.self in
     let config = g.L.SiteLedger.config in
     let may_fail = g.J.Journal.may_fail in
-    let roles = roles_of s.crew.workers.items in
-    let many = length s.crew.workers.items in
+    let workers = s.crew.workers.items in
     let from = (plan_of g.J.Journal.written may_fail s).from in
     let same : c.in-Ok.prepared.tasks.items ≡ c.as_mut_slice-all.result.now = search rules in
-    let done = all_done may_fail roles s.connections from config c.requires.config (λ p. waits p.waiting) (λ p. p.done)
-    many c.in-Ok.prepared.tasks.items c.as_mut_slice-all.result.now c.for_each_mut.new.s (length-map s.crew.workers.items (λ (w : Worker). w.role)) same
-    (search rules)
+    let done = all_done may_fail workers s.connections from config c.requires.config (λ p. p.waiting) (λ p. p.done)
+    c.in-Ok.prepared.tasks.items c.as_mut_slice-all.result.now c.for_each_mut.new.s same (search rules)
     c.in-Ok.ensures.tasks
     (λ k e lt.
     let at = (c.for_each_mut.ensures k e lt).1 in
-    manned_so config may_fail roles s.connections (λ p. waits p.waiting) (λ p. p.done) _ _ _ _ at.argument_is at.left at.call) in
-    let few = well_few may_fail roles s.connections from config c.requires.config 0 (map (λ p. p.done) c.for_each_mut.new.s) done.0 c.prove_few.ensures in
+    manned_so config may_fail s.connections (λ p. p.waiting) (λ p. p.done) _ _ _ _ at.argument_is at.left at.call) in
+    let few = well_few may_fail workers s.connections from config c.requires.config 0 (map (λ p. p.done) c.for_each_mut.new.s) done.0 c.prove_few.ensures in
     omega (arith, few, done.1, s.crew.few)
 
 pub returns-clause-ok : goal.returns-clause-ok
@@ -32,19 +26,17 @@ returns-clause-ok g c =
     let s = c.args.self in
     let config = g.L.SiteLedger.config in
     let may_fail = g.J.Journal.may_fail in
-    let roles = roles_of s.crew.workers.items in
-    let many = length s.crew.workers.items in
+    let workers = s.crew.workers.items in
     let plan = plan_of g.J.Journal.written may_fail s in
     let same : c.in-Ok.prepared.tasks.items ≡ c.as_mut_slice-all.result.now = search rules in
     let opened : c.open.result ≡ plan.from = search rules in
-    let done = all_done may_fail roles s.connections plan.from config c.requires.config (λ p. waits p.waiting) (λ p. p.done)
-    many c.in-Ok.prepared.tasks.items c.as_mut_slice-all.result.now c.for_each_mut.new.s (length-map s.crew.workers.items (λ (w : Worker). w.role)) same
-    (search rules)
+    let done = all_done may_fail workers s.connections plan.from config c.requires.config (λ p. p.waiting) (λ p. p.done)
+    c.in-Ok.prepared.tasks.items c.as_mut_slice-all.result.now c.for_each_mut.new.s same (search rules)
     c.in-Ok.ensures.tasks
     (λ k e lt.
     let at = (c.for_each_mut.ensures k e lt).1 in
-    manned_so config may_fail roles s.connections (λ p. waits p.waiting) (λ p. p.done) _ _ _ _ at.argument_is at.left at.call) in
-    let worked = have_worked may_fail roles s.connections plan.from config c.requires.config (map (λ p. p.done) c.for_each_mut.new.s)
+    manned_so config may_fail s.connections (λ p. p.waiting) (λ p. p.done) _ _ _ _ at.argument_is at.left at.call) in
+    let worked = have_worked may_fail workers s.connections plan.from config c.requires.config (map (λ p. p.done) c.for_each_mut.new.s)
     c.in-Ok.prepared.room.items c.collect_passes-clean.new.passes.items c.collect_passes-clean.result done.0 c.in-Ok.ensures.room.0
     c.collect_passes-clean.ensures.items c.collect_passes-clean.ensures.clean in
     if_ok_both _ _ _ c.close.result
@@ -57,23 +49,21 @@ returns-clause-err g c =
     let s = c.args.self in
     let config = g.L.SiteLedger.config in
     let may_fail = g.J.Journal.may_fail in
-    let roles = roles_of s.crew.workers.items in
-    let many = length s.crew.workers.items in
+    let workers = s.crew.workers.items in
     let plan = plan_of g.J.Journal.written may_fail s in
     let same : c.in-Ok.prepared.tasks.items ≡ c.as_mut_slice-all.result.now = search rules in
     let opened : c.open.result ≡ plan.from = search rules in
-    let done = all_done may_fail roles s.connections plan.from config c.requires.config (λ p. waits p.waiting) (λ p. p.done)
-    many c.in-Ok.prepared.tasks.items c.as_mut_slice-all.result.now c.for_each_mut.new.s (length-map s.crew.workers.items (λ (w : Worker). w.role)) same
-    (search rules)
+    let done = all_done may_fail workers s.connections plan.from config c.requires.config (λ p. p.waiting) (λ p. p.done)
+    c.in-Ok.prepared.tasks.items c.as_mut_slice-all.result.now c.for_each_mut.new.s same (search rules)
     c.in-Ok.ensures.tasks
     (λ k e lt.
     let at = (c.for_each_mut.ensures k e lt).1 in
-    manned_so config may_fail roles s.connections (λ p. waits p.waiting) (λ p. p.done) _ _ _ _ at.argument_is at.left at.call) in
+    manned_so config may_fail s.connections (λ p. p.waiting) (λ p. p.done) _ _ _ _ at.argument_is at.left at.call) in
     let tasks = map (λ p. p.done) c.for_each_mut.new.s in
-    let worked = have_worked may_fail roles s.connections plan.from config c.requires.config tasks c.in-Ok.prepared.room.items
+    let worked = have_worked may_fail workers s.connections plan.from config c.requires.config tasks c.in-Ok.prepared.room.items
     c.collect_passes-clean.new.passes.items c.collect_passes-clean.result done.0 c.in-Ok.ensures.room.0 c.collect_passes-clean.ensures.items
     c.collect_passes-clean.ensures.clean in
-    let all = are_all may_fail roles s.connections plan.from config c.requires.config many tasks
+    let all = are_all may_fail workers s.connections plan.from config c.requires.config (length workers) tasks
     c.in-Ok.prepared.room.items c.collect_passes-clean.new.passes.items c.collect_passes-clean.result done.0 done.1 c.in-Ok.ensures.room.0
     c.collect_passes-clean.ensures.items worked in
     if_err_more _ _ c.close.result
