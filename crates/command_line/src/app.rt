@@ -155,7 +155,7 @@ const WORDS: [Word; 7] = [
     },
     Word {
         name: "serve",
-        about: "Serves a site on 127.0.0.1, then prints its journal",
+        about: "Serves a site at ports and local sockets, then prints its journal",
         example: "Examples: fc serve site.toml > day.journal, fc serve --journal day.journal site.toml",
         arguments: &[
             Argument::File("config", CONFIG),

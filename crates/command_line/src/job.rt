@@ -37,9 +37,9 @@ pub enum Job {
         config: String,
         journal: String,
     },
-    /// Serve a site of this configuration on 127.0.0.1, and print its journal at the end.
+    /// Serve a site of this configuration, and print its journal at the end.
     Serve(String),
-    /// Serve a site of this configuration on 127.0.0.1, and write its journal to a file as it grows.
+    /// Serve a site of this configuration, and write its journal to a file as it grows.
     ServeKept {
         config: String,
         journal: String,

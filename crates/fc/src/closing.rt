@@ -2,7 +2,7 @@
 use file_jobs::{FAILED, Place, REFUSED, complain, once_printed, out_of_memory, refuse};
 use site_server::{CloseRefusal, ServeFault};
 
-/// Refuses to close a site of a configuration, and answers the exit status.
+/// Prints why a site can't be closed, and returns the exit status. `word` names the configuration's file.
 fn refuse_close(rt: &HostRuntime, word: &str, why: CloseRefusal) -> u8 {
     let place = Place::of(word);
     match why {
@@ -26,7 +26,7 @@ pub fn tell_unclosed(rt: &HostRuntime, word: &str, why: ServeFault) -> u8 {
     match why {
         ServeFault::NotClosed(why) => refuse_close(rt, word, why),
         ServeFault::OutOfMemory => out_of_memory(rt),
-        // A journal says itself why it failed.
+        // Why the journal failed was printed as it happened.
         ServeFault::Journal => FAILED,
     }
 }

@@ -1,4 +1,4 @@
-//! What the program does for its words.
+//! The jobs of the program: which function does which.
 use crate::kept::{serve_kept, serve_synced};
 use crate::printed::serve_printed;
 use command_line::Job;
@@ -11,7 +11,7 @@ use std::sync::Wait;
 use std::thread::Threads;
 use std::time::Clock;
 
-/// Does a job, and answers the exit status. What goes wrong with a file or a device is said on standard error.
+/// Does a job, and returns the exit status. What goes wrong with a file or a device is printed on standard error.
 ///
 /// `host` is the same runtime: only `main` can lend it as one that starts threads and opens sockets.
 pub fn do_job<

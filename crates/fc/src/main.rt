@@ -17,18 +17,18 @@ use jobs::do_job;
 use std::io::{self, ErrorKind};
 use std::process::ExitCode;
 
-/// The words of the command line, the program's name first.
+/// Returns the arguments of the command line, the program's name first.
 fn words_of(rt: &HostRuntime) -> io::Result<Vec<String>> {
     let words = std::env::args(rt)?.collect(rt.alloc())?;
     Ok(words)
 }
 
-/// What the words ask for.
+/// Reads the arguments of the command line as a job. Where they are none, a usage text was printed on standard error.
 fn job_of(rt: &HostRuntime) -> Result<Job, Stop> {
     let words = match words_of(rt) {
         Ok(words) => words,
         Err(error) if error.kind() == ErrorKind::OutOfMemory => return Err(Stop::Failed(error)),
-        // The only other cause.
+        // The only other cause: an argument isn't UTF-8.
         Err(_) => {
             tell(rt, &"the words are not text; see fc --help");
             return Err(Stop::Said(USAGE));
@@ -44,7 +44,7 @@ fn job_of(rt: &HostRuntime) -> Result<Job, Stop> {
     }
 }
 
-/// The exit status of a job that was done, or that stopped.
+/// Returns the exit status of a job that was done, or that stopped.
 fn status_of(rt: &HostRuntime, done: Result<u8, Stop>) -> u8 {
     match done {
         Ok(status) | Err(Stop::Said(status)) => status,

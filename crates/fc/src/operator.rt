@@ -30,12 +30,12 @@ impl Display for Peer {
     }
 }
 
-/// The number of what ended a session, with a blank before it.
+/// Returns the fault number of what ended a session, in brackets and with a blank before it; nothing where it has none.
 fn code_of(failure: SessionFailure) -> &'static str {
     match failure {
         SessionFailure::Line(LineFault::TooLong) => " (L1)",
         SessionFailure::Line(LineFault::CutLine) => " (L4)",
-        // A session goes on behind these.
+        // None of these ends a session.
         SessionFailure::Line(LineFault::BadLine | LineFault::BadNumber | LineFault::OutOfMemory) =>
             "",
         SessionFailure::Session(SessionFault::Read) => " (N1)",
@@ -47,7 +47,7 @@ fn code_of(failure: SessionFailure) -> &'static str {
 }
 
 impl<'a, H: Wait + Clock> Operator<'a, H> {
-    /// Nothing was reported yet. `host` is the same runtime as `rt`.
+    /// Makes an operator's reports, with none printed yet. `host` is the same runtime as `rt`.
     pub fn new(rt: &'a HostRuntime, host: &'a H) -> Operator<'a, H> {
         Operator {
             rt,

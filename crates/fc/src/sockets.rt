@@ -32,7 +32,7 @@ pub enum SocketFault<'a> {
     Taken,
     /// Something else than a socket is at the path.
     OtherFile,
-    /// Where the folder beside the path is to be made, something is that no killed process has left.
+    /// Something has the name of the folder beside the path, and isn't what a killed process has left.
     InTheWay(Beside<'a>),
     /// The system refused a call.
     Failed(io::Error),

@@ -139,7 +139,7 @@ impl fmt::Display for Place {
     }
 }
 
-/// Who sends lines by number: tills, or dispensers, whose lines name points.
+/// One of the two kinds of peers whose lines name a number: tills (their own number), or dispensers (a point).
 #[derive(Clone, Copy)]
 pub enum Side {
     Tills,
@@ -201,12 +201,12 @@ fn write_count<W: fmt::Write>(
 /// What is wrong in the text of a configuration: the first flaw in the order in which the text is checked.
 #[derive(Drop)]
 pub enum ConfigFlaw {
-    /// K1, at this line and column, both counted from 1.
+    /// The text isn't UTF-8 from this line and column on, both counted from 1 (K1).
     NotUtf8 {
         line: usize,
         column: usize,
     },
-    /// K1, at this line and column, both counted from 1, with the message of the TOML reader.
+    /// The text isn't TOML (K1): a line and a column, both counted from 1, and the message of the TOML reader.
     NotToml {
         line: usize,
         column: usize,

@@ -4,7 +4,7 @@ use Rattle.std.specs.Prelude.{ℕ, ◌<◌, ◌≤◌, List, map}
 use Rattle.till_request.specs.declared.act.Role.{Role}
 use Rattle.site_server.specs.declared.crew.Worker.{Worker}
 
--- so many workers are a crew: at least one, and at most as many as there are tills and points, of 64 and 31, and an owner
+-- a crew has at least one worker, and at most 96: 64 for tills, 31 for dispensers and one for the owner
 abbrev pub IsCrew : ℕ → Type 0
 IsCrew workers = (0 < workers) × (workers ≤ 96)
 

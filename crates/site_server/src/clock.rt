@@ -1,4 +1,4 @@
-//! Moments by the machine's clock.
+//! The machine's clock, as a session asks for it.
 ghost use Rattle.std.specs.Prelude.{◌≡◌};
 
 use line_session::Clock;
@@ -14,7 +14,7 @@ pub struct MachineClock<'a, R: time::Clock> {
 }
 
 impl<'a, R: time::Clock> MachineClock<'a, R> {
-    /// A clock that has given no moment yet.
+    /// Makes a clock, which hasn't been asked for a moment yet.
     pub fn new(rt: &'a R) -> MachineClock<'a, R>
         ensures { result.last ≡ 0 }
     {

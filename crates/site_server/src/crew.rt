@@ -1,4 +1,4 @@
-//! Who serves whom.
+//! The workers of a site: whose lines each one takes, and at which door.
 ghost use Rattle.std.specs.Prelude.{◌≡◌, ◌<◌, ◌≤◌, ◌↔◌, IsSome, IfSome, length};
 ghost use Rattle.site_server.specs.Crews.{IsCrew};
 
@@ -22,7 +22,7 @@ pub struct Crew {
 }
 
 impl Crew {
-    /// A crew of these workers, exactly where they are 1 to 96.
+    /// Makes a crew of these workers; `None` exactly where they aren't 1 to 96.
     pub fn new(workers: Vec<Worker>) -> Option<Crew>
         ensures there { IsSome result ↔ IsCrew (length workers.items) }
         ensures workers { IfSome result (λ crew. crew.workers ≡ workers) }
@@ -34,7 +34,8 @@ impl Crew {
         }
     }
 
-    /// The number of its workers, and so of the passes that they have.
+    /// Returns the number of the crew's workers, 1 to 96. Each has one pass, its right to call the forecourt, so this
+    /// is the number of passes too.
     pub fn passes(&self) -> u32
         ensures number { result ≡ length self.now.workers.items }
         ensures some { (0 < result) × (result ≤ 96) }

@@ -1,4 +1,4 @@
-//! Connections of a listener.
+//! The connections of a listener, as a worker takes them: one after another.
 ghost use Rattle.std.specs.Prelude.{◌≡◌};
 ghost use Rattle.till_request.specs.Count.{RoseBy};
 ghost use Rattle.site_server.specs.Pauses.{longer_pause, told_of};
@@ -58,8 +58,8 @@ fn failure_of(outcome: &Result<Ended, SessionFault>) -> Option<SessionFailure>
 }
 
 impl<'a, R: Clock, N: Notices> SocketDoors<'a, R, N> {
-    /// The doors of a listener, for the worker of a role with a pass. None was asked for yet. A peer may be silent for
-    /// `idle_seconds`; where they are 0, as long as it wants.
+    /// Makes the doors of a listener for the worker that takes the lines of a role and has this pass. No connection was
+    /// asked for yet. A peer may be silent for `idle_seconds`; where they are 0, as long as it wants.
     pub fn new(
         rt: &'a R,
         listener: &'a Listener,
@@ -112,7 +112,7 @@ impl<'a, R: Clock, N: Notices> SocketDoors<'a, R, N> {
         Ok((input, output))
     }
 
-    /// Reports the first of several failures to an operator, and waits.
+    /// Reports a failure to an operator, if it is the first since a connection was opened, and waits.
     fn hold(&mut self, error: &io::Error)
         ensures asked { self.new.asked ≡ self.old.asked }
         ensures pause { self.new.pause ≡ longer_pause self.old.pause }
@@ -148,7 +148,7 @@ impl<'a, R: Clock, N: Notices> Doors for SocketDoors<'a, R, N> {
         }
     }
 
-    // The bytes of a line that came with the one before were read ahead.
+    // A whole line that came in one block with the line before is in memory already.
     fn has_buffered_line(&self, input: &Self::In) -> bool {
         input.holds_line()
     }

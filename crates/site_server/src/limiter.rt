@@ -1,4 +1,4 @@
-//! How many lines an operator gets at once.
+//! A limit on how many lines are printed for an operator in a second.
 ghost use Rattle.std.specs.Prelude.{◌≡◌, ◌+◌, ◌<◌, ◌^◌};
 ghost use Rattle.site_server.specs.Limits.{admitted, after_line};
 
@@ -24,7 +24,7 @@ impl Model for Limiter {
 }
 
 impl Limiter {
-    /// No line came yet.
+    /// Makes a limiter to which no line came yet.
     pub fn new() -> Limiter
         ensures second { result.second ≡ 0 }
         ensures told { result.told ≡ 0 }

@@ -12,7 +12,7 @@ use std::os::unix::net::UnixListener;
 pub enum Listener {
     /// A port.
     Port(TcpListener),
-    /// A local socket, whose file is its maker's.
+    /// A local socket. Who made it removes its file.
     Socket(UnixListener),
 }
 

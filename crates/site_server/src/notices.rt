@@ -6,7 +6,7 @@ use till_request::{LineFault, Role};
 /// Why a session ended before its peer had said all it wanted.
 #[derive(Clone, Copy, Drop)]
 pub enum SessionFailure {
-    /// A line that ended it: L1 or L4.
+    /// The line that ended it: too long (L1), or cut off by the end of the input (L4).
     Line(LineFault),
     /// A device that failed, reads that ran out, or out of memory.
     Session(SessionFault),
@@ -18,7 +18,7 @@ impl fmt::Display for SessionFailure {
             SessionFailure::Line(LineFault::TooLong) => {
                 f.write_str("ended by a line of more than 8,400 bytes")
             }
-            // No other line ends a session than one that is too long or has no end.
+            // The only other line that ends a session is one without its LF.
             SessionFailure::Line(_) => f.write_str("ended in mid-line"),
             SessionFailure::Session(fault) => write!(f, "{fault}"),
         }
@@ -33,6 +33,6 @@ pub trait Notices {
     /// A session of the worker of this role with this pass ended with this failure.
     fn session_failed(&self, role: Role, pass: u32, failure: SessionFailure);
 
-    /// Nothing came for so many seconds from the peer of the worker of this role with this pass, so its input ended.
+    /// The peer of the worker of this role with this pass sent nothing for this many seconds, so its input ended.
     fn fell_silent(&self, role: Role, pass: u32, seconds: u32);
 }

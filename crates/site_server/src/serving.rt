@@ -34,7 +34,7 @@ pub struct Serving<J: Journal = NoJournal> {
     pub idle_seconds: u32,
 }
 
-/// What serving leaves.
+/// What is left when a site has been served to its end.
 #[derive(Drop)]
 pub struct Served<J: Journal = NoJournal> {
     /// The site, closed.
@@ -53,7 +53,8 @@ pub enum ServeFault {
     /// The journal failed: the last entry isn't answered.
     #[error("a write to the journal failed: the site took no further event")]
     Journal,
-    /// C1, C2 or C3: what the workers were answered isn't the site's history.
+    /// What the workers were answered isn't the site's history: a pass is missing (C1), an answer isn't in the history
+    /// (C2), or a pass is of another configuration (C3).
     #[error("{0}")]
     NotClosed(CloseRefusal),
 }
@@ -68,7 +69,7 @@ impl From<AllocError> for ServeFault {
     }
 }
 
-/// Serving that left no closed site.
+/// What is left when serving ends without a closed site.
 #[derive(Drop)]
 pub struct Unclosed<J: Journal = NoJournal> {
     pub why: ServeFault,
@@ -76,12 +77,12 @@ pub struct Unclosed<J: Journal = NoJournal> {
     pub back: Option<(Site, J)>,
 }
 
-/// The parts of serving that need memory, made before anything is served.
+/// What serving needs memory for, allocated before anything is served.
 #[derive(Drop)]
 struct Prepared<L: SiteLedger> {
     builder: ForecourtBuilder<L>,
     tasks: Vec<WorkerTask<L>>,
-    /// For the passes that come back.
+    /// Memory for the passes that the workers give back.
     room: Vec<Pass<L>>,
 }
 
@@ -123,7 +124,7 @@ fn why_not_closed(why: CloseRefusal, has_stopped: bool) -> ServeFault
     }
 }
 
-/// Closes the site of a forecourt, where its history is what the passes were answered.
+/// Closes the site of a forecourt. That is refused unless its history is what the passes were answered.
 fn close<L: SiteLedger, J: Journal, R: Wait>(
     rt: &R,
     forecourt: Forecourt<L, J>,

@@ -1,4 +1,4 @@
-//! Peers that say nothing.
+//! The reading half of a connection, which ends where its peer is silent for too long.
 ghost use Rattle.std.specs.Prelude.{◌≡◌, ◌<◌, ◌↔◌, IsTrue};
 ghost use Rattle.std.specs.IoError.{error_kind};
 
@@ -18,7 +18,7 @@ pub struct Hearing<'a, N: Notices> {
     pub(crate) idle_seconds: u32,
 }
 
-/// Returns whether a read failed since nothing came for so many seconds; 0 is no limit.
+/// Returns whether a read failed because nothing came for the `idle_seconds`. Where they are 0, there is no such limit.
 fn is_silence(error: &io::Error, idle_seconds: u32) -> bool
     ensures { IsTrue result ↔ (0 < idle_seconds) × (error_kind error.now ≡ ErrorKind.WouldBlock) }
 {

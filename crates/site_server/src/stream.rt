@@ -14,7 +14,7 @@ pub enum Stream {
 }
 
 impl Stream {
-    /// Another handle of the same connection.
+    /// Returns another handle of the same connection.
     pub(crate) fn try_clone(&self) -> io::Result<Stream> {
         match self {
             Stream::Port(stream) => Ok(Stream::Port(stream.try_clone()?)),

@@ -1,4 +1,4 @@
-//! What each worker is started with, and what it leaves.
+//! The tasks of the workers' threads: with what each worker starts, and what it gives back.
 ghost use Rattle.std.specs.Prelude.{◌≡◌, ◌++◌, ◌∷◌, ◌+◌, ◌^◌, ◌<◌, ◌≤◌, [], IfOk, Some, length, map};
 ghost use Rattle.std.specs.Prelude.{vec_capacity, vec_len};
 ghost use Rattle.std.specs.List.{zip};
@@ -16,7 +16,7 @@ pub struct WorkerTask<L: SiteLedger> {
     pub done: Option<(Pass<L>, u64)>,
 }
 
-/// A task for each pass, with the worker at its place.
+/// Makes a task for each pass, with the worker at the same place of the list.
 pub(crate) fn tasks_of<L: SiteLedger>(
     alloc: Global,
     passes: Vec<Pass<L>>,

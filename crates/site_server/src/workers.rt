@@ -16,18 +16,18 @@ use std::sync::Wait;
 use std::time::Clock;
 use till_request::Role;
 
-/// What all workers of a site share.
+/// What all workers of a served site use together.
 #[derive(Drop)]
 pub struct Workers<'a, L: SiteLedger, J: Journal, N: Notices, A: Release, R: Wait + Clock> {
     pub rt: &'a R,
     pub alloc: Global,
     pub forecourt: Forecourt<L, J>,
     pub notices: &'a N,
-    /// What lets an answer leave.
+    /// What says when an answer may be sent.
     pub release: &'a A,
     /// The number of connections that each worker serves.
     pub connections: u32,
-    /// For how many seconds a peer may be silent; where 0, as long as it wants.
+    /// For how many seconds a peer may be silent; 0 is no limit.
     pub idle_seconds: u32,
 }
 
@@ -39,7 +39,8 @@ impl<L: SiteLedger, J: Journal, N: Notices, A: Release, R: Wait + Clock> Workers
     A,
     R,
 > {
-    /// Does a worker's task. Its share of the listener is given up at the end, so the last worker of a door closes it.
+    /// Serves with the pass and the listener of a worker's task, and leaves the pass in the task. The workers of a door
+    /// share its listener, which is closed when the last of them ends.
     pub fn work(&self, task: &mut WorkerTask<L>)
         ensures { RunsWorker L.config J.may_fail self.now.connections task.old.waiting task.new.done }
     {
@@ -58,7 +59,7 @@ impl<L: SiteLedger, J: Journal, N: Notices, A: Release, R: Wait + Clock> Workers
         task.done = Some(self.serve_held(pass, role, doors));
     }
 
-    /// Serves the connections of a role with one pass. Their answers wait until they may leave.
+    /// Serves the connections of a role with one pass. Each answer waits until `release` allows it to be sent.
     fn serve_held<S: Doors + Drop>(&self, pass: Pass<L>, role: Role, doors: S) -> (Pass<L>, u64)
         ensures worked { Worked L.config J.may_fail role self.now.connections result.1 pass result.0 }
         ensures id { result.0.id ≡ pass.id }
