@@ -68,6 +68,16 @@ def stunnel(folder, name, text):
     return program
 
 
+def stunnel_on_a_port(folder, name, text_for):
+    """The port of stunnel over the configuration that `text_for` makes for a port. Another program may take a port
+    between the choice and the start: then another is chosen."""
+    for _ in range(10):
+        port = free_ports(1)[0]
+        if stunnel(folder, name, text_for(port)):
+            return port
+    raise SystemExit(f"{name} said {read(os.path.join(folder, f'{name}.said'))}")
+
+
 def changed(text, changes):
     """A text in which each of some pieces, which have to stand in it, is another."""
     for old, new in changes.items():
@@ -119,12 +129,16 @@ class Station:
         return stunnel(self.folder, "controller", end_of("controller.conf", changes))
 
     def open_controller_again(self):
-        """As after a change of what it accepts."""
+        """As after a change of what it accepts. The tills' ends know its ports, so they stay; another program that took
+        one meanwhile has some seconds to leave it."""
         self.controller.kill()
         self.controller.wait()
-        self.controller = self.controller_end()
-        if not self.controller:
-            raise SystemExit("the controller's end didn't open again")
+        for _ in range(10):
+            self.controller = self.controller_end()
+            if self.controller:
+                return
+            time.sleep(0.5)
+        raise SystemExit(f"the controller's end said {read(os.path.join(self.folder, 'controller.said'))}")
 
     def end(self):
         """The status, once every door has served its connections, the journal, and what is left of the doors."""
@@ -136,20 +150,16 @@ class Station:
 def till_end(station, port, keys=None, name="till1", further=None):
     """The port of a till's end with the keys of this folder and name, which connects to such a port; `further` are more
     changes of its file."""
+    changes = {
+        "/etc/fc/tunnel/till1": os.path.join(keys or station.keys, name),
+        "/etc/fc/tunnel/authority": os.path.join(station.keys, "authority"),
+        "192.168.7.1:7101": f"127.0.0.1:{port}",
+    }
+    text = changed(end_of("till.conf", changes), further or {})
     station.ends += 1
-    called = f"end{station.ends}"
-    for _ in range(10):
-        here = free_ports(1)[0]
-        changes = {
-            "/etc/fc/tunnel/till1": os.path.join(keys or station.keys, name),
-            "/etc/fc/tunnel/authority": os.path.join(station.keys, "authority"),
-            "127.0.0.1:7001": f"127.0.0.1:{here}",
-            "192.168.7.1:7101": f"127.0.0.1:{port}",
-        }
-        text = end_of("till.conf", changes)
-        if stunnel(station.folder, called, changed(text, further or {})):
-            return here
-    raise SystemExit(f"a till's end said {read(os.path.join(station.folder, f'{called}.said'))}")
+    return stunnel_on_a_port(
+        station.folder, f"end{station.ends}", lambda here: changed(text, {"127.0.0.1:7001": f"127.0.0.1:{here}"})
+    )
 
 
 class Line:

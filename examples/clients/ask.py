@@ -21,11 +21,17 @@ def connected(where):
 
 
 def main():
-    site = connected(sys.argv[1])
+    try:
+        site = connected(sys.argv[1])
+    except OSError as error:
+        raise SystemExit(f"no connection to {sys.argv[1]}: {error}")
     answers = site.makefile("r", encoding="ascii", newline="\n")
     for line in sys.argv[2:]:
-        site.sendall(f"{line}\n".encode("ascii"))
-        answer = answers.readline()
+        try:
+            site.sendall(f"{line}\n".encode("ascii"))
+            answer = answers.readline()
+        except OSError:
+            answer = ""
         if not answer.endswith("\n"):
             raise SystemExit(f"no answer to '{line}'")
         print(answer, end="")

@@ -11,7 +11,7 @@ import time
 
 PATIENCE = 10  # seconds that an answer may take
 PAUSE = 0.2  # seconds between two questions for an order: each is an entry of the journal
-HANGING_UP = 1.0  # seconds from the last flow to the nozzle's place: in them the till reads the amount
+HANGING_UP = 3.0  # seconds from the last flow to the nozzle's place: in them the till reads the amount
 STEPS = 5
 
 
@@ -30,8 +30,11 @@ class Controller:
 
     def ask(self, line):
         """The words of the answer, without its entry's number."""
-        self.socket.sendall(f"{line}\n".encode("ascii"))
-        answer = self.answers.readline()
+        try:
+            self.socket.sendall(f"{line}\n".encode("ascii"))
+            answer = self.answers.readline()
+        except OSError:
+            answer = ""
         if not answer.endswith("\n"):
             raise SystemExit(f"no answer to '{line}': the valve is shut")
         words = answer.split()
@@ -73,7 +76,10 @@ def fuel(site, point, cents, price):
 
 def main():
     point, nozzle, cents, price = map(int, sys.argv[2:6])
-    site = Controller(sys.argv[1])
+    try:
+        site = Controller(sys.argv[1])
+    except OSError as error:
+        raise SystemExit(f"no connection to {sys.argv[1]}: {error}")
     print(f"point {point}: up {' '.join(site.ask(f'disp {point} up {nozzle}'))}")
     limit = wait_for_release(site, point)
     print(f"point {point}: authorised for {limit} cents")

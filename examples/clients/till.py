@@ -31,8 +31,11 @@ class Controller:
 
     def ask(self, line):
         """The words of the answer, without its entry's number."""
-        self.socket.sendall(f"{line}\n".encode("ascii"))
-        answer = self.answers.readline()
+        try:
+            self.socket.sendall(f"{line}\n".encode("ascii"))
+            answer = self.answers.readline()
+        except OSError:
+            answer = ""
         if not answer.endswith("\n"):
             raise SystemExit(f"no answer to '{line}': whether it was done is to be looked up")
         words = answer.split()
@@ -79,7 +82,10 @@ def settle(site, till, point, last):
 def main():
     till, point, cents = map(int, sys.argv[2:5])
     last = int(sys.argv[5]) if len(sys.argv) > 5 else 0
-    site = Controller(sys.argv[1])
+    try:
+        site = Controller(sys.argv[1])
+    except OSError as error:
+        raise SystemExit(f"no connection to {sys.argv[1]}: {error}")
     wait_for_a_nozzle(site, till, point)
     answer = site.ask(f"till {till} release {point} {cents}")
     print(f"point {point}: release {' '.join(answer)}")

@@ -2,7 +2,8 @@
 # Makes a station's own authority and its keys, for tunnels whose both ends check each other (docs/use/network.md).
 #
 #   make-keys.sh [--days N] FOLDER NAME..          a key and a certificate of N days (730) for each name; in a new
-#                                                  FOLDER the authority (3650 days) and the controller's key come first
+#                                                  FOLDER the authority (3650 days) and the controller's key come
+#                                                  first. Where a call was interrupted, the next one makes this key
 #   make-keys.sh [--days N] --renew FOLDER NAME..  a new key for each name; the certificates before it stay accepted
 #   make-keys.sh --latest FOLDER NAME..            from now on only the latest certificate of each name is accepted
 #   make-keys.sh --revoke FOLDER NAME..            from now on no certificate of these names is accepted; their keys go
@@ -24,13 +25,24 @@ stop() {
     say "$*"
     exit 1
 }
+usage='usage: make-keys.sh [--days N] [--renew] FOLDER NAME.. | make-keys.sh --latest | --revoke FOLDER NAME..'
 usage() {
     [ $# = 0 ] || say "$*"
-    echo 'usage: make-keys.sh [--days N] [--renew] FOLDER NAME.. | make-keys.sh --latest | --revoke FOLDER NAME..' >&2
+    echo "$usage" >&2
     exit 2
 }
 
 is_there() { [ -e "$1" ] || [ -L "$1" ]; }
+
+# Whether this can become a folder of keys: nothing is in it but what a call left there that failed at its first key.
+is_unused() {
+    [ -d "$1" ] || return 1
+    case $(ls -A "$1") in
+        '') ;;
+        accepted) [ -d "$1/accepted" ] && [ -z "$(ls -A "$1/accepted")" ] ;;
+        *) return 1 ;;
+    esac
+}
 
 # What openssl is told to put into certificates; the machine's own openssl.cnf has no part in it.
 settings() {
@@ -147,7 +159,10 @@ while [ $# -gt 0 ]; do
             [ "$task" = make ] || usage "one of --renew, --latest and --revoke at a time"
             task=${1#--}
             ;;
-        --help) usage ;;
+        --help)
+            echo "$usage"
+            exit 0
+            ;;
         -*) usage "'$1' is no option" ;;
         *) break ;;
     esac
@@ -156,13 +171,19 @@ done
 [ $# -gt 1 ] || usage
 folder=$1
 shift
+if [ "$task" = make ] && ! is_there "$folder/controller.crt"; then
+    case " $* " in
+        *' controller '*) ;;
+        *) set -- controller "$@" ;;
+    esac
+fi
 for name in "$@"; do look_at_name "$name"; done
 [ "$(printf '%s\n' "$@" | sort | uniq -d)" = '' ] || usage "a name stands there twice"
 command -v openssl >/dev/null || stop "there is no openssl here"
 
 first=''
 if ! is_there "$folder/authority.crt" && [ "$task" = make ]; then
-    if is_there "$folder" && { [ ! -d "$folder" ] || [ -n "$(ls -A "$folder")" ]; }; then
+    if is_there "$folder" && ! is_unused "$folder"; then
         stop "$folder is there, and is neither empty nor a folder of keys"
     fi
     first=1
@@ -174,13 +195,7 @@ fi
 new=$(mktemp -d "$folder/.new.XXXXXX")
 trap 'rm -rf "$new"' EXIT
 trap 'exit 1' HUP INT TERM
-if [ -n "$first" ]; then
-    make_authority
-    case " $* " in
-        *' controller '*) ;;
-        *) make_one controller ;;
-    esac
-fi
+[ -z "$first" ] || make_authority
 for name in "$@"; do
     case $task in
         make | renew) make_one "$name" ;;
