@@ -2,15 +2,15 @@
 use line_session::Doors;
 use site_core::{Config, Site};
 use site_server::{
-    AtOnce, Crew, Listener, NoJournal, Notices, Serving, SessionFailure, SocketDoors, Stream,
-    Worker,
+    AtOnce, Crew, Listener, NoJournal, Notices, OpenDoor, Serving, SessionFailure, SocketDoors,
+    Stream,
 };
 use std::alloc::{AllocError, Global};
 use std::io;
 use std::io::{BufRead, BufReader, Write};
 use std::net::{Net, SocketAddr, TcpListener, TcpStream};
 use std::sync::atomic::{AtomicU64, Ordering};
-use std::sync::{Arc, Wait};
+use std::sync::Wait;
 use std::test::Fail;
 use std::thread::{Threads, join};
 use std::time::Clock;
@@ -95,18 +95,21 @@ fn addresses_of(ports: &Ports) -> io::Result<Addresses> {
     })
 }
 
-/// Makes a worker for each port: for till 1, for dispensers and for the owner.
-fn workers_at(alloc: Global, ports: Ports) -> Result<Vec<Worker>, AllocError> {
-    let mut workers = Vec::new(alloc);
+/// Makes a door with one worker of each port: for till 1, for dispensers and for the owner.
+fn doors_at(alloc: Global, ports: Ports) -> Result<Vec<OpenDoor>, AllocError> {
+    let mut doors = Vec::new(alloc);
     for (role, listener) in [
         (Role::OneTill(1), ports.till),
         (Role::Dispenser, ports.dispenser),
         (Role::Owner, ports.owner),
     ] {
-        let listener = Arc::new(alloc, listener)?;
-        workers.push(Worker { role, listener })?;
+        doors.push(OpenDoor {
+            role,
+            listener,
+            workers: 1,
+        })?;
     }
-    Ok(workers)
+    Ok(doors)
 }
 
 /// Connects as a peer, sends these lines, and appends to `heard` as many answers as `answers` says.
@@ -147,7 +150,7 @@ fn in_turn<R: Net<Listener = TcpListener, Stream = TcpStream>>(
 
 /// Makes the settings for serving a new site, with one connection of each kind.
 fn serving(alloc: Global, ports: Ports) -> Result<Serving, Fail> {
-    let crew = Crew::new(workers_at(alloc, ports)?).ok_or("a crew")?;
+    let crew = Crew::new(alloc, doors_at(alloc, ports)?)?.ok_or("a crew")?;
     Ok(Serving {
         site: site(alloc)?,
         journal: NoJournal,

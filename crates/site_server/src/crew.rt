@@ -1,10 +1,19 @@
 //! The workers of a site: whose lines each one takes, and at which door.
-ghost use Rattle.std.specs.Prelude.{◌≡◌, ◌<◌, ◌≤◌, ◌↔◌, IsSome, IfSome, length};
-ghost use Rattle.site_server.specs.Crews.{IsCrew};
+ghost use Rattle.std.specs.Prelude.{◌≡◌, ◌+◌, ◌-◌, ◌^◌, ◌<◌, ◌≤◌, ◌↔◌, ◌++◌, IfOk, IfSome, IsSome, IsTrue, length, min};
+ghost use Rattle.site_server.specs.Crews.{IsCrew, all_posts, posts_at, posts_of};
 
 use crate::listener::Listener;
+use std::alloc::{AllocError, Global};
 use std::sync::Arc;
 use till_request::Role;
+
+/// A door that is open: whose lines it takes, where its connections come in, and how many workers serve them.
+#[derive(Drop)]
+pub struct OpenDoor {
+    pub role: Role,
+    pub listener: Listener,
+    pub workers: u32,
+}
 
 /// A worker of a site: whose lines it takes, and where its connections come in. The workers of one door share its
 /// listener, which is closed with the last of them.
@@ -21,17 +30,67 @@ pub struct Crew {
     ghost few: { IsCrew (length workers.items) },
 }
 
+/// Returns how many workers these doors have in all, at most 2^32 - 1.
+fn count_workers(doors: &[OpenDoor]) -> u32
+    ensures { result ≡ min (length (all_posts doors.now)) (2 ^ 32 - 1) }
+{
+    let Some((door, rest)) = doors.split_first() else {
+        return 0;
+    };
+    door.workers.saturating_add(count_workers(rest))
+}
+
+/// Appends the workers of a door.
+fn push_workers(
+    alloc: Global,
+    workers: &mut Vec<Worker>,
+    door: OpenDoor,
+) -> Result<(), AllocError>
+    ensures { IfOk result (λ _. posts_of workers.new.items ≡ posts_of workers.old.items ++ posts_at door) }
+{
+    let OpenDoor {
+        role,
+        listener,
+        workers: count,
+    } = door;
+    let listener = Arc::new(alloc, listener)?;
+    for _turn in 0..count {
+        let listener = Arc::try_clone(&listener)?;
+        workers.push(Worker { role, listener })?;
+    }
+    Ok(())
+}
+
+/// Makes the workers of these doors, in their order.
+fn workers_of(alloc: Global, doors: Vec<OpenDoor>) -> Result<Vec<Worker>, AllocError>
+    ensures { IfOk result (λ workers. posts_of workers.items ≡ all_posts doors.items) }
+{
+    let mut workers = Vec::new(alloc);
+    for door in doors {
+        push_workers(alloc, &mut workers, door)?;
+    }
+    Ok(workers)
+}
+
+/// Makes a crew of workers, which are 1 to 96.
+fn crew_of(workers: Vec<Worker>) -> Crew
+    requires { IsCrew (length workers.items) }
+    ensures { result.workers ≡ workers }
+{
+    Crew { workers }
+}
+
 impl Crew {
-    /// Makes a crew of these workers; `None` exactly where they aren't 1 to 96.
-    pub fn new(workers: Vec<Worker>) -> Option<Crew>
-        ensures there { IsSome result ↔ IsCrew (length workers.items) }
-        ensures workers { IfSome result (λ crew. crew.workers ≡ workers) }
+    /// Makes the workers of these doors, in their order: as many for each as it says, each with the door's role and a
+    /// share of its listener. `None` exactly where they aren't 1 to 96 in all. The error is that memory ran out.
+    pub fn new(alloc: Global, doors: Vec<OpenDoor>) -> Result<Option<Crew>, AllocError>
+        ensures there { IfOk result (λ made. IsSome made ↔ IsCrew (length (all_posts doors.items))) }
+        ensures workers { IfOk result (λ made. IfSome made (λ crew. posts_of crew.workers.items ≡ all_posts doors.items)) }
     {
-        if (1..=96).contains(&workers.len()) {
-            Some(Crew { workers })
-        } else {
-            None
+        if !(1..=96).contains(&count_workers(&doors)) {
+            return Ok(None);
         }
+        Ok(Some(crew_of(workers_of(alloc, doors)?)))
     }
 
     /// Returns the number of the crew's workers, 1 to 96. Each has one pass, its right to call the forecourt, so this

@@ -15,7 +15,7 @@ mod tasks;
 mod workers;
 
 pub use clock::MachineClock;
-pub use crew::{Crew, Worker};
+pub use crew::{Crew, OpenDoor};
 pub use doors::SocketDoors;
 pub use group_sync::{AtOnce, Claim, CountedOut, Durable, GroupSync, MemoryDisk, Release, Shared};
 pub use limiter::Limiter;

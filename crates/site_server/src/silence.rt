@@ -1,5 +1,5 @@
 //! The reading half of a connection, which ends where its peer is silent for too long.
-ghost use Rattle.std.specs.Prelude.{◌≡◌, ◌<◌, ◌↔◌, IsTrue};
+ghost use Rattle.std.specs.Prelude.{◌≡◌, ◌<◌, ◌↔◌, IsErrAnd, IsFalse, IsTrue, Ok};
 ghost use Rattle.std.specs.IoError.{error_kind};
 
 use crate::notices::Notices;
@@ -25,15 +25,26 @@ fn is_silence(error: &io::Error, idle_seconds: u32) -> bool
     idle_seconds > 0 && error.kind() == ErrorKind::WouldBlock
 }
 
+/// Returns what a reader is told of a read, and whether the peer was silent for too long: then the input is at its end.
+fn heard(read: io::Result<usize>, idle_seconds: u32) -> (io::Result<usize>, bool)
+    ensures silent { IsTrue result.1
+        ↔ IsErrAnd read (λ error. (0 < idle_seconds) × (error_kind error ≡ ErrorKind.WouldBlock)) }
+    ensures ended { IsTrue result.1 → result.0 ≡ Ok 0 }
+    ensures passed_on { IsFalse result.1 → result.0 ≡ read }
+{
+    match read {
+        Err(error) if is_silence(&error, idle_seconds) => (Ok(0), true),
+        read => (read, false),
+    }
+}
+
 impl<N: Notices> Read for Hearing<'_, N> {
     fn read(&mut self, buf: &mut [u8]) -> io::Result<usize> {
-        match self.stream.read(buf) {
-            Err(error) if is_silence(&error, self.idle_seconds) => {
-                self.notices
-                    .fell_silent(self.role, self.pass, self.idle_seconds);
-                Ok(0)
-            }
-            read => read,
+        let (read, is_silent) = heard(self.stream.read(buf), self.idle_seconds);
+        if is_silent {
+            self.notices
+                .fell_silent(self.role, self.pass, self.idle_seconds);
         }
+        read
     }
 }
