@@ -119,6 +119,29 @@ class Served:
         self.program.wait()
 
 
+def served_at(fc, config_of, count, folder):
+    """`fc serve` over the configuration that `config_of` gives of so many ports that are free, and these ports. Another
+    program may take one between the choice and the start: then others are chosen."""
+    for _ in range(10):
+        ports = free_ports(count)
+        site = Served(fc, config_of(*ports), folder)
+        if "fc: serving" in site.said:
+            return site, ports
+        if site.end()[0] != 3:
+            raise SystemExit(f"fc serve said {site.said!r}")
+    raise SystemExit("no free ports")
+
+
+def lets_others_in(folder):
+    """Whether other users come to what is in a folder: whether it and each folder above it let them through."""
+    folder = os.path.realpath(folder)
+    while os.stat(folder).st_mode & 1:
+        if folder == os.path.dirname(folder):
+            return True
+        folder = os.path.dirname(folder)
+    return False
+
+
 class Peer:
     """A connection to a port or to a path, and what was said and heard on it."""
 

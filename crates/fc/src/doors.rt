@@ -2,19 +2,18 @@
 use crate::sockets::{SocketFault, SocketFile, listen_at};
 use file_jobs::{FAILED, Place, Stop};
 use site_config::{Address, Door};
-use site_server::{Listener, Worker};
-use std::alloc::{AllocError, Global};
+use site_server::{Listener, OpenDoor};
+use std::alloc::AllocError;
 use std::fmt::{self, Display};
 use std::fs::Files;
 use std::io::ErrorKind;
 use std::net::{Net, TcpListener, TcpStream};
-use std::sync::Arc;
 use till_request::Role;
 
-/// The workers of a site at its open doors, and the files of those doors that are sockets.
+/// The open doors of a site, and the files of those that are sockets.
 #[derive(Drop)]
 pub struct Opened<'a> {
-    pub workers: Vec<Worker>,
+    pub doors: Vec<OpenDoor>,
     pub files: Vec<SocketFile<'a>>,
 }
 
@@ -128,16 +127,12 @@ impl<'a> Opened<'a> {
         Ok(())
     }
 
-    /// Gives each worker of a door a share of its listener.
-    fn share(&mut self, alloc: Global, door: &Door, listener: Listener) -> Result<(), AllocError> {
-        let shared = Arc::new(alloc, listener)?;
-        for _ in 0..door.workers {
-            let listener = Arc::try_clone(&shared)?;
-            self.workers.push(Worker {
-                role: door.role,
-                listener,
-            })?;
-        }
+    fn add(&mut self, door: &Door, listener: Listener) -> Result<(), AllocError> {
+        self.doors.push(OpenDoor {
+            role: door.role,
+            listener,
+            workers: door.workers,
+        })?;
         Ok(())
     }
 
@@ -171,12 +166,12 @@ pub fn open_doors<'a, H: Files + Net<Listener = TcpListener, Stream = TcpStream>
     doors: &[Door],
 ) -> Result<Opened<'a>, Stop> {
     let mut opened = Opened {
-        workers: Vec::new(rt.alloc()),
+        doors: Vec::new(rt.alloc()),
         files: Vec::new(rt.alloc()),
     };
     for door in doors {
         let listener = opened.listen(rt, host, word, door)?;
-        opened.share(rt.alloc(), door, listener)?;
+        opened.add(door, listener)?;
     }
     Ok(opened)
 }

@@ -166,7 +166,49 @@ fn make_folder<'a, H: Net>(
     }
 }
 
-/// Binds a socket, gives its file a mode, and moves it to its path.
+/// Gives a socket a second name at its path, which replaces nothing. Where a socket is there at which nobody listens,
+/// that is removed first.
+fn put_at<H: Net>(
+    rt: &HostRuntime,
+    host: &H,
+    socket: &str,
+    path: &str,
+) -> Result<(), SocketFault<'static>> {
+    match fs::hard_link(rt, socket, path) {
+        Ok(()) => Ok(()),
+        Err(error) if error.kind() == ErrorKind::AlreadyExists => {
+            find_free(rt, host, path)?;
+            remove(rt, path)?;
+            Ok(fs::hard_link(rt, socket, path)?)
+        }
+        Err(error) => Err(SocketFault::Failed(error)),
+    }
+}
+
+/// Gives a bound socket's file a mode, and moves it to its path.
+fn move_to<'a, H: Net>(
+    rt: &'a HostRuntime,
+    host: &H,
+    socket: &str,
+    path: &str,
+    mode: u32,
+) -> Result<SocketFile<'a>, SocketFault<'static>> {
+    fs::set_permissions(rt, socket, Permissions::from_mode(mode))?;
+    let there = fs::symlink_metadata(rt, socket)?;
+    let to = String::from_str(rt.alloc(), path)?;
+    put_at(rt, host, socket, path)?;
+    // From here on the path is given up too where the first name can't be removed.
+    let file = SocketFile {
+        rt,
+        path: to,
+        device: there.dev(),
+        inode: there.ino(),
+    };
+    fs::remove_file(rt, socket)?;
+    Ok(file)
+}
+
+/// Binds a socket, and moves it to its path. Where it can't be moved it is removed.
 fn bind_and_move<'a, H: Files + Net>(
     rt: &'a HostRuntime,
     host: &H,
@@ -174,18 +216,15 @@ fn bind_and_move<'a, H: Files + Net>(
     path: &str,
     mode: u32,
 ) -> Result<(UnixListener, SocketFile<'a>), SocketFault<'static>> {
-    let to = String::from_str(rt.alloc(), path)?;
+    // Where this fails a socket that is there is another process's.
     let listener = UnixListener::bind(host, socket)?;
-    fs::set_permissions(rt, socket, Permissions::from_mode(mode))?;
-    let there = fs::symlink_metadata(rt, socket)?;
-    fs::rename(rt, socket, path)?;
-    let file = SocketFile {
-        rt,
-        path: to,
-        device: there.dev(),
-        inode: there.ino(),
-    };
-    Ok((listener, file))
+    match move_to(rt, host, socket, path, mode) {
+        Ok(file) => Ok((listener, file)),
+        Err(fault) => {
+            let _ = fs::remove_file(rt, socket);
+            Err(fault)
+        }
+    }
 }
 
 /// Listens at a path. The socket's file has this mode from the moment at which others can see it: it is bound in a
@@ -205,9 +244,6 @@ pub fn listen_at<'a, 'b, H: Files + Net>(
     let socket = format!(in rt.alloc(); "{folder}/s")?;
     make_folder(rt, host, path, &folder, &socket)?;
     let made = bind_and_move(rt, host, &socket, path, mode);
-    if made.is_err() {
-        let _ = fs::remove_file(rt, &socket);
-    }
     let _ = fs::remove_dir(rt, &folder);
     made
 }
