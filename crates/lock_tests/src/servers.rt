@@ -9,8 +9,8 @@ use std::alloc::{AllocError, Global};
 use std::io;
 use std::io::{BufRead, BufReader, Write};
 use std::net::{Net, SocketAddr, TcpListener, TcpStream};
-use std::sync::atomic::{AtomicU64, Ordering};
 use std::sync::Wait;
+use std::sync::atomic::{AtomicU64, Ordering};
 use std::test::Fail;
 use std::thread::{Threads, join};
 use std::time::Clock;
@@ -79,7 +79,7 @@ struct Ports {
     owner: Listener,
 }
 
-fn ports<R: Net<Listener = TcpListener, Stream = TcpStream>>(rt: &R) -> Result<Ports, Fail> {
+fn open_ports<R: Net<Listener = TcpListener, Stream = TcpStream>>(rt: &R) -> Result<Ports, Fail> {
     Ok(Ports {
         till: port(rt)?,
         dispenser: port(rt)?,
@@ -182,7 +182,7 @@ fn one_of_each<R: Net<Listener = TcpListener, Stream = TcpStream> + Threads + Wa
 
 #[test]
 fn serve_on_loopback(rt: HostRuntime) -> Result<(), Fail> {
-    let ports = ports(&rt)?;
+    let ports = open_ports(&rt)?;
     let at = addresses_of(&ports)?;
     let serving = serving(rt.alloc(), ports)?;
     let (clean, entries, heard) = one_of_each(&rt, rt.alloc(), serving, at)?;

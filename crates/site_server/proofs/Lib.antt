@@ -3,4 +3,5 @@ pub mod Collecting
 pub mod Keeping
 pub mod Numbering
 pub mod Posting
+pub mod Posts
 pub mod Working

@@ -1,5 +1,5 @@
 //! The workers of a site: whose lines each one takes, and at which door.
-ghost use Rattle.std.specs.Prelude.{◌≡◌, ◌+◌, ◌-◌, ◌^◌, ◌<◌, ◌≤◌, ◌↔◌, ◌++◌, IfOk, IfSome, IsSome, IsTrue, length, min};
+ghost use Rattle.std.specs.Prelude.{◌≡◌, ◌++◌, ◌-◌, ◌^◌, ◌<◌, ◌≤◌, ◌↔◌, IfOk, IfSome, IsSome, length, min};
 ghost use Rattle.site_server.specs.Crews.{IsCrew, all_posts, posts_at, posts_of};
 
 use crate::listener::Listener;
@@ -18,7 +18,7 @@ pub struct OpenDoor {
 /// A worker of a site: whose lines it takes, and where its connections come in. The workers of one door share its
 /// listener, which is closed with the last of them.
 #[derive(Drop)]
-pub struct Worker {
+pub(crate) struct Worker {
     pub role: Role,
     pub listener: Arc<Listener>,
 }
@@ -41,11 +41,7 @@ fn count_workers(doors: &[OpenDoor]) -> u32
 }
 
 /// Appends the workers of a door.
-fn push_workers(
-    alloc: Global,
-    workers: &mut Vec<Worker>,
-    door: OpenDoor,
-) -> Result<(), AllocError>
+fn push_workers(alloc: Global, workers: &mut Vec<Worker>, door: OpenDoor) -> Result<(), AllocError>
     ensures { IfOk result (λ _. posts_of workers.new.items ≡ posts_of workers.old.items ++ posts_at door) }
 {
     let OpenDoor {
@@ -72,14 +68,6 @@ fn workers_of(alloc: Global, doors: Vec<OpenDoor>) -> Result<Vec<Worker>, AllocE
     Ok(workers)
 }
 
-/// Makes a crew of workers, which are 1 to 96.
-fn crew_of(workers: Vec<Worker>) -> Crew
-    requires { IsCrew (length workers.items) }
-    ensures { result.workers ≡ workers }
-{
-    Crew { workers }
-}
-
 impl Crew {
     /// Makes the workers of these doors, in their order: as many for each as it says, each with the door's role and a
     /// share of its listener. `None` exactly where they aren't 1 to 96 in all. The error is that memory ran out.
@@ -90,7 +78,8 @@ impl Crew {
         if !(1..=96).contains(&count_workers(&doors)) {
             return Ok(None);
         }
-        Ok(Some(crew_of(workers_of(alloc, doors)?)))
+        let workers = workers_of(alloc, doors)?;
+        Ok(Some(Crew { workers }))
     }
 
     /// Returns the number of the crew's workers, 1 to 96. Each has one pass, its right to call the forecourt, so this

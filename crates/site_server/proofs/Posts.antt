@@ -1,0 +1,12 @@
+-- The posts at doors, with one door more.
+use Rattle.std.proofs.Common.{◌≡◌, ◌++◌, List, [], ◌∷◌, sym, ◌∙◌, ap}
+use Rattle.std.proofs.lemmas.List.{append_assoc, append-nil}
+use Rattle.till_request.specs.declared.act.Role.{Role}
+use Rattle.site_server.specs.declared.crew.OpenDoor.{OpenDoor}
+use Rattle.site_server.specs.declared.listener.Listener.{Listener}
+use Rattle.site_server.specs.Crews.{all_posts, posts_at}
+
+pub door_more : (doors : List OpenDoor) (door : OpenDoor) → all_posts (doors ++ door ∷ []) ≡ all_posts doors ++ posts_at door
+door_more [] door = append-nil (posts_at door)
+door_more (first ∷ doors) door =
+    ap (λ (l : List (Role × Listener)). posts_at first ++ l) (door_more doors door) ∙ sym (append_assoc (posts_at first) (all_posts doors) (posts_at door))
