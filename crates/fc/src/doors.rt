@@ -51,7 +51,8 @@ fn is_port(door: &Door) -> bool {
     }
 }
 
-/// Writes where a door is. Where all doors are ports of 127.0.0.1, that is said once before them.
+/// Writes the address of a door: of a port the number alone where all doors are ports, since their list begins with
+/// 127.0.0.1.
 fn write_address<W: fmt::Write>(
     f: &mut fmt::Formatter<W>,
     address: &Address,

@@ -86,7 +86,7 @@ impl Drop for SocketFile<'_> {
     }
 }
 
-/// Asks a socket whether somebody listens there; that is refused. Who is asked counts it as a connection.
+/// Refuses a socket at which somebody listens. To find out it connects, which a served site counts as a connection.
 fn ask<H: Net>(host: &H, path: &str) -> Result<(), SocketFault<'static>> {
     match UnixStream::connect(host, path) {
         Ok(_) => Err(SocketFault::Taken),
@@ -97,7 +97,7 @@ fn ask<H: Net>(host: &H, path: &str) -> Result<(), SocketFault<'static>> {
     }
 }
 
-/// Finds that nothing is at a path, or a socket at which nobody listens.
+/// Checks that a path is free: nothing is there, or a socket at which nobody listens.
 fn find_free<H: Net>(rt: &HostRuntime, host: &H, path: &str) -> Result<(), SocketFault<'static>> {
     match fs::symlink_metadata(rt, path) {
         Ok(there) if there.file_type().is_socket() => ask(host, path),
@@ -107,7 +107,7 @@ fn find_free<H: Net>(rt: &HostRuntime, host: &H, path: &str) -> Result<(), Socke
     }
 }
 
-/// Whether a folder is one that a killed process may have left: nothing but a socket `s` is in it.
+/// Returns whether a killed process may have left a folder: nothing but a socket `s` is in it.
 fn is_left(rt: &HostRuntime, folder: &str) -> io::Result<bool> {
     if !fs::symlink_metadata(rt, folder)?.is_dir() {
         return Ok(false);
@@ -197,7 +197,7 @@ fn move_to<'a, H: Net>(
     let there = fs::symlink_metadata(rt, socket)?;
     let to = String::from_str(rt.alloc(), path)?;
     put_at(rt, host, socket, path)?;
-    // From here on the path is given up too where the first name can't be removed.
+    // From here on, where the first name can't be removed, the one at the path is removed too.
     let file = SocketFile {
         rt,
         path: to,
@@ -216,7 +216,7 @@ fn bind_and_move<'a, H: Files + Net>(
     path: &str,
     mode: u32,
 ) -> Result<(UnixListener, SocketFile<'a>), SocketFault<'static>> {
-    // Where this fails a socket that is there is another process's.
+    // Where this fails, a socket with that name is another process's, and stays.
     let listener = UnixListener::bind(host, socket)?;
     match move_to(rt, host, socket, path, mode) {
         Ok(file) => Ok((listener, file)),
