@@ -10,37 +10,24 @@ use std::io;
 use std::io::{BufRead, BufReader, Write};
 use std::net::{Net, SocketAddr, TcpListener, TcpStream};
 use std::sync::Wait;
-use std::sync::atomic::{AtomicU64, Ordering};
 use std::test::Fail;
 use std::thread::{Threads, join};
 use std::time::Clock;
-use till_request::{LineIn, Role};
+use till_request::Role;
 
-/// A receiver of notices that ignores them, but adds up the seconds for which peers were silent.
+/// A receiver of notices that ignores them.
 #[derive(Drop)]
-struct Silent {
-    seconds: AtomicU64,
-}
-
-impl Silent {
-    fn new() -> Silent {
-        Silent {
-            seconds: AtomicU64::new(0),
-        }
-    }
-}
+struct Silent;
 
 impl Notices for Silent {
     fn accept_failed(&self, _role: Role, _pass: u32, _error: &io::Error) {}
 
     fn session_failed(&self, _role: Role, _pass: u32, _breach: SessionFailure) {}
 
-    fn fell_silent(&self, _role: Role, _pass: u32, seconds: u32) {
-        self.seconds.fetch_add(u64::from(seconds), Ordering::SeqCst);
-    }
+    fn fell_silent(&self, _role: Role, _pass: u32, _seconds: u32) {}
 }
 
-/// A free port.
+/// Opens a free port.
 fn port<R: Net<Listener = TcpListener, Stream = TcpStream>>(rt: &R) -> Result<Listener, Fail> {
     match Listener::on_port(rt, 0) {
         Ok(listener) => Ok(listener),
@@ -168,10 +155,9 @@ fn one_of_each<R: Net<Listener = TcpListener, Stream = TcpStream> + Threads + Wa
     serving: Serving,
     at: Addresses,
 ) -> Result<(u64, usize, String), Fail> {
-    let notices = Silent::new();
     let (served, heard) = join(
         rt,
-        || serving.run(rt, alloc, &notices, &AtOnce),
+        || serving.run(rt, alloc, &Silent, &AtOnce),
         || in_turn(rt, alloc, at),
     );
     match served {
@@ -197,8 +183,7 @@ fn leaves_at_once<R: Net<Listener = TcpListener, Stream = TcpStream> + Clock>(
     listener: &Listener,
 ) -> io::Result<bool> {
     let _peer = TcpStream::connect(rt, address_of(listener)?)?;
-    let notices = Silent::new();
-    let mut doors = SocketDoors::new(rt, listener, &notices, Role::Till, 1, 0);
+    let mut doors = SocketDoors::new(rt, listener, &Silent, Role::Till, 1, 0);
     match doors.next() {
         Ok((_input, output)) => match output.writer {
             Stream::Port(stream) => stream.nodelay(),
@@ -212,27 +197,5 @@ fn leaves_at_once<R: Net<Listener = TcpListener, Stream = TcpStream> + Clock>(
 fn answers_leave_without_a_delay(rt: HostRuntime) -> Result<(), Fail> {
     let listener = port(&rt)?;
     assert!(rt; leaves_at_once(&rt, &listener)?);
-    Ok(())
-}
-
-/// Whether the input of a peer that sends nothing ends after a second, and an operator hears of just that.
-fn ends_in_silence<R: Net<Listener = TcpListener, Stream = TcpStream> + Clock>(
-    rt: &R,
-    listener: &Listener,
-) -> io::Result<bool> {
-    let _peer = TcpStream::connect(rt, address_of(listener)?)?;
-    let notices = Silent::new();
-    let mut doors = SocketDoors::new(rt, listener, &notices, Role::Till, 1, 1);
-    let Ok((mut input, _output)) = doors.next() else {
-        return Ok(false);
-    };
-    let at_end = input.read(&mut [0]) == Ok(0);
-    Ok(at_end && notices.seconds.load(Ordering::SeqCst) == 1)
-}
-
-#[test]
-fn a_silent_peer_is_at_its_end(rt: HostRuntime) -> Result<(), Fail> {
-    let listener = port(&rt)?;
-    assert!(rt; ends_in_silence(&rt, &listener)?);
     Ok(())
 }
