@@ -33,7 +33,7 @@ pub record Dropped {S O : Type 0} (drops : S → List ℕ → S → Type 0) (lin
   pub drops_it : drops s line s'
   pub output : o' ≡ o
 
--- for a handler with an answer to each line that changes anything: no line is dropped
+-- no line is dropped, as each line that changes something has an answer
 abbrev pub drops_none : {S : Type 0} → S → List ℕ → S → Type 0
 drops_none s line s' = ⊥
 
@@ -43,19 +43,19 @@ pub record Silent {S O : Type 0} (takes : List ℕ → Type 0) (line : List ℕ)
   pub state : s' ≡ s
   pub output : o' ≡ o
 
--- why the line has no whole answer: the device failed, and a beginning of the answer was written; or memory ran out,
--- and nothing changed or the line has no answer; or the journal failed, and the line has no answer
+-- Why the whole answer to a line wasn't written. `Write`: the device failed after a beginning of the answer.
+-- `OutOfMemory`: the line needed memory and changed nothing, or was dropped. `Journal`: the line was dropped.
 abbrev pub FallsShort : {S O : Type 0} → (S → List ℕ → List ℕ → S → Type 0) → (S → List ℕ → S → Type 0) → (List ℕ → Type 0) → (O → Option (List ℕ))
     → HandlerError → List ℕ → S → S → O → O → Type 0
 FallsShort says drops takes out error.Write line s s' o o' = Half says line s s' (out o) (out o')
 FallsShort says drops takes out error.OutOfMemory line s s' o o' = Silent takes line s s' o o' ⊎ Dropped drops line s s' o o'
 FallsShort says drops takes out error.Journal line s s' o o' = Dropped drops line s s' o o'
 
--- the state is one after a line at which the journal failed
+-- the state may follow a line at which the journal failed
 abbrev pub FailsAt : {S : Type 0} → (S → List ℕ → S → Type 0) → S → Type 0
 FailsAt {S} fails s' = (s : S) × (line : List ℕ) × fails s line s'
 
--- for a handler that keeps no journal: no line makes it fail
+-- the journal fails at no line, as none is kept
 abbrev pub fails_none : {S : Type 0} → S → List ℕ → S → Type 0
 fails_none s line s' = ⊥
 
@@ -63,10 +63,11 @@ fails_none s line s' = ⊥
 abbrev pub with_lf : List ℕ → List ℕ
 with_lf line = line ++ 10 ∷ []
 
--- the lines, each with its LF, one after another; and the texts, one after another
+-- the bytes of the lines, each with its LF, one after another
 abbrev pub all_lines : List (List ℕ) → List ℕ
 all_lines lines = flat_map with_lf lines
 
+-- the bytes of the texts, one after another
 abbrev pub all_texts : List (List ℕ) → List ℕ
 all_texts texts = flat_map (λ text. text) texts
 
@@ -88,7 +89,8 @@ pub record AnswersLines {S : Type 0} (says : S → List ℕ → List ℕ → S �
   pub written : Appends out_old out_new (all_texts texts ++ more)
   pub counted : count ≡ length texts
 
--- what was read after the last whole line: nothing at the end of the input, a line that is too long, or one without LF
+-- What was read after the last whole line. Without a fault it is nothing, and the input has ended. With a fault it is
+-- the first 8,401 bytes of a line that is too long, or a last line without LF.
 abbrev pub IsCut : Option LineFault → Option (List ℕ) → List ℕ → Type 0
 IsCut None in_new rest = (rest ≡ []) × IsAtEnd in_new
 IsCut (Some line.TooLong) in_new rest = HasNoLf rest × (length rest ≡ 8401)
@@ -97,11 +99,12 @@ IsCut (Some line.BadLine) in_new rest = ⊥
 IsCut (Some line.BadNumber) in_new rest = ⊥
 IsCut (Some line.OutOfMemory) in_new rest = ⊥
 
--- the answer to such a fault, and the number of answers to it
+-- the answer to the fault of the last line; no bytes if there is no such fault
 abbrev pub cut_line : Option LineFault → List ℕ
 cut_line None = []
 cut_line (Some fault) = answer_line (Line fault)
 
+-- the number of answers to such a fault: 1, or 0 if there is none
 abbrev pub cut_count : Option LineFault → ℕ
 cut_count None = 0
 cut_count (Some fault) = 1
@@ -119,8 +122,8 @@ pub record Ends {S : Type 0} (says : S → List ℕ → List ℕ → S → Type 
 abbrev pub IsUpToLine : List ℕ → Type 0
 IsUpToLine rest = IsLine rest ⊎ ((line : List ℕ) × IsLine line × (rest ≡ with_lf line))
 
--- what was read after the last line that was answered: at most the next line; or the line of a fault, of whose answer
--- at least a beginning was written
+-- What was read after the last line that was answered. Without a fault it is at most the next line. With a fault it is
+-- the line that has the fault.
 abbrev pub AnswersCut : Option LineFault → Option (List ℕ) → List ℕ → Type 0
 AnswersCut None in_new rest = IsUpToLine rest
 AnswersCut (Some fault) in_new rest = IsCut (Some fault) in_new rest
@@ -147,8 +150,8 @@ pub record Breaks {S : Type 0} (says : S → List ℕ → List ℕ → S → Typ
   pub written : Appends out_old out_new front
   pub begins : all_texts texts ++ cut_line cut ≡ front ++ after
 
--- what memory ran out for: the next line, while it was read; or its answer, if it is a line that needs memory; or the
--- line was dropped
+-- Where memory ran out: while the next line was read; or after that, and then the line needs memory and nothing
+-- changed, or the line was dropped.
 abbrev pub WantsNext : {S : Type 0} → (S → List ℕ → S → Type 0) → (List ℕ → Type 0) → S → S → List ℕ → Type 0
 WantsNext drops takes s s' rest = ((s' ≡ s) × IsLine rest)
     ⊎ ((line : List ℕ) × IsLine line × (rest ≡ with_lf line) × (((s' ≡ s) × takes line) ⊎ drops s line s'))
@@ -161,15 +164,15 @@ Stops says drops takes fault s s' in_old in_new out_old out_new =
     (b : Breaks says drops s s' in_old in_new out_old out_new) × (b.cut ≡ None) × (b.after ≡ [])
     × (fault ≡ session.OutOfMemory → WantsNext drops takes b.answered s' b.rest)
 
--- The same as `Stops`, for a session that buffers answers while its doors report a further line: after a failed read
--- the buffered answers are not written.
+-- The same as `Stops`, for a session that buffers answers as long as more input has arrived. After a failed read the
+-- buffered answers are not written.
 abbrev pub StopsAtDoor : {S : Type 0} → (S → List ℕ → List ℕ → S → Type 0) → (S → List ℕ → S → Type 0) → (List ℕ → Type 0) → SessionFault → S → S
     → Option (List ℕ) → Option (List ℕ) → Option (List ℕ) → Option (List ℕ) → Type 0
 StopsAtDoor says drops takes fault s s' in_old in_new out_old out_new =
     (b : Breaks says drops s s' in_old in_new out_old out_new) × (b.cut ≡ None) × (fault ≢ session.Read → b.after ≡ [])
     × (fault ≡ session.OutOfMemory → WantsNext drops takes b.answered s' b.rest)
 
--- the device failed in a read, or in a write
+-- whether the result is that a read failed
 abbrev pub is_read : {T : Type 0} → Result T SessionFault → Bool
 is_read (Ok x) = false
 is_read (Err session.Read) = true
@@ -178,6 +181,7 @@ is_read (Err session.ReadsSpent) = false
 is_read (Err session.OutOfMemory) = false
 is_read (Err session.Journal) = false
 
+-- whether the result is that a write failed
 abbrev pub is_write : {T : Type 0} → Result T SessionFault → Bool
 is_write (Ok x) = false
 is_write (Err session.Read) = false
@@ -196,8 +200,8 @@ is_write_fault (Err error.Journal) = false
 abbrev pub session_reads : ℕ
 session_reads = 67108864
 
--- At most this many reads were made, each of one byte, by the counts of the input's reads and of the bytes asked for.
--- If the fault is that no read is left, exactly this many were made.
+-- At most `most` reads were made, each of one byte; exactly `most` if the fault is that no read is left. The last four
+-- arguments are the number of reads before and after, and the number of bytes asked for before and after.
 abbrev pub SpendsReads : {T : Type 0} → ℕ → Result T SessionFault → ℕ → ℕ → ℕ → ℕ → Type 0
 SpendsReads most result reads_old reads_new asked_old asked_new =
     (k : ℕ) × (k ≤ most) × RoseBy k reads_old reads_new × (result ≡ Err session.ReadsSpent → k ≡ most) × RoseBy k asked_old asked_new

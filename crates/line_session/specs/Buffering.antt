@@ -37,8 +37,9 @@ pub record Keeps (waiting after : List ℕ) (out_old out_new : Option (List ℕ)
   pub waits : after ≡ waiting
   pub out : out_new ≡ out_old
 
--- why the answer to the line is neither written nor buffered: a write failed; or memory ran out, and nothing changed or
--- the line has no answer; or the journal failed, and the line has no answer
+-- Why the answer to a line is neither written nor buffered. `Write`: a write failed, and the rest of the buffered bytes
+-- and the answer is lost. `OutOfMemory`: the line needed memory and changed nothing, or was dropped. `Journal`: the
+-- line was dropped.
 abbrev pub StaysOff : {S : Type 0} → (S → List ℕ → List ℕ → S → Type 0) → (S → List ℕ → S → Type 0) → (List ℕ → Type 0) → SessionFault → List ℕ → S → S
     → List ℕ → List ℕ → Option (List ℕ) → Option (List ℕ) → Type 0
 StaysOff says drops takes session.Write line s s' waiting after out_old out_new = LosesSome says line s s' waiting out_old out_new

@@ -7,14 +7,15 @@ use Rattle.till_request.specs.declared.line.Found.TheVariants as found
 use Rattle.line_session.specs.declared.answering.Ended.{Ended}
 use Rattle.line_session.specs.Answering.{cut_count}
 
--- the fault that ends a session where this was found and no whole line: one that is too long, or one without LF
+-- the fault that ends a session: a line that is too long, or a last one without LF; none for a whole line or the
+-- input's end
 abbrev pub cut_by : Found → Option LineFault
 cut_by found.Line = None
 cut_by found.TooLong = Some TooLong
 cut_by found.Cut = Some CutLine
 cut_by found.End = None
 
--- A session ended so after `lines` answers; if a fault ended it, that is one more answer.
+-- The result of a session that ended after `lines` answers. If a fault ended it, the answer to the fault counts too.
 pub record IsEnd (lines : ℕ) (cut : Option LineFault) (ended : Ended) : Type 0 where
   pub lines_are : ended.lines ≡ lines + cut_count cut
   pub cut_is : ended.cut ≡ cut

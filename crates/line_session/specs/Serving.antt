@@ -11,7 +11,7 @@ use Rattle.line_session.specs.declared.answering.SessionFault.TheVariants.{Journ
 use Rattle.line_session.specs.Answering.{Ends, Breaks, FailsAt, StopsAtDoor, is_read, is_write, session_reads}
 use Rattle.line_session.specs.Session.{desk_says, desk_drops, desk_fails, desk_takes}
 
--- how a connection went: None, it couldn't be opened; else how its session ended
+-- how a connection went: None if it couldn't be opened, or else how its session ended
 abbrev pub Outcome : Type 0
 Outcome = Option (Result Ended SessionFault)
 
@@ -21,14 +21,14 @@ one_good None = 0
 one_good (Some (Err fault)) = 0
 one_good (Some (Ok ended)) = 1
 
--- how many of them ended without fault
+-- how many of these connections ended without fault
 abbrev pub good : List Outcome → ℕ
 good [] = 0
 good (outcome ∷ outcomes) = one_good outcome + good outcomes
 
--- A session over this input and output ended so: all was answered, or it failed and a beginning of the answers was
--- written. It failed by a device only if that failed, for too many reads only if all were made, by the journal only at
--- a line at which this failed, and as memory ran out only if something needed memory.
+-- A session over this input and output had this result. All was answered, or it failed and a beginning of the answers
+-- was written. It failed by a device only if a device failed, for too many reads only if all were made, by the journal
+-- only at a line at which that failed, and out of memory only if something needed memory.
 pub record Sits {S I O : Type 0} (says : S → List ℕ → List ℕ → S → Type 0) (drops fails : S → List ℕ → S → Type 0) (takes : List ℕ → Type 0)
     (remaining : I → Option (List ℕ)) (reads read_failures : I → ℕ) (written : O → Option (List ℕ)) (write_failures : O → ℕ)
     (result : Result Ended SessionFault) (i : I) (o : O) (s s' : S) : Type 0 where
@@ -46,7 +46,7 @@ pub record Sits {S I O : Type 0} (says : S → List ℕ → List ℕ → S → T
   pub stopped : IfErr result
       (λ fault. fault ≢ Write → StopsAtDoor says drops takes fault s s' (remaining i) (remaining input) (written o) (written output))
 
--- the same for a session of a role at a desk and a clock
+-- the same as `Sits`, for a session of a role with a desk and a clock
 abbrev pub SitsAtDesk : {C D I O : Type 0} → (D → Act → ℕ → Answer → D → Type 0) → (C → ℕ → C → Type 0) → Role → (I → Option (List ℕ)) → (I → ℕ) → (I → ℕ)
     → (O → Option (List ℕ)) → (O → ℕ) → Result Ended SessionFault → I → O → C × D → C × D → Type 0
 SitsAtDesk step tick role = Sits (desk_says step tick role) (desk_drops step tick role) (desk_fails step tick role) (desk_takes role)
@@ -57,12 +57,12 @@ abbrev pub Visits : {D S I O : Type 0} → (D → I → O → D → Type 0) → 
 Visits opens fails sits None d s d' s' = fails d d' × (s' ≡ s)
 Visits {D} {S} {I} {O} opens fails sits (Some result) d s d' s' = (i : I) × (o : O) × opens d i o d' × sits result i o s s'
 
--- these connections, one after another
+-- the same as `Visits`, for these connections one after another
 abbrev pub VisitsAll : {D S : Type 0} → (Outcome → D → S → D → S → Type 0) → List Outcome → D → S → D → S → Type 0
 VisitsAll visits [] d s d' s' = (d' ≡ d) × (s' ≡ s)
 VisitsAll {D} {S} visits (outcome ∷ outcomes) d s d' s' = (m : D) × (t : S) × visits outcome d s m t × VisitsAll visits outcomes m t d' s'
 
--- `asked` connections, of which `clean` ended without fault
+-- a worker served `asked` connections, of which `clean` ended without fault
 pub record Serves {D S : Type 0} (visits : Outcome → D → S → D → S → Type 0) (asked clean : ℕ) (d : D) (s : S) (d' : D) (s' : S) : Type 0 where
   pub outcomes : List Outcome
   pub each : VisitsAll visits outcomes d s d' s'

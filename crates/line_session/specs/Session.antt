@@ -20,7 +20,7 @@ abbrev pub AnswersAct : {C D : Type 0} → (D → Act → ℕ → Answer → D �
 AnswersAct step tick (Ok act) c d a c' d' = (moment : ℕ) × tick c moment c' × step d act moment a d'
 AnswersAct step tick (Err why) c d a c' d' = (a ≡ Line why) × (c' ≡ c) × (d' ≡ d)
 
--- the answer isn't written, and ends the session
+-- whether an answer is one that isn't written and ends the session
 abbrev pub ends_unsaid : Answer → Bool
 ends_unsaid (Line fault.OutOfMemory) = true
 ends_unsaid JournalFailed = true
@@ -37,7 +37,7 @@ pub record WritesFront {O : Type 0} (took : O → Option (List ℕ)) (answer : A
   pub kept : ℕ
   pub written : Appends (took o) (took o') (take kept (answer_line answer))
 
--- why an answer isn't written
+-- the error of an answer that isn't written: memory ran out, or the journal failed
 abbrev pub IsUnsaid : HandlerError → Answer → Type 0
 IsUnsaid error.Write answer = ⊥
 IsUnsaid error.OutOfMemory answer = answer ≡ Line fault.OutOfMemory
@@ -62,7 +62,7 @@ pub record SpeaksAt {C D : Type 0} (step : D → Act → ℕ → Answer → D �
 abbrev pub desk_says : {C D : Type 0} → (D → Act → ℕ → Answer → D → Type 0) → (C → ℕ → C → Type 0) → Role → C × D → List ℕ → List ℕ → C × D → Type 0
 desk_says step tick role s line text s' = SpeaksAt step tick role line text s.0 s.1 s'.0 s'.1
 
--- the line has no answer, since the desk's answer has no line
+-- the desk's answer to the line isn't written: memory ran out, or the journal failed
 abbrev pub desk_drops : {C D : Type 0} → (D → Act → ℕ → Answer → D → Type 0) → (C → ℕ → C → Type 0) → Role → C × D → List ℕ → C × D → Type 0
 desk_drops step tick role s line s' =
     (act : Act) × (moment : ℕ) × (answer : Answer) × (ends_unsaid answer ≡ true) × (line_read role line ≡ Ok act) × tick s.0 moment s'.0

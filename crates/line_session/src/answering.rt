@@ -156,7 +156,7 @@ pub fn answer_lines_within<I: LineIn, O: LineOut, C, D, S: LineHandler<C, D>>(
     }
 }
 
-/// Answers the lines of an input in order, like `answer_lines_within`, with the reads of one session: 67,108,864.
+/// Answers the lines of an input in order, like `answer_lines_within`, with at most 67,108,864 reads.
 pub fn answer_lines<I: LineIn, O: LineOut, C, D, S: LineHandler<C, D>>(
     alloc: Global,
     input: &mut I,

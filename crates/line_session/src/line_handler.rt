@@ -12,7 +12,8 @@ pub enum HandlerError {
     Journal,
 }
 
-/// A handler, which answers each line with a text. This may change the clock and the desk. The desk answers acts.
+/// A handler of lines. It answers each line with a text, and can use and change the clock and the desk, which answers
+/// acts.
 pub trait LineHandler<C, D> {
     ghost use Rattle.std.specs.Prelude.{◌≡◌, List, ℕ, OnOk, IfErr, Err};
     ghost use Rattle.till_request.specs.Count.{RoseBy, one_if};
