@@ -1,4 +1,4 @@
--- Promises: the result of a close.
+-- Promises: the result of closing a forecourt.
 use Rattle.std.specs.Prelude.{◌≡◌, ℕ, ◌-◌, List, ◌++◌, length, sum_by, slice_get, Option, Some, Bool, true, false}
 use Rattle.std.specs.Io.KnownBytes.{Appends}
 use Rattle.decision_journal.specs.declared.entries.Entry.{Entry}
@@ -20,8 +20,8 @@ pub record Closes (f : Opened) (passes : List PassView) (s : SiteValue) : Type 0
   pub calls : length s.history ≡ sum_by (λ (p : PassView). p.amount) passes
   pub merge : IsMerge s.history passes
 
--- The site has the configuration at the start. Its history is legal, and is the history at the start followed by the
--- merge of the passes' receipts, with as many entries as the passes count answered calls; and the journal took exactly
+-- The site has the configuration at the start, and a legal history. This is the history at the start, followed by the
+-- merge of the passes' receipts, which has as many entries as the passes count answered calls. The journal took exactly
 -- the text of these entries.
 pub record ClosesSince (f : Opened) (passes : List PassView) (s : SiteValue) (written : Option (List ℕ)) : Type 0 where
   pub all : AreAll f.passes passes
@@ -38,8 +38,9 @@ pub record HaltedValue : Type 0 where
   pub opened : Opened
   pub locked_site : LockedSiteValue
 
--- It has the configuration at the start. Its history is legal, and is the history at the start followed by the answered
--- calls' entries, of which the journal took the text; or the journal failed at one more entry.
+-- What holds for a forecourt that couldn't be closed. It has the configuration at the start, and a legal history: the
+-- one at the start, followed by the entries of the answered calls, whose text the journal took. If the journal failed,
+-- there is one more entry, which wasn't answered.
 pub record IsHalted (may_fail : Type 0) (h : HaltedValue) : Type 0 where
   pub config : h.locked_site.site.config ≡ h.opened.config
   pub legal : Upholds h.locked_site.site
@@ -56,13 +57,14 @@ abbrev pub IsWrong : Bool → ℕ → List Entry → List PassView → ℕ → �
 IsWrong false base history passes id number = IsFaultSince base history passes id number
 IsWrong true base history passes id number = IsLast history id number
 
--- why it isn't closed with all its passes; a site of another configuration is impossible there
+-- Why a forecourt can't be closed although all its passes are given: a receipt or an entry is wrong.
 abbrev pub HindersSince : ℕ → LockedSiteValue → List PassView → CloseRefusal → Type 0
 HindersSince base v passes PassMissing = ⊥
 HindersSince base v passes (NotInHistory id number) = IsWrong v.stopped base v.site.history passes id number
 HindersSince base v passes OtherConfig = ⊥
 
--- These aren't all passes; or they are, have as many receipts as calls were answered, and the history has this fault.
+-- Why a close was refused. Either these aren't all passes of the forecourt, each once. Or they are, and a receipt or an
+-- entry is wrong; all passes together then have as many receipts as calls were answered.
 abbrev pub RefusesSince : HaltedValue → List PassView → CloseRefusal → Type 0
 RefusesSince h passes PassMissing = ¬ AreAll h.opened.passes passes
 RefusesSince h passes (NotInHistory id number) =
@@ -71,7 +73,7 @@ RefusesSince h passes (NotInHistory id number) =
     × IsWrong h.locked_site.stopped (length h.opened.base) h.locked_site.site.history passes id number
 RefusesSince h passes OtherConfig = ⊥
 
--- the same, if the history at the start was empty and no journal can fail
+-- the same as `RefusesSince`, where the history at the start was empty and no journal can fail
 abbrev pub Refuses : HaltedValue → List PassView → CloseRefusal → Type 0
 Refuses h passes PassMissing = ¬ AreAll h.opened.passes passes
 Refuses h passes (NotInHistory id number) =
@@ -80,7 +82,7 @@ Refuses h passes (NotInHistory id number) =
     × IsFault h.locked_site.site.history passes id number
 Refuses h passes OtherConfig = ⊥
 
--- nothing keeps it from being closed
+-- a forecourt that has this site and journal under its lock can be closed with these passes
 pub record IsClear (base : List Entry) (taken : Option (List ℕ)) (v : LockedSiteValue) (config : ConfigValue) (passes : List PassView) : Type 0 where
   pub config_is : v.site.config ≡ config
   pub legal : Upholds v.site

@@ -27,8 +27,8 @@ pub record IsAnswerOf (config : ConfigValue) (pass : ℕ) (run : ReadyValue) (a 
   pub config_is : site.config ≡ config
   pub committed : Commits site pass run (Done a) after
 
--- after no run the answer isn't a program's; after one run a program's answer is that of the run; there are at most two
--- runs
+-- What the answer comes from. If no run was made, it isn't a program's answer. If one run was made and the answer is a
+-- program's, it is that of the run. There are at most two runs.
 abbrev pub DecidedAfter : ConfigValue → ℕ → List ReadyValue → Answered → Type 0
 DecidedAfter config pass [] a = is_decided a.reply ≡ false
 DecidedAfter config pass (run ∷ []) a = is_decided a.reply ≡ true → IsAnswerOf config pass run a

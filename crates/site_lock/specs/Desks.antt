@@ -31,7 +31,7 @@ pub record DeskEnters (config : ConfigValue) (before now : PassView) (act : Act)
   pub good : IsGoodAct act
   pub accepted : load_refusal act ≡ None
 
--- The act is a load, whose program the verifier refuses so, and nothing has changed.
+-- The act is a load whose program the verifier refuses with these numbers, and the pass is unchanged.
 pub record DeskRefuses (before now : PassView) (act : Act) (number : ℕ) (unit part : Option ℕ) : Type 0 where
   pub refusal : Refusal
   pub refused : IsRefusedAct act refusal
@@ -39,8 +39,8 @@ pub record DeskRefuses (before now : PassView) (act : Act) (number : ℕ) (unit 
   pub shown : shown_by refusal ≡ Some (number, unit, part)
   pub same : now ≡ before
 
--- after any answer without a number the pass is unchanged; the answer that the journal failed comes only if one can
--- fail
+-- What holds after each answer of the desk. After an answer without an entry the pass is unchanged. The answer that the
+-- journal failed comes only if the journal can fail.
 abbrev pub DeskAnswers : ConfigValue → Type 0 → PassView → PassView → Act → ℕ → Answer → Type 0
 DeskAnswers config may_fail before now act moment (Entered number reply) = DeskEnters config before now act moment number reply
 DeskAnswers config may_fail before now act moment JournalFull = now ≡ before

@@ -17,7 +17,7 @@ abbrev pub StandsFrom : List Entry → ℕ → ℕ → List Receipt → Type 0
 StandsFrom history id last [] = Unit {0}
 StandsFrom history id last (r ∷ rs) = (last < r.number) × IsEntryOf history id r × StandsFrom history id r.number rs
 
--- the first receipt of which this isn't true has this number
+-- the first receipt that disagrees with its entry, or has no greater number than the one before it, has this number
 abbrev pub FailsFrom : List Entry → ℕ → ℕ → List Receipt → ℕ → Type 0
 FailsFrom history id last [] n = ⊥
 FailsFrom history id last (r ∷ rs) n =
@@ -53,7 +53,7 @@ IsFault history passes id n =
 abbrev pub IsMergeSince : ℕ → List Entry → List PassView → Type 0
 IsMergeSince base history passes = All (λ p. StandsFrom history p.id base p.receipts) passes × All (Covered passes) (drop base history)
 
--- the same as `IsFault`, for such a history
+-- the same as `IsFault`, for a history whose first `base` entries are older than the passes
 abbrev pub IsFaultSince : ℕ → List Entry → List PassView → ℕ → ℕ → Type 0
 IsFaultSince base history passes id n =
     Any (λ p. (p.id ≡ id) × FailsFrom history p.id base p.receipts n) passes

@@ -11,8 +11,8 @@ pub enum CloseRefusal {
     /// C1: the passes given to the close aren't exactly the passes of the forecourt, each once.
     #[error("the passes handed in aren't all of the site's, each once")]
     PassMissing,
-    /// C2: the receipt of this pass and number isn't the entry of that number, or the entry of this pass and number has
-    /// no receipt, as the one at which a journal failed.
+    /// C2: the receipt of this pass and number isn't the entry of that number; or the entry of this pass and number has
+    /// no receipt, such as the entry at which a journal failed.
     #[error("entry {1} of the history isn't what pass {0} was answered")]
     NotInHistory(u32, u32),
     /// C3: the site has another configuration than the forecourt was made for.

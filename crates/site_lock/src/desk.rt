@@ -102,7 +102,7 @@ fn call<L: SiteLedger, R: Wait, G: Gate, J: Journal>(
     ensures decided { AsksGate (G.calls gate.old) (G.calls gate.new) result act }
     ensures decided_by { DeskDecides G.makes L.config pass.old.id moment gate.old gate.new result act }
 {
-    // This call gives the prover that the configuration is the ledger's.
+    // This call gives the prover that the configuration is the one that the ledger names.
     let _ = forecourt.config();
     match what {
         What::Till { till, request } => said(forecourt.ask(rt, pass, gate, till, moment, request)),

@@ -74,7 +74,7 @@ impl<L: SiteLedger, J: Journal> Halted<L, J> {
         ensures same { result.now ≡ self.now.locked_site.site.history }
         ensures stands { IsHalted J.may_fail self.now }
     {
-        // Reading a field gives the prover that the configuration is the ledger's.
+        // Reading a field gives the prover that the configuration is the one that the ledger names.
         let _ = &self.config;
         self.locked_site.history()
     }
@@ -104,7 +104,7 @@ impl<L: SiteLedger, J: Journal> Halted<L, J> {
         ensures written { J.written result ≡ self.locked_site.written }
         ensures stands { IsHalted J.may_fail self }
     {
-        // Reading a field gives the prover that the configuration is the ledger's.
+        // Reading a field gives the prover that the configuration is the one that the ledger names.
         let _ = &self.config;
         let (_, journal) = self.locked_site.into_parts();
         journal

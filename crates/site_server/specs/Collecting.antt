@@ -5,30 +5,31 @@ use Rattle.site_lock.specs.Passes.{PassView, new_pass}
 use Rattle.site_server.specs.declared.crew.Worker.{Worker}
 use Rattle.site_server.specs.Tasks.{Worked}
 
--- in task k the pass with the number k + 1 waits, without receipts, with the worker at place k
+-- task k, counted from 0, holds the pass with the number k + 1, without receipts, and the worker at place k
 abbrev pub AreWaiting : List Worker → List (Option (PassView × Worker)) → Type 0
 AreWaiting workers tasks =
     (length tasks ≡ length workers)
     × ((k : ℕ) (d : Option (PassView × Worker)) → k < length workers
     → (worker : Worker) × (slice_get workers k ≡ Some worker) × (slice_index_or tasks k d ≡ Some (new_pass (k + 1), worker)))
 
--- the pass that waited was handed back, after its connections in the role of the worker that waited with it
+-- the task now holds the pass that it held before, which has served its connections in the role of the task's worker
 abbrev pub RunsWorker : ConfigValue → Type 0 → ℕ → Option (PassView × Worker) → Option (PassView × ℕ) → Type 0
 RunsWorker config may_fail connections None after = Unit {0}
 RunsWorker config may_fail connections (Some w) None = ⊥
 RunsWorker config may_fail connections (Some w) (Some d) = (d.0.id ≡ w.0.id) × Worked config may_fail w.1.role connections d.1 w.0 d.0
 
--- the passes that were handed back, in their order
+-- the passes in the finished tasks, in the order of the tasks
 abbrev pub collected : List (Option (PassView × ℕ)) → List PassView
 collected [] = []
 collected (None ∷ tasks) = collected tasks
 collected (Some d ∷ tasks) = d.0 ∷ collected tasks
 
--- the number of connections that ended without fault in a task, and in all tasks together
+-- the number of connections that ended without fault in a task
 abbrev pub clean_at : Option (PassView × ℕ) → ℕ
 clean_at None = 0
 clean_at (Some d) = d.1
 
+-- the number of connections that ended without fault in all tasks
 abbrev pub clean_in : List (Option (PassView × ℕ)) → ℕ
 clean_in [] = 0
 clean_in (task ∷ tasks) = clean_at task + clean_in tasks

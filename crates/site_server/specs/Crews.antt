@@ -7,7 +7,7 @@ use Rattle.site_server.specs.declared.crew.OpenDoor.{OpenDoor}
 use Rattle.site_server.specs.declared.crew.Worker.{Worker}
 use Rattle.site_server.specs.declared.listener.Listener.{Listener}
 
--- a crew has 1 to 96 workers; that at most 64 are tills' and 31 dispensers' is demanded of the configuration
+-- A crew has 1 to 96 workers. The configuration must also keep to at most 64 for tills and 31 for dispensers.
 abbrev pub IsCrew : ℕ → Type 0
 IsCrew workers = (0 < workers) × (workers ≤ 96)
 
@@ -23,7 +23,7 @@ posts_of workers = map (λ (w : Worker). (w.role, arc_value w.listener)) workers
 abbrev pub posts_at : OpenDoor → List (Role × Listener)
 posts_at door = replicate door.workers (door.role, door.listener)
 
--- the posts at all doors, those of one behind those of the other
+-- the posts at all doors, in the order of the doors
 abbrev pub all_posts : List OpenDoor → List (Role × Listener)
 all_posts [] = []
 all_posts (door ∷ doors) = posts_at door ++ all_posts doors

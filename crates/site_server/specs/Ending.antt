@@ -11,13 +11,14 @@ use Rattle.site_server.specs.Tasks.{Worked}
 use Rattle.site_server.specs.declared.serving.ServeFault.{ServeFault}
 use Rattle.site_server.specs.declared.serving.ServeFault.TheVariants.{OutOfMemory, Journal, NotClosed}
 
--- what the worker with pass k + 1 hands back: that pass, after its connections in the role at place k, and the number of those that ended without fault
+-- What the worker with pass k + 1 returns: that pass, after it served its connections in the role at place k, and the
+-- number of these connections that ended without fault.
 abbrev pub HandedBack : Plan → ℕ → PassView × ℕ → Type 0
 HandedBack plan k done =
     (done.0.id ≡ k + 1) × (role : Role) × (slice_get plan.roles k ≡ Some role)
     × Worked plan.from.config plan.may_fail role plan.connections done.1 (new_pass (k + 1)) done.0
 
--- what all workers hand back, in their order
+-- what all workers return, in the order of their passes
 abbrev pub HandsBack : Plan → List (PassView × ℕ) → Type 0
 HandsBack plan done = (k : ℕ) (d : PassView × ℕ) → k < length done → HandedBack plan k (slice_index_or done k d)
 
@@ -33,13 +34,15 @@ pub record HaveWorked (plan : Plan) (passes : List PassView) (clean : ℕ) : Typ
   pub each : HandsBack plan done
   pub counted : clean ≡ all_clean done
 
--- Behind what it started with the site is what all passes were answered, after such work, and the journal took the text of just that.
+-- What is left after serving. The site's history is the one at the start, followed by the entries that the passes were
+-- answered. The journal took exactly the text of these entries.
 pub record Leaves (plan : Plan) (clean : ℕ) (site : SiteValue) (written : Option (List ℕ)) : Type 0 where
   pub passes : List PassView
   pub closes : ClosesSince plan.from passes site written
   pub worked : HaveWorked plan passes clean
 
--- A close of these passes was refused: the forecourt had been opened so, and this is in the way. Its journal had failed, or hadn't.
+-- The forecourt, which was opened as `from` says, refused a close with these passes, for the reason `why`.
+-- `has_stopped` says whether its journal had failed.
 pub record Halts (from : Opened) (may_fail : Type 0) (passes : List PassView) (has_stopped : Bool) (why : CloseRefusal) : Type 0 where
   pub forecourt : HaltedValue
   pub opened_is : forecourt.opened ≡ from
@@ -47,17 +50,18 @@ pub record Halts (from : Opened) (may_fail : Type 0) (passes : List PassView) (h
   pub stopped_is : forecourt.locked_site.stopped ≡ has_stopped
   pub refused : RefusesSince forecourt passes why
 
--- the fault of a refused close: the journal's where that failed
+-- the fault that is returned for a refused close: `Journal` if the journal failed, or else the refusal
 abbrev pub fault_of_close : CloseRefusal → Bool → ServeFault
 fault_of_close why has_stopped = if has_stopped then Journal else NotClosed why
 
--- what a fault says of a close of these passes: it was refused, with the journal's fault where that had failed, and only there
+-- A close with these passes was refused. The fault is `Journal` exactly if the journal had failed.
 abbrev pub Refuses : Opened → Type 0 → List PassView → ServeFault → Type 0
 Refuses from may_fail passes OutOfMemory = ⊥
 Refuses from may_fail passes Journal = (why : CloseRefusal) × Halts from may_fail passes true why
 Refuses from may_fail passes (NotClosed why) = Halts from may_fail passes false why
 
--- All passes, after such work, weren't what the history says that was there at a close: so neither is one missing, nor is it another configuration.
+-- All passes were returned after their work, but the close with them was refused with this fault. So the reason is
+-- neither a missing pass nor another configuration: the receipts aren't the history.
 pub record Stays (plan : Plan) (fault : ServeFault) : Type 0 where
   pub passes : List PassView
   pub clean : ℕ
@@ -65,7 +69,8 @@ pub record Stays (plan : Plan) (fault : ServeFault) : Type 0 where
   pub worked : HaveWorked plan passes clean
   pub refused : Refuses plan.from plan.may_fail passes fault
 
--- out of memory comes before anything is served; every other fault is a refused close
+-- What a fault of serving says. `OutOfMemory` comes before anything is served, and every other fault is a refused
+-- close.
 abbrev pub Spoils : Plan → ServeFault → Type 0
 Spoils plan OutOfMemory = Unit {0}
 Spoils plan Journal = Stays plan Journal

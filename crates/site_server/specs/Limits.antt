@@ -1,18 +1,19 @@
--- Definitions: how many lines an operator gets in a second (this profile): at most ten; the others are counted, and their number comes
--- with the first line of a later second.
+-- Definitions: how many lines an operator gets in a second (this profile): at most ten. The others are counted, and
+-- their number comes with the first line of a later second.
 use Rattle.std.specs.Prelude.{ℕ, ◌+◌, ◌==◌, nat_lt, if◌then◌else◌, Option, Some, None}
 
--- The second in which lines went through last, how many, and how many were held back since.
+-- The last second in which a line was let through, how many lines were let through in it, and how many were held back
+-- since.
 pub record LimiterValue : Type 0 where
   pub second : ℕ
   pub told : ℕ
   pub held : ℕ
 
--- how many were held back before a line of this second, or none where it is held back itself
+-- how many lines were held back before a line that comes in this second; None if that line is held back itself
 abbrev pub admitted : LimiterValue → ℕ → Option ℕ
 admitted l second = if second == l.second then (if nat_lt l.told 10 then Some 0 else None) else Some l.held
 
--- what follows
+-- the limiter after a line that comes in this second
 abbrev pub after_line : LimiterValue → ℕ → LimiterValue
 after_line l second =
     if second == l.second then

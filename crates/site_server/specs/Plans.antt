@@ -13,7 +13,7 @@ pub record Plan : Type 1 where
   pub roles : List Role
   pub connections : ℕ
 
--- a site goes on from its own history, behind what its journal has taken, with a pass for each worker of its crew
+-- how a site is served: from its own history and what its journal has taken, with a pass for each worker of its crew
 abbrev pub plan_of : {J : Type 0} → (J → Option (List ℕ)) → Type 0 → Serving J → Plan
 plan_of written may_fail s = record {
   from = record { config = s.site.config; passes = length s.crew.workers.items; base = s.site.history; taken = written s.journal };

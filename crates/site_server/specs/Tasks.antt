@@ -13,20 +13,20 @@ use Rattle.site_core.specs.Limits.{ConfigValue}
 use Rattle.site_lock.specs.Passes.{PassView}
 use Rattle.site_lock.specs.Desks.{DeskAnswers}
 
--- what a pass of a forecourt of this configuration may be answered, and what it goes on to
+-- what a pass of a forecourt of this configuration may be answered to an act, and the pass after that
 abbrev pub pass_answers : ConfigValue → Type 0 → PassView → Act → ℕ → Answer → PassView → Type 0
 pass_answers config may_fail before act moment answer now = DeskAnswers config may_fail before now act moment answer
 
--- the moment given is the one given last
+-- a clock may give any moment; its state is the moment that it gave last
 abbrev pub tells : ℕ → ℕ → ℕ → Type 0
 tells before moment now = now ≡ moment
 
--- no line more was taken up, or one was, and has no answer: its desk found no memory for it, or the journal failed
+-- No further line was handled, or one was that has no answer, as memory ran out or the journal failed.
 abbrev pub DropsOne : ConfigValue → Type 0 → Role → ℕ × PassView → ℕ × PassView → Type 0
 DropsOne config may_fail role s s' = (s' ≡ s) ⊎ ((line : List ℕ) × IsLine line × desk_drops (pass_answers config may_fail) tells role s line s')
 
--- One connection: its door did not open, or lines of somebody of this role were answered, one after another, and then at most one had no answer.
--- It ends by the journal only where that may fail.
+-- One connection: it couldn't be opened; or lines of this role were answered one after another, and then at most one
+-- line had no answer. The fault of its session is the journal's only if the journal may fail.
 abbrev pub Talked : ConfigValue → Type 0 → Role → Outcome → ℕ × PassView → ℕ × PassView → Type 0
 Talked config may_fail role None s s' = s' ≡ s
 Talked config may_fail role (Some result) s s' =
@@ -34,7 +34,7 @@ Talked config may_fail role (Some result) s s' =
     × SaysAll (desk_says (pass_answers config may_fail) tells role) lines s texts m × DropsOne config may_fail role m s'
     × (result ≡ Err Journal → may_fail)
 
--- connections that went so, one after another
+-- the same as `Talked`, for these connections one after another
 abbrev pub TalkedAll : ConfigValue → Type 0 → Role → List Outcome → ℕ × PassView → ℕ × PassView → Type 0
 TalkedAll config may_fail role [] s s' = s' ≡ s
 TalkedAll config may_fail role (outcome ∷ outcomes) s s' =

@@ -17,11 +17,15 @@ type Connection<'a, N> = (Ahead<StreamIn<Hearing<'a, N>>>, StreamOut<Stream>);
 
 /// The connections of a listener, which other workers may share.
 ///
-/// A connection's lines are read ahead, in blocks of 4,096 bytes, and its answers leave at once, without a delay that
-/// gathers them. Where a connection can't be opened, as without descriptors, an operator hears of it the first time,
-/// and the worker waits before it asks again: 10 milliseconds at first, then twice as long each time, at most a second.
-/// Where `idle_seconds` is above 0, a connection whose peer sends nothing for so long ends, and an operator hears of
-/// it; an answer that its peer doesn't take for so long is a failed write.
+/// Input is read ahead, in blocks of 4,096 bytes. Answers are sent at once (`TCP_NODELAY` where it is a port).
+///
+/// If a connection can't be opened, for example because no file descriptor is free, the worker waits before it tries
+/// again: 10 milliseconds at first, then twice as long each time, at most 1 second. Only the first failure since a
+/// connection was opened is reported to an operator.
+///
+/// If `idle_seconds` isn't 0, it limits how long a peer may send nothing, and how long it may take no bytes of an
+/// answer. A peer that sends nothing for longer is reported to an operator, and its connection ends. A peer that takes
+/// nothing for longer makes the write fail.
 #[derive(Drop)]
 pub struct SocketDoors<'a, R: Clock, N: Notices> {
     rt: &'a R,
@@ -59,7 +63,7 @@ fn failure_of(outcome: &Result<Ended, SessionFault>) -> Option<SessionFailure>
 
 impl<'a, R: Clock, N: Notices> SocketDoors<'a, R, N> {
     /// Makes the doors of a listener for the worker that takes the lines of a role and has this pass. No connection was
-    /// asked for yet. A peer may be silent for `idle_seconds`; where they are 0, as long as it wants.
+    /// asked for yet. A peer may send nothing for `idle_seconds`; 0 is no limit.
     pub fn new(
         rt: &'a R,
         listener: &'a Listener,

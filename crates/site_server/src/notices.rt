@@ -1,14 +1,14 @@
-//! What an operator hears while a site is served.
+//! What is reported to an operator while a site is served.
 use line_session::SessionFault;
 use std::{fmt, io};
 use till_request::{LineFault, Role};
 
-/// Why a session ended before its peer had said all it wanted.
+/// Why a session ended with a fault.
 #[derive(Clone, Copy, Drop)]
 pub enum SessionFailure {
     /// The line that ended it: too long (L1), or cut off by the end of the input (L4).
     Line(LineFault),
-    /// A device that failed, reads that ran out, or out of memory.
+    /// The fault of the session: a device failed, too many reads were needed, memory ran out, or the journal failed.
     Session(SessionFault),
 }
 

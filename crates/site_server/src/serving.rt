@@ -50,7 +50,7 @@ pub struct Served<J: Journal = NoJournal> {
 pub enum ServeFault {
     #[error("out of memory")]
     OutOfMemory,
-    /// The journal failed: the last entry isn't answered.
+    /// The journal failed, so the act of the last entry has no answer.
     #[error("a write to the journal failed: the site took no further event")]
     Journal,
     /// What the workers were answered isn't the site's history: a pass is missing (C1), an answer isn't in the history
@@ -148,7 +148,7 @@ fn close<L: SiteLedger, J: Journal, R: Wait>(
     }
 }
 
-/// Lets the proof know that the number of connections is below 2^32.
+/// Proves that a number of connections is below 2^32.
 fn prove_few(connections: u32)
     ensures { connections < 2 ^ 32 }
 {}

@@ -7,8 +7,8 @@ use crate::stream::Stream;
 use std::io::{self, ErrorKind, Read};
 use till_request::Role;
 
-/// The reading half of a connection. Where its peer sends nothing for `idle_seconds`, an operator hears of it, and the
-/// input ends as if the peer had closed it. Where they are 0, it waits for its peer as long as that takes.
+/// The reading half of a connection. If its peer sends nothing for `idle_seconds`, that is reported to an operator, and
+/// the input ends as if the peer had closed it. If `idle_seconds` is 0, there is no such limit.
 #[derive(Drop)]
 pub struct Hearing<'a, N: Notices> {
     pub(crate) stream: Stream,
@@ -18,14 +18,15 @@ pub struct Hearing<'a, N: Notices> {
     pub(crate) idle_seconds: u32,
 }
 
-/// Returns whether a read failed because nothing came for the `idle_seconds`. Where they are 0, there is no such limit.
+/// Returns whether a read failed because nothing came for `idle_seconds`. If that is 0, there is no such limit.
 fn is_silence(error: &io::Error, idle_seconds: u32) -> bool
     ensures { IsTrue result ↔ (0 < idle_seconds) × (error_kind error.now ≡ ErrorKind.WouldBlock) }
 {
     idle_seconds > 0 && error.kind() == ErrorKind::WouldBlock
 }
 
-/// Returns what a reader is told of a read, and whether the peer was silent for too long: then the input is at its end.
+/// Returns the result of a read as the reader gets it, and whether the peer was silent for too long. If it was, the
+/// reader gets the end of the input, and otherwise `read` itself.
 fn heard(read: io::Result<usize>, idle_seconds: u32) -> (io::Result<usize>, bool)
     ensures silent { IsTrue result.1
         ↔ IsErrAnd read (λ error. (0 < idle_seconds) × (error_kind error ≡ ErrorKind.WouldBlock)) }

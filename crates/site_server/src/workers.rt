@@ -23,7 +23,7 @@ pub struct Workers<'a, L: SiteLedger, J: Journal, N: Notices, A: Release, R: Wai
     pub alloc: Global,
     pub forecourt: Forecourt<L, J>,
     pub notices: &'a N,
-    /// What says when an answer may be sent.
+    /// Decides when an answer may be sent.
     pub release: &'a A,
     /// The number of connections that each worker serves.
     pub connections: u32,
