@@ -148,7 +148,7 @@ fn seen_after_reads<R: Wait>(rt: &R, alloc: Global, good: u64) -> Result<Seen, F
     seen_by(rt, alloc, input, answers(alloc, 4096, None))
 }
 
-/// Returns what a session must leave that fails with this fault after `entries` entries and `lines` answers.
+/// Returns what a session must leave if it fails with this fault after `entries` entries and `lines` answers.
 fn failed(ended: SessionFault, entries: usize, lines: usize) -> Seen {
     let failed = match ended {
         SessionFault::Write => (0, 1),
@@ -239,7 +239,7 @@ fn read_after(alloc: Global, good: u64) -> Result<Read, Fail> {
     })
 }
 
-/// Returns the result that a journal must have whose last read, that of number `reads`, fails.
+/// Returns the result that reading the journal must have if it makes `reads` reads, of which the last fails.
 fn failed_read(reads: u64) -> Read {
     Read {
         entries: Err(JournalFault::Device),
@@ -249,7 +249,7 @@ fn failed_read(reads: u64) -> Read {
     }
 }
 
-/// Returns the result that a journal must have that is read whole in `reads` reads.
+/// Returns the result that reading the journal must have if it is read whole in `reads` reads.
 fn whole_read(reads: u64) -> Read {
     Read {
         entries: Ok(14),

@@ -9,7 +9,7 @@ use Rattle.till_request.specs.declared.act.Answer.{Answer}
 use Rattle.till_request.specs.declared.act.Answer.TheVariants as answers
 use Rattle.job_texts.specs.Told.{Passes}
 
--- The act is a load, and the verifier refuses its program so.
+-- The act loads a program that the verifier refuses with this refusal.
 abbrev pub IsRefusedAct : Act → Refusal → Type 0
 IsRefusedAct (acts.Load slot mask layout bytes) refusal = refusal_of (as_loaded bytes mask layout) ≡ Some refusal
 IsRefusedAct act refusal = ⊥
@@ -19,7 +19,8 @@ abbrev pub IsNotRefused : Act → Answer → Type 0
 IsNotRefused (acts.Load slot mask layout bytes) answer = Passes (as_loaded bytes mask layout) ⊎ (answer ≡ answers.OutOfMemory)
 IsNotRefused act answer = ⊤
 
--- Why the verifier refuses the program of an act that is answered so; none where it doesn't.
+-- The verifier's refusal of the program that the act loads. None if the act is no load, if its program is accepted, or
+-- if the answer is that memory ran out.
 abbrev pub IsWhyRefused : Act → Answer → Option Refusal → Type 0
 IsWhyRefused act answer (Some refusal) = IsRefusedAct act refusal
 IsWhyRefused act answer None = IsNotRefused act answer

@@ -115,14 +115,14 @@ pub record PlaysOut (site : SiteValue) (in_old in_new out_old out_new : Option (
   pub left : SiteValue
   pub ends : Ends Plays (0, site) (moment, left) in_old in_new out_old out_new count cut
 
--- The play broke off: the output has a beginning of what would be answered, and every line that was taken up has an answer.
+-- The play failed. The output has a beginning of the answers, and each line that changed anything has an answer.
 pub record PlayBreaks (site : SiteValue) (in_old in_new out_old out_new : Option (List ℕ)) : Type 0 where
   pub moment : ℕ
   pub left : SiteValue
   pub breaks : Breaks Plays drops_none (0, site) (moment, left) in_old in_new out_old out_new
 
--- The play broke off though no write failed: the whole answers to the lines so far are out. If it was out of memory, then the site could not
--- start, a line could not be read, or the next line takes memory.
+-- The play failed although no write did: the whole answers to the lines so far were written. If memory ran out, the
+-- site couldn't start, the next line couldn't be read, or that line needs memory.
 pub record PlayStops (fault : SessionFault) (site : SiteValue) (in_old in_new out_old out_new : Option (List ℕ)) : Type 0 where
   pub moment : ℕ
   pub left : SiteValue

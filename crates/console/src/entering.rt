@@ -84,7 +84,7 @@ fn enter_load(
     }
 }
 
-/// Returns an answer with no refusal by the verifier.
+/// Returns the result for an act whose program, if it loads one, wasn't refused: its answer, with no refusal.
 fn unrefused(answer: Answer) -> Entered
     ensures { result ≡ record { answer = answer; refusal = None } }
 {

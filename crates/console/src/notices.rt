@@ -1,12 +1,12 @@
-//! The reports of a play that its answers have no place for.
+//! The reports of a play that aren't part of its answers.
 use reg_types::Refusal;
 use till_request::Act;
 
-/// Receives the reports of a play that its answers have no place for.
+/// Receives the reports of a play that aren't part of its answers.
 pub trait PlayNotices {
     ghost use Rattle.console.specs.Loading.{IsRefusedAct};
 
-    /// Reports that the next line of the script begins to be answered.
+    /// Reports that the play begins to answer the next line of the script.
     fn line_begins(&self);
 
     /// Reports that the verifier refuses the program of this load.

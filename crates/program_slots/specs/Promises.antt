@@ -1,4 +1,4 @@
--- Promises: what a new version changes, and when each error is returned.
+-- Promises: what the installation of a new version changes, and when each error is returned.
 use Rattle.std.specs.Prelude.{◌≡◌, ◌≢◌, ℕ, ◌+◌, ◌<◌, ◌≤◌, [], ◌∷◌, ◌++◌, length, slice_set, Some, Result, Ok, Err}
 use Rattle.bpf_model.specs.Program.{ProgramText}
 use Rattle.program_slots.specs.Value.{SlotsValue}

@@ -1,5 +1,5 @@
-//! The slots that programs are loaded into. Each load makes a new version, whose number is never used again. A slot has
-//! the number of its newest version.
+//! The slots that programs are loaded into. Each load makes a new version, whose number is never used again. A slot
+//! stores the number of its newest version.
 #![tactic(auto)]
 
 ghost use Rattle.std.specs.Prelude.{◌≡◌, ◌≢◌, ℕ, ◌+◌, MatchOption, OnErr, IfOk, Some, None};

@@ -55,7 +55,8 @@ pub fn leave_few(alloc: Global) -> Option<Taken> {
     take_but(alloc, 1 << 26)
 }
 
-/// Returns the size of the free block in a turn, in bytes: 0 in turn 0, over 80,000 in the last.
+/// Returns the size of the free block for a try, in bytes. Tries are counted from 0: the first has 0 bytes, the last
+/// over 80,000.
 pub fn room_of(turn: usize) -> usize {
     turn.wrapping_mul(turn).wrapping_mul(6)
 }

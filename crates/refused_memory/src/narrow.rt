@@ -1,4 +1,4 @@
-//! A script during one line of which there is little memory.
+//! An input that gives a script, and takes nearly all memory during one of its lines.
 ghost use Rattle.std.specs.Prelude.{◌≡◌, Some, drop};
 
 use crate::hoarding::{Taken, take_but};
@@ -19,7 +19,7 @@ pub struct Narrow {
 }
 
 impl Narrow {
-    /// Makes an input during whose line number `line`, counted from 0, there are only `size` bytes of memory.
+    /// Makes an input that leaves only `size` bytes of memory during line number `line`, counted from 0.
     pub fn new(alloc: Global, input: MemoryIn, line: usize, size: usize) -> Self {
         Narrow {
             input,

@@ -50,7 +50,8 @@ fn outcome_of(alloc: Global, config: Config, mut input: Narrow, mut output: Memo
     }
 }
 
-/// Makes an input that gives a script during whose line number `line` there are only `size` bytes of memory.
+/// Makes an input that gives a script, and leaves only `size` bytes of memory during line number `line`, counted from
+/// 0.
 fn narrow(alloc: Global, script: &[u8], line: usize, size: usize) -> Option<Narrow> {
     let bytes = Vec::from_slice(alloc, script).ok()?;
     let input = MemoryIn::new(bytes, Vec::new(alloc), None);
@@ -64,7 +65,7 @@ fn output(alloc: Global) -> Option<MemoryOut> {
     Some(output)
 }
 
-/// Plays a script during whose line number `line` there are only `size` bytes of memory.
+/// Plays a script with only `size` bytes of memory during line number `line`, counted from 0.
 fn played(alloc: Global, site: &str, script: &[u8], line: usize, size: usize) -> Option<Outcome> {
     let config = read_config(alloc, site.as_bytes()).ok()?.config;
     let output = output(alloc)?;
@@ -126,7 +127,7 @@ fn changed(alloc: Global, text: &[u8], line: usize, put: &[u8], less: usize) -> 
     Some(all)
 }
 
-/// Returns what a play writes in which line number `line` is answered `S31` and changes nothing.
+/// Returns what a play writes if line number `line` is answered `S31` and changes nothing.
 fn told_without(alloc: Global, site: &str, script: &str, line: usize) -> Option<Vec<u8>> {
     let less = changed(alloc, script.as_bytes(), line, b"", 1)?;
     let found = played(alloc, site, &less, script.len(), 0)?;

@@ -32,7 +32,8 @@ use Rattle.operations.specs.Operations.{upper_of}
 
 -- ---- states that fit
 
--- the value is as the type says; the stack's end is 512 bytes above its lowest byte
+-- the value is as the type says; a stack type counts from the stack's end, and a value from its lowest byte, 512 bytes
+-- below
 abbrev pub FitsType : RegType → Value → Type 0
 FitsType Anything v = ⊤
 FitsType Num (Number n) = ⊤
@@ -48,7 +49,7 @@ HasByte c = (b : ℕ) × (c ≡ Byte b)
 pub record Covered (set : List Bool) (stack : List Cell) : Type 0 where
   pub bytes : (p : ℕ) → Has set p → HasByte (cell_at stack p)
 
--- unless the type is Unset, a value that fits it is kept at the place
+-- if the type isn't Unset, a value that fits it is stored at the place
 abbrev pub IsKept : RegType → List Cell → ℕ → Type 0
 IsKept t stack at = is_unset t ≡ false → (v : Value) × FitsType t v × (kept_at stack at ≡ Some v)
 
@@ -78,14 +79,14 @@ list_of (Next to) = to ∷ []
 list_of (Jump to) = to ∷ []
 list_of (Either to next) = to ∷ next ∷ []
 
--- those of them that a jump goes to
+-- the units that the instruction can lead to by a jump: none or one
 abbrev pub jumps_of : Successors → List ℕ
 jumps_of End = []
 jumps_of (Next to) = []
 jumps_of (Jump to) = to ∷ []
 jumps_of (Either to next) = to ∷ []
 
--- where the jump goes, if there is one
+-- the unit that the instruction's jump goes to, if it has one
 abbrev pub jump_of : Successors → Option ℕ
 jump_of End = None
 jump_of (Next to) = None
@@ -169,7 +170,8 @@ pub record Enters (facts : Facts) (fact : Fact) (to : ℕ) : Type 0 where
   pub is : facts to ≡ Some wider
   pub below : IsBelow fact wider
 
--- the instruction is well typed, and the facts of the units that it leads to take in the fact after it
+-- the instruction is well typed, and each state that fits the fact after it fits the facts of the units that it leads
+-- to
 pub record IsTyped (us : List ProgramUnit) (terms : LoadOptions) (facts : Facts) (pc : ℕ) (i : Inst) (fact : Fact) : Type 0 where
   pub form : Form
   pub form_is : form_of i.opcode ≡ Some form
@@ -188,7 +190,8 @@ pub record IsEntry (fact : Fact) : Type 0 where
   pub places : (p : ℕ) → Has fact.stack p → ⊥
   pub spills : fact.spills ≡ no_spills
 
--- the first unit's fact takes in the fact on entry, and the instruction of each reached unit is well typed
+-- each state that fits the fact on entry fits the first unit's fact, and the instruction of each reached unit is well
+-- typed
 pub record Covers (us : List ProgramUnit) (terms : LoadOptions) (facts : Facts) : Type 0 where
   pub unit : Inst
   pub begins : slice_get us 0 ≡ Some (First unit)

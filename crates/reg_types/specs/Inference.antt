@@ -127,7 +127,7 @@ instruction_at us pc = instruction_of (slice_get us pc)
 abbrev pub ruled : List ProgramUnit → LoadOptions → ℕ → Fact → Inst × Form → Result Effect Flaw
 ruled us terms pc fact x = judged (length us) pc terms fact x.0 (upper_of us pc) x.1
 
--- the flaw of the unit's instruction; a unit that isn't reached has no fact and no flaw
+-- the fault that the rules found in a unit's instruction, if any; a unit that no run reaches has no fact, and no fault
 abbrev pub flaw_in : ℕ → Result Effect Flaw → Option TypeFault
 flaw_in pc (Ok effect) = None
 flaw_in pc (Err flaw) = Some (located pc flaw)
@@ -142,7 +142,7 @@ flaw_under us terms pc (Some fact) = flaw_of us terms pc fact (instruction_at us
 
 -- ---- edges
 
--- a unit's fact after an edge has brought it this one: the join of both, if the unit had one
+-- a unit's fact after an edge has brought it `fact`: the join of both if the unit had a fact before, else `fact`
 abbrev pub taken_in : Option Fact → Fact → Fact
 taken_in None fact = fact
 taken_in (Some old) fact = join_fact old fact
@@ -196,17 +196,17 @@ first_flaw us terms = first_flaw_below us terms (length us)
 
 -- ---- where facts are stored: at the first unit, and where the jumps of reached units go
 
--- a jump goes to unit q
+-- whether the target of a jump is unit q; None is no jump
 abbrev pub goes : Option ℕ → ℕ → Bool
 goes None q = false
 goes (Some to) q = q == to
 
--- q is the first unit, or the jump of a reached unit below n goes to it
+-- whether q is the first unit, or the jump of a reached unit below n goes to it
 unfoldable pub is_entered : List ProgramUnit → LoadOptions → ℕ → ℕ → Bool
 is_entered us terms zero q = q == 0
 is_entered us terms (suc n) q = is_entered us terms n q || (is_some (inferred us terms n) && goes (target us n) q)
 
--- the jump of a unit below n goes to q, reached or not
+-- whether the jump of a unit below n, reached or not, goes to q
 unfoldable pub is_target : List ProgramUnit → ℕ → ℕ → Bool
 is_target us zero q = false
 is_target us (suc n) q = is_target us n q || goes (target us n) q

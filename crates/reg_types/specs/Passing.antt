@@ -80,8 +80,8 @@ pub record IsSettled (pc : ℕ) (carried : Option StoredFact) (fact : Option Fac
   pub here : AreStored (new pc) fact
   pub kept : (q : ℕ) → is_some (new q) ≡ is_some (old q)
 
--- the instruction at pc has no flaw under the fact, its jump's target has taken in the fact after it, and that is carried on to
--- the next instruction
+-- The instruction at pc has no flaw under the fact. The fact after it was joined with that of its jump's target, if it
+-- has a jump, and is carried to the next instruction, if a run can go on there.
 pub record IsVisited (us : List ProgramUnit) (terms : LoadOptions) (pc : ℕ) (fact : Fact) (next : Option StoredFact) (old new : Facts) : Type 0 where
   pub flawless : flaw_under us terms pc (Some fact) ≡ None
   pub ahead : (q : ℕ) → pc < q → AreSame (seen next new q) (passed us terms pc (Some fact) q (old q))
@@ -89,7 +89,8 @@ pub record IsVisited (us : List ProgramUnit) (terms : LoadOptions) (pc : ℕ) (f
   pub goes_on : IsCarriedTo us (pc + 1) next
   pub kept : (q : ℕ) → is_some (new q) ≡ (is_some (old q) || goes (target us pc) q)
 
--- unit pc has no flaw, and the units that it leads to have taken in what its edges bring
+-- The instruction of unit pc, if one begins there, has no flaw. The facts of the units that it leads to were joined
+-- with the fact after it.
 pub record IsPassed (us : List ProgramUnit) (terms : LoadOptions) (pc : ℕ) (carried next : Option StoredFact) (old new : Facts) : Type 0 where
   pub flawless : flaw_under us terms pc (seen carried old pc) ≡ None
   pub ahead : (q : ℕ) → pc < q → AreSame (seen next new q) (passed us terms pc (seen carried old pc) q (seen carried old q))
@@ -172,6 +173,6 @@ IsPassRefused us terms (Flow fault) = ⊥
 IsPassRefused us terms (TypeRefusal fault) = first_flaw us terms ≡ Some fault
 IsPassRefused us terms OutOfMemory = ⊤
 
--- out of memory is a refusal of its own, never inside another one
+-- the refusal isn't out of memory inside a fault of decoding or of a jump: out of memory is a refusal of its own
 abbrev pub IsToldAlone : Refusal → Type 0
 IsToldAlone refusal = (refusal ≢ Decode NoMemoryToDecode) × (refusal ≢ Flow NoMemoryForFlow)

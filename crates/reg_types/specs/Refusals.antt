@@ -53,7 +53,7 @@ shown_by (Flow fault) = flow_shown fault
 shown_by (TypeRefusal fault) = Some (type_shown fault)
 shown_by OutOfMemory = None
 
--- the fault that a flaw is when the instruction at unit pc has it
+-- the fault of the instruction at unit pc that has this flaw
 abbrev pub located : ℕ → Flaw → TypeFault
 located pc flaw.FallsOff = FallsOff pc
 located pc flaw.WriteR10 = WriteR10 pc

@@ -166,7 +166,7 @@ IsDecodeRefused bytes fault = IsRefusedFor bytes fault
 abbrev pub IsFlowRefused : List ℕ → FlowFault → Type 0
 IsFlowRefused bytes fault = (code : List ProgramUnit) × (units bytes ≡ Some code) × IsFlowShown code fault
 
--- what a refusal says of the program
+-- what a refusal says of the program; out of memory says nothing
 abbrev pub IsRefused : ProgramText → Refusal → Type 0
 IsRefused p (Decode fault) = IsDecodeRefused p.bytes fault
 IsRefused p (Flow fault) = IsFlowRefused p.bytes fault

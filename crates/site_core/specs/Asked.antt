@@ -18,7 +18,8 @@ use Rattle.site_core.specs.Decide.{is_till, admitted, asks_of, WellAsked}
 use Rattle.site_core.specs.Draft.{DraftValue, Basis, basis_of, routed}
 use Rattle.site_core.specs.Differences.{IsFresh, Differs}
 
--- The question that a program is asked in this state: none where it is refused before a program is looked for, and none where no program decides.
+-- The question that a program is asked in this state. None if the request is refused before that, or if no program
+-- decides it.
 abbrev pub question_in : SiteState → Asks → Option Question
 question_in s (asks.Decision q) = result_ok (admitted s q)
 question_in s _ = None
@@ -26,11 +27,13 @@ question_in s _ = None
 abbrev pub question_of : ConfigValue → SiteState → Request → Option Question
 question_of config s request = question_in s (asks_of config request)
 
--- As `question_of`, of a request by this till: none too where the site has no such till.
+-- The question that a program is asked in this state for a request by this till. None also if the site has no such
+-- till.
 abbrev pub asked_question : ConfigValue → SiteState → ℕ → Request → Option Question
 asked_question config s till request = if is_till config till then question_of config s request else None
 
--- The draft was made in some state in which its request was not refused: its context and its view are those of that state.
+-- The draft was made in some state in which its request wasn't refused. Its context and its view are those of that
+-- state.
 pub record WasAsked (draft : DraftValue) : Type 0 where
   pub config : ConfigValue
   pub state : SiteState
@@ -44,7 +47,8 @@ pub record FitsContext (s : SiteState) (q : Question) : Type 0 where
   pub busy : busy_points s < 4294967296
   pub unpaid : of_point s q (λ (p : PointState). length p.unpaid) < 4294967296
 
--- The draft is the one that this request gets in this state: its question is asked, and a version is installed in the question's slot.
+-- The draft is the one that is made for this request in this state. The request asks a program a question, and a
+-- version is installed in the question's slot.
 pub record IsDraft (config : ConfigValue) (s : SiteState) (slots : SlotsValue) (till moment : ℕ) (request : Request) (draft : DraftValue) : Type 0 where
   pub question : Question
   pub asked : asked_question config s till request ≡ Some question
@@ -56,7 +60,8 @@ pub record IsDraft (config : ConfigValue) (s : SiteState) (slots : SlotsValue) (
   pub view_is : draft.view ≡ view_of s
   pub counters_are : draft.counters ≡ s.counters
 
--- The draft of this request in this state, or none where no program would be run: nothing is asked, or no version is installed.
+-- The draft that is made for this request in this state. None if no program would be run: the request asks no program,
+-- or no version is installed in the slot.
 abbrev pub Drafts : ConfigValue → SiteState → SlotsValue → ℕ → ℕ → Request → Option DraftValue → Type 0
 Drafts config s slots till moment request None =
     (asked_question config s till request ≡ None)
@@ -67,7 +72,8 @@ Drafts config s slots till moment request (Some draft) = IsDraft config s slots 
 abbrev pub basis_in : ConfigValue → SiteState → SlotsValue → DraftValue → Basis
 basis_in config s slots draft = basis_of (version_in slots) s draft.till draft.moment (routed config s draft.till draft.request)
 
--- In this state too the draft's request asks the question, of the same version, with the same context and view, and no declared counter differs.
+-- The draft isn't stale in this state: its request asks question q here, of the same version, with the same context and
+-- view, and no declared counter differs.
 pub record StillAsked (config : ConfigValue) (s : SiteState) (slots : SlotsValue) (draft : DraftValue) (q : Question) : Type 0 where
   pub asked : asked_question config s draft.till draft.request ≡ Some q
   pub well : WellAsked s q
@@ -77,7 +83,7 @@ pub record StillAsked (config : ConfigValue) (s : SiteState) (slots : SlotsValue
   pub view_is : view_of s ≡ draft.view
   pub fresh : IsFresh (basis_in config s slots draft) draft
 
--- What a comparison of a draft with this state returns: the question that is asked in this state, or the first difference.
+-- What a comparison of a draft with this state returns: the question that is asked here, or the first difference.
 abbrev pub Compares : ConfigValue → SiteState → SlotsValue → DraftValue → Result Question Why → Type 0
 Compares config s slots draft (Ok q) = StillAsked config s slots draft q
 Compares config s slots draft (Err why) = Differs (basis_in config s slots draft) draft why

@@ -56,7 +56,7 @@ bad_amount = refused 25
 abbrev pub transactions_full : Reply
 transactions_full = refused 26
 
--- S22, which names the point's state; S23, which names the slot; S24, which names the version.
+-- The refusals S22 with the point's state, S23 with the slot's number, and S24 with the version's number.
 abbrev pub wrong_state : State → Reply
 wrong_state state = refused_with 22 (state_number state)
 
@@ -72,7 +72,7 @@ is_decided (reply.Granted amount version) = true
 is_decided (reply.Refused number value) = number == 24
 is_decided _ = false
 
--- The rest where the test is true, or else the refusal.
+-- The third argument if the test is true, or else the refusal.
 abbrev pub need : {T : Type 0} → Bool → Reply → Result T Reply → Result T Reply
 need test refusal rest = if test then rest else Err refusal
 
@@ -96,7 +96,7 @@ preset_of config n amount = record { kind = Preset; point = n; product = 0; aske
 abbrev pub price_of_product : ConfigValue → ℕ → ℕ → Question
 price_of_product config product price = record { kind = Price; point = 0; product = product; asked = price; slot = config.price_slot }
 
--- What a request asks: a question of a program, or of a point a command or its state.
+-- What a request leads to: a question to a program, a command to a point, or the display of a point's state.
 abbrev pub asks_of : ConfigValue → Request → Asks
 asks_of config (request.Release n amount) = asks.Decision (release_of config n amount)
 asks_of config (request.Preset n amount) = asks.Decision (preset_of config n amount)

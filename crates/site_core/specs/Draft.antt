@@ -48,7 +48,7 @@ routed_to s _ = None
 abbrev pub routed_request : ConfigValue → SiteState → Request → Option Question
 routed_request config s request = routed_to s (asks_of config request)
 
--- As `routed_request`, of a request by this till: none too where the site has no such till.
+-- The same as `routed_request`, for a request by this till. None also if the site has no such till.
 abbrev pub routed : ConfigValue → SiteState → ℕ → Request → Option Question
 routed config s till request = if is_till config till then routed_request config s request else None
 

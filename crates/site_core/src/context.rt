@@ -36,7 +36,7 @@ impl Field {
     }
 }
 
-/// Returns the number that stands for a kind of request in a context: 1, 2 or 3.
+/// Returns the number of a kind of request in a context: 1 for a release, 2 for a preset, 3 for a price.
 pub fn kind_number(kind: Kind) -> u32
     ensures { result ≡ kind_number kind }
 {

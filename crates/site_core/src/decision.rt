@@ -19,7 +19,8 @@ const PRODUCTS: u32 = 8;
 /// The greatest price of a litre, in thousandths.
 const GREATEST_PRICE: u64 = 9_999_999;
 
-/// Returns whether a point can have one more unpaid transaction, if the kind of request is one that leads to one.
+/// Returns whether the point has room for the unpaid transaction that a release leads to. True for other kinds of
+/// request.
 fn has_room(kind: Kind, point: &Point) -> bool
     ensures { result ≡ has_room kind point.now }
 {

@@ -1,4 +1,4 @@
-//! The refusals of a site, and the replies to what a point returns.
+//! The refusals of a site, and its replies to what a point returns for a command or an event.
 
 ghost use Rattle.std.specs.Prelude.{◌≡◌};
 ghost use Rattle.site_core.specs.Decide.{wrong_state, no_program, denied};
