@@ -6,9 +6,10 @@ usage: tools/build.py FOLDER NAME    FOLDER: crates.txt and crates/, a copy that
 
 Two calls of `rt` in one tree wait for each other, so each crate is proved in a tree of its own. What was proved is
 linked into the trees of the crates above it. Of the crates that can begin, the one with the longest chain up to the
-program comes first. It gets several processes, and so do others with nearly as long a chain; the rest run behind them,
-by `nice`. FC_JOBS is the most processes; left out, they are at most two for each processor, as memory allows. What `rt`
-says goes to standard output, with a line 'rt: NAME proved' at the end of each crate.
+program comes first. It gets several processes, and so do others with nearly as long a chain. The rest run behind them,
+by `nice`: a long one by two processes, since it keeps these when the others are done. FC_JOBS is the most processes;
+left out, they are at most two for each processor, as memory allows. What `rt` says goes to standard output, with a line
+'rt: NAME proved' at the end of each crate.
 """
 import os
 import shutil
@@ -19,7 +20,8 @@ from concurrent.futures import FIRST_COMPLETED, ThreadPoolExecutor, wait
 
 MOST_JOBS = 4  # processes that one crate's proof can use well
 MEMORY = 2_500_000_000  # bytes that a process may need
-NEARLY = 0.8  # of the longest chain: a crate with so much behind it goes first too
+NEARLY = 0.7  # of the longest chain: a crate with this much behind it goes first too
+LONG = 1_000  # lines of a crate that gets two processes even behind the longest chain
 PATIENT = 10  # the niceness of the others
 
 
@@ -124,7 +126,8 @@ class Build:
                     if busy >= (most if is_first else min(processors, most)):
                         break
                     others = sum(it.chain >= NEARLY * longest for it, _ in running.values())
-                    jobs = max(1, min(MOST_JOBS, most - busy, processors // (1 + others))) if is_first else 1
+                    wanted = min(MOST_JOBS, processors // (1 + others)) if is_first else 1 + (crate.lines >= LONG)
+                    jobs = max(1, min(wanted, most - busy))
                     left.remove(crate)
                     running[pool.submit(self.prove, crate.name, jobs, 0 if is_first else PATIENT)] = crate, jobs
                 for one in wait(running, return_when=FIRST_COMPLETED).done:
