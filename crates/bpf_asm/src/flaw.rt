@@ -31,32 +31,29 @@ pub enum AsmFlaw<'a> {
 
 impl fmt::Display for AsmFlaw<'_> {
     fn fmt<W: fmt::Write>(&self, f: &mut fmt::Formatter<W>) -> fmt::Result {
-        match self {
-            AsmFlaw::ByteOrderMark => f.write_str("the text begins with a byte order mark"),
-            AsmFlaw::CarriageReturn => {
-                f.write_str("the line ends with CR LF, and LF alone ends a line")
-            }
-            AsmFlaw::NoForm(line) => write_around(f, "no such form: ", *line, ""),
-            AsmFlaw::LabelAgain(name) => {
-                write_around(f, "the label '", *name, "' stands on a line before")
-            }
-            AsmFlaw::LabelMissing(name) => write_around(f, "no line has the label '", *name, "'"),
-            AsmFlaw::OutOfRange(line) => write_around(f, "a number out of range: ", *line, ""),
-            AsmFlaw::Length => f.write_str("a program has 1 to 512 units"),
-        }
+        let (before, shown, after) = parts_of(*self);
+        f.write_str(before)?;
+        write_beginning(f, shown)?;
+        f.write_str(after)
     }
 }
 
-/// Writes `before`, the first 80 bytes of a line or a label, and `after`.
-fn write_around<W: fmt::Write>(
-    f: &mut fmt::Formatter<W>,
-    before: &str,
-    line: &[u8],
-    after: &str,
-) -> fmt::Result {
-    f.write_str(before)?;
-    write_beginning(f, line)?;
-    f.write_str(after)
+/// Returns the words before the line or the label that a flaw's message shows, that line or label, and the words after
+/// it. Where the message shows none the line is empty.
+fn parts_of(flaw: AsmFlaw<'_>) -> (&'static str, &[u8], &'static str) {
+    match flaw {
+        AsmFlaw::ByteOrderMark => ("the text begins with a byte order mark", &[], ""),
+        AsmFlaw::CarriageReturn => (
+            "the line ends with CR LF, and LF alone ends a line",
+            &[],
+            "",
+        ),
+        AsmFlaw::NoForm(line) => ("no such form: ", line, ""),
+        AsmFlaw::LabelAgain(name) => ("the label '", name, "' stands on a line before"),
+        AsmFlaw::LabelMissing(name) => ("no line has the label '", name, "'"),
+        AsmFlaw::OutOfRange(line) => ("a number out of range: ", line, ""),
+        AsmFlaw::Length => ("a program has 1 to 512 units", &[], ""),
+    }
 }
 
 /// The most bytes of a line that a message shows.
@@ -64,13 +61,15 @@ const MOST_SHOWN: usize = 80;
 
 /// Writes the first 80 bytes of a line, each as a terminal can show it, and ` ..` if there are more.
 fn write_beginning<W: fmt::Write>(f: &mut fmt::Formatter<W>, line: &[u8]) -> fmt::Result {
-    for byte in line.iter().take(MOST_SHOWN) {
+    let shown = &line[..line.len().min(MOST_SHOWN)];
+    for byte in shown {
         write_byte(f, *byte)?;
     }
-    if line.len() > MOST_SHOWN {
-        f.write_str(" ..")?;
+    if shown.len() < line.len() {
+        f.write_str(" ..")
+    } else {
+        Ok(())
     }
-    Ok(())
 }
 
 /// Writes a printable ASCII character as it is, and any other byte as in `\x0d`.

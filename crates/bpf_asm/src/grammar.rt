@@ -276,18 +276,25 @@ fn is_full(width: Width) -> bool
     matches!(width, Width::Bits64)
 }
 
-// Returns the instruction `dst = tokens` if it has a form that exists for `=` only: a negation, a sign extension, END,
-// a wide load or a load.
-fn only_assigned(width: Width, dst: u8, tokens: &[Token]) -> Option<Statement>
-    ensures { result ≡ spec.only_assigned width dst tokens.now }
+// The next functions return the instruction for the tokens after `r1 =` (or another register) and one token more, if it
+// has a form that exists for `=` only: a negation, a sign extension, END or a wide load.
+fn negated(width: Width, dst: u8, tokens: &[Token]) -> Option<Statement>
+    ensures { result ≡ spec.only_assigned width dst (Token.Minus ∷ tokens.now) }
 {
     match tokens {
-        [Token::Minus, Token::Register(other, src)] => when(
+        [Token::Register(other, src)] => when(
             is_same(width, *other) && dst == *src,
             negation(width, dst),
         ),
+        _ => None,
+    }
+}
+
+fn extended(width: Width, dst: u8, tokens: &[Token]) -> Option<Statement>
+    ensures { result ≡ spec.only_assigned width dst (Token.Open ∷ tokens.now) }
+{
+    match tokens {
         [
-            Token::Open,
             Token::Signed(size),
             Token::Close,
             Token::Register(other, src),
@@ -298,21 +305,49 @@ fn only_assigned(width: Width, dst: u8, tokens: &[Token]) -> Option<Statement>
                 None
             }
         }
-        [
-            Token::Swap(order, source, bits),
-            Token::Register(Width::Bits64, src),
-        ] => when(
+        _ => None,
+    }
+}
+
+fn swapped(
+    order: Width,
+    source: Source,
+    bits: u64,
+    width: Width,
+    dst: u8,
+    tokens: &[Token],
+) -> Option<Statement>
+    ensures { result ≡ spec.only_assigned width dst (Token.Swap order source bits ∷ tokens.now) }
+{
+    match tokens {
+        [Token::Register(Width::Bits64, src)] => when(
             is_full(width) && dst == *src,
-            swap(*order, *source, *bits, dst),
+            swap(order, source, bits, dst),
         ),
-        [Token::Number(n), Token::Long] => when(is_full(width), Statement::Wide(dst, *n)),
-        [Token::Star, rest @ ..] => {
-            if is_full(width) {
-                load(dst, rest)
-            } else {
-                None
-            }
-        }
+        _ => None,
+    }
+}
+
+fn wide(n: Option<u64>, width: Width, dst: u8, tokens: &[Token]) -> Option<Statement>
+    ensures { result ≡ spec.only_assigned width dst (Token.Number n ∷ tokens.now) }
+{
+    match tokens {
+        [Token::Long] => when(is_full(width), Statement::Wide(dst, n)),
+        _ => None,
+    }
+}
+
+// Returns the instruction `dst = tokens` if it has a form that exists for `=` only: one of these, or a load.
+fn only_assigned(width: Width, dst: u8, tokens: &[Token]) -> Option<Statement>
+    ensures { result ≡ spec.only_assigned width dst tokens.now }
+{
+    let (first, rest) = tokens.split_first()?;
+    match *first {
+        Token::Minus => negated(width, dst, rest),
+        Token::Open => extended(width, dst, rest),
+        Token::Swap(order, source, bits) => swapped(order, source, bits, width, dst, rest),
+        Token::Number(n) => wide(n, width, dst, rest),
+        Token::Star if is_full(width) => load(dst, rest),
         _ => None,
     }
 }

@@ -105,6 +105,13 @@ fn symbol_len(mut table: &[(&[u8], Token)], text: &[u8]) -> usize
     longest
 }
 
+fn longest_symbol(text: &[u8]) -> usize
+    ensures value { result ≡ spec.symbol_len spec.symbols text.now }
+    ensures within { result ≤ length text.now }
+{
+    symbol_len(&SYMBOLS, text)
+}
+
 /// Returns the length of the longest token at the start of a text; 0 if no token begins there.
 pub fn token_len(text: &[u8]) -> usize
     ensures value { result ≡ spec.token_len text.now }
@@ -113,7 +120,7 @@ pub fn token_len(text: &[u8]) -> usize
     if byte(text, 0).is_ascii_digit() {
         number_len(text)
     } else {
-        word_len(text).max(symbol_len(&SYMBOLS, text))
+        word_len(text).max(longest_symbol(text))
     }
 }
 

@@ -170,10 +170,7 @@ pub fn assemble(alloc: Global, text: &[u8]) -> Result<Code, AsmFault>
         Ok(rows) => rows,
         Err(fault) => return Err(fault),
     };
-    match assemble_rows(alloc, rows.as_slice()) {
-        Ok(code) => Ok(code),
-        Err(fault) => Err(fault),
-    }
+    assemble_rows(alloc, rows.as_slice())
 }
 
 /// States that the text of a program, as `disassemble` writes it, assembles to that program and to no other. It does

@@ -1,6 +1,7 @@
 //! Program files: the bytes of a program as hexadecimal digits, with blanks between them.
 ghost use Rattle.std.specs.Prelude.{◌≡◌, ◌*◌, ◌+◌, ◌≤◌, length, filter, not, IfOk, OnOk, ◌++◌, string_bytes};
-ghost use Rattle.bpf_asm.specs.ProgramFile.{Gives, program_in, is_blank, line_at, unit_lines};
+ghost use Rattle.bpf_asm.specs.ProgramFile.{Gives, bytes_or_fault, program_in, is_blank, line_at, unit_lines};
+ghost use Rattle.hex.specs.Hex.{decode_of};
 
 use hex::FromHexError;
 use std::alloc::{AllocError, Global};
@@ -49,6 +50,19 @@ fn without_blanks(alloc: Global, text: &[u8]) -> Result<Vec<u8>, AllocError>
         .collect(alloc)
 }
 
+/// Returns the bytes that hexadecimal digits spell.
+fn bytes_of(alloc: Global, digits: &[u8]) -> Result<Vec<u8>, ProgramFileFault>
+    ensures { Gives (λ bytes. bytes.items) result (bytes_or_fault (decode_of digits.now)) }
+{
+    match hex::decode(alloc, digits) {
+        Ok(bytes) => Ok(bytes),
+        Err(FromHexError::OutOfMemory) => Err(ProgramFileFault::OutOfMemory),
+        Err(FromHexError::InvalidHexCharacter { .. }) => Err(ProgramFileFault::BadDigits),
+        Err(FromHexError::OddLength) => Err(ProgramFileFault::BadDigits),
+        Err(FromHexError::InvalidStringLength) => Err(ProgramFileFault::BadDigits),
+    }
+}
+
 /// Reads a program file: at most 65,536 bytes of hexadecimal digits in either case, between which spaces, tabs, CR and
 /// LF are skipped. A file that is too long is refused before its digits are checked.
 #[tactic(auto, unfolding(crate::specs::ProgramFile::program_in))]
@@ -59,13 +73,7 @@ pub fn read_program(alloc: Global, text: &[u8]) -> Result<Vec<u8>, ProgramFileFa
         return Err(ProgramFileFault::TooLong);
     }
     let digits = without_blanks(alloc, text)?;
-    match hex::decode(alloc, digits.as_slice()) {
-        Ok(bytes) => Ok(bytes),
-        Err(FromHexError::OutOfMemory) => Err(ProgramFileFault::OutOfMemory),
-        Err(FromHexError::InvalidHexCharacter { .. }) => Err(ProgramFileFault::BadDigits),
-        Err(FromHexError::OddLength) => Err(ProgramFileFault::BadDigits),
-        Err(FromHexError::InvalidStringLength) => Err(ProgramFileFault::BadDigits),
-    }
+    bytes_of(alloc, digits.as_slice())
 }
 
 /// Appends the line of a unit: 16 hexadecimal digits and an LF.
@@ -75,8 +83,7 @@ fn push_line(alloc: Global, text: &mut String, bytes: &[u8], unit: usize) -> Res
 {
     let digits = hex::encode(alloc, &bytes[8 * unit..8 * unit + 8])?;
     text.push_str(digits.as_str())?;
-    text.push('\n')?;
-    Ok(())
+    text.push('\n')
 }
 
 /// Returns the units of a program as lines: for each whole unit of 8 bytes, 16 lower case hexadecimal digits and an LF.

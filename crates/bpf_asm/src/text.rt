@@ -5,29 +5,61 @@ ghost use Rattle.std.specs.Prelude.{codes};
 ghost use Rattle.std.specs.Int.{cast_unsigned, w32};
 ghost use Rattle.std.specs.Fmt.{decimal, signed_decimal};
 ghost use Rattle.bpf_asm.specs.Text.{line_text, pieces, register_text, operator_text, condition_text, size_text};
-ghost use Rattle.bpf_asm.specs.Text.{signed_size_text, extension_text, swap_text, instruction_text, distance, number};
-ghost use Rattle.bpf_asm.specs.Text.{shift, left_width, right_pieces, upper, place, HasSecondOperand};
-ghost use Rattle.bpf_asm.specs.Text.{Next, After};
+ghost use Rattle.bpf_asm.specs.Text.{signed_size_text, extension_text, order_text, swap_text, instruction_text};
+ghost use Rattle.bpf_asm.specs.Text.{distance, number, operand, left_width, right_pieces, upper, place};
+ghost use Rattle.bpf_asm.specs.Text.{HasSecondOperand, Next, After};
+ghost use Rattle.bpf_asm.specs.Words.{shift_text, place_text};
 ghost use Rattle.bpf_model.specs.Reading.{form_of};
 
 use bpf_model::instruction::{Condition, Form, Inst, Operator, Size, Source, Width};
 use std::alloc::AllocError;
-use std::fmt;
 
-// The name of a register, by its width and number: `r` for 64 bits, `w` for 32, and the number.
-#[derive(Clone, Copy, Drop)]
-struct Name(Width, u8);
+// Appends `before` and a number in decimal digits.
+fn write_number(out: &mut String, before: &str, n: u64) -> Result<(), AllocError>
+    ensures { OnOk result (string_bytes out.new ≡ string_bytes out.old ++ before.now ++ decimal n) }
+{
+    write!(out, "{before}{n}")
+}
 
-impl fmt::Display for Name {
-    ghost output = { λ name. Some (register_text name.0 name.1) };
+// Appends `before` and a number in decimal digits, with `-` before a negative one.
+fn write_signed(out: &mut String, before: &str, n: i32) -> Result<(), AllocError>
+    ensures { OnOk result (string_bytes out.new ≡ string_bytes out.old ++ before.now ++ signed_decimal n) }
+{
+    write!(out, "{before}{n}")
+}
 
-    fn fmt<W: fmt::Write>(&self, f: &mut fmt::Formatter<W>) -> fmt::Result {
-        let number = self.1;
-        match self.0 {
-            Width::Bits64 => write!(f, "r{number}"),
-            Width::Bits32 => write!(f, "w{number}"),
-        }
+// Appends `before` and the name of a register: `r` for 64 bits, `w` for 32, and its number.
+fn write_register(
+    out: &mut String,
+    before: &str,
+    width: Width,
+    register: u8,
+) -> Result<(), AllocError>
+    ensures { OnOk result (string_bytes out.new ≡ string_bytes out.old
+        ++ before.now ++ register_text width register) }
+{
+    out.push_str(before)?;
+    match width {
+        Width::Bits64 => write_number(out, "r", u64::from(register)),
+        Width::Bits32 => write_number(out, "w", u64::from(register)),
     }
+}
+
+// Appends a blank, a number, and the end of the line.
+fn end_with_number(out: &mut String, n: i32) -> Result<(), AllocError>
+    ensures { OnOk result (string_bytes out.new ≡ string_bytes out.old ++ line_text (number n [])) }
+{
+    write_signed(out, " ", n)?;
+    out.push_str("\n")
+}
+
+// Appends a blank, the name of a register, and the end of the line.
+fn end_with_register(out: &mut String, width: Width, register: u8) -> Result<(), AllocError>
+    ensures { OnOk result (string_bytes out.new ≡ string_bytes out.old
+        ++ line_text (After (register_text width register) ∷ [])) }
+{
+    write_register(out, " ", width, register)?;
+    out.push_str("\n")
 }
 
 fn symbol_of_operator(operator: Operator, offset: i16) -> &'static str
@@ -91,74 +123,14 @@ fn name_of_signed(size: Size) -> &'static str
     }
 }
 
-// An offset from a register, written as ` + 8` or ` - 8`.
-#[derive(Clone, Copy, Drop)]
-struct Shift(i16);
-
-impl fmt::Display for Shift {
-    ghost use Rattle.std.specs.Prelude.{Some};
-    ghost use Rattle.bpf_asm.specs.Words.{shift_text};
-
-    ghost output = { λ s. Some (shift_text s.0) };
-
-    fn fmt<W: fmt::Write>(&self, f: &mut fmt::Formatter<W>) -> fmt::Result {
-        let offset = self.0;
-        if offset >= 0 {
-            write!(f, " + {offset}")
-        } else {
-            let size = offset.unsigned_abs();
-            write!(f, " - {size}")
-        }
-    }
-}
-
-// The distance of a jump, written with its sign, as in `+8` or `-8`.
-#[derive(Clone, Copy, Drop)]
-struct Distance(i32);
-
-impl fmt::Display for Distance {
-    ghost use Rattle.std.specs.Prelude.{Some};
-    ghost use Rattle.bpf_asm.specs.Words.{distance_text};
-
-    ghost output = { λ s. Some (distance_text s.0) };
-
-    fn fmt<W: fmt::Write>(&self, f: &mut fmt::Formatter<W>) -> fmt::Result {
-        let distance = self.0;
-        if distance >= 0 {
-            write!(f, "+{distance}")
-        } else {
-            write!(f, "{distance}")
-        }
-    }
-}
-
-// The next functions append the lines of the operators that have a form of their own: END and NEG, which have one
-// register, and MOV, which can extend a sign.
-fn write_swap(out: &mut String, width: Width, source: Source, inst: Inst) -> Result<(), AllocError>
-    ensures { OnOk result (string_bytes out.new ≡ string_bytes out.old
-        ++ line_text (pieces (Form.Arithmetic Operator.SwapBytes width source) inst (pos 0))) }
+fn name_of_order(width: Width, source: Source) -> &'static str
+    ensures { result.now ≡ order_text width source }
 {
-    let order = match (width, source) {
+    match (width, source) {
         (Width::Bits32, Source::Immediate) => "le",
         (Width::Bits32, Source::Register) => "be",
         (Width::Bits64, _) => "bswap",
-    };
-    let dst = Name(Width::Bits64, inst.dst);
-    let bits = inst.imm.cast_unsigned();
-    write!(out, "{dst} = {order}{bits} {dst}\n")
-}
-
-fn write_negation(
-    out: &mut String,
-    width: Width,
-    source: Source,
-    inst: Inst,
-) -> Result<(), AllocError>
-    ensures { OnOk result (string_bytes out.new ≡ string_bytes out.old
-        ++ line_text (pieces (Form.Arithmetic Operator.Neg width source) inst (pos 0))) }
-{
-    let dst = Name(width, inst.dst);
-    write!(out, "{dst} = -{dst}\n")
+    }
 }
 
 fn name_of_extension(offset: i16) -> &'static str
@@ -171,30 +143,81 @@ fn name_of_extension(offset: i16) -> &'static str
     }
 }
 
-fn write_move(out: &mut String, width: Width, source: Source, inst: Inst) -> Result<(), AllocError>
+// Appends the second operand of an instruction, a number or a register, and the end of the line.
+fn write_operand(
+    out: &mut String,
+    source: Source,
+    width: Width,
+    inst: Inst,
+) -> Result<(), AllocError>
     ensures { OnOk result (string_bytes out.new ≡ string_bytes out.old
-        ++ line_text (pieces (Form.Arithmetic Operator.Mov width source) inst (pos 0))) }
+        ++ line_text (operand source width inst [])) }
 {
-    let dst = Name(width, inst.dst);
-    let src = Name(width, inst.src);
     match source {
-        Source::Immediate => {
-            let imm = inst.imm;
-            write!(out, "{dst} = {imm}\n")
-        }
+        Source::Immediate => end_with_number(out, inst.imm),
+        Source::Register => end_with_register(out, width, inst.src),
+    }
+}
+
+// The next functions append what comes after the symbol of an operator, and the end of the line. NEG and END have one
+// register, and MOV can extend a sign.
+fn write_swapped(
+    out: &mut String,
+    width: Width,
+    source: Source,
+    inst: Inst,
+) -> Result<(), AllocError>
+    ensures { OnOk result (string_bytes out.new ≡ string_bytes out.old
+        ++ line_text (right_pieces Operator.SwapBytes width source inst)) }
+{
+    out.push_str(" ")?;
+    let bits = u64::from(inst.imm.cast_unsigned());
+    write_number(out, name_of_order(width, source), bits)?;
+    end_with_register(out, Width::Bits64, inst.dst)
+}
+
+fn write_negated(
+    out: &mut String,
+    width: Width,
+    source: Source,
+    inst: Inst,
+) -> Result<(), AllocError>
+    ensures { OnOk result (string_bytes out.new ≡ string_bytes out.old
+        ++ line_text (right_pieces Operator.Neg width source inst)) }
+{
+    write_register(out, " -", width, inst.dst)?;
+    out.push_str("\n")
+}
+
+fn write_extended(out: &mut String, width: Width, inst: Inst) -> Result<(), AllocError>
+    ensures { OnOk result (string_bytes out.new ≡ string_bytes out.old
+        ++ line_text (After (codes "(") ∷ Next (extension_text inst.offset) ∷ Next (codes ")")
+        ∷ Next (register_text width inst.src) ∷ [])) }
+{
+    out.push_str(" (")?;
+    out.push_str(name_of_extension(inst.offset))?;
+    write_register(out, ")", width, inst.src)?;
+    out.push_str("\n")
+}
+
+fn write_moved(out: &mut String, width: Width, source: Source, inst: Inst) -> Result<(), AllocError>
+    ensures { OnOk result (string_bytes out.new ≡ string_bytes out.old
+        ++ line_text (right_pieces Operator.Mov width source inst)) }
+{
+    match source {
+        Source::Immediate => end_with_number(out, inst.imm),
         Source::Register => {
             if inst.offset == 0 {
-                write!(out, "{dst} = {src}\n")
+                end_with_register(out, width, inst.src)
             } else {
-                let size = name_of_extension(inst.offset);
-                write!(out, "{dst} = ({size}){src}\n")
+                write_extended(out, width, inst)
             }
         }
     }
 }
 
-// Appends the line of any operator but NEG, END and MOV.
-fn write_plain(
+// The same for any operator but NEG, END and MOV.
+fn write_second(
     out: &mut String,
     operator: Operator,
     width: Width,
@@ -203,19 +226,36 @@ fn write_plain(
 ) -> Result<(), AllocError>
     requires { HasSecondOperand operator }
     ensures { OnOk result (string_bytes out.new ≡ string_bytes out.old
-        ++ line_text (pieces (Form.Arithmetic operator width source) inst (pos 0))) }
+        ++ line_text (right_pieces operator width source inst)) }
 {
-    let dst = Name(width, inst.dst);
-    let symbol = symbol_of_operator(operator, inst.offset);
-    match source {
-        Source::Immediate => {
-            let imm = inst.imm;
-            write!(out, "{dst} {symbol} {imm}\n")
-        }
-        Source::Register => {
-            let src = Name(width, inst.src);
-            write!(out, "{dst} {symbol} {src}\n")
-        }
+    write_operand(out, source, width, inst)
+}
+
+fn write_right(
+    out: &mut String,
+    operator: Operator,
+    width: Width,
+    source: Source,
+    inst: Inst,
+) -> Result<(), AllocError>
+    ensures { OnOk result (string_bytes out.new ≡ string_bytes out.old
+        ++ line_text (right_pieces operator width source inst)) }
+{
+    match operator {
+        Operator::Neg => write_negated(out, width, source, inst),
+        Operator::SwapBytes => write_swapped(out, width, source, inst),
+        Operator::Mov => write_moved(out, width, source, inst),
+        _ => write_second(out, operator, width, source, inst),
+    }
+}
+
+// Returns the width of the register before an operator: END is written with that of 64 bits.
+fn width_of_left(operator: Operator, width: Width) -> Width
+    ensures { result ≡ left_width operator width }
+{
+    match operator {
+        Operator::SwapBytes => Width::Bits64,
+        _ => width,
     }
 }
 
@@ -229,21 +269,49 @@ fn write_arithmetic(
     ensures { OnOk result (string_bytes out.new ≡ string_bytes out.old
         ++ line_text (pieces (Form.Arithmetic operator width source) inst (pos 0))) }
 {
-    match operator {
-        Operator::Neg => write_negation(out, width, source, inst),
-        Operator::SwapBytes => write_swap(out, width, source, inst),
-        Operator::Mov => write_move(out, width, source, inst),
-        _ => write_plain(out, operator, width, source, inst),
+    write_register(out, "", width_of_left(operator, width), inst.dst)?;
+    out.push_str(" ")?;
+    out.push_str(symbol_of_operator(operator, inst.offset))?;
+    write_right(out, operator, width, source, inst)
+}
+
+// Returns the number of a wide load, by its lower and its upper half.
+fn wide_number(low: i32, high: i32) -> u64
+    ensures { result ≡ upper low high }
+{
+    u64::from(low.cast_unsigned()) + u64::from(high.cast_unsigned()) * 4_294_967_296
+}
+
+fn write_wide(out: &mut String, dst: u8, value: u64) -> Result<(), AllocError>
+    ensures { OnOk result (string_bytes out.new ≡ string_bytes out.old
+        ++ line_text (Next (register_text Width.Bits64 dst) ∷ After (codes "=") ∷ After (decimal value)
+        ∷ After (codes "ll") ∷ [])) }
+{
+    write_register(out, "", Width::Bits64, dst)?;
+    write_number(out, " = ", value)?;
+    out.push_str(" ll\n")
+}
+
+// Appends an offset from a register, as in ` + 8` or ` - 8`.
+fn write_shift(out: &mut String, offset: i16) -> Result<(), AllocError>
+    ensures { OnOk result (string_bytes out.new ≡ string_bytes out.old ++ shift_text offset) }
+{
+    if offset >= 0 {
+        write_signed(out, " + ", i32::from(offset))
+    } else {
+        write_number(out, " - ", u64::from(offset.unsigned_abs()))
     }
 }
 
-fn write_wide(out: &mut String, inst: Inst, high: i32) -> Result<(), AllocError>
-    ensures { OnOk result (string_bytes out.new ≡ string_bytes out.old ++ line_text (pieces Form.Wide inst high)) }
+// Appends a place in memory, as in `*(u8 *)(r2 + 8)`.
+fn write_place(out: &mut String, size: &str, base: u8, offset: i16) -> Result<(), AllocError>
+    ensures { OnOk result (string_bytes out.new ≡ string_bytes out.old ++ place_text size.now base offset) }
 {
-    let dst = Name(Width::Bits64, inst.dst);
-    let low = u64::from(inst.imm.cast_unsigned());
-    let value = low + u64::from(high.cast_unsigned()) * 4_294_967_296;
-    write!(out, "{dst} = {value} ll\n")
+    out.push_str("*(")?;
+    out.push_str(size)?;
+    write_register(out, " *)(", Width::Bits64, base)?;
+    write_shift(out, offset)?;
+    out.push_str(")")
 }
 
 // Appends the line of a load of a size that has this name.
@@ -252,32 +320,65 @@ fn write_load(out: &mut String, size: &str, inst: Inst) -> Result<(), AllocError
         ++ line_text (Next (register_text Width.Bits64 inst.dst) ∷ After (codes "=") ∷ After (codes "*")
         ∷ place size.now inst.src inst.offset [])) }
 {
-    let dst = Name(Width::Bits64, inst.dst);
-    let src = Name(Width::Bits64, inst.src);
-    let shift = Shift(inst.offset);
-    write!(out, "{dst} = *({size} *)({src}{shift})\n")
+    write_register(out, "", Width::Bits64, inst.dst)?;
+    out.push_str(" = ")?;
+    write_place(out, size, inst.src, inst.offset)?;
+    out.push_str("\n")
 }
 
 fn write_number_store(out: &mut String, size: Size, inst: Inst) -> Result<(), AllocError>
     ensures { OnOk result (string_bytes out.new ≡ string_bytes out.old
         ++ line_text (pieces (Form.StoreImmediate size) inst (pos 0))) }
 {
-    let dst = Name(Width::Bits64, inst.dst);
-    let name = name_of_size(size);
-    let shift = Shift(inst.offset);
-    let imm = inst.imm;
-    write!(out, "*({name} *)({dst}{shift}) = {imm}\n")
+    write_place(out, name_of_size(size), inst.dst, inst.offset)?;
+    out.push_str(" =")?;
+    end_with_number(out, inst.imm)
 }
 
 fn write_register_store(out: &mut String, size: Size, inst: Inst) -> Result<(), AllocError>
     ensures { OnOk result (string_bytes out.new ≡ string_bytes out.old
         ++ line_text (pieces (Form.StoreRegister size) inst (pos 0))) }
 {
-    let dst = Name(Width::Bits64, inst.dst);
-    let src = Name(Width::Bits64, inst.src);
-    let name = name_of_size(size);
-    let shift = Shift(inst.offset);
-    write!(out, "*({name} *)({dst}{shift}) = {src}\n")
+    write_place(out, name_of_size(size), inst.dst, inst.offset)?;
+    out.push_str(" =")?;
+    end_with_register(out, Width::Bits64, inst.src)
+}
+
+// Appends a jump and the end of the line. `word` is `goto` or `gotol`, maybe with a blank before it.
+fn write_goto(out: &mut String, word: &str, to: i32) -> Result<(), AllocError>
+    ensures { OnOk result (string_bytes out.new ≡ string_bytes out.old
+        ++ line_text (Next word.now ∷ distance to [])) }
+{
+    out.push_str(word)?;
+    if to >= 0 {
+        write_signed(out, " +", to)?;
+        out.push_str("\n")
+    } else {
+        end_with_number(out, to)
+    }
+}
+
+// Appends what comes after the symbol of a comparison: the second operand, the jump, and the end of the line.
+fn write_compared(
+    out: &mut String,
+    width: Width,
+    source: Source,
+    inst: Inst,
+) -> Result<(), AllocError>
+    ensures { OnOk result (string_bytes out.new ≡ string_bytes out.old
+        ++ line_text (operand source width inst (After (codes "goto") ∷ distance inst.offset []))) }
+{
+    let distance = i32::from(inst.offset);
+    match source {
+        Source::Immediate => {
+            write_signed(out, " ", inst.imm)?;
+            write_goto(out, " goto", distance)
+        }
+        Source::Register => {
+            write_register(out, " ", width, inst.src)?;
+            write_goto(out, " goto", distance)
+        }
+    }
 }
 
 fn write_branch(
@@ -290,35 +391,17 @@ fn write_branch(
     ensures { OnOk result (string_bytes out.new ≡ string_bytes out.old
         ++ line_text (pieces (Form.Branch condition width source) inst (pos 0))) }
 {
-    let dst = Name(width, inst.dst);
-    let symbol = symbol_of_condition(condition);
-    let distance = Distance(i32::from(inst.offset));
-    match source {
-        Source::Immediate => {
-            let imm = inst.imm;
-            write!(out, "if {dst} {symbol} {imm} goto {distance}\n")
-        }
-        Source::Register => {
-            let src = Name(width, inst.src);
-            write!(out, "if {dst} {symbol} {src} goto {distance}\n")
-        }
-    }
-}
-
-// Appends the line of a jump without condition. `word` is `goto` or `gotol`.
-fn write_goto(out: &mut String, word: &str, to: i32) -> Result<(), AllocError>
-    ensures { OnOk result (string_bytes out.new ≡ string_bytes out.old
-        ++ line_text (Next word.now ∷ distance to [])) }
-{
-    let distance = Distance(to);
-    write!(out, "{word} {distance}\n")
+    write_register(out, "if ", width, inst.dst)?;
+    out.push_str(" ")?;
+    out.push_str(symbol_of_condition(condition))?;
+    write_compared(out, width, source, inst)
 }
 
 fn write_call(out: &mut String, inst: Inst) -> Result<(), AllocError>
     ensures { OnOk result (string_bytes out.new ≡ string_bytes out.old ++ line_text (pieces Form.Call inst (pos 0))) }
 {
-    let imm = inst.imm;
-    write!(out, "call {imm}\n")
+    out.push_str("call")?;
+    end_with_number(out, inst.imm)
 }
 
 /// Appends the line of an instruction. `high` is the upper half of a wide load's number.
@@ -331,7 +414,7 @@ pub fn write_instruction(out: &mut String, inst: Inst, high: i32) -> Result<(), 
         Some(Form::Arithmetic(operator, width, source)) => write_arithmetic(
             out, operator, width, source, inst,
         ),
-        Some(Form::Wide) => write_wide(out, inst, high),
+        Some(Form::Wide) => write_wide(out, inst.dst, wide_number(inst.imm, high)),
         Some(Form::Load(size)) => write_load(out, name_of_size(size), inst),
         Some(Form::LoadSigned(size)) => write_load(out, name_of_signed(size), inst),
         Some(Form::StoreImmediate(size)) => write_number_store(out, size, inst),

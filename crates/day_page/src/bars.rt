@@ -77,7 +77,7 @@ pub(crate) fn add_points(sheet: &mut Sheet, sums: &[Sum]) {
 const NUMBERS: usize = 440;
 
 /// Returns the greatest of the counts, and how many counts aren't 0: these have a bar.
-fn most_refused(counts: &[usize]) -> (usize, usize) {
+pub(crate) fn most_refused(counts: &[usize]) -> (usize, usize) {
     let (mut most, mut bars) = (0usize, 0usize);
     for count in counts {
         if *count > 0 {

@@ -20,9 +20,7 @@ impl Page {
     /// Makes the page of a site's history. The error is that memory ran out.
     pub fn of(alloc: Global, site: &Site) -> Result<Page, AllocError> {
         let day = Day::of(alloc, site)?;
-        Ok(Page {
-            text: text_of(alloc, &day)?,
-        })
+        page_of(alloc, &day)
     }
 }
 
@@ -71,11 +69,13 @@ impl Day {
     }
 }
 
-/// Returns the text of the page. The error is that memory ran out.
-fn text_of(alloc: Global, day: &Day) -> Result<String, AllocError> {
+/// Makes the page that shows this day. The error is that memory ran out.
+fn page_of(alloc: Global, day: &Day) -> Result<Page, AllocError> {
     let mut sheet = Sheet::new(alloc);
     add_day(&mut sheet, day);
-    sheet.finish()
+    Ok(Page {
+        text: sheet.finish()?,
+    })
 }
 
 fn add_day(sheet: &mut Sheet, day: &Day) {
@@ -162,9 +162,19 @@ fn add_sums(sheet: &mut Sheet, totals: &Totals) {
     sheet.add("</div></div>\n");
 }
 
+/// Returns whether one of these sums has a sale.
+fn has_sale(sums: &[Sum]) -> bool {
+    for sum in sums {
+        if sum.count > 0 {
+            return true;
+        }
+    }
+    false
+}
+
 /// Adds the picture and the table of sales by hour, if the sales have moments.
 fn add_hours(sheet: &mut Sheet, sums: &[Sum]) {
-    if !sums.iter().any(|sum| sum.count > 0) {
+    if !has_sale(sums) {
         return sheet.add(
             "<p class=\"note\">No sale tells its moment, so there are no hours.</p>\n",
         );
@@ -183,6 +193,16 @@ fn add_unpaid(sheet: &mut Sheet, unpaid: &[Unpaid]) {
     }
 }
 
+/// Returns whether one of these counters has a bound that isn't 0.
+fn has_bound(counters: &[(u64, u64)]) -> bool {
+    for counter in counters {
+        if counter.1 > 0 {
+            return true;
+        }
+    }
+    false
+}
+
 fn add_rules(sheet: &mut Sheet, totals: &Totals, counters: &[(u64, u64)]) {
     sheet.add("<section id=\"rules\"><h2>Rules</h2>\n");
     if totals.loads.is_empty() {
@@ -190,7 +210,7 @@ fn add_rules(sheet: &mut Sheet, totals: &Totals, counters: &[(u64, u64)]) {
     } else {
         add_versions(sheet, totals);
     }
-    if counters.iter().any(|(_value, bound)| *bound > 0) {
+    if has_bound(counters) {
         sheet.add("<h3>Counters</h3>");
         tables::add_counters(sheet, counters);
     }
@@ -225,7 +245,7 @@ fn add_points(sheet: &mut Sheet, bands: &Bands, axis: Axis) {
 
 fn add_refusals(sheet: &mut Sheet, counts: &[usize]) {
     sheet.add("<section id=\"refusals\"><h2>Refusals</h2>\n");
-    if counts.iter().any(|count| *count > 0) {
+    if bars::most_refused(counts).1 > 0 {
         bars::add_refusals(sheet, counts);
         sheet.add("\n");
     } else {

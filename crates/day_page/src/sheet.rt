@@ -79,16 +79,23 @@ impl Sheet {
         self.note(written);
     }
 
-    /// Adds `mark`, then a number with two digits.
+    /// Adds `mark`, then a number with at least two digits.
     fn two(&mut self, mark: &str, number: u64) {
-        let written = write!(self.text, "{mark}{number:02}");
-        self.note(written);
+        self.add(mark);
+        if number < 10 {
+            self.add("0");
+        }
+        self.number(number);
     }
 
-    /// Adds `mark`, then a number with three digits.
+    /// Adds `mark`, then a number with at least three digits.
     fn three(&mut self, mark: &str, number: u64) {
-        let written = write!(self.text, "{mark}{number:03}");
-        self.note(written);
+        self.add(mark);
+        if number < 100 {
+            self.two("0", number);
+        } else {
+            self.number(number);
+        }
     }
 
     fn thousands(&mut self, number: u128) {

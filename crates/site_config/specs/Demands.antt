@@ -1,4 +1,4 @@
--- Definitions: a number in its range, and a condition that is met, or K3.
+-- Definitions: a number that must be in a range, and a condition that must hold; otherwise the fault is K3.
 use Rattle.std.specs.Prelude.{◌&&◌, nat_le, ℕ, ℤ, pos, negsuc, Bool, true, false, Result, Ok, Err, if◌then◌else◌}
 use Rattle.site_config.specs.declared.fault.ConfigFault.{ConfigFault}
 use Rattle.site_config.specs.declared.fault.ConfigFault.TheVariants.{K3}

@@ -81,7 +81,7 @@ role_of tills points (SomePoints zs) = do
   Ok (roles.SomePoints bits)
 role_of tills points Owner = Ok roles.Owner
 
--- Each door has an address and a role that are in their ranges.
+-- Ok if the address and the role of the door are in their ranges, or else the fault.
 unfoldable pub door_fits : ℕ → ℕ → RawDoor → Result (Unit {0}) ConfigFault
 door_fits tills points d = do
   a ← address_of d.address
@@ -101,7 +101,7 @@ same_address (Socket p) (Socket q) = bytes_eq p q
 same_address (Port y) (Socket q) = false
 same_address (Socket p) (Port z) = false
 
--- Both doors are one till's.
+-- Both doors are for the same single till.
 abbrev pub same_till : RawRole → RawRole → Bool
 same_till (OneTill y) (OneTill z) = int_eq y z
 same_till a b = false
@@ -135,7 +135,7 @@ is_single sides.Tills (OneTill z) = true
 is_single sides.Dispensers (SomePoints zs) = true
 is_single side role = false
 
--- How many doors are such.
+-- How many doors are for one till, or for some points, as `side` says.
 abbrev pub count_single : Side → List RawDoor → ℕ
 count_single side [] = 0
 count_single side (d ∷ ds) = (if is_single side d.role then 1 else 0) + count_single side ds
@@ -153,7 +153,8 @@ abbrev pub each_taken : Side → List RawDoor → ℕ → Bool
 each_taken side ds zero = true
 each_taken side ds (suc n) = list_any (λ d. takes side (suc n) d.role) ds && each_taken side ds n
 
--- The shared door and the others have at most so many workers in all. Each till, or each point, has a door that takes its lines.
+-- The shared door's workers and the doors of single tills, or of some points, are at most `most` in all. Each till, or
+-- each point, has a door that takes its lines.
 unfoldable pub side_fits : Side → ℕ → ℕ → ℕ → List RawDoor → Bool
 side_fits side shared most n ds = nat_le (shared + count_single side ds) most && each_taken side ds n
 

@@ -11,6 +11,8 @@ use Rattle.site_config.specs.declared.flaw.Section.{Section}
 use Rattle.site_config.specs.declared.flaw.Section.TheVariants.{Serve, Till, Dispenser}
 use Rattle.site_config.specs.declared.flaw.Place.{Place}
 use Rattle.site_config.specs.declared.flaw.Place.TheVariants.{At}
+use Rattle.site_config.specs.declared.flaw.Side.{Side}
+use Rattle.site_config.specs.declared.flaw.Side.TheVariants as sides
 use Rattle.site_config.specs.declared.raw.Raw.{Raw}
 use Rattle.site_config.specs.declared.raw.Served.{Served}
 use Rattle.site_config.specs.declared.raw.RawDoor.{RawDoor}
@@ -171,6 +173,11 @@ dispenser_in place d = do
   known ← require (has_only is_dispenser_key ms)
   zs ← integers_at (codes "points") ms
   door_at (Dispenser place) (key.Port, key.Socket) (SomePoints zs) ms
+
+-- The door of one till, or that of some points.
+abbrev pub single_in : Side → ℕ → Data → Result RawDoor ConfigFault
+single_in sides.Tills = till_in
+single_in sides.Dispensers = dispenser_in
 
 -- What the tables of an array read as, the first of which has this place.
 abbrev pub each_table : (ℕ → Data → Result RawDoor ConfigFault) → ℕ → Items → Result (List RawDoor) ConfigFault

@@ -44,12 +44,12 @@ fn make_address(alloc: Global, place: Place, address: &RawAddress) -> Result<Add
     ensures { Finds address_seen result (address_of address.now) }
 {
     match address {
-        RawAddress::Port(port) => Ok(Address::Port(in_range(place, *port, 1, 65_535)?)),
+        RawAddress::Port(port) => Ok(Address::Port(value_of!(in_range(place, *port, 1, 65_535)))),
         RawAddress::Socket(path) => {
             if path.as_str().is_empty() {
                 return Err(ConfigFlaw::Empty(place));
             }
-            Ok(Address::Socket(String::from_str(alloc, path.as_str())?))
+            Ok(Address::Socket(room_for!(String::from_str(alloc, path.as_str()))))
         }
     }
 }
@@ -66,7 +66,7 @@ fn add_point(
     requires { points ≤ POINTS }
     ensures { Finds (λ x. x) result (with_point points bits value) }
 {
-    let point = in_range(item_of(list, place), value, 1, points)?;
+    let point = value_of!(in_range(item_of(list, place), value, 1, points));
     if (bits >> (point - 1)) % 2 != 0 {
         return Err(ConfigFlaw::PointTwice(list, point));
     }
@@ -112,12 +112,12 @@ fn make_role(tills: u32, points: u32, place: Place, role: &RawRole) -> Result<Ro
         RawRole::Tills => Ok(Role::Till),
         RawRole::OneTill(number) => {
             let place = beside(place, Key::Number);
-            Ok(Role::OneTill(in_range(place, *number, 1, tills)?))
+            Ok(Role::OneTill(value_of!(in_range(place, *number, 1, tills))))
         }
         RawRole::Dispensers => Ok(Role::Dispenser),
         RawRole::SomePoints(numbers) => {
             let place = beside(place, Key::Points);
-            Ok(Role::SomePoints(make_bits(place, points, numbers.as_slice())?))
+            Ok(Role::SomePoints(value_of!(make_bits(place, points, numbers.as_slice()))))
         }
         RawRole::Owner => Ok(Role::Owner),
     }
@@ -129,8 +129,8 @@ fn check_door(alloc: Global, tills: u32, points: u32, door: &RawDoor) -> Result<
     requires { points ≤ POINTS }
     ensures { Finds (λ x. x) result (door_fits tills points door.now) }
 {
-    let _address = make_address(alloc, door.place, &door.address)?;
-    let _role = make_role(tills, points, door.place, &door.role)?;
+    let _address = value_of!(make_address(alloc, door.place, &door.address));
+    let _role = value_of!(make_role(tills, points, door.place, &door.role));
     Ok(())
 }
 
@@ -139,7 +139,7 @@ fn check_doors(alloc: Global, tills: u32, points: u32, doors: &[RawDoor]) -> Res
     ensures { Finds (λ x. x) result (doors_fit tills points doors.now) }
 {
     for door in doors {
-        check_door(alloc, tills, points, door)?;
+        value_of!(check_door(alloc, tills, points, door));
     }
     Ok(())
 }
@@ -191,29 +191,19 @@ fn clash_with(door: &RawDoor, others: &[RawDoor]) -> Option<ConfigFlaw>
     None
 }
 
-/// Returns the flaw of the first two doors that have the same address, or are for the same till alone.
-fn first_clash(doors: &[RawDoor]) -> Option<ConfigFlaw>
-    ensures { Checks (each_apart doors.now) result }
-{
-    let mut rest = doors;
-    while let [first, others @ ..] = rest {
-        if let Some(flaw) = clash_with(first, others) {
-            return Some(flaw);
-        }
-        rest = others;
-    }
-    None
-}
-
 /// Checks that each address is that of one door, and that each till has one door of its own at most. The error is
 /// `SamePort`, `SameSocket` or `SameTill`.
 fn check_apart(doors: &[RawDoor]) -> Result<(), ConfigFlaw>
     ensures { Finds (λ x. x) result (demand (each_apart doors.now)) }
 {
-    match first_clash(doors) {
-        Some(flaw) => Err(flaw),
-        None => Ok(()),
+    let mut rest = doors;
+    while let [first, others @ ..] = rest {
+        if let Some(flaw) = clash_with(first, others) {
+            return Err(flaw);
+        }
+        rest = others;
     }
+    Ok(())
 }
 
 /// Returns how many workers a shared door has, 0 where there is no such door. The error is `OutOfRange`.
@@ -267,9 +257,12 @@ fn takes_lines(side: Side, number: u32, role: &RawRole) -> bool
 fn is_taken(side: Side, number: u32, doors: &[RawDoor]) -> bool
     ensures { result ≡ list_any (λ d. takes side number d.role) doors.now }
 {
-    doors
-        .iter()
-        .any(|door| takes_lines(side, number, &door.role))
+    for door in doors {
+        if takes_lines(side, number, &door.role) {
+            return true;
+        }
+    }
+    false
 }
 
 /// Returns whether each number from 1 to this one has a door that takes its lines.
@@ -286,7 +279,8 @@ fn is_each_taken(side: Side, doors: &[RawDoor], most: u32) -> bool
     true
 }
 
-/// Returns the first number from 1 on whose lines no door takes.
+/// Returns the lowest number from 1 to `most` - 1 of a till, or a point, whose lines no door takes; `most` if there is
+/// none.
 fn first_left(side: Side, doors: &[RawDoor], most: u32) -> u32 {
     for number in 1..most {
         if !is_taken(side, number, doors) {
@@ -296,32 +290,10 @@ fn first_left(side: Side, doors: &[RawDoor], most: u32) -> u32 {
     most
 }
 
-/// Returns the flaw of the doors of one side: they have too many workers, of which the shared door has so many, or there
-/// is a till, or a point, whose lines none of them takes.
+/// Checks the doors of one side. `shared` is the number of the shared door's workers, and `most` the most workers that
+/// the side may have. The error is `TooManyWorkers`, or `WithoutDoor` for the first till, or point, whose lines no door
+/// takes.
 #[tactic(auto, unfolding(crate::specs::Doors::side_fits))]
-fn side_flaw(
-    side: Side,
-    shared: u32,
-    most: u32,
-    numbers: u32,
-    doors: &[RawDoor],
-) -> Option<ConfigFlaw>
-    requires { shared ≤ most }
-    ensures { Checks (side_fits side shared most numbers doors.now) result }
-{
-    let own = count_of(side, doors);
-    if own > (most - shared) as usize {
-        let count = own.saturating_add(shared as usize);
-        return Some(ConfigFlaw::TooManyWorkers(side, count, most as usize));
-    }
-    if !is_each_taken(side, doors, numbers) {
-        let number = first_left(side, doors, numbers);
-        return Some(ConfigFlaw::WithoutDoor(side, number));
-    }
-    None
-}
-
-/// Checks the doors of one side. The error is `TooManyWorkers` or `WithoutDoor`.
 fn check_side(
     side: Side,
     shared: u32,
@@ -332,10 +304,16 @@ fn check_side(
     requires { shared ≤ most }
     ensures { Finds (λ x. x) result (demand (side_fits side shared most numbers doors.now)) }
 {
-    match side_flaw(side, shared, most, numbers, doors) {
-        Some(flaw) => Err(flaw),
-        None => Ok(()),
+    let own = count_of(side, doors);
+    if own > (most - shared) as usize {
+        let count = own.saturating_add(shared as usize);
+        return Err(ConfigFlaw::TooManyWorkers(side, count, most as usize));
     }
+    if !is_each_taken(side, doors, numbers) {
+        let number = first_left(side, doors, numbers);
+        return Err(ConfigFlaw::WithoutDoor(side, number));
+    }
+    Ok(())
 }
 
 /// Returns how many workers a door of this role has.
@@ -364,8 +342,8 @@ fn make_door(alloc: Global, counts: Counts, door: &RawDoor) -> Result<Door, Conf
     ensures { Finds door_seen result
         (door_of counts.tills counts.points counts.till_workers counts.dispenser_workers door.now) }
 {
-    let address = make_address(alloc, door.place, &door.address)?;
-    let role = make_role(counts.tills, counts.points, door.place, &door.role)?;
+    let address = value_of!(make_address(alloc, door.place, &door.address));
+    let role = value_of!(make_role(counts.tills, counts.points, door.place, &door.role));
     let workers = workers_for(counts.till_workers, counts.dispenser_workers, &door.role);
     Ok(Door {
         place: door.place,
@@ -382,7 +360,7 @@ fn make_doors(alloc: Global, counts: Counts, doors: &[RawDoor]) -> Result<Vec<Do
 {
     let mut made = Vec::new(alloc);
     for door in doors {
-        made.push(make_door(alloc, counts, door)?)?;
+        room_for!(made.push(value_of!(make_door(alloc, counts, door))));
     }
     Ok(made)
 }
@@ -406,22 +384,17 @@ pub fn make_serve(
     requires { points ≤ POINTS }
     ensures { Finds serve_seen result (serve_of tills points (seen_serve served.now)) }
 {
-    check_doors(alloc, tills, points, &served.doors)?;
-    check_apart(&served.doors)?;
-    let till_workers = shared_of(Key::TillWorkers, served.till_workers, MOST_OF_TILLS)?;
+    value_of!(check_doors(alloc, tills, points, &served.doors));
+    value_of!(check_apart(&served.doors));
+    let till_workers = value_of!(shared_of(Key::TillWorkers, served.till_workers, MOST_OF_TILLS));
     let workers = served.dispenser_workers;
-    let dispenser_workers = shared_of(Key::DispenserWorkers, workers, MOST_OF_DISPENSERS)?;
-    let connections = number_of(Key::Connections, served.connections, 1, 1_000_000)?;
-    let idle_seconds = number_of(Key::IdleSeconds, served.idle_seconds, 0, 86_400)?;
+    let most = MOST_OF_DISPENSERS;
+    let dispenser_workers = value_of!(shared_of(Key::DispenserWorkers, workers, most));
+    let connections = value_of!(number_of(Key::Connections, served.connections, 1, 1_000_000));
+    let idle_seconds = value_of!(number_of(Key::IdleSeconds, served.idle_seconds, 0, 86_400));
     let doors = &served.doors;
-    check_side(Side::Tills, till_workers, MOST_OF_TILLS, tills, doors)?;
-    check_side(
-        Side::Dispensers,
-        dispenser_workers,
-        MOST_OF_DISPENSERS,
-        points,
-        doors,
-    )?;
+    value_of!(check_side(Side::Tills, till_workers, MOST_OF_TILLS, tills, doors));
+    value_of!(check_side(Side::Dispensers, dispenser_workers, most, points, doors));
     let counts = Counts {
         tills,
         points,
@@ -429,7 +402,7 @@ pub fn make_serve(
         dispenser_workers,
     };
     Ok(Serve {
-        doors: make_doors(alloc, counts, doors)?,
+        doors: value_of!(make_doors(alloc, counts, doors)),
         connections,
         idle_seconds,
     })

@@ -1,6 +1,27 @@
 //! Reads the configuration of a site from its text.
 #![tactic(auto)]
 
+/// Gives the value of a result. If the result is a flaw, the function returns that. This is `?` without a conversion of
+/// the flaw, which takes half the time to prove.
+macro_rules! value_of {
+    ($result:expr) => {
+        match $result {
+            Ok(value) => value,
+            Err(flaw) => return Err(flaw),
+        }
+    };
+}
+
+/// Gives what an allocation made. If memory ran out, the function returns that as a flaw.
+macro_rules! room_for {
+    ($result:expr) => {
+        match $result {
+            Ok(made) => made,
+            Err(_) => return Err(ConfigFlaw::OutOfMemory),
+        }
+    };
+}
+
 mod document;
 mod doors;
 mod fault;

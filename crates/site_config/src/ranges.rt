@@ -51,8 +51,8 @@ fn make_point(place: usize, pair: (i64, i64)) -> Result<(u32, u32), ConfigFlaw>
     ensures range { IfOk result (λ p. (p.0 ≤ 15) × (p.1 ≤ 15)) }
 {
     let section = Section::Point(place);
-    let release = in_range(Place::At(section, Key::Release), pair.0, 0, 15)?;
-    let preset = in_range(Place::At(section, Key::Preset), pair.1, 0, 15)?;
+    let release = value_of!(in_range(Place::At(section, Key::Release), pair.0, 0, 15));
+    let preset = value_of!(in_range(Place::At(section, Key::Preset), pair.1, 0, 15));
     Ok((release, preset))
 }
 
@@ -62,8 +62,8 @@ fn make_counter(place: usize, pair: (i64, i64)) -> Result<(u64, u64), ConfigFlaw
     ensures range { IfOk result IsCounter }
 {
     let section = Section::Counter(place);
-    let value = not_negative(Place::At(section, Key::Value), pair.0)?;
-    let bound = not_negative(Place::At(section, Key::Bound), pair.1)?;
+    let value = value_of!(not_negative(Place::At(section, Key::Value), pair.0));
+    let bound = value_of!(not_negative(Place::At(section, Key::Bound), pair.1));
     if value > bound {
         return Err(ConfigFlaw::OverBound(place, value, bound));
     }
@@ -116,7 +116,7 @@ fn make_prices(alloc: Global, values: &[i64]) -> Result<[u32; 8], ConfigFlaw>
     if values.len() != 8 {
         return Err(wrong_count(Key::Prices, values.len(), 8, 8));
     }
-    let prices = each_price(alloc, values)?;
+    let prices = value_of!(each_price(alloc, values));
     Ok(eight_of(prices.as_slice()))
 }
 
@@ -127,7 +127,7 @@ fn each_point(alloc: Global, pairs: &[(i64, i64)]) -> Result<Vec<(u32, u32)>, Co
 {
     let mut points = Vec::new(alloc);
     for pair in pairs {
-        points.push(make_point(points.len(), *pair)?)?;
+        room_for!(points.push(value_of!(make_point(points.len(), *pair))));
     }
     Ok(points)
 }
@@ -151,7 +151,7 @@ fn each_counter(alloc: Global, pairs: &[(i64, i64)]) -> Result<Vec<(u64, u64)>, 
 {
     let mut counters = Vec::new(alloc);
     for pair in pairs {
-        counters.push(make_counter(counters.len(), *pair)?)?;
+        room_for!(counters.push(value_of!(make_counter(counters.len(), *pair))));
     }
     Ok(counters)
 }
@@ -176,7 +176,7 @@ fn make_counters(alloc: Global, pairs: &[(i64, i64)]) -> Result<[(u64, u64); 32]
     if pairs.len() > 32 {
         return Err(wrong_count(Key::Counter, pairs.len(), 0, 32));
     }
-    let counters = each_counter(alloc, pairs)?;
+    let counters = value_of!(each_counter(alloc, pairs));
     Ok(table_of(counters.as_slice()))
 }
 
@@ -190,7 +190,7 @@ fn maybe_serve(
     ensures { Finds (option_map serve_seen) result (serve_from tills points (option_map seen_serve served.now)) }
 {
     match served {
-        Some(served) => Ok(Some(make_serve(alloc, tills, points, served)?)),
+        Some(served) => Ok(Some(value_of!(make_serve(alloc, tills, points, served)))),
         None => Ok(None),
     }
 }
@@ -201,17 +201,17 @@ fn make_settings(alloc: Global, raw: &Raw) -> Result<Settings, ConfigFlaw>
     ensures { Finds told result (told_of (seen raw.now)) }
 {
     let section = Section::Top;
-    let tills = in_range(Place::At(section, Key::Tills), raw.tills, 1, 64)?;
-    let price_slot = in_range(
-        Place::At(Section::Top, Key::PriceSlot),
+    let tills = value_of!(in_range(Place::At(section, Key::Tills), raw.tills, 1, 64));
+    let price_slot = value_of!(in_range(
+        Place::At(section, Key::PriceSlot),
         raw.price_slot,
         0,
         15,
-    )?;
-    let prices = make_prices(alloc, &raw.prices)?;
-    let points = make_points(alloc, &raw.points)?;
-    let counters = make_counters(alloc, &raw.counters)?;
-    let serve = maybe_serve(alloc, tills, points.len() as u32, &raw.serve)?;
+    ));
+    let prices = value_of!(make_prices(alloc, &raw.prices));
+    let points = value_of!(make_points(alloc, &raw.points));
+    let counters = value_of!(make_counters(alloc, &raw.counters));
+    let serve = value_of!(maybe_serve(alloc, tills, points.len() as u32, &raw.serve));
     match Config::new(tills, price_slot, prices, points, counters) {
         Some(config) => Ok(Settings { config, serve }),
         None => unreachable!(),
@@ -226,8 +226,8 @@ pub fn read_settings(alloc: Global, bytes: &[u8]) -> Result<Settings, ConfigFlaw
     ensures found { Finds told result (config_of bytes.now) }
     ensures position { document_of bytes.now ≡ Err ConfigFault.K1 → IfErr result (StandsAt bytes.now) }
 {
-    let document = read_document(alloc, bytes)?;
-    let raw = read_typed(alloc, &document)?;
+    let document = value_of!(read_document(alloc, bytes));
+    let raw = value_of!(read_typed(alloc, &document));
     make_settings(alloc, &raw)
 }
 

@@ -7,10 +7,10 @@ ghost use Rattle.site_config.specs.Flaws.{Finds};
 ghost use Rattle.site_config.specs.Keys.{name_of};
 ghost use Rattle.site_config.specs.declared.fault.ConfigFault.TheVariants.{K2};
 ghost use Rattle.site_config.specs.Typed.{has_shared, door_at, shared_at, workers_at, till_in};
-ghost use Rattle.site_config.specs.Typed.{dispenser_in, each_table, tills_at, dispensers_at, owner_at, doors_at};
+ghost use Rattle.site_config.specs.Typed.{dispenser_in, single_in, each_table, tables_from, owner_at, doors_at};
 ghost use Rattle.site_config.specs.Typed.{idle_from, served_in, served_at, seen_serve};
 
-use crate::flaw::{ConfigFlaw, Key, Place, Section};
+use crate::flaw::{ConfigFlaw, Key, Place, Section, Side};
 use crate::raw::{Numbers, RawAddress, RawDoor, RawRole, Served, Text};
 use crate::values::{
     array_of, check_keys, find_array, find_value, has_key, integer_of, read_integer, read_integers,
@@ -35,8 +35,8 @@ const KEYS: (Key, Key) = (Key::Port, Key::Socket);
 fn read_text(alloc: Global, value: &Value, place: Place) -> Result<Text, ConfigFlaw>
     ensures { Finds (λ t. t) result (or_fault K2 (as_str (view value.now))) }
 {
-    let text = text_of(value, place)?;
-    Ok(Text::new(String::from_str(alloc, text)?))
+    let text = value_of!(text_of(value, place));
+    Ok(Text::new(room_for!(String::from_str(alloc, text))))
 }
 
 /// Reads a door whose port is the value of one key, or whose socket is that of another. Exactly one of them must be
@@ -59,12 +59,12 @@ fn read_door(
     ) {
         (Some(value), None) => Ok(RawDoor {
             place: port,
-            address: RawAddress::Port(integer_of(value, port)?),
+            address: RawAddress::Port(value_of!(integer_of(value, port))),
             role,
         }),
         (None, Some(value)) => Ok(RawDoor {
             place: socket,
-            address: RawAddress::Socket(read_text(alloc, value, socket)?),
+            address: RawAddress::Socket(value_of!(read_text(alloc, value, socket))),
             role,
         }),
         (None, None) => Err(ConfigFlaw::Missing(port)),
@@ -94,7 +94,7 @@ fn add_shared(
     ensures { Finds (λ v. v.items) result (with_front doors.items (shared_at keys tables role (table_view table.now))) }
 {
     if is_shared(table, keys) {
-        doors.push(read_door(alloc, table, Section::Serve, keys, role)?)?;
+        room_for!(doors.push(value_of!(read_door(alloc, table, Section::Serve, keys, role))));
         return Ok(doors);
     }
     if !has_key(table, tables) {
@@ -110,7 +110,7 @@ fn read_workers(table: &Table, keys: (Key, Key), key: Key) -> Result<Option<i64>
     ensures { Finds (λ x. x) result (workers_at keys key (table_view table.now)) }
 {
     if is_shared(table, keys) {
-        return Ok(Some(read_integer(table, Section::Serve, key)?));
+        return Ok(Some(value_of!(read_integer(table, Section::Serve, key))));
     }
     if has_key(table, key) {
         return Err(ConfigFlaw::Needless(
@@ -128,9 +128,9 @@ fn read_till(alloc: Global, value: &Value, place: usize) -> Result<RawDoor, Conf
     ensures { Finds (λ x. x) result (till_in place (view value.now)) }
 {
     let section = Section::Till(place);
-    let table = table_of(value, Place::Item(Section::Serve, Key::Till, place))?;
-    check_keys(alloc, table, section)?;
-    let number = read_integer(table, section, Key::Number)?;
+    let table = value_of!(table_of(value, Place::Item(Section::Serve, Key::Till, place)));
+    value_of!(check_keys(alloc, table, section));
+    let number = value_of!(read_integer(table, section, Key::Number));
     read_door(alloc, table, section, KEYS, RawRole::OneTill(number))
 }
 
@@ -140,71 +140,61 @@ fn read_dispenser(alloc: Global, value: &Value, place: usize) -> Result<RawDoor,
     ensures { Finds (λ x. x) result (dispenser_in place (view value.now)) }
 {
     let section = Section::Dispenser(place);
-    let table = table_of(value, Place::Item(Section::Serve, Key::Dispenser, place))?;
-    check_keys(alloc, table, section)?;
-    let values = find_array(table, section, Key::Points)?;
-    let points = read_integers(alloc, values, section, Key::Points)?;
+    let table = value_of!(table_of(value, Place::Item(Section::Serve, Key::Dispenser, place)));
+    value_of!(check_keys(alloc, table, section));
+    let values = value_of!(find_array(table, section, Key::Points));
+    let points = value_of!(read_integers(alloc, values, section, Key::Points));
     let role = RawRole::SomePoints(Numbers::new(points));
     read_door(alloc, table, section, KEYS, role)
 }
 
-/// Reads the doors of single tills, and returns them behind the doors so far.
-fn each_till(
+/// Reads the door of one till, or that of some points, from its table, whose place is counted from 0.
+fn read_single(
     alloc: Global,
+    side: Side,
+    value: &Value,
+    place: usize,
+) -> Result<RawDoor, ConfigFlaw>
+    ensures { Finds (λ x. x) result (single_in side place (view value.now)) }
+{
+    match side {
+        Side::Tills => read_till(alloc, value, place),
+        Side::Dispensers => read_dispenser(alloc, value, place),
+    }
+}
+
+fn each_single(
+    alloc: Global,
+    side: Side,
     values: &[Value],
     mut doors: Vec<RawDoor>,
 ) -> Result<Vec<RawDoor>, ConfigFlaw>
-    ensures { Finds (λ v. v.items) result (with_front doors.items (each_table till_in 0 (items_view values.now))) }
+    ensures { Finds (λ v. v.items) result (with_front doors.items (each_table (single_in side) 0 (items_view values.now))) }
 {
     let mut place = 0;
     for value in values {
-        doors.push(read_till(alloc, value, place)?)?;
+        room_for!(doors.push(value_of!(read_single(alloc, side, value, place))));
         place += 1;
     }
     Ok(doors)
 }
 
-/// Reads the doors of some points each, and returns them behind the doors so far.
-fn each_dispenser(
-    alloc: Global,
-    values: &[Value],
-    mut doors: Vec<RawDoor>,
-) -> Result<Vec<RawDoor>, ConfigFlaw>
-    ensures { Finds (λ v. v.items) result (with_front doors.items (each_table dispenser_in 0 (items_view values.now))) }
-{
-    let mut place = 0;
-    for value in values {
-        doors.push(read_dispenser(alloc, value, place)?)?;
-        place += 1;
-    }
-    Ok(doors)
-}
-
-#[tactic(auto, unfolding(crate::specs::Typed::tills_at))]
-fn add_tills(alloc: Global, table: &Table, doors: Vec<RawDoor>) -> Result<Vec<RawDoor>, ConfigFlaw>
-    ensures { Finds (λ v. v.items) result (with_front doors.items (tills_at (table_view table.now))) }
-{
-    match find_value(table, Key::Till.name()) {
-        Some(value) => {
-            let values = array_of(value, Place::At(Section::Serve, Key::Till))?;
-            each_till(alloc, values, doors)
-        }
-        None => Ok(doors),
-    }
-}
-
-#[tactic(auto, unfolding(crate::specs::Typed::dispensers_at))]
-fn add_dispensers(
+/// Reads the doors of single tills, or those of some points each, from the tables at this key, and returns them behind
+/// the doors so far.
+fn add_singles(
     alloc: Global,
     table: &Table,
+    key: Key,
+    side: Side,
     doors: Vec<RawDoor>,
 ) -> Result<Vec<RawDoor>, ConfigFlaw>
-    ensures { Finds (λ v. v.items) result (with_front doors.items (dispensers_at (table_view table.now))) }
+    ensures { Finds (λ v. v.items) result
+        (with_front doors.items (tables_from (single_in side) (get_member (name_of key) (table_view table.now)))) }
 {
-    match find_value(table, Key::Dispenser.name()) {
+    match find_value(table, key.name()) {
         Some(value) => {
-            let values = array_of(value, Place::At(Section::Serve, Key::Dispenser))?;
-            each_dispenser(alloc, values, doors)
+            let values = value_of!(array_of(value, Place::At(Section::Serve, key)));
+            each_single(alloc, side, values, doors)
         }
         None => Ok(doors),
     }
@@ -218,21 +208,27 @@ fn add_owner(
 ) -> Result<Vec<RawDoor>, ConfigFlaw>
     ensures { Finds (λ v. v.items) result (with_front doors.items (owner_at (table_view table.now))) }
 {
-    doors.push(read_door(alloc, table, Section::Serve, OWNER_KEYS, RawRole::Owner)?)?;
+    room_for!(doors.push(value_of!(read_door(
+        alloc,
+        table,
+        Section::Serve,
+        OWNER_KEYS,
+        RawRole::Owner
+    ))));
     Ok(doors)
 }
 
 /// Reads all doors, in the order in which workers get their passes.
-#[tactic(auto, unfolding(crate::specs::Typed::doors_at))]
+#[tactic(auto, unfolding(crate::specs::Typed::doors_at, crate::specs::Typed::tills_at, crate::specs::Typed::dispensers_at))]
 fn read_doors(alloc: Global, table: &Table) -> Result<Vec<RawDoor>, ConfigFlaw>
     ensures { Finds (λ v. v.items) result (doors_at (table_view table.now)) }
 {
     let doors = Vec::new(alloc);
-    let doors = add_shared(alloc, table, TILL_KEYS, Key::Till, RawRole::Tills, doors)?;
-    let doors = add_tills(alloc, table, doors)?;
+    let doors = value_of!(add_shared(alloc, table, TILL_KEYS, Key::Till, RawRole::Tills, doors));
+    let doors = value_of!(add_singles(alloc, table, Key::Till, Side::Tills, doors));
     let role = RawRole::Dispensers;
-    let doors = add_shared(alloc, table, DISPENSER_KEYS, Key::Dispenser, role, doors)?;
-    let doors = add_dispensers(alloc, table, doors)?;
+    let doors = value_of!(add_shared(alloc, table, DISPENSER_KEYS, Key::Dispenser, role, doors));
+    let doors = value_of!(add_singles(alloc, table, Key::Dispenser, Side::Dispensers, doors));
     add_owner(alloc, table, doors)
 }
 
@@ -249,13 +245,13 @@ fn read_idle(table: &Table) -> Result<i64, ConfigFlaw>
 fn read_served(alloc: Global, value: &Value) -> Result<Served, ConfigFlaw>
     ensures { Finds seen_serve result (served_in (view value.now)) }
 {
-    let table = table_of(value, Place::At(Section::Top, Key::Serve))?;
-    check_keys(alloc, table, Section::Serve)?;
-    let doors = read_doors(alloc, table)?;
-    let till_workers = read_workers(table, TILL_KEYS, Key::TillWorkers)?;
-    let dispenser_workers = read_workers(table, DISPENSER_KEYS, Key::DispenserWorkers)?;
-    let connections = read_integer(table, Section::Serve, Key::Connections)?;
-    let idle_seconds = read_idle(table)?;
+    let table = value_of!(table_of(value, Place::At(Section::Top, Key::Serve)));
+    value_of!(check_keys(alloc, table, Section::Serve));
+    let doors = value_of!(read_doors(alloc, table));
+    let till_workers = value_of!(read_workers(table, TILL_KEYS, Key::TillWorkers));
+    let dispenser_workers = value_of!(read_workers(table, DISPENSER_KEYS, Key::DispenserWorkers));
+    let connections = value_of!(read_integer(table, Section::Serve, Key::Connections));
+    let idle_seconds = value_of!(read_idle(table));
     Ok(Served {
         doors,
         till_workers,
@@ -271,7 +267,7 @@ pub fn find_served(alloc: Global, table: &Table) -> Result<Option<Served>, Confi
     ensures { Finds (option_map seen_serve) result (served_at (table_view table.now)) }
 {
     match find_value(table, Key::Serve.name()) {
-        Some(value) => Ok(Some(read_served(alloc, value)?)),
+        Some(value) => Ok(Some(value_of!(read_served(alloc, value)))),
         None => Ok(None),
     }
 }

@@ -27,10 +27,10 @@ fn read_pair(
     ensures { Finds (λ x. x) result
         (pair_in (is_key_of section) (name_of keys.0) (name_of keys.1) (view value.now)) }
 {
-    let table = table_of(value, place)?;
-    check_keys(alloc, table, section)?;
-    let first = read_integer(table, section, keys.0)?;
-    let second = read_integer(table, section, keys.1)?;
+    let table = value_of!(table_of(value, place));
+    value_of!(check_keys(alloc, table, section));
+    let first = value_of!(read_integer(table, section, keys.0));
+    let second = value_of!(read_integer(table, section, keys.1));
     Ok((first, second))
 }
 
@@ -68,7 +68,7 @@ fn read_points(alloc: Global, values: &[Value]) -> Result<Vec<(i64, i64)>, Confi
 {
     let mut pairs = Vec::new(alloc);
     for value in values {
-        pairs.push(read_point(alloc, value, pairs.len())?)?;
+        room_for!(pairs.push(value_of!(read_point(alloc, value, pairs.len()))));
     }
     Ok(pairs)
 }
@@ -79,7 +79,7 @@ fn read_counters(alloc: Global, values: &[Value]) -> Result<Vec<(i64, i64)>, Con
 {
     let mut pairs = Vec::new(alloc);
     for value in values {
-        pairs.push(read_counter(alloc, value, pairs.len())?)?;
+        room_for!(pairs.push(value_of!(read_counter(alloc, value, pairs.len()))));
     }
     Ok(pairs)
 }
@@ -88,7 +88,7 @@ fn read_counters(alloc: Global, values: &[Value]) -> Result<Vec<(i64, i64)>, Con
 fn find_prices(alloc: Global, table: &Table) -> Result<Vec<i64>, ConfigFlaw>
     ensures { Finds (λ v. v.items) result (integers_at (codes "prices") (table_view table.now)) }
 {
-    let values = find_array(table, Section::Top, Key::Prices)?;
+    let values = value_of!(find_array(table, Section::Top, Key::Prices));
     read_integers(alloc, values, Section::Top, Key::Prices)
 }
 
@@ -96,7 +96,7 @@ fn find_prices(alloc: Global, table: &Table) -> Result<Vec<i64>, ConfigFlaw>
 fn find_points(alloc: Global, table: &Table) -> Result<Vec<(i64, i64)>, ConfigFlaw>
     ensures { Finds (λ v. v.items) result (points_at (table_view table.now)) }
 {
-    let values = find_array(table, Section::Top, Key::Point)?;
+    let values = value_of!(find_array(table, Section::Top, Key::Point));
     read_points(alloc, values)
 }
 
@@ -106,7 +106,7 @@ fn find_counters(alloc: Global, table: &Table) -> Result<Vec<(i64, i64)>, Config
 {
     match find_value(table, Key::Counter.name()) {
         Some(value) => {
-            let values = array_of(value, Place::At(Section::Top, Key::Counter))?;
+            let values = value_of!(array_of(value, Place::At(Section::Top, Key::Counter)));
             read_counters(alloc, values)
         }
         None => Ok(Vec::new(alloc)),
@@ -120,13 +120,13 @@ pub fn read_typed(alloc: Global, table: &Table) -> Result<Raw, ConfigFlaw>
     ensures { Finds seen result (typed_of (table_view table.now)) }
 {
     let section = Section::Top;
-    check_keys(alloc, table, section)?;
-    let tills = read_integer(table, section, Key::Tills)?;
-    let price_slot = read_integer(table, section, Key::PriceSlot)?;
-    let prices = find_prices(alloc, table)?;
-    let points = find_points(alloc, table)?;
-    let counters = find_counters(alloc, table)?;
-    let serve = find_served(alloc, table)?;
+    value_of!(check_keys(alloc, table, section));
+    let tills = value_of!(read_integer(table, section, Key::Tills));
+    let price_slot = value_of!(read_integer(table, section, Key::PriceSlot));
+    let prices = value_of!(find_prices(alloc, table));
+    let points = value_of!(find_points(alloc, table));
+    let counters = value_of!(find_counters(alloc, table));
+    let serve = value_of!(find_served(alloc, table));
     Ok(Raw {
         tills,
         price_slot,

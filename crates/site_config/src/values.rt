@@ -190,7 +190,7 @@ pub fn check_keys(alloc: Global, table: &Table, section: Section) -> Result<(), 
     if has_known_keys(table, section) {
         return Ok(());
     }
-    let name = String::from_str(alloc, unknown_key(table, section))?;
+    let name = room_for!(String::from_str(alloc, unknown_key(table, section)));
     Err(ConfigFlaw::UnknownKey(section, name))
 }
 
@@ -206,7 +206,7 @@ pub fn read_integers(
     let mut numbers = Vec::new(alloc);
     for value in values {
         let place = Place::Item(section, key, numbers.len());
-        numbers.push(integer_of(value, place)?)?;
+        room_for!(numbers.push(value_of!(integer_of(value, place))));
     }
     Ok(numbers)
 }

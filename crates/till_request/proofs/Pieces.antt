@@ -8,7 +8,7 @@ use Rattle.std.proofs.lemmas.Bool.Decides.{nat_tests}
 use Rattle.memchr.specs.Find.{IsFirstByte, Nowhere, Passes, is_byte}
 use Rattle.std.specs.Prelude.{◌==◌, if◌then◌else◌}
 use Rattle.std.specs.Io.KnownBytes.{Consumes, IsAtEnd, Keeps, prepend_known}
-use Rattle.till_request.specs.Line.{HasNoLf, IsLine, Takes, TakesTooLong}
+use Rattle.till_request.specs.Line.{HasNoLf, IsLine, Takes, TakesHeld, TakesTooLong}
 use Rattle.till_request.specs.Blocks.{Belongs, EndsBehind, GivesHeld, LineGrows, LosesPart}
 use Rattle.till_request.specs.declared.block.Piece.TheVariants.{Ended, TooLong}
 use Rattle.till_request.specs.declared.line.NextLine.{NextLine}
@@ -169,3 +169,20 @@ held_taken there line grown left room n count l e belongs few is rest =
       omega (arith, length-append line bytes, long, few, belongs.2, e, l.1),
     ) in
     (bytes, sym (ap (λ r. bytes ++ r) rest ∙ take-append-drop count there), is, subst (λ w. IsLine w) (sym is) whole, long)
+
+-- what was moved from a block to a line was taken from what is ahead
+pub held_ahead : (ahead : Option (List ℕ)) (there line left grown : List ℕ) (count : ℕ) → GivesHeld there line left grown count
+    → TakesHeld (prepend_known there ahead) (prepend_known left ahead) line grown
+held_ahead None there line left grown count h = (h.0, tt, h.2, h.3)
+held_ahead (Some rest) there line left grown count h = (h.0, ap (λ t. t ++ rest) h.1 ∙ append_assoc h.0 left rest, h.2, h.3)
+
+-- fewer bytes are there once a line has ended, or had too many
+pub ended_shorter : (there line left grown : List ℕ) → LineGrows there line left grown Ended → length left < length there
+ended_shorter there line left grown g = omega (arith, ap length g.1, length-append g.0 (10 ∷ left))
+
+pub too_long_shorter : (there line left grown : List ℕ) → IsLine line → LineGrows there line left grown TooLong → length left < length there
+too_long_shorter there line left grown l g =
+    omega (arith, ap length g.1, length-append g.0 left, length-append line g.0, g.3, l.1)
+
+pub lost_shorter : (there line left : List ℕ) → LosesPart there line left → length left < length there
+lost_shorter there line left g = omega (arith, ap length g.1, length-append g.0 left, g.3)

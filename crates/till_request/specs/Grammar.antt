@@ -255,7 +255,7 @@ abbrev pub names_point : ℕ → Act → Bool
 names_point points (acts.Dispenser point event) = nat_le 1 point && (nat_le point 32 && (points / 2 ^ (point - 1) % 2 == 1))
 names_point points act = false
 
--- the act is of the till, or of one of the points, to which the role is limited; true if it isn't limited so
+-- the act is of the till, or of one of the points, to which the role is limited; true if the role isn't limited to any
 abbrev pub is_own : Role → Act → Bool
 is_own (roles.OneTill number) act = names_till number act
 is_own (roles.SomePoints points) act = names_point points act
@@ -275,6 +275,6 @@ act_of_words role ws = own_act role (act_said role ws)
 abbrev pub act_of_line : Role → List ℕ → Result Act LineFault
 act_of_line role line = act_of_words role (words line)
 
--- the same, but a line of more than 8,400 bytes is too long, whatever its bytes are
+-- the act of a line from a sender of this role; a line of more than 8,400 bytes is too long, whatever its bytes are
 abbrev pub line_read : Role → List ℕ → Result Act LineFault
 line_read role line = if nat_lt 8400 (length line) then Err TooLong else act_of_line role line

@@ -59,14 +59,14 @@ GoesPart old new line = (bytes : List ℕ) × Consumes old new bytes × IsLine (
 abbrev pub TakesSome : Option (List ℕ) → Option (List ℕ) → Type 0
 TakesSome old new = (bytes : List ℕ) × Consumes old new bytes
 
--- the bytes that were read, by what was found in the input
+-- what was read, for each thing that can be found in the input
 abbrev pub Takes : Option (List ℕ) → Option (List ℕ) → NextLine → Type 0
 Takes old new (Line line) = Consumes old new (line.items ++ 10 ∷ []) × IsLine line.items
 Takes old new TooLong = TakesTooLong old new
 Takes old new Cut = TakesCut old new
 Takes old new End = Consumes old new [] × IsAtEnd new
 
--- the bytes that were read, by what was found in the input; `line` is the line that was found
+-- what was read, for each thing that can be found in the input; `line` is the line that was found
 abbrev pub Finds : Option (List ℕ) → Option (List ℕ) → List ℕ → Found → Type 0
 Finds old new line found.Line = Consumes old new (line ++ 10 ∷ []) × IsLine line
 Finds old new line found.TooLong = TakesTooLong old new
@@ -77,12 +77,13 @@ Finds old new line found.End = Consumes old new [] × IsAtEnd new
 abbrev pub TakesLine : Option (List ℕ) → Option (List ℕ) → Role → Result Act LineFault → Type 0
 TakesLine old new role given = (line : List ℕ) × Consumes old new (line ++ 10 ∷ []) × IsLine line × (line_read role line ≡ given)
 
--- the bytes that were read, by the act that was found; for none, no byte was read and the input has ended
+-- What was read, for the result. For an act it is a line with its LF, which is this act. For None nothing was read, and
+-- the input has ended.
 abbrev pub TakesAct : Option (List ℕ) → Option (List ℕ) → Role → Option Act → Type 0
 TakesAct old new role (Some act) = TakesLine old new role (Ok act)
 TakesAct old new role None = Consumes old new [] × IsAtEnd new
 
--- the bytes that were read, by the fault that was found
+-- what was read, for each fault
 abbrev pub TakesFault : Option (List ℕ) → Option (List ℕ) → Role → LineReadFault → Type 0
 TakesFault old new role (reading.Line line.TooLong) = TakesTooLong old new
 TakesFault old new role (reading.Line line.BadLine) = TakesLine old new role (Err line.BadLine)

@@ -113,7 +113,7 @@ pub enum Act {
 }
 
 /// The site's reply to an act.
-#[derive(Clone, Copy, Debug, PartialEq, Eq, Drop)]
+#[derive(Clone, Copy, PartialEq, Eq, Drop)]
 pub enum Reply {
     Done,
     /// A rule granted the request: the amount in cents, or the price in thousandths of the currency per litre, and the

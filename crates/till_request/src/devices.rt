@@ -67,6 +67,16 @@ fn size_at(sizes: &[usize], each: usize, call: u64) -> usize
     }
 }
 
+/// Returns how many calls still succeed after one more, if all don't.
+fn after_one(good: Option<u64>) -> Option<u64>
+    ensures { result ≡ one_less good }
+{
+    match good {
+        Some(count) => Some(count.saturating_sub(1)),
+        None => None,
+    }
+}
+
 /// Copies bytes from the beginning of `from` to the beginning of `buffer`, at most `most`, and returns how many.
 fn give(from: &[u8], most: usize, buffer: &mut [u8]) -> usize
     requires { 0 < most }
@@ -111,7 +121,7 @@ impl LineIn for MemoryIn {
             self.failures = self.failures.wrapping_add(1);
             return Err(DeviceFault);
         }
-        self.good = self.good.map(|k| k.saturating_sub(1));
+        self.good = after_one(self.good);
         let count = give(&self.bytes[self.at..], size, buffer);
         self.at += count;
         Ok(count)
@@ -278,7 +288,7 @@ impl LineOut for MemoryOut {
             .min(size_at(&self.sizes, self.each, self.writes));
         let fails = self.good == Some(0);
         self.writes = self.writes.wrapping_add(1);
-        self.good = self.good.map(|k| k.saturating_sub(1));
+        self.good = after_one(self.good);
         if fails || self.bytes.extend_from_slice(&piece[..count]).is_err() {
             self.failures = self.failures.wrapping_add(1);
             return Err(DeviceFault);

@@ -1,5 +1,5 @@
 //! The forms that a line can have: which fixed words it has, and where its values are.
-ghost use Rattle.std.specs.Prelude.{◌≡◌, ◌∷◌, [], map, find, IfSome, true};
+ghost use Rattle.std.specs.Prelude.{◌≡◌, ◌≤◌, ◌∷◌, [], map, find, length, IfSome, true};
 ghost use Rattle.till_request.specs.Grammar.{text, template, sender, allows, amount_request, point_request};
 ghost use Rattle.till_request.specs.Grammar.{transaction_request, report_event, all_forms, part_fits, fits, suits};
 ghost use Rattle.till_request.specs.declared.form.Part.TheVariants.{Word, Value};
@@ -116,7 +116,8 @@ const FIVE: [Form; 7] = [
 /// Returns the spelling of a fixed word.
 #[inline(always)]
 pub fn text_of(keyword: Keyword) -> &'static str
-    ensures { result.now ≡ text keyword }
+    ensures word { result.now ≡ text keyword }
+    ensures short { length result.now ≤ 8 }
 {
     match keyword {
         Keyword::Till => "till",

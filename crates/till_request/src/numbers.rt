@@ -65,5 +65,8 @@ pub fn number_u32(word: &[u8]) -> Result<u32, LineFault>
     ensures value { result ≡ number 32 word.now }
     ensures memory { result ≢ Err LineFault.OutOfMemory }
 {
-    u32::try_from(number_u64(word)?).map_err(|_| LineFault::BadNumber)
+    match u32::try_from(number_u64(word)?) {
+        Ok(number) => Ok(number),
+        Err(_) => Err(LineFault::BadNumber),
+    }
 }

@@ -26,7 +26,7 @@ fn put_number(text: &mut ShortText, number: u64)
 }
 
 /// Appends a space and a word to a text.
-fn put_word(text: &mut ShortText, word: &str)
+pub fn put_word(text: &mut ShortText, word: &str)
     requires { length text.old.bytes + length word.now + 1 ≤ SHORT }
     ensures text { text.new.bytes ≡ with_words text.old.bytes (word.now ∷ []) }
     ensures short { length text.new.bytes ≤ length text.old.bytes + length word.now + 1 }
@@ -36,7 +36,7 @@ fn put_word(text: &mut ShortText, word: &str)
 }
 
 /// Appends a space and a number in decimal digits to a text.
-fn put_word_number(text: &mut ShortText, number: u64)
+pub fn put_word_number(text: &mut ShortText, number: u64)
     requires { length text.old.bytes + 21 ≤ SHORT }
     ensures text { text.new.bytes ≡ with_words text.old.bytes (decimal number ∷ []) }
     ensures short { length text.new.bytes ≤ length text.old.bytes + 21 }

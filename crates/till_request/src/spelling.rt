@@ -1,8 +1,9 @@
 //! Writes acts as lines.
-ghost use Rattle.std.specs.Prelude.{◌≡◌, ◌∷◌, IfOk, Some, decimal, map, slice_get, string_bytes};
+ghost use Rattle.std.specs.Prelude.{◌≡◌, ◌+◌, ◌≤◌, ◌∷◌, ◌++◌, [], IfOk, Some, decimal, length, map, slice_get};
+ghost use Rattle.std.specs.Prelude.{string_bytes};
 ghost use Rattle.std.specs.Option.{option_to_list};
 ghost use Rattle.till_request.specs.Grammar.{text};
-ghost use Rattle.till_request.specs.Spelling.{ReadsBack, spelling, event_words, request_words, spelled_words};
+ghost use Rattle.till_request.specs.Spelling.{ReadsBack, spelling, event_words, request_text, request_words};
 
 use crate::act::{Act, Request};
 use crate::form::AmountVerb::{Preset, Price, Release};
@@ -11,6 +12,7 @@ use crate::form::PointVerb::{Close, Open, Resume, Show, Stop, Suspend};
 use crate::form::ReportVerb::{Down, Fault, Order, Repaired, Started};
 use crate::form::TransactionVerb::{Clear, Lock, Unlock};
 use crate::form::{Keyword, text_of};
+use crate::short_text::{ShortText, put_word, put_word_number};
 use bpf_model::context::Layout;
 use fuelling_point::DispenserEvent;
 use std::alloc::{AllocError, Global};
@@ -41,6 +43,19 @@ fn words_of(request: Request) -> (Keyword, u32, Option<u64>)
     }
 }
 
+/// Appends a request's words, with a space between them, to a text.
+fn put_request(text: &mut ShortText, request: Request)
+    requires { length text.old.bytes + 50 ≤ 192 }
+    ensures { text.new.bytes ≡ text.old.bytes ++ request_text request }
+{
+    let (keyword, first, second) = words_of(request);
+    text.push_str(text_of(keyword));
+    put_word_number(text, u64::from(first));
+    if let Some(second) = second {
+        put_word_number(text, second);
+    }
+}
+
 impl fmt::Display for Request {
     ghost use Rattle.std.specs.Prelude.{Some};
     ghost use Rattle.till_request.specs.Spelling.{request_text};
@@ -48,13 +63,21 @@ impl fmt::Display for Request {
     ghost output = { λ r. Some (request_text r) };
 
     fn fmt<W: fmt::Write>(&self, f: &mut fmt::Formatter<W>) -> fmt::Result {
-        let (keyword, first, second) = words_of(*self);
-        let verb = text_of(keyword);
-        match second {
-            None => write!(f, "{verb} {first}"),
-            Some(second) => write!(f, "{verb} {first} {second}"),
-        }
+        let mut text = ShortText::new();
+        put_request(&mut text, *self);
+        f.write_str(text.as_str())
     }
+}
+
+/// Writes the line of a till's request, without its LF, into an empty text.
+fn put_till(text: &mut ShortText, till: u32, request: Request)
+    requires { text.old.bytes ≡ [] }
+    ensures { text.new.bytes ≡ spelling (Act.Till till request) }
+{
+    text.push_str("till");
+    put_word_number(text, u64::from(till));
+    text.push_str(" ");
+    put_request(text, request);
 }
 
 /// Returns the verb of a dispenser's event.
@@ -72,21 +95,25 @@ fn verb_of(event: DispenserEvent) -> Keyword
     }
 }
 
-/// Returns the line of a dispenser's event, without its LF. The error is that memory ran out.
-fn spell_event(alloc: Global, point: u32, event: DispenserEvent) -> Result<String, AllocError>
-    ensures { IfOk result (λ text. string_bytes text ≡ spelling (Act.Dispenser point event)) }
+/// Writes the line of a dispenser's event, without its LF, into an empty text.
+fn put_event(text: &mut ShortText, point: u32, event: DispenserEvent)
+    requires { text.old.bytes ≡ [] }
+    ensures { text.new.bytes ≡ spelling (Act.Dispenser point event) }
 {
-    let verb = text_of(verb_of(event));
+    text.push_str("disp");
+    put_word_number(text, u64::from(point));
+    put_word(text, text_of(verb_of(event)));
     match event {
-        DispenserEvent::Up(nozzle) => format!(in alloc; "disp {point} {verb} {nozzle}"),
+        DispenserEvent::Up(nozzle) => put_word_number(text, u64::from(nozzle)),
         DispenserEvent::Flowed(amount, volume) => {
-            format!(in alloc; "disp {point} {verb} {amount} {volume}")
+            put_word_number(text, amount);
+            put_word_number(text, volume);
         }
         DispenserEvent::Down
         | DispenserEvent::Started
         | DispenserEvent::Fault
         | DispenserEvent::Repaired
-        | DispenserEvent::TakeOrder => format!(in alloc; "disp {point} {verb}"),
+        | DispenserEvent::TakeOrder => {}
     }
 }
 
@@ -112,8 +139,16 @@ pub fn spell_act(alloc: Global, act: &Act) -> Result<String, AllocError>
     ensures { IfOk result (λ text. string_bytes text ≡ spelling act.now) }
 {
     match act {
-        Act::Till { till, request } => format!(in alloc; "till {till} {request}"),
-        Act::Dispenser { point, event } => spell_event(alloc, *point, *event),
+        Act::Till { till, request } => {
+            let mut text = ShortText::new();
+            put_till(&mut text, *till, *request);
+            String::from_str(alloc, text.as_str())
+        }
+        Act::Dispenser { point, event } => {
+            let mut text = ShortText::new();
+            put_event(&mut text, *point, *event);
+            String::from_str(alloc, text.as_str())
+        }
         Act::Load {
             slot,
             mask,

@@ -1,6 +1,6 @@
 use Rattle.std.proofs.Common.{◌≡◌, length}
 use Rattle.site_config.specs.Doors.{each_apart}
-use Rattle.site_config.proofs.doors.first_clash.Given as goal
+use Rattle.site_config.proofs.doors.check_apart.Given as goal
 
 -- Each door is apart from the others if each of the rest is.
 abbrev pub invariant-loop-rest : goal.invariant-loop-rest

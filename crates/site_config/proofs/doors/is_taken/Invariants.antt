@@ -1,0 +1,11 @@
+use Rattle.std.proofs.Common.{◌≡◌, drop}
+use Rattle.std.specs.List.{list_any}
+use Rattle.site_config.specs.declared.raw.RawDoor.{RawDoor}
+use Rattle.site_config.specs.Doors.{takes}
+use Rattle.site_config.proofs.doors.is_taken.Given as goal
+
+-- A door takes the lines if one of the rest does.
+abbrev pub invariant-loop-door : goal.invariant-loop-door
+invariant-loop-door l =
+    list_any (λ (d : RawDoor). takes l.side l.number d.role) (drop l.door-index l.doors)
+    ≡ list_any (λ (d : RawDoor). takes l.side l.number d.role) l.doors
