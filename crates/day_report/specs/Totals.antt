@@ -5,6 +5,8 @@ use Rattle.day_report.specs.declared.sales.Sale.{Sale}
 use Rattle.day_report.specs.declared.sales.Sum.{Sum}
 use Rattle.day_report.specs.declared.sales.Part.{Part}
 use Rattle.day_report.specs.declared.sales.Part.TheVariants as part
+use Rattle.day_report.specs.declared.adding.By.{By}
+use Rattle.day_report.specs.declared.adding.By.TheVariants as by
 use Rattle.day_report.specs.declared.rulings.Asked.{Asked}
 use Rattle.day_report.specs.declared.rulings.Asked.TheVariants as asked
 use Rattle.day_report.specs.declared.rulings.Decision.{Decision}
@@ -67,7 +69,8 @@ has_outcome false d = not d.is_granted
 unfoldable pub is_wanted : Deciding → Bool → Decision → Bool
 is_wanted part granted d = is_among part d && has_outcome granted d
 
--- How many decisions in the part and with the outcome a version made.
+-- How many of the decisions were made by this version, are in the part, and are grants if `granted` is true or else
+-- denials.
 abbrev pub decided_by : Deciding → Bool → ℕ → List Decision → ℕ
 decided_by part granted version decisions = count_by (λ (d : Decision). is_wanted part granted d && d.version == version) decisions
 
@@ -86,6 +89,11 @@ part_of_till k = part.Till (k + 1)
 
 abbrev pub part_of_hour : ℕ → Part
 part_of_hour k = part.Hour k
+
+abbrev pub part_by : By → ℕ → Part
+part_by by.Point k = part_of_point k
+part_by by.Till k = part_of_till k
+part_by by.Hour k = part_of_hour k
 
 -- There are `count` sums, each of the part at its place.
 pub record SumsUp (part_at : ℕ → Part) (count : ℕ) (sums : List Sum) (sales : List Sale) : Type 0 where

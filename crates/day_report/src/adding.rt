@@ -7,11 +7,11 @@ ghost use Rattle.day_report.specs.Walk.{stand, closed_points};
 ghost use Rattle.day_report.specs.Sales.{sales};
 ghost use Rattle.day_report.specs.Decisions.{decision_of, refusal_of, price_change_of, loads};
 ghost use Rattle.day_report.specs.Totals.{IsSum, SumsUp, CountsRefusals, HasOutcomes, DecidedByTills, versions_of};
-ghost use Rattle.day_report.specs.Totals.{unpaid_transaction, unpaid_of, part_of_point, part_of_till, part_of_hour};
+ghost use Rattle.day_report.specs.Totals.{unpaid_transaction, unpaid_of, part_by, part_of_point, part_of_till, part_of_hour};
 ghost use Rattle.day_report.specs.declared.sales.Part.TheVariants as part;
 ghost use Rattle.day_report.specs.declared.counting.Deciding.TheVariants as deciding;
 
-use crate::counting::{Deciding, Outcomes, count_of, tally};
+use crate::counting::{Deciding, Outcomes, count_of, count_outcome, tally};
 use crate::loading::{Load, loads};
 use crate::pushing::push_some;
 use crate::rulings::{Decision, PriceChange, decisions, price_changes, refusals};
@@ -77,33 +77,34 @@ pub struct Unpaid {
     pub holder: u32,
 }
 
-fn by_point(alloc: Global, sales: &[Sale], points: usize) -> Result<Vec<Sum>, AllocError>
-    requires { points ≤ MOST_POINTS }
-    ensures { IfOk result (λ sums. SumsUp part_of_point points sums.items sales.now) }
-{
-    let mut sums = Vec::new(alloc);
-    for n in 0..points {
-        sums.push(sum_of(sales, Part::Point(n as u32 + 1)))?;
-    }
-    Ok(sums)
+/// What sales are divided by.
+#[derive(Clone, Copy, Drop)]
+enum By {
+    Point,
+    Till,
+    Hour,
 }
 
-fn by_till(alloc: Global, sales: &[Sale]) -> Result<Vec<Sum>, AllocError>
-    ensures { IfOk result (λ sums. SumsUp part_of_till TILLS sums.items sales.now) }
+/// Returns the part of the sales at a place, counted from 0.
+fn part_at(by: By, place: usize) -> Part
+    requires { place ≤ MOST_POINTS }
+    ensures { result ≡ part_by by place }
 {
-    let mut sums = Vec::new(alloc);
-    for till in 0..TILLS {
-        sums.push(sum_of(sales, Part::Till(till + 1)))?;
+    match by {
+        By::Point => Part::Point(place as u32 + 1),
+        By::Till => Part::Till(place as u32 + 1),
+        By::Hour => Part::Hour(place as u32),
     }
-    Ok(sums)
 }
 
-fn by_hour(alloc: Global, sales: &[Sale]) -> Result<Vec<Sum>, AllocError>
-    ensures { IfOk result (λ sums. SumsUp part_of_hour HOURS sums.items sales.now) }
+/// Returns the totals of the first `count` parts of the sales.
+fn sums_by(alloc: Global, sales: &[Sale], by: By, count: usize) -> Result<Vec<Sum>, AllocError>
+    requires { count ≤ MOST_POINTS }
+    ensures { IfOk result (λ sums. SumsUp (part_by by) count sums.items sales.now) }
 {
     let mut sums = Vec::new(alloc);
-    for hour in 0..HOURS {
-        sums.push(sum_of(sales, Part::Hour(hour)))?;
+    for place in 0..count {
+        sums.push(sum_of(sales, part_at(by, place)))?;
     }
     Ok(sums)
 }
@@ -196,20 +197,6 @@ fn cents_of(unpaid: &[Unpaid]) -> u128
     cents
 }
 
-/// Returns how many decisions were grants.
-fn granted_in(decisions: &[Decision]) -> usize
-    ensures { result ≡ count_by (λ (d : Decision). d.is_granted) decisions.now }
-{
-    decisions.iter().filter(|d| d.is_granted).count()
-}
-
-/// Returns how many decisions were denials.
-fn denied_in(decisions: &[Decision]) -> usize
-    ensures { result ≡ count_by (λ (d : Decision). not d.is_granted) decisions.now }
-{
-    decisions.iter().filter(|d| !d.is_granted).count()
-}
-
 /// The totals of what was sold: at each fuelling point, by each till that cleared sales, and in each hour of the day.
 #[derive(Drop)]
 struct Sums {
@@ -225,9 +212,9 @@ fn sums_of(alloc: Global, sales: &[Sale], points: usize) -> Result<Sums, AllocEr
     ensures hours { IfOk result (λ s. SumsUp part_of_hour HOURS s.hours.items sales.now) }
 {
     Ok(Sums {
-        points: by_point(alloc, sales, points)?,
-        tills: by_till(alloc, sales)?,
-        hours: by_hour(alloc, sales)?,
+        points: sums_by(alloc, sales, By::Point, points)?,
+        tills: sums_by(alloc, sales, By::Till, TILLS as usize)?,
+        hours: sums_by(alloc, sales, By::Hour, HOURS as usize)?,
     })
 }
 
@@ -331,8 +318,8 @@ fn decided_in(alloc: Global, entries: &[Entry]) -> Result<Decided, AllocError>
     let verdicts = verdicts_of(alloc, &decisions, loads.len() + 1)?;
     Ok(Decided {
         loads,
-        granted: granted_in(&decisions),
-        denied: denied_in(&decisions),
+        granted: count_outcome(&decisions, true),
+        denied: count_outcome(&decisions, false),
         verdicts,
     })
 }

@@ -75,6 +75,19 @@ pub fn tally(
     Ok(counts)
 }
 
+/// Returns how many decisions were grants, or denials if `granted` is false.
+pub(crate) fn count_outcome(decisions: &[Decision], granted: bool) -> usize
+    ensures { result ≡ count_by (λ (d : Decision). has_outcome granted d) decisions.now }
+{
+    let mut count = 0;
+    for decision in decisions {
+        if has_outcome(granted, decision) {
+            count += 1;
+        }
+    }
+    count
+}
+
 /// How often each version granted and denied in one part of the decisions. A version's number is its place in both
 /// lists.
 #[derive(Drop)]
@@ -87,5 +100,11 @@ pub struct Outcomes {
 pub fn count_of(numbers: &[u32], number: u32) -> usize
     ensures { result ≡ count_by (λ n. n == number) numbers.now }
 {
-    numbers.iter().filter(|n| **n == number).count()
+    let mut count = 0;
+    for n in numbers {
+        if *n == number {
+            count += 1;
+        }
+    }
+    count
 }

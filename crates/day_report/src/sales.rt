@@ -72,7 +72,7 @@ fn unpaid_at(points: &[Point], n: u32, number: u32) -> Option<Transaction>
 
 /// Returns the sale that an entry made, if it made one. `points` are the points before the entry.
 #[tactic(auto, unfolding(crate::specs::Sales::sale_of))]
-fn sale_of(points: &[Point], entry: &Entry) -> Option<Sale>
+pub fn sale_of(points: &[Point], entry: &Entry) -> Option<Sale>
     ensures { result ≡ sale_of points.now entry.now }
 {
     let clearing = clearing_of(&entry.act, &entry.reply)?;

@@ -65,6 +65,21 @@ fn steps_of(axis: Axis) -> usize {
     }
 }
 
+/// Returns the step in which the entry at a place is; `None` for one without a moment, if the axis is time.
+fn step_at(axis: Axis, place: usize, entry: &Entry, steps: usize) -> Option<usize> {
+    match axis {
+        Axis::Entries(count) => Some(step_of(place as u128, count as u128, steps)),
+        Axis::Time(first, last) => {
+            if entry.moment == 0 {
+                return None;
+            }
+            let since = entry.moment.saturating_sub(first);
+            let span = last.saturating_sub(first).saturating_add(1);
+            Some(step_of(since as u128, span as u128, steps))
+        }
+    }
+}
+
 /// Divides a history into the steps of a picture's axis: returns for each step how many entries are in it or in an
 /// earlier step. Along time, an entry without a moment is in the step of the entry before it.
 fn cuts(
@@ -75,22 +90,10 @@ fn cuts(
 ) -> Result<Vec<usize>, AllocError> {
     let mut cuts = Vec::new(alloc);
     for (place, entry) in entries.iter().enumerate() {
-        let step = match axis {
-            Axis::Entries(count) => step_of(place as u128, count as u128, steps),
-            Axis::Time(first, last) => {
-                if entry.moment == 0 {
-                    continue;
-                }
-                let span = last.saturating_sub(first).saturating_add(1);
-                step_of(
-                    entry.moment.saturating_sub(first) as u128,
-                    span as u128,
-                    steps,
-                )
+        if let Some(step) = step_at(axis, place, entry, steps) {
+            for _ in cuts.len()..step {
+                cuts.push(place)?;
             }
-        };
-        for _ in cuts.len()..step {
-            cuts.push(place)?;
         }
     }
     for _ in cuts.len()..steps {

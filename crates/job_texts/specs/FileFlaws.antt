@@ -50,7 +50,7 @@ AcceptedOf (Err fault) counters layout = ⊥
 abbrev pub IsAccepted : List ℕ → ℕ → Layout → Type 0
 IsAccepted file counters layout = AcceptedOf (program_in file) counters layout
 
--- the file's bytes are units
+-- the file could be read as bytes, and these are the units of a program
 abbrev pub ShownOf : Result (List ℕ) ProgramFileFault → Type 0
 ShownOf (Ok bytes) = (code : List ProgramUnit) × (units bytes ≡ Some code)
 ShownOf (Err fault) = ⊥

@@ -17,7 +17,7 @@ use Rattle.job_texts.specs.declared.journal_reasons.JournalFlaw.TheVariants as f
 use Rattle.job_texts.specs.Differing.{Differs}
 use Rattle.job_texts.specs.Reasons.{IsReason}
 
--- a site of this configuration with these entries refuses the next one so
+-- A site of this configuration whose history is `before` refuses `entry` as the next one, with this fault.
 pub record IsRejected (config : ConfigValue) (before : List Entry) (entry : Entry) (fault : AuditFault) : Type 0 where
   pub old : SiteValue
   pub config_is : old.config ≡ config
@@ -25,7 +25,8 @@ pub record IsRejected (config : ConfigValue) (before : List Entry) (entry : Entr
   pub upholds : Upholds old
   pub rejects : Rejects old entry fault
 
--- a site of this configuration with these entries had room, and entered the event of the next one
+-- A site of this configuration whose history is `before` had room, and `new` has the history after the event of
+-- `entry`.
 pub record AnsweredAfter (config : ConfigValue) (before : List Entry) (entry : Entry) (new : SiteValue) : Type 0 where
   pub old : SiteValue
   pub config_is : old.config ≡ config
@@ -41,6 +42,13 @@ IsEntryFlaw config before entry (flaw.Entry difference) =
     × Differs entry (entered old entry.pass entry.moment entry.act) difference
 IsEntryFlaw config before entry flaw.NoEntry = length before ≡ 1048576
 IsEntryFlaw config before entry told = ⊥
+
+-- the history's last entry differs from this one in its moment, its reply or its run
+pub record HasOtherLast (history : List Entry) (entry : Entry) : Type 0 where
+  pub before : List Entry
+  pub last : Entry
+  pub history_is : history ≡ before ++ last ∷ []
+  pub other : entry.moment ≡ last.moment → entry.reply ≡ last.reply → entry.run ≡ last.run → ⊥
 
 -- the load's slot, and why the verifier refuses its program
 abbrev pub IsLoadFlaw : Act → JournalFlaw → Type 0

@@ -22,7 +22,7 @@ abbrev pub number_in : Option (ℕ × (Option ℕ) × (Option ℕ)) → ℕ
 number_in None = 0
 number_in (Some p) = p.0
 
--- the unit among them
+-- the unit among a refusal's numbers, if it names one
 abbrev pub unit_in : Option (ℕ × (Option ℕ) × (Option ℕ)) → Option ℕ
 unit_in None = None
 unit_in (Some p) = p.1
@@ -40,12 +40,12 @@ abbrev pub wanted_by : Option ProgramUnit → ℕ → Option Kind
 wanted_by (Some (First i)) argument = wanted_at i.imm argument
 wanted_by unit argument = None
 
--- what the helper that is called takes as the argument that a refusal names
+-- what the called helper takes as the argument that a refusal names; none if the refusal names no argument
 abbrev pub kind_wanted : List ProgramUnit → Refusal → Option Kind
 kind_wanted code (OfType (BadArgument unit argument)) = wanted_by (slice_get code unit) argument
 kind_wanted code refusal = None
 
--- the same, where the bytes are units; where they are none it takes nothing
+-- the same as `kind_wanted`; none if the bytes can't be read as units
 abbrev pub wanted_in : Option (List ProgramUnit) → Refusal → Option Kind
 wanted_in None refusal = None
 wanted_in (Some code) refusal = kind_wanted code refusal
@@ -64,7 +64,7 @@ abbrev pub line_named : List ℕ → Option ℕ → Option (List ℕ)
 line_named bytes None = None
 line_named bytes (Some unit) = line_by (units bytes) bytes unit
 
--- what is said beside a refusal is what it names of these bytes
+-- the line and the kind of argument that are given with a refusal are those that it names in these bytes
 pub record Names (bytes : List ℕ) (told : RefusedProgram) : Type 0 where
   pub line_is : option_map string_bytes told.line ≡ line_named bytes (unit_in (shown_by told.refusal))
   pub wanted_is : told.wanted ≡ wanted_in (units bytes) told.refusal

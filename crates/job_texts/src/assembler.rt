@@ -1,6 +1,5 @@
 //! What `fc asm` and `fc dis` print.
-ghost use Rattle.std.specs.Prelude.{◌≡◌, ◌≢◌, ◌⊎◌, ℕ, List, IfOk, OnOk, string_bytes};
-ghost use Rattle.bpf_decode.specs.Faults.{IsRefusedFor};
+ghost use Rattle.std.specs.Prelude.{◌≢◌, ◌⊎◌, IfOk, OnOk};
 ghost use Rattle.bpf_decode.specs.Encoded.{encoded};
 ghost use Rattle.bpf_asm.specs.Text.{canon};
 ghost use Rattle.bpf_asm.specs.Numbered.{numbered_from};
@@ -9,15 +8,15 @@ ghost use Rattle.job_texts.specs.Told.{IsSaid};
 ghost use Rattle.job_texts.specs.Assembler.{asm_fault_text, AsmTells, ToldUnits, ToldAsmFault, ToldText, ToldNumbered};
 ghost use Rattle.job_texts.specs.Assembler.{ToldDecodeFault, DisTells, DisUnitsTells};
 
-use crate::told::{REFUSED, Told, refused};
+use crate::program::told_refusal;
+use crate::told::{REFUSED, Told, numbered, refused};
 use bpf_asm::{
     AsmFault, MOST_BYTES, ProgramFileFault, assemble, disassemble, disassemble_numbered,
     read_program, unit_lines,
 };
-use bpf_decode::{Code, DecodeFault, decode, encode};
+use bpf_decode::{Code, decode, encode};
 use reg_types::Refusal;
 use std::alloc::{AllocError, Global};
-use till_request::Answer;
 
 /// Returns the units of a program as lines, with status 0.
 fn told_units(alloc: Global, code: &Code) -> Result<Told, AllocError>
@@ -28,29 +27,18 @@ fn told_units(alloc: Global, code: &Code) -> Result<Told, AllocError>
     Ok(Told { text, status: 0 })
 }
 
-/// Returns the line for a fault of the assembler. For the fault `OutOfMemory` returns the error.
-fn asm_fault_line(alloc: Global, fault: AsmFault) -> Result<String, AllocError>
-    ensures line { IfOk result (λ line. string_bytes line ≡ asm_fault_text fault) }
-    ensures fault { OnOk result (fault ≢ AsmFault.OutOfMemory) }
-{
-    match fault {
-        AsmFault::BadLine(line) => format!(in alloc; "A1 {line}\n"),
-        AsmFault::BadLabel(line) => format!(in alloc; "A2 {line}\n"),
-        AsmFault::OutOfRange(line) => format!(in alloc; "A3 {line}\n"),
-        AsmFault::Length => format!(in alloc; "A4\n"),
-        AsmFault::OutOfMemory => Err(AllocError),
-    }
-}
-
+/// Returns the line for a fault of the assembler, with status 1. For the fault `OutOfMemory` returns the error.
 fn told_asm_fault(alloc: Global, fault: AsmFault) -> Result<Told, AllocError>
     ensures said { IfOk result (λ told. IsSaid told (asm_fault_text fault) 1) }
     ensures fault { OnOk result (fault ≢ AsmFault.OutOfMemory) }
 {
-    let text = asm_fault_line(alloc, fault)?;
-    Ok(Told {
-        text,
-        status: REFUSED,
-    })
+    match fault {
+        AsmFault::BadLine(line) => numbered(alloc, "A1", line, REFUSED),
+        AsmFault::BadLabel(line) => numbered(alloc, "A2", line, REFUSED),
+        AsmFault::OutOfRange(line) => numbered(alloc, "A3", line, REFUSED),
+        AsmFault::Length => refused(alloc, "A4"),
+        AsmFault::OutOfMemory => Err(AllocError),
+    }
 }
 
 fn asm_text(alloc: Global, text: &[u8]) -> Result<Told, AllocError>
@@ -80,26 +68,12 @@ fn told_text(alloc: Global, code: &Code) -> Result<Told, AllocError>
     Ok(Told { text, status: 0 })
 }
 
-fn told_decode_fault(alloc: Global, fault: DecodeFault) -> Result<Told, AllocError>
-    ensures { IfOk result (λ told. (bytes : List ℕ) → IsRefusedFor bytes fault → ToldDecodeFault bytes told) }
-{
-    let Some((number, unit, part)) = Refusal::Decode(fault).shown() else {
-        return Err(AllocError);
-    };
-    let answer = Answer::Program(number, unit, part);
-    let text = format!(in alloc; "{answer}\n")?;
-    Ok(Told {
-        text,
-        status: REFUSED,
-    })
-}
-
 fn dis_bytes(alloc: Global, bytes: &[u8]) -> Result<Told, AllocError>
     ensures { IfOk result (λ told. ToldText bytes.now told ⊎ ToldDecodeFault bytes.now told) }
 {
     match decode(alloc, bytes) {
         Ok(code) => told_text(alloc, &code),
-        Err(fault) => told_decode_fault(alloc, fault),
+        Err(fault) => told_refusal(alloc, Refusal::Decode(fault)),
     }
 }
 
@@ -129,7 +103,7 @@ fn dis_units(alloc: Global, bytes: &[u8]) -> Result<Told, AllocError>
 {
     match decode(alloc, bytes) {
         Ok(code) => told_numbered(alloc, &code),
-        Err(fault) => told_decode_fault(alloc, fault),
+        Err(fault) => told_refusal(alloc, Refusal::Decode(fault)),
     }
 }
 

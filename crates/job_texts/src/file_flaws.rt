@@ -1,6 +1,6 @@
 //! The reasons why a program file is refused, in words.
-ghost use Rattle.std.specs.Prelude.{◌≡◌, ◌≢◌, IfOk, OnOk, MatchOption};
-ghost use Rattle.job_texts.specs.FileFlaws.{IsAccepted, IsShown, IsVerifyFlaw, IsDisFlaw};
+ghost use Rattle.std.specs.Prelude.{◌≡◌, ◌≢◌, IfOk, Ok, OnOk, MatchOption};
+ghost use Rattle.job_texts.specs.FileFlaws.{IsAccepted, IsShown, IsVerifyFlaw, IsDisFlaw, ShownOf, DisFlawOf};
 
 use crate::reasons::{RefusedProgram, explain_refusal, refused_program};
 use bpf_asm::{ProgramFileFault, read_program};
@@ -61,15 +61,21 @@ pub fn verify_flaw(
 pub fn dis_flaw(alloc: Global, file: &[u8]) -> Result<Option<ProgramFlaw>, AllocError>
     ensures { IfOk result (λ found. MatchOption found (IsShown file.now) (IsDisFlaw file.now)) }
 {
-    let bytes = match read_program(alloc, file) {
-        Ok(bytes) => bytes,
-        Err(fault) => return Ok(Some(file_flaw(fault)?)),
-    };
-    match decode(alloc, &bytes) {
+    match read_program(alloc, file) {
+        Ok(bytes) => undecoded(alloc, &bytes),
+        Err(fault) => Ok(Some(file_flaw(fault)?)),
+    }
+}
+
+/// Returns why bytes don't decode, or `None` if they do. The error is that memory ran out.
+fn undecoded(alloc: Global, bytes: &[u8]) -> Result<Option<ProgramFlaw>, AllocError>
+    ensures { IfOk result (λ found. MatchOption found (ShownOf (Ok bytes.now)) (DisFlawOf (Ok bytes.now))) }
+{
+    match decode(alloc, bytes) {
         Ok(_) => Ok(None),
         Err(DecodeFault::OutOfMemory) => Err(AllocError),
         Err(fault) => {
-            let refused = explain_refusal(alloc, &bytes, Refusal::Decode(fault))?;
+            let refused = explain_refusal(alloc, bytes, Refusal::Decode(fault))?;
             Ok(Some(ProgramFlaw::Program(refused)))
         }
     }

@@ -1,11 +1,13 @@
 //! The reasons why a journal is refused, in words.
 ghost use Rattle.std.specs.Prelude.{◌≡◌, ◌≢◌, ◌↔◌, ℕ, List, length, Some, None, IfErr, IfOk, IfSome, IsNone, OnOk};
-ghost use Rattle.std.specs.Prelude.{Err, MatchOption};
+ghost use Rattle.std.specs.Prelude.{◌++◌, ◌∷◌, [], Err, MatchOption};
 ghost use Rattle.decision_journal.specs.Journal.{FailsOrRunsOut, IsWant, SpendsBlocks, is_device};
 ghost use Rattle.site_core.specs.Audit.{ShowsFault};
 ghost use Rattle.site_core.specs.Histories.{IsHistory, IsJournal, load_refusal};
 ghost use Rattle.job_texts.specs.JournalFlaws.{AnsweredAfter, IsRejected, IsEntryFlaw, IsLoadFlaw, TellsFault, IsPlaceOf};
-ghost use Rattle.job_texts.specs.JournalFlaws.{ShowsFlawAt, IsJournalFlaw, line_in};
+ghost use Rattle.job_texts.specs.JournalFlaws.{HasOtherLast, ShowsFlawAt, IsJournalFlaw, line_in};
+ghost use Rattle.job_texts.specs.Differing.{Differs};
+ghost use Rattle.decision_journal.specs.declared.entries.Entry.{Entry};
 
 use crate::differing::{Difference, first_difference};
 use crate::reasons::{RefusedProgram, explain_refusal};
@@ -98,13 +100,23 @@ fn entry_flaw(
     let Some(site) = answered_after(alloc, config, before, entry)? else {
         return Ok(JournalFlaw::NoEntry);
     };
+    let difference = last_difference(&site, entry);
+    Ok(JournalFlaw::Entry(difference))
+}
+
+/// Returns the first difference between an entry of a journal and the last entry of the site's history.
+fn last_difference(site: &Site, entry: &Entry) -> Difference
+    requires { HasOtherLast site.now.history entry.now }
+    ensures { (before : List Entry) (last : Entry) → site.now.history ≡ before ++ last ∷ []
+        → Differs entry.now last result }
+{
     let Some(answered) = site.history().last() else {
         unreachable!()
     };
     let Some(difference) = first_difference(entry, answered) else {
         unreachable!()
     };
-    Ok(JournalFlaw::Entry(difference))
+    difference
 }
 
 /// Returns the flaw of a load whose program the verifier refuses. The error is that memory ran out.

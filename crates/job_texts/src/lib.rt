@@ -11,7 +11,7 @@ mod reasons;
 mod told;
 
 pub use assembler::{asm_file, dis_file, dis_units_file};
-pub use audit::{audit_entries, audit_journal, journal_fault_line};
+pub use audit::{audit_entries, audit_journal, journal_fault_line, told_audit_fault};
 pub use differing::{Difference, first_difference};
 pub use file_flaws::{ProgramFlaw, dis_flaw, verify_flaw};
 pub use journal_reasons::{JournalFlaw, entries_flaw, journal_flaw};

@@ -3,9 +3,12 @@ ghost use Rattle.std.specs.Prelude.{◌≡◌, ◌/◌, ◌++◌, ◌⊎◌, ℕ
 ghost use Rattle.std.specs.Fmt.{decimal};
 ghost use Rattle.bpf_model.specs.Program.{ProgramText, as_loaded};
 ghost use Rattle.reg_types.specs.Shown.{IsRefused, IsRefusal, refusal_of};
+ghost use Rattle.bpf_decode.specs.declared.DecodeFault.{DecodeFault};
+ghost use Rattle.bpf_decode.specs.Faults.{IsRefusedFor};
+ghost use Rattle.job_texts.specs.Assembler.{ToldDecodeFault};
 ghost use Rattle.job_texts.specs.Told.{IsSaid, Accepted, Refused, VerifyTells};
 
-use crate::told::{REFUSED, Told, refused};
+use crate::told::{REFUSED, Told, numbered, refused};
 use bpf_asm::{ProgramFileFault, read_program};
 use reg_types::{Layout, Program, Refusal, verify};
 use std::alloc::{AllocError, Global};
@@ -17,15 +20,16 @@ fn told_accepted(alloc: Global, program: &Program) -> Result<Told, AllocError>
     ensures { IfOk result
         (λ told. IsSaid told (codes "accepted " ++ decimal (length program.now.bytes / 8) ++ codes "\n") 0) }
 {
-    let units = program.units();
-    let text = format!(in alloc; "accepted {units}\n")?;
-    Ok(Told { text, status: 0 })
+    numbered(alloc, "accepted", program.units() as u64, 0)
 }
 
 /// Returns the V line for a program that is refused, with status 1.
-fn told_refusal(alloc: Global, refusal: Refusal) -> Result<Told, AllocError>
-    ensures { IfOk result
+pub(crate) fn told_refusal(alloc: Global, refusal: Refusal) -> Result<Told, AllocError>
+    ensures program { IfOk result
         (λ told. (p : ProgramText) → IsRefusal (refusal_of p) refusal → IsRefused p refusal → Refused p told) }
+    ensures bytes { IfOk result
+        (λ told. (bytes : List ℕ) (fault : DecodeFault) → refusal ≡ Refusal.Decode fault → IsRefusedFor bytes fault
+        → ToldDecodeFault bytes told) }
 {
     let Some((number, unit, part)) = refusal.shown() else {
         return Err(AllocError);

@@ -1,5 +1,6 @@
 //! A text to print, with an exit status.
 ghost use Rattle.std.specs.Prelude.{◌≡◌, ◌++◌, ◌∷◌, [], codes, IfOk, string_bytes};
+ghost use Rattle.std.specs.Fmt.{decimal};
 ghost use Rattle.job_texts.specs.Told.{IsSaid};
 
 use std::alloc::{AllocError, Global};
@@ -23,4 +24,12 @@ pub fn refused(alloc: Global, line: &str) -> Result<Told, AllocError>
         text,
         status: REFUSED,
     })
+}
+
+/// Returns a line that is a word, a blank and a number, with this status. The error is that memory ran out.
+pub fn numbered(alloc: Global, word: &str, number: u64, status: u8) -> Result<Told, AllocError>
+    ensures { IfOk result (λ told. IsSaid told (word.now ++ 32 ∷ decimal number ++ 10 ∷ []) status) }
+{
+    let text = format!(in alloc; "{word} {number}\n")?;
+    Ok(Told { text, status })
 }

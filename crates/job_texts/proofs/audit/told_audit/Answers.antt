@@ -9,9 +9,9 @@ use Rattle.job_texts.proofs.audit.told_audit.Goals as goal
 pub returns-in-Ok : goal.returns-in-Ok
 returns-in-Ok c = λ config entries audits complete.
     let a = rw c.in-Ok.is at audits in
-    told-legal config entries c.in-Ok.site c.told_legal.result a.0 a.1 a.2
-    (subst (λ (es : List Entry). IfOk c.told_legal.result (λ told. IsSaid told (legal_text es) 0)) (c.history-history.ensures.entries
-    ∙ a.1) c.told_legal.ensures)
+    told-legal config entries c.in-Ok.site c.numbered.result a.0 a.1 a.2
+    (subst (λ (es : List Entry). IfOk c.numbered.result (λ told. IsSaid told (legal_text es) 0)) (c.history-history.ensures.entries
+    ∙ a.1) c.numbered.ensures)
 
 pub returns-in-Err : goal.returns-in-Err
 returns-in-Err c = λ config entries audits complete.

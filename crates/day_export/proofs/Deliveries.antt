@@ -1,0 +1,309 @@
+-- In a legal history the rows are made of what the site has.
+use Rattle.std.proofs.Common.{◌≡◌, ◌⊎◌, ℕ, ◌+◌, ◌-◌, Bool, true, false, List, [], ◌∷◌, ◌++◌, zero, suc, length, map, replicate, reverse, Option, Some}
+use Rattle.std.proofs.Common.{None, slice_get, refl, ap, sym, subst, ◌∙◌, inl, inr, All}
+use Rattle.std.specs.Prelude.{◌==◌, ◌&&◌, not, IsSome, nat_le, if◌then◌else◌, option_to_list}
+use Rattle.std.proofs.lemmas.Bool.{cases_Bool, eq-eqb, eqb-true}
+use Rattle.std.proofs.lemmas.List.{reverse-append, reverse-reverse}
+use Rattle.std.proofs.lemmas.List.Sums.{fold_push}
+use Rattle.std.proofs.lemmas.List.Elements.{All-nil, All-cons, All-append}
+use Rattle.fuelling_point.specs.Table.{PointState, find_number, fresh_point}
+use Rattle.fuelling_point.specs.declared.kinds.Transaction.{Transaction}
+use Rattle.till_request.specs.declared.act.Request.TheVariants as request
+use Rattle.till_request.specs.declared.act.Act.{Act}
+use Rattle.till_request.specs.declared.act.Act.TheVariants as act
+use Rattle.till_request.specs.declared.act.Reply.TheVariants as reply
+use Rattle.decision_journal.specs.declared.entries.Entry.{Entry}
+use Rattle.site_core.specs.Limits.{ConfigValue}
+use Rattle.site_core.specs.State.{SiteState, at_number}
+use Rattle.site_core.specs.Step.{effect, entry_of}
+use Rattle.site_core.specs.Legal.{Legal}
+use Rattle.day_report.specs.Walk.{with_act, with_entry, closed_points}
+use Rattle.day_report.specs.Sales.{sale_of, unpaid_at}
+use Rattle.day_report.specs.declared.sales.Sale.{Sale}
+use Rattle.day_report.proofs.SiteSteps.{effect-says}
+use Rattle.day_export.specs.declared.cells.Rows.TheVariants as rows
+use Rattle.day_export.specs.declared.cells.Cell.{Cell}
+use Rattle.day_export.specs.declared.standing.Ended.{Ended}
+use Rattle.day_export.specs.Standing.{Stand, became, ended_as, ended_at, ended_between, ended_by, number_cleared, point_named, prices_after}
+use Rattle.day_export.specs.Standing.{stand_after, stand_before, uncleared, without}
+use Rattle.day_export.specs.Rows.{row_of, rows_from, sale_cells, sale_row}
+use Rattle.day_export.specs.Laws.{HasDelivery, RowsTellEachSite}
+use Rattle.day_export.proofs.More.{rows-push, stands}
+use Rattle.day_export.proofs.Growing.{Grows}
+use Rattle.day_export.proofs.Changing.{Changes, act-changes, at-other, at-same, is-numbered}
+use Rattle.day_export.proofs.Prices.{effect-prices}
+use Rattle.day_export.proofs.Clearing.{Cleared, effect-clears, made-clears}
+
+-- ---- a delivery among others
+
+abbrev IsThere : List Ended → ℕ → ℕ → Type 0
+IsThere us n x = IsSome (ended_as us n x)
+
+nothing-there : {P : Type 0} → ◌≡◌ {A = Bool} false true → P
+nothing-there h = absurd (cc)
+
+here-or-later : (b : Bool) (u : Ended) (o o2 : Option Ended) → IsSome (if b then Some u else o) → (IsSome o → IsSome o2) → IsSome (if b then Some u else o2)
+here-or-later true u o o2 h later = refl
+here-or-later false u o o2 h later = later h
+
+later-still : (b : Bool) (u : Ended) (o : Option Ended) → IsSome o → IsSome (if b then Some u else o)
+later-still true u o h = refl
+later-still false u o h = h
+
+later-only : (b : Bool) (u : Ended) (o : Option Ended) → b ≡ false → IsSome (if b then Some u else o) → IsSome o
+later-only true u o not-here h = absurd (let e : ◌≡◌ {A = Bool} true false = not-here in cc)
+later-only false u o not-here h = h
+
+there-before : (us vs : List Ended) (n x : ℕ) → IsThere us n x → IsThere (us ++ vs) n x
+there-before [] vs n x h = nothing-there h
+there-before (u ∷ us) vs n x h = here-or-later (became n x u) u (ended_as us n x) (ended_as (us ++ vs) n x) h (there-before us vs n x)
+
+there-behind : (us vs : List Ended) (n x : ℕ) → IsThere vs n x → IsThere (us ++ vs) n x
+there-behind [] vs n x h = h
+there-behind (u ∷ us) vs n x h = later-still (became n x u) u (ended_as (us ++ vs) n x) (there-behind us vs n x h)
+
+both-true : (a b : Bool) → (a && b) ≡ true → (a ≡ true) × (b ≡ true)
+both-true true b h = (refl, h)
+both-true false b h = absurd (let e : ◌≡◌ {A = Bool} false true = h in cc)
+
+-- What became one transaction didn't become another.
+not-both : (u : Ended) (m y n x : ℕ) → ((m == n) && (y == x)) ≡ false → became m y u ≡ true → became n x u ≡ false
+not-both u m y n x other is =
+    let two = both-true (u.point == m) (u.transaction == y) is in
+    (λ j. (eqb-true u.point m two.0 j == n) && (eqb-true u.transaction y two.1 j == x)) ∙ other
+
+there-kept : (n x : ℕ) (u : Ended) (ws : List Ended) (o : Option Ended) (c : Bool) → (c ≡ true → became n x u ≡ false)
+    → IsSome (if became n x u then Some u else o) → (IsSome o → IsThere ws n x) → IsThere (if not c then u ∷ ws else ws) n x
+there-kept n x u ws o true other h later = later (later-only (became n x u) u o (other refl) h)
+there-kept n x u ws o false other h later = here-or-later (became n x u) u o (ended_as ws n x) h later
+
+there-without : (us : List Ended) (m y n x : ℕ) → ((m == n) && (y == x)) ≡ false → IsThere us n x → IsThere (without us m y) n x
+there-without [] m y n x other h = nothing-there h
+there-without (u ∷ us) m y n x other h =
+    there-kept n x u (without us m y) (ended_as us n x) (became m y u) (not-both u m y n x other) h (there-without us m y n x other)
+
+-- ---- one more entry
+
+-- Each unpaid transaction is that of a delivery.
+abbrev Kept : List PointState → List Ended → Type 0
+Kept points unpaid = (n x : ℕ) (p : PointState) → at_number points n ≡ Some p → IsSome (find_number x p.unpaid) → IsThere unpaid n x
+
+-- What an entry clears is no longer unpaid.
+abbrev Takes : Stand → Entry → Type 0
+Takes s e =
+    (sale : Sale) (q : PointState) → sale_of s.points e ≡ Some sale → at_number (with_act s.points e.act e.reply) sale.point ≡ Some q
+    → find_number (number_cleared e.act) q.unpaid ≡ None
+
+none-some : {P : Type 0} (o : Option Transaction) → o ≡ None → IsSome o → P
+none-some o none some = nothing-there (subst IsSome none some)
+
+-- The delivery that an entry ended.
+ended-core : (prices : List ℕ) (number m x : ℕ) (p q : PointState) → q.last ≡ p.last + 1 → (q.last == x) ≡ true
+    → IsThere (option_to_list (ended_at prices number m p q)) m x
+ended-core prices number m x p q grew is =
+    let here : ((m == m) && (q.last == x)) ≡ true = rw (eq-eqb m m refl, is) refl in
+    rw (eq-eqb q.last (p.last + 1) grew) (rw here refl)
+
+ended-there : (points : List PointState) (prices : List ℕ) (e : Entry) (p q : PointState) (x : ℕ) → at_number points (point_named e.act) ≡ Some p
+    → at_number (with_act points e.act e.reply) (point_named e.act) ≡ Some q → q.last ≡ p.last + 1 → (q.last == x) ≡ true
+    → IsThere (option_to_list (ended_by points prices e)) (point_named e.act) x
+unfolding ended_by with_entry
+ended-there points prices e p q x at later grew is =
+    let m = point_named e.act in
+    subst (λ a. IsThere (option_to_list (ended_between prices e.number m a (at_number (with_act points e.act e.reply) m))) m x) (sym at)
+    (subst (λ b. IsThere (option_to_list (ended_between prices e.number m (Some p) b)) m x) (sym later) (ended-core prices e.number m x p q grew is))
+
+-- A transaction that is unpaid at the point that an entry changed.
+grown-there : (s : Stand) (e : Entry) (x : ℕ) (p q : PointState) (o : Option Transaction) → Kept s.points s.unpaid
+    → at_number s.points (point_named e.act) ≡ Some p → at_number (with_act s.points e.act e.reply) (point_named e.act) ≡ Some q → Grows p q
+    → find_number x p.unpaid ≡ o → IsSome (find_number x q.unpaid)
+    → IsThere s.unpaid (point_named e.act) x ⊎ IsThere (option_to_list (ended_by s.points s.prices e)) (point_named e.act) x
+grown-there s e x p q (Some t) kept at later grows is found = inl (kept (point_named e.act) x p at (subst IsSome (sym is) refl))
+grown-there s e x p q None kept at later (inl stays) is found = none-some (find_number x q.unpaid) (stays.1 x is) found
+grown-there s e x p q None kept at later (inr adds) is found = elim (cases_Bool (q.last == x)) [
+  | inl new ↦ inr (ended-there s.points s.prices e p q x at later adds.0 new)
+  | inr other ↦ none-some (find_number x q.unpaid) (adds.1 x is other) found
+]
+
+some-same : (a b : PointState) → ◌≡◌ {A = Option PointState} (Some a) (Some b) → a ≡ b
+some-same a b h = cc
+
+not-equal : (n m : ℕ) → (n == m) ≡ false → n ≡ m → ⊥
+not-equal n m other same = cc (sym other ∙ eq-eqb n m same)
+
+old-or-new : (s : Stand) (e : Entry) (n x : ℕ) (q : PointState) → Kept s.points s.unpaid
+    → Changes (point_named e.act) s.points (with_act s.points e.act e.reply)
+    → at_number (with_act s.points e.act e.reply) n ≡ Some q → IsSome (find_number x q.unpaid)
+    → IsThere s.unpaid n x ⊎ IsThere (option_to_list (ended_by s.points s.prices e)) n x
+old-or-new s e n x q kept (inl same) at found = inl (kept n x q (ap (λ ps. at_number ps n) (sym same) ∙ at) found)
+old-or-new s e n x q kept (inr b) at found =
+    let m = point_named e.act in
+    let later : at_number (with_act s.points e.act e.reply) m ≡ Some b.q = ap (λ ps. at_number ps m) b.is ∙ at-same s.points m b.p b.q b.at in
+    elim (cases_Bool (n == m)) [
+      | inl here ↦
+          let same : n ≡ m = eqb-true n m here in
+          let is : b.q ≡ q = some-same b.q q (sym later ∙ ap (at_number (with_act s.points e.act e.reply)) (sym same) ∙ at) in
+          subst (λ k. IsThere s.unpaid k x ⊎ IsThere (option_to_list (ended_by s.points s.prices e)) k x) (sym same)
+          (grown-there s e x b.p b.q (find_number x b.p.unpaid) kept b.at later b.grows refl
+          (subst (λ (y : PointState). IsSome (find_number x y.unpaid)) (sym is) found))
+      | inr other ↦
+          let before : at_number s.points n ≡ Some q =
+          sym (at-other s.points m n b.q (is-numbered s.points m b.p b.at) (not-equal n m other)) ∙ ap (λ ps. at_number ps n) (sym b.is) ∙ at in
+          inl (kept n x q before found)
+    ]
+
+-- A delivery stays unless its transaction is cleared.
+survives : (s : Stand) (e : Entry) (n x : ℕ) (q : PointState) (o : Option Sale) → Takes s e → sale_of s.points e ≡ o
+    → at_number (with_act s.points e.act e.reply) n ≡ Some q → IsSome (find_number x q.unpaid) → IsThere s.unpaid n x
+    → IsThere (uncleared s.unpaid o e.act) n x
+survives s e n x q None takes is at found h = h
+survives s e n x q (Some sale) takes is at found h = elim (cases_Bool ((sale.point == n) && (number_cleared e.act == x))) [
+  | inl cleared ↦
+      let two = both-true (sale.point == n) (number_cleared e.act == x) cleared in
+      let same : sale.point ≡ n = eqb-true sale.point n two.0 in
+      let number : number_cleared e.act ≡ x = eqb-true (number_cleared e.act) x two.1 in
+      none-some (find_number x q.unpaid)
+      (ap (λ y. find_number y q.unpaid) (sym number) ∙ takes sale q is (ap (at_number (with_act s.points e.act e.reply)) same ∙ at)) found
+  | inr other ↦ there-without s.unpaid sale.point (number_cleared e.act) n x other h
+]
+
+kept-more : (s : Stand) (e : Entry) → Kept s.points s.unpaid → Takes s e → Kept (stand_after s e).points (stand_after s e).unpaid
+unfolding stand_after with_entry
+kept-more s e kept takes = λ n x q at found.
+    let left = uncleared s.unpaid (sale_of s.points e) e.act in
+    let new = option_to_list (ended_by s.points s.prices e) in
+    elim (old-or-new s e n x q kept (act-changes s.points e.act e.reply) at found) [
+      | inl old ↦ there-before left new n x (survives s e n x q (sale_of s.points e) takes refl at found old)
+      | inr now ↦ there-behind left new n x now
+    ]
+
+-- ---- sales
+
+abbrev row-made : (s : Stand) (e : Entry) (o : Option Sale) → Option (List Cell)
+row-made s e o =
+    elim o [ None ↦ None | Some sale ↦ Some (sale_cells sale (number_cleared e.act) (ended_as s.unpaid sale.point (number_cleared e.act))) ]
+
+unpaid-there : (points : List PointState) (n x : ℕ) (o : Option PointState) → at_number points n ≡ o → IsSome (unpaid_at points n x)
+    → (p : PointState) × (at_number points n ≡ Some p) × IsSome (find_number x p.unpaid)
+unpaid-there points n x None is h =
+    nothing-there (subst (λ (o : Option PointState). IsSome (elim o as (λ _. Option Transaction) [ None ↦ None | Some p ↦ find_number x p.unpaid ])) is h)
+unpaid-there points n x (Some p) is h =
+    (p, is, subst (λ (o : Option PointState). IsSome (elim o as (λ _. Option Transaction) [ None ↦ None | Some q ↦ find_number x q.unpaid ])) is h)
+
+full-cells : (sale : Sale) (x : ℕ) (o : Option Ended) → IsSome o → HasDelivery (sale_cells sale x o)
+full-cells sale x None h = nothing-there h
+full-cells sale x (Some e) h = (tt, tt, tt)
+
+-- What an entry with a sale cleared, in a legal history.
+record Fits (config : ConfigValue) (past : List Entry) (b : SiteState) (s : Stand) (e : Entry) : Type 0 where
+  points : s.points ≡ b.points
+  is : e ≡ entry_of past e.pass e.moment e.act (effect config past b e.moment e.act)
+
+sale-made : (s : Stand) (e : Entry) (sale : Sale) → sale_of s.points e ≡ Some sale → Cleared s.points e.act e.reply sale
+unfolding sale_of
+sale-made s e sale h = made-clears s.points e e.act e.reply sale h
+
+rows-made : (s : Stand) (e : Entry) (o : Option Sale) → Kept s.points s.unpaid → sale_of s.points e ≡ o → All HasDelivery (option_to_list (row-made s e o))
+rows-made s e None kept is = All-nil HasDelivery
+rows-made s e (Some sale) kept is =
+    let cleared = sale-made s e sale is in
+    let x = number_cleared e.act in
+    let at = unpaid-there s.points sale.point x (at_number s.points sale.point) refl cleared.found in
+    All-cons HasDelivery _ [] (full-cells sale x (ended_as s.unpaid sale.point x) (kept sale.point x at.0 at.1 at.2)) (All-nil HasDelivery)
+
+row-told : (s : Stand) (e : Entry) → Kept s.points s.unpaid → All HasDelivery (option_to_list (row_of rows.Sales s e))
+unfolding sale_row
+row-told s e kept = rows-made s e (sale_of s.points e) kept refl
+
+takes : (config : ConfigValue) (past : List Entry) (b : SiteState) (s : Stand) (e : Entry) → Fits config past b s e → Takes s e
+takes config past b s e fits = λ sale q is later.
+    let cleared = sale-made s e sale is in
+    let x = number_cleared e.act in
+    let clear : Act = act.Till sale.till (request.Clear sale.point x) in
+    let at = unpaid-there s.points sale.point x (at_number s.points sale.point) refl cleared.found in
+    let answered : e.reply ≡ (effect config past b e.moment e.act).reply = ap (λ (y : Entry). y.reply) fits.is in
+    let done : (effect config past b e.moment clear).reply ≡ reply.Done =
+    ap (λ a. (effect config past b e.moment a).reply) (sym cleared.act_is) ∙ sym answered ∙ cleared.reply_is in
+    let before : at_number b.points sale.point ≡ Some at.0 = ap (λ ps. at_number ps sale.point) (sym fits.points) ∙ at.1 in
+    let after : at_number (with_act b.points clear reply.Done) sale.point ≡ Some q =
+    (λ j. at_number (with_act (sym fits.points j) (sym cleared.act_is j) (sym cleared.reply_is j)) sale.point) ∙ later in
+    effect-clears config past b sale.till e.moment sale.point x at.0 q done before after
+
+-- ---- a history, newest entry first
+
+record Comes (config : ConfigValue) (past : List Entry) (b : SiteState) : Type 0 where
+  points : (stands (stand_before config) (reverse past)).points ≡ b.points
+  prices : (stands (stand_before config) (reverse past)).prices ≡ b.prices
+  kept : Kept (stands (stand_before config) (reverse past)).points (stands (stand_before config) (reverse past)).unpaid
+  told : All HasDelivery (rows_from rows.Sales (stand_before config) (reverse past))
+
+same-points : (points : List (ℕ × ℕ)) → replicate (length points) fresh_point ≡ map (λ (_ : ℕ × ℕ). fresh_point) points
+same-points [] = refl
+same-points (p ∷ points) = ap (λ xs. fresh_point ∷ xs) (same-points points)
+
+got-fresh : (k i : ℕ) (p : PointState) → slice_get (replicate k fresh_point) i ≡ Some p → fresh_point ≡ p
+got-fresh zero i p h = absurd (let e : ◌≡◌ {A = Option PointState} None (Some p) = h in cc)
+got-fresh (suc k) zero p h = some-same fresh_point p h
+got-fresh (suc k) (suc i) p h = got-fresh k i p h
+
+if-fresh : (b : Bool) (k i : ℕ) (p : PointState) → (if b then slice_get (replicate k fresh_point) i else None) ≡ Some p → fresh_point ≡ p
+if-fresh true k i p h = got-fresh k i p h
+if-fresh false k i p h = absurd (let e : ◌≡◌ {A = Option PointState} None (Some p) = h in cc)
+
+kept-none : (k : ℕ) → Kept (closed_points k) []
+kept-none k = λ n x p at found.
+    nothing-there (subst (λ (q : PointState). IsSome (find_number x q.unpaid)) (sym (if-fresh (nat_le 1 n) k (n - 1) p at)) found)
+
+reverse-more : (e : Entry) (past : List Entry) → reverse (e ∷ past) ≡ reverse past ++ e ∷ []
+reverse-more e past = reverse-append (e ∷ []) past
+
+entry-points : (config : ConfigValue) (past : List Entry) (b : SiteState) (s : Stand) (e : Entry) → Fits config past b s e
+    → (stand_after s e).points ≡ (effect config past b e.moment e.act).after.points
+unfolding stand_after with_entry
+entry-points config past b s e fits =
+    let answered : e.reply ≡ (effect config past b e.moment e.act).reply = ap (λ (y : Entry). y.reply) fits.is in
+    (λ j. with_act (fits.points j) e.act (answered j)) ∙ (effect-says config past b e.moment e.act).points
+
+entry-prices : (config : ConfigValue) (past : List Entry) (b : SiteState) (s : Stand) (e : Entry) → Fits config past b s e → s.prices ≡ b.prices
+    → (stand_after s e).prices ≡ (effect config past b e.moment e.act).after.prices
+unfolding stand_after
+entry-prices config past b s e fits same =
+    let answered : e.reply ≡ (effect config past b e.moment e.act).reply = ap (λ (y : Entry). y.reply) fits.is in
+    (λ j. prices_after (same j) e.act (answered j)) ∙ sym (effect-prices config past b e.moment e.act)
+
+comes-more : (config : ConfigValue) (past : List Entry) (b later : SiteState) (e : Entry) → Comes config past b
+    → e ≡ entry_of past e.pass e.moment e.act (effect config past b e.moment e.act) → later ≡ (effect config past b e.moment e.act).after
+    → Comes config (e ∷ past) later
+comes-more config past b later e h is leaves =
+    let start = stand_before config in
+    let s = stands start (reverse past) in
+    let fits : Fits config past b s e = record { points = h.points; is = is } in
+    let next : stands start (reverse (e ∷ past)) ≡ stand_after s e = ap (stands start) (reverse-more e past) ∙ fold_push stand_after start (reverse past) e in
+    let more : rows_from rows.Sales start (reverse (e ∷ past)) ≡ rows_from rows.Sales start (reverse past) ++ option_to_list (row_of rows.Sales s e) =
+    ap (rows_from rows.Sales start) (reverse-more e past) ∙ rows-push rows.Sales start (reverse past) e in
+    record {
+      points = ap (λ (x : Stand). x.points) next ∙ entry-points config past b s e fits ∙ ap (λ (x : SiteState). x.points) (sym leaves);
+      prices = ap (λ (x : Stand). x.prices) next ∙ entry-prices config past b s e fits h.prices ∙ ap (λ (x : SiteState). x.prices) (sym leaves);
+      kept = subst (λ (x : Stand). Kept x.points x.unpaid) (sym next) (kept-more s e h.kept (takes config past b s e fits));
+      told = subst (All HasDelivery) (sym more) (All-append HasDelivery _ _ h.told (row-told s e h.kept));
+    }
+
+comes : (config : ConfigValue) (past : List Entry) (b : SiteState) → Legal config past b → Comes config past b
+comes config [] b l =
+    record {
+      points = same-points config.points ∙ ap (λ (x : SiteState). x.points) (sym l);
+      prices = ap (λ (x : SiteState). x.prices) (sym l);
+      kept = kept-none (length config.points);
+      told = All-nil HasDelivery;
+    }
+comes config (e ∷ past) b l = comes-more config past l.0 b e (comes config past l.0 l.1) l.3.enters l.3.leaves
+
+pub telling : RowsTellEachSite
+telling config history state legal =
+    let c : Comes config (reverse history) state = comes config (reverse history) state legal in
+    let same : reverse (reverse history) ≡ history = reverse-reverse history in
+    record {
+      points = ap (λ h. (stands (stand_before config) h).points) (sym same) ∙ c.points;
+      prices = ap (λ h. (stands (stand_before config) h).prices) (sym same) ∙ c.prices;
+      deliveries = subst (λ h. All HasDelivery (rows_from rows.Sales (stand_before config) h)) same c.told;
+    }

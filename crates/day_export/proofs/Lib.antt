@@ -1,0 +1,12 @@
+pub mod More
+pub mod Moving
+pub mod Appending
+pub mod ReadBack
+pub mod NoFloats
+pub mod Telling
+pub mod Contexts
+pub mod Growing
+pub mod Changing
+pub mod Clearing
+pub mod Deliveries
+pub mod Prices

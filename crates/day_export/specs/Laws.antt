@@ -1,0 +1,98 @@
+-- Promises: laws about the rows of a day.
+use Rattle.std.specs.Prelude.{◌≡◌, ◌<◌, ℕ, ◌^◌, Bool, List, [], ◌∷◌, ◌++◌, drop, length, map, slice_index_or, Some, All}
+use Rattle.std.specs.List.{AllByRecursion, filter_map}
+use Rattle.csv.specs.Reading.{AreRecords, default_config, strip_bom}
+use Rattle.csv.specs.declared.parser.State.TheVariants as state
+use Rattle.bpf_model.specs.declared.context.Layout.{Layout}
+use Rattle.bpf_model.specs.declared.context.Layout.TheVariants as layout
+use Rattle.decision_journal.specs.declared.entries.Entry.{Entry}
+use Rattle.decision_journal.specs.declared.entries.Run.{Run}
+use Rattle.site_core.specs.declared.context.Field.{Field}
+use Rattle.site_core.specs.declared.context.Field.TheVariants.{Four, Eight}
+use Rattle.site_core.specs.declared.question.Question.{Question}
+use Rattle.site_core.specs.State.{SiteState, open_points}
+use Rattle.site_core.specs.Context.{context, fields, shared_fields}
+use Rattle.site_core.specs.Legal.{LegalHistory}
+use Rattle.site_core.specs.Limits.{ConfigValue}
+use Rattle.day_report.specs.Laws.{sales_of}
+use Rattle.day_report.specs.declared.sales.Sale.{Sale}
+use Rattle.day_export.specs.declared.cells.Rows.{Rows}
+use Rattle.day_export.specs.declared.cells.Rows.TheVariants as rows
+use Rattle.day_export.specs.declared.cells.Format.TheVariants as format
+use Rattle.day_export.specs.declared.cells.Cell.{Cell}
+use Rattle.day_export.specs.declared.cells.Cell.TheVariants as cell
+use Rattle.day_export.specs.Cells.{columns, cell_text, moment_cell}
+use Rattle.day_export.specs.Rows.{rows_of, decision_cells, decision_row, event_row}
+use Rattle.day_export.specs.Standing.{stand_at}
+use Rattle.day_export.specs.Text.{rows_text}
+
+-- The cells of a row under `cleared`, `point`, `volume`, `amount`, `till` and `moment`.
+abbrev pub sale_in : List Cell → List Cell
+sale_in row = map (λ column. slice_index_or row column cell.Nothing) (1 ∷ 2 ∷ 6 ∷ 7 ∷ 8 ∷ 9 ∷ [])
+
+-- The cells that a sale has there.
+abbrev pub sale_told : Sale → List Cell
+sale_told sale =
+    cell.Number sale.number ∷ cell.Number sale.point ∷ cell.Number sale.volume ∷ cell.Number sale.amount ∷ cell.Number sale.till
+    ∷ moment_cell sale.moment ∷ []
+
+-- What the rows of a day have. The rows of sales are the report's sales, each once and in order. There is a row for each
+-- decision and for each entry. Each row has a cell for each column. The CSV, read by a reader of CSV, gives the names of
+-- the columns and then the texts of the rows.
+pub record RowsTellTheDay (config : ConfigValue) (history : List Entry) : Type 0 where
+  pub sales : map sale_in (rows_of rows.Sales config history) ≡ map sale_told (sales_of config history)
+  pub decisions : rows_of rows.Decisions config history ≡ filter_map decision_row history
+  pub events : rows_of rows.Events config history ≡ map event_row history
+  pub whole : (which : Rows) → All (λ (row : List Cell). length row ≡ length (columns which)) (rows_of which config history)
+  pub read_back : (which : Rows) → AreRecords default_config state.StartRecord (strip_bom (rows_text which format.Csv config history))
+      (columns which ∷ map (map cell_text) (rows_of which config history))
+
+-- This holds for every history, legal or not.
+abbrev pub RowsTellEachDay : Type 0
+RowsTellEachDay = (config : ConfigValue) (history : List Entry) → RowsTellTheDay config history
+
+-- ---- legal histories
+
+abbrev pub IsNumber : Cell → Type 0
+IsNumber (cell.Number n) = Unit {0}
+IsNumber _ = ⊥
+
+-- The row says where the delivery of its sale came from: it has a number under `ended`, `product` and `price`.
+abbrev pub HasDelivery : List Cell → Type 0
+HasDelivery row =
+    IsNumber (slice_index_or row 0 cell.Nothing) × IsNumber (slice_index_or row 4 cell.Nothing) × IsNumber (slice_index_or row 5 cell.Nothing)
+
+-- The points and the prices after the history are the site's, and each sale has a delivery.
+pub record RowsTellTheSite (config : ConfigValue) (history : List Entry) (state : SiteState) : Type 0 where
+  pub points : (stand_at config history).points ≡ state.points
+  pub prices : (stand_at config history).prices ≡ state.prices
+  pub deliveries : All HasDelivery (rows_of rows.Sales config history)
+
+-- This holds for every legal history.
+abbrev pub RowsTellEachSite : Type 0
+RowsTellEachSite =
+    (config : ConfigValue) (history : List Entry) (state : SiteState) → LegalHistory config history state → RowsTellTheSite config history state
+
+-- ---- contexts
+
+-- The number of a field fits the field's bytes.
+abbrev pub FitsField : Field → Type 0
+FitsField (Four x) = x < 256 ^ 4
+FitsField (Eight x) = x < 256 ^ 8
+
+abbrev pub field_told : Field → Cell
+field_told (Four x) = cell.Number x
+field_told (Eight x) = cell.Number x
+
+-- The cells of a context: its fields in their order. The first layout has no count of cleared transactions and none of open points. The zero at
+-- the end of the second layout has no cell.
+abbrev pub context_told : Layout → SiteState → ℕ → ℕ → Question → List Cell
+context_told layout.One s till moment q = map field_told (shared_fields s till moment q) ++ cell.Nothing ∷ cell.Nothing ∷ []
+context_told layout.Two s till moment q = map field_told (shared_fields s till moment q) ++ cell.Number s.clears ∷ cell.Number (open_points s) ∷ []
+
+-- The row of a decision has the context that the rule ran on: from the column `context_till` on, the context's fields.
+abbrev pub RowsTellContexts : Type 0
+RowsTellContexts =
+    (layout : Layout) (s : SiteState) (till moment : ℕ) (q : Question) (entry : Entry) (run : Run) (is_granted : Bool) → entry.run ≡ Some run
+    → run.context ≡ context layout s till moment q → AllByRecursion FitsField (fields layout s till moment q)
+    → drop 11 (decision_cells entry is_granted) ≡ context_told layout s till moment q

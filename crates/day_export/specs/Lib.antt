@@ -1,0 +1,7 @@
+pub mod Cells
+pub mod Acts
+pub mod Standing
+pub mod Rows
+pub mod Text
+pub mod Laws
+pub mod Fault

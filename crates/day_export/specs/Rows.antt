@@ -1,0 +1,132 @@
+-- Definitions: the rows of a day. A row has a cell for each column.
+use Rattle.std.specs.Prelude.{ℕ, Bool, true, false, List, [], ◌∷◌, Option, Some, None}
+use Rattle.std.specs.List.{cons_option}
+use Rattle.decision_journal.specs.declared.entries.Entry.{Entry}
+use Rattle.site_core.specs.Limits.{ConfigValue}
+use Rattle.day_report.specs.Sales.{sale_of}
+use Rattle.day_report.specs.Decisions.{decision_of}
+use Rattle.day_report.specs.declared.sales.Sale.{Sale}
+use Rattle.day_export.specs.declared.cells.Rows.{Rows}
+use Rattle.day_export.specs.declared.cells.Rows.TheVariants as rows
+use Rattle.day_export.specs.declared.cells.Word.TheVariants as word
+use Rattle.day_export.specs.declared.cells.Cell.{Cell}
+use Rattle.day_export.specs.declared.cells.Cell.TheVariants as cell
+use Rattle.day_export.specs.declared.standing.Ended.{Ended}
+use Rattle.day_export.specs.Cells.{moment_cell}
+use Rattle.day_export.specs.Acts.{act_cells, reply_cells, run_cells, field_cell}
+use Rattle.day_export.specs.Standing.{Stand, ended_as, number_cleared, stand_after, stand_before}
+
+-- ---- sales
+
+-- A number of a delivery, if the day has the entry that ended it.
+abbrev pub told_of : Option Ended → (Ended → ℕ) → Cell
+told_of None field = cell.Nothing
+told_of (Some e) field = cell.Number (field e)
+
+-- The row of a sale that cleared this transaction.
+abbrev pub sale_cells : Sale → ℕ → Option Ended → List Cell
+sale_cells sale transaction ended =
+    told_of ended (λ e. e.number)
+    ∷ cell.Number sale.number
+    ∷ cell.Number sale.point
+    ∷ cell.Number transaction
+    ∷ told_of ended (λ e. e.product)
+    ∷ told_of ended (λ e. e.price)
+    ∷ cell.Number sale.volume
+    ∷ cell.Number sale.amount
+    ∷ cell.Number sale.till
+    ∷ moment_cell sale.moment
+    ∷ []
+
+-- The row of the sale that an entry makes, if it makes one.
+unfoldable pub sale_row : Stand → Entry → Option (List Cell)
+sale_row s entry =
+    elim (sale_of s.points entry) [
+      | None ↦ None
+      | Some sale ↦ Some (sale_cells sale (number_cleared entry.act) (ended_as s.unpaid sale.point (number_cleared entry.act)))
+    ]
+
+-- ---- decisions
+
+abbrev pub answer_cell : Bool → Cell
+answer_cell true = cell.Word word.Granted
+answer_cell false = cell.Word word.Denied
+
+-- The row of a decision. The context's fields have the offsets and the sizes that rules read them by.
+abbrev pub decision_cells : Entry → Bool → List Cell
+decision_cells entry is_granted =
+    cell.Number entry.number
+    ∷ moment_cell entry.moment
+    ∷ (act_cells entry.act).till
+    ∷ (act_cells entry.act).point
+    ∷ (act_cells entry.act).verb
+    ∷ (act_cells entry.act).amount
+    ∷ (run_cells entry.run).slot
+    ∷ (run_cells entry.run).version
+    ∷ (run_cells entry.run).r0
+    ∷ answer_cell is_granted
+    ∷ (reply_cells entry.reply).granted
+    ∷ field_cell entry.run 0 4
+    ∷ field_cell entry.run 4 4
+    ∷ field_cell entry.run 8 4
+    ∷ field_cell entry.run 12 4
+    ∷ field_cell entry.run 16 4
+    ∷ field_cell entry.run 20 4
+    ∷ field_cell entry.run 24 8
+    ∷ field_cell entry.run 32 8
+    ∷ field_cell entry.run 40 4
+    ∷ field_cell entry.run 44 4
+    ∷ field_cell entry.run 48 4
+    ∷ field_cell entry.run 52 4
+    ∷ field_cell entry.run 56 8
+    ∷ field_cell entry.run 64 8
+    ∷ field_cell entry.run 72 4
+    ∷ []
+
+-- The row of an entry's decision, if a rule decided.
+unfoldable pub decision_row : Entry → Option (List Cell)
+decision_row entry = elim (decision_of entry) [ None ↦ None | Some d ↦ Some (decision_cells entry d.is_granted) ]
+
+-- ---- all entries
+
+unfoldable pub event_row : Entry → List Cell
+event_row entry =
+    cell.Number entry.number
+    ∷ cell.Number entry.pass
+    ∷ moment_cell entry.moment
+    ∷ (act_cells entry.act).sender
+    ∷ (act_cells entry.act).till
+    ∷ (act_cells entry.act).point
+    ∷ (act_cells entry.act).verb
+    ∷ (act_cells entry.act).product
+    ∷ (act_cells entry.act).nozzle
+    ∷ (act_cells entry.act).transaction
+    ∷ (act_cells entry.act).amount
+    ∷ (act_cells entry.act).volume
+    ∷ (act_cells entry.act).slot
+    ∷ (act_cells entry.act).mask
+    ∷ (act_cells entry.act).layout
+    ∷ (reply_cells entry.reply).reply
+    ∷ (reply_cells entry.reply).granted
+    ∷ (reply_cells entry.reply).version
+    ∷ (reply_cells entry.reply).order
+    ∷ (reply_cells entry.reply).refusal
+    ∷ (reply_cells entry.reply).detail
+    ∷ []
+
+-- ---- a day
+
+-- The row of an entry, if it has one. The second argument is the state before the entry.
+abbrev pub row_of : Rows → Stand → Entry → Option (List Cell)
+row_of rows.Sales s entry = sale_row s entry
+row_of rows.Decisions s entry = decision_row entry
+row_of rows.Events s entry = Some (event_row entry)
+
+-- The rows of the entries, oldest first. The second argument is the state before the entries.
+abbrev pub rows_from : Rows → Stand → List Entry → List (List Cell)
+rows_from which s [] = []
+rows_from which s (entry ∷ entries) = cons_option (row_of which s entry) (rows_from which (stand_after s entry) entries)
+
+-- The rows of the history of a site of this configuration.
+abbrev pub rows_of : Rows → ConfigValue → List Entry → List (List Cell)
+rows_of which config history = rows_from which (stand_before config) history

@@ -1,0 +1,58 @@
+-- Definitions: the text of rows, as CSV and as lines of JSON.
+use Rattle.std.specs.Prelude.{◌≡◌, ℕ, false, List, [], ◌∷◌, ◌++◌, map}
+use Rattle.std.specs.List.{concat}
+use Rattle.csv.specs.Writing.{default_writer, fields_written, has_written, row_text, with_terminator, writer_setup}
+use Rattle.csv.specs.declared.writer.Writer.{Writer}
+use Rattle.csv.specs.declared.parser.Terminator.TheVariants as terminator
+use Rattle.csv.specs.declared.writer.WriterBuilder.{WriterBuilder}
+use Rattle.serde_json.specs.Data.{Data, null, number, string, object, unsigned, Members, no_members, put}
+use Rattle.serde_json.specs.Written.{compact_text}
+use Rattle.decision_journal.specs.declared.entries.Entry.{Entry}
+use Rattle.site_core.specs.Limits.{ConfigValue}
+use Rattle.day_export.specs.declared.cells.Rows.{Rows}
+use Rattle.day_export.specs.declared.cells.Format.{Format}
+use Rattle.day_export.specs.declared.cells.Format.TheVariants as format
+use Rattle.day_export.specs.declared.cells.Cell.{Cell}
+use Rattle.day_export.specs.declared.cells.Cell.TheVariants as cell
+use Rattle.day_export.specs.Cells.{columns, word_text, cell_text}
+use Rattle.day_export.specs.Rows.{rows_of}
+
+-- A writer of CSV by RFC 4180: with commas, with quotes where a field needs them, and with CRLF at the end of a record.
+abbrev pub csv_writer : WriterBuilder
+csv_writer = with_terminator default_writer terminator.CRLF
+
+-- The value of a cell in JSON: a number, a string or null.
+unfoldable pub cell_data : Cell → Data
+cell_data (cell.Number n) = number (unsigned n)
+cell_data (cell.Word w) = string (word_text w)
+cell_data cell.Nothing = null
+
+-- The members of an object after each name got its cell's value. An object has its members in the order of the names' bytes.
+abbrev pub with_cells : Members → List (List ℕ) → List Cell → Members
+with_cells members (name ∷ names) (c ∷ cells) = with_cells (put name (cell_data c) members) names cells
+with_cells members _ _ = members
+
+abbrev pub object_of : List (List ℕ) → List Cell → Data
+object_of names cells = object (with_cells no_members names cells)
+
+-- The text of a row. A line of JSON is an object in its compact text, and LF.
+unfoldable pub row_bytes : Rows → Format → List Cell → List ℕ
+row_bytes which format.Csv cells = row_text csv_writer (map cell_text cells)
+row_bytes which format.Json cells = compact_text (object_of (columns which) cells) ++ 10 ∷ []
+
+-- The text before the rows: the names of the columns in CSV, and nothing in JSON.
+unfoldable pub header_bytes : Rows → Format → List ℕ
+header_bytes which format.Csv = row_text csv_writer (columns which)
+header_bytes which format.Json = []
+
+-- The text of all rows of the history of a site of this configuration.
+abbrev pub rows_text : Rows → Format → ConfigValue → List Entry → List ℕ
+rows_text which form config history = header_bytes which form ++ concat (map (row_bytes which form) (rows_of which config history))
+
+-- ---- for private clauses
+
+-- The writer is set up for rows, and no record is begun.
+pub record IsBetween {W : Type 0} (writer : Writer W) : Type 0 where
+  pub setup : writer_setup writer ≡ csv_writer
+  pub fields : fields_written writer ≡ 0
+  pub wrote : has_written writer ≡ false

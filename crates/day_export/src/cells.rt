@@ -1,0 +1,213 @@
+//! The columns of each kind of rows, and the cells of a row.
+
+ghost use Rattle.std.specs.Prelude.{◌≡◌, map};
+ghost use Rattle.day_export.specs.Cells.{columns, word_text, optional, moment_cell};
+
+/// Which rows of a day are written.
+#[derive(Clone, Copy, Drop)]
+pub enum Rows {
+    /// A row for each sale.
+    Sales,
+    /// A row for each decision of a rule.
+    Decisions,
+    /// A row for each entry.
+    Events,
+}
+
+/// The format in which rows are written.
+#[derive(Clone, Copy, Drop)]
+pub enum Format {
+    /// CSV by RFC 4180, with the names of the columns as its first record.
+    Csv,
+    /// A JSON object on a line for each row.
+    Json,
+}
+
+/// A word in a cell.
+#[derive(Clone, Copy, Drop)]
+pub enum Word {
+    Till,
+    Dispenser,
+    Owner,
+    Release,
+    Preset,
+    Price,
+    Open,
+    Close,
+    Suspend,
+    Resume,
+    Stop,
+    Lock,
+    Unlock,
+    Clear,
+    Show,
+    Up,
+    Down,
+    Started,
+    Flow,
+    Fault,
+    Repaired,
+    Order,
+    Load,
+    Done,
+    Granted,
+    Denied,
+    Version,
+    Point,
+    Refused,
+    Authorise,
+}
+
+/// What a row has in a column.
+#[derive(Clone, Copy, Drop)]
+pub enum Cell {
+    Number(u64),
+    Word(Word),
+    Nothing,
+}
+
+/// The names of the columns of sales.
+const SALES: [&str; 10] = [
+    "ended",
+    "cleared",
+    "point",
+    "transaction",
+    "product",
+    "price",
+    "volume",
+    "amount",
+    "till",
+    "moment",
+];
+
+/// The names of the columns of decisions.
+const DECISIONS: [&str; 26] = [
+    "entry",
+    "moment",
+    "till",
+    "point",
+    "kind",
+    "asked",
+    "slot",
+    "version",
+    "r0",
+    "answer",
+    "granted",
+    "context_till",
+    "context_point",
+    "context_kind",
+    "context_state",
+    "context_nozzle",
+    "context_product",
+    "context_asked",
+    "context_moment",
+    "context_price",
+    "context_busy_points",
+    "context_unpaid",
+    "context_slot",
+    "context_cleared",
+    "context_clears",
+    "context_open_points",
+];
+
+/// The names of the columns of entries.
+const EVENTS: [&str; 21] = [
+    "entry",
+    "pass",
+    "moment",
+    "sender",
+    "till",
+    "point",
+    "verb",
+    "product",
+    "nozzle",
+    "transaction",
+    "amount",
+    "volume",
+    "slot",
+    "mask",
+    "layout",
+    "reply",
+    "granted",
+    "version",
+    "order",
+    "refusal",
+    "detail",
+];
+
+/// Returns the names of the columns, first to last.
+pub(crate) fn columns(rows: Rows) -> &'static [&'static str]
+    ensures { map (λ name. name.now) result.now ≡ columns rows }
+{
+    match rows {
+        Rows::Sales => &SALES,
+        Rows::Decisions => &DECISIONS,
+        Rows::Events => &EVENTS,
+    }
+}
+
+/// Returns the text of a word.
+pub(crate) fn word_text(word: Word) -> &'static str
+    ensures { result.now ≡ word_text word }
+{
+    match word {
+        Word::Till => "till",
+        Word::Dispenser => "dispenser",
+        Word::Owner => "owner",
+        Word::Release => "release",
+        Word::Preset => "preset",
+        Word::Price => "price",
+        Word::Open => "open",
+        Word::Close => "close",
+        Word::Suspend => "suspend",
+        Word::Resume => "resume",
+        Word::Stop => "stop",
+        Word::Lock => "lock",
+        Word::Unlock => "unlock",
+        Word::Clear => "clear",
+        Word::Show => "show",
+        Word::Up => "up",
+        Word::Down => "down",
+        Word::Started => "started",
+        Word::Flow => "flow",
+        Word::Fault => "fault",
+        Word::Repaired => "repaired",
+        Word::Order => "order",
+        Word::Load => "load",
+        Word::Done => "done",
+        Word::Granted => "granted",
+        Word::Denied => "denied",
+        Word::Version => "version",
+        Word::Point => "point",
+        Word::Refused => "refused",
+        Word::Authorise => "authorise",
+    }
+}
+
+/// Returns the cell of a number.
+pub(crate) fn number(n: u32) -> Cell
+    ensures { result ≡ Cell.Number n }
+{
+    Cell::Number(u64::from(n))
+}
+
+/// Returns the cell of a number that may be missing.
+pub(crate) fn optional(n: Option<u32>) -> Cell
+    ensures { result ≡ optional n }
+{
+    match n {
+        None => Cell::Nothing,
+        Some(n) => Cell::Number(u64::from(n)),
+    }
+}
+
+/// Returns the cell of a moment. 0 is no moment.
+pub(crate) fn moment_cell(moment: u64) -> Cell
+    ensures { result ≡ moment_cell moment }
+{
+    if moment == 0 {
+        Cell::Nothing
+    } else {
+        Cell::Number(moment)
+    }
+}

@@ -1,0 +1,115 @@
+//! Rows as CSV.
+
+ghost use Rattle.std.specs.Prelude.{◌≡◌, ◌++◌, ◌∷◌, [], OnOk, IfOk, map};
+ghost use Rattle.std.specs.Io.KnownBytes.{Appends, Keeps};
+ghost use Rattle.csv.specs.Records.{fields_of, partial_of};
+ghost use Rattle.csv.specs.Writing.{row_text, text_written};
+ghost use Rattle.day_export.specs.Cells.{cell_text, columns};
+ghost use Rattle.day_export.specs.Text.{IsBetween, csv_writer, header_bytes};
+ghost use Rattle.day_export.specs.declared.cells.Format.TheVariants as format;
+
+use crate::cells::{Cell, Rows, columns, word_text};
+use crate::fault::RowsFault;
+use crate::taking::RowTaker;
+use csv::{ByteRecord, Terminator, Writer, WriterBuilder};
+use itoa::Buffer;
+use std::alloc::{AllocError, Global};
+use std::io::Write;
+
+/// A writer of rows as CSV.
+#[derive(Drop)]
+pub(crate) struct CsvRows<W: Write + Drop> {
+    writer: Writer<W>,
+    /// The record that is written next. It is kept to use its memory again.
+    row: ByteRecord,
+}
+
+/// Adds a cell to a record. The error is that memory ran out.
+#[tactic(auto, unfolding(crate::specs::Cells::cell_text))]
+fn push_cell(row: &mut ByteRecord, cell: Cell) -> Result<(), AllocError>
+    requires { partial_of row.old ≡ [] }
+    ensures fields { OnOk result (fields_of row.new ≡ fields_of row.old ++ cell_text cell ∷ []) }
+    ensures partial { OnOk result (partial_of row.new ≡ []) }
+{
+    match cell {
+        Cell::Number(n) => {
+            let mut buffer = Buffer::new();
+            row.push_field(buffer.format(n).as_bytes())
+        }
+        Cell::Word(word) => row.push_field(word_text(word).as_bytes()),
+        Cell::Nothing => row.push_field(b""),
+    }
+}
+
+/// Makes a record of cells. The error is that memory ran out.
+fn fill_record(row: &mut ByteRecord, cells: &[Cell]) -> Result<(), AllocError>
+    ensures { OnOk result (fields_of row.new ≡ map cell_text cells.now) }
+{
+    row.clear();
+    for cell in cells {
+        push_cell(row, *cell)?;
+    }
+    Ok(())
+}
+
+/// Makes a record of the names of the columns. The error is that memory ran out.
+fn fill_header(row: &mut ByteRecord, rows: Rows) -> Result<(), AllocError>
+    ensures { OnOk result (fields_of row.new ≡ columns rows) }
+{
+    row.clear();
+    for name in columns(rows) {
+        row.push_field(name.as_bytes())?;
+    }
+    Ok(())
+}
+
+/// Writes a record.
+fn write_record<W: Write + Drop>(writer: &mut Writer<W>, row: &ByteRecord) -> Result<(), RowsFault>
+    requires { IsBetween writer.old }
+    ensures text { OnOk result (Appends (text_written W.contents writer.old) (text_written W.contents writer.new)
+        (row_text csv_writer (fields_of row.now))) }
+    ensures between { OnOk result (IsBetween writer.new) }
+{
+    Ok(writer.write_byte_record(row)?)
+}
+
+impl<W: Write + Drop> CsvRows<W> {
+    /// Begins with the names of the columns.
+    pub(crate) fn start(alloc: Global, rows: Rows, out: W) -> Result<CsvRows<W>, RowsFault>
+        ensures text { IfOk result (λ it. Appends (W.contents out) (text_written W.contents it.writer) (header_bytes rows format.Csv)) }
+        ensures ready { IfOk result (λ it. IsBetween it.writer) }
+    {
+        let mut writer = WriterBuilder::new()
+            .terminator(Terminator::CRLF)
+            .from_writer(out);
+        let mut row = ByteRecord::new(alloc);
+        fill_header(&mut row, rows)?;
+        write_record(&mut writer, &row)?;
+        Ok(CsvRows { writer, row })
+    }
+
+    /// Writes what isn't written yet, and returns the writer.
+    pub(crate) fn finish(self) -> Result<W, RowsFault>
+        ensures { IfOk result (λ out. Keeps (text_written W.contents self.writer) (W.contents out)) }
+    {
+        match self.writer.into_inner() {
+            Ok(out) => Ok(out),
+            Err(failed) => Err(RowsFault::from(failed.into_error())),
+        }
+    }
+}
+
+impl<W: Write + Drop> RowTaker for CsvRows<W> {
+    ghost use Rattle.day_export.specs.declared.cells.Format.TheVariants as format;
+
+    ghost format = { format.Csv };
+
+    ghost taken = { λ it. text_written W.contents it.writer };
+
+    ghost is_ready = { λ it. IsBetween it.writer };
+
+    fn take_row(&mut self, _rows: Rows, cells: &[Cell]) -> Result<(), RowsFault> {
+        fill_record(&mut self.row, cells)?;
+        write_record(&mut self.writer, &self.row)
+    }
+}

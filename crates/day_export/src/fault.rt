@@ -1,0 +1,50 @@
+//! The error of writing rows.
+
+use std::alloc::AllocError;
+use std::io;
+
+/// Why not all rows were written.
+#[derive(Clone, Copy, Drop)]
+pub enum RowsFault {
+    OutOfMemory,
+    /// The writer failed.
+    Io(io::Error),
+}
+
+impl From<AllocError> for RowsFault {
+    ghost use Rattle.std.specs.Prelude.{◌≡◌};
+    ghost use Rattle.day_export.specs.declared.fault.RowsFault.TheVariants as fault;
+
+    ghost from_gives = { λ _ f. f ≡ fault.OutOfMemory };
+
+    fn from(_refused: AllocError) -> Self {
+        RowsFault::OutOfMemory
+    }
+}
+
+impl From<io::Error> for RowsFault {
+    ghost use Rattle.std.specs.Prelude.{◌≡◌};
+    ghost use Rattle.day_export.specs.declared.fault.RowsFault.TheVariants as fault;
+
+    ghost from_gives = { λ error f. f ≡ fault.Io error };
+
+    fn from(error: io::Error) -> Self {
+        RowsFault::Io(error)
+    }
+}
+
+impl From<csv::Error> for RowsFault {
+    ghost use Rattle.std.specs.Prelude.{◌≡◌};
+    ghost use Rattle.csv.specs.Reading.{error_kind};
+    ghost use Rattle.day_export.specs.Fault.{fault_of};
+
+    ghost from_gives = { λ error f. f ≡ fault_of (error_kind error) };
+
+    fn from(error: csv::Error) -> Self {
+        match error.into_kind() {
+            csv::ErrorKind::Io(error) => RowsFault::Io(error),
+            // A writer has no other error here, since all rows are as long as their header.
+            _ => RowsFault::OutOfMemory,
+        }
+    }
+}

@@ -1,0 +1,20 @@
+//! The rows of a day for other programs: its sales, its decisions and all its entries, as CSV or as lines of JSON.
+#![tactic(auto)]
+
+mod acts;
+mod cells;
+mod csv_rows;
+mod fault;
+mod json_rows;
+mod laws;
+mod replies;
+mod rows;
+mod runs;
+mod standing;
+mod taking;
+mod writing;
+
+pub use cells::{Format, Rows};
+pub use fault::RowsFault;
+pub use laws::{law_of_contexts, law_of_rows, law_of_sites};
+pub use writing::write_rows;

@@ -1,0 +1,139 @@
+//! The rows of a day.
+
+ghost use Rattle.std.specs.Prelude.{◌≡◌, Some};
+ghost use Rattle.day_export.specs.Rows.{answer_cell, decision_cells, decision_row, event_row, sale_cells, sale_row, told_of};
+ghost use Rattle.day_export.specs.Standing.{stand_of};
+
+use crate::acts::act_cells;
+use crate::cells::{Cell, Word, moment_cell, number};
+use crate::replies::reply_cells;
+use crate::runs::{field_cell, run_cells};
+use crate::standing::{Ended, Standing, ended_as, number_cleared};
+use day_report::{Sale, decision_of, sale_of};
+use decision_journal::Entry;
+
+/// Returns the row of a sale that cleared this transaction. `ended` is its delivery, if the day has the entry that ended
+/// it.
+fn sale_cells(sale: &Sale, transaction: u32, ended: Option<Ended>) -> [Cell; 10]
+    ensures { result ≡ sale_cells sale.now transaction ended }
+{
+    let (ended, product, price) = match ended {
+        None => (Cell::Nothing, Cell::Nothing, Cell::Nothing),
+        Some(ended) => (
+            number(ended.number),
+            number(ended.product),
+            Cell::Number(ended.price),
+        ),
+    };
+    [
+        ended,
+        number(sale.number),
+        number(sale.point),
+        number(transaction),
+        product,
+        price,
+        Cell::Number(sale.volume),
+        Cell::Number(sale.amount),
+        number(sale.till),
+        moment_cell(sale.moment),
+    ]
+}
+
+/// Returns the row of the sale that an entry makes, if it makes one.
+#[tactic(auto, unfolding(crate::specs::Rows::sale_row))]
+pub(crate) fn sale_row(standing: &Standing, entry: &Entry) -> Option<[Cell; 10]>
+    ensures { result ≡ sale_row (stand_of standing.now) entry.now }
+{
+    let sale = sale_of(&standing.points, entry)?;
+    let transaction = number_cleared(&entry.act);
+    let ended = ended_as(&standing.unpaid, sale.point, transaction);
+    Some(sale_cells(&sale, transaction, ended))
+}
+
+/// Returns the answer of a rule.
+fn answer_cell(is_granted: bool) -> Cell
+    ensures { result ≡ answer_cell is_granted }
+{
+    if is_granted {
+        Cell::Word(Word::Granted)
+    } else {
+        Cell::Word(Word::Denied)
+    }
+}
+
+/// Returns the row of a decision. The context's fields have the offsets and the sizes that rules read them by.
+fn decision_cells(entry: &Entry, is_granted: bool) -> [Cell; 26]
+    ensures { result ≡ decision_cells entry.now is_granted }
+{
+    let act = act_cells(&entry.act);
+    let run = run_cells(&entry.run);
+    [
+        number(entry.number),
+        moment_cell(entry.moment),
+        act.till,
+        act.point,
+        act.verb,
+        act.amount,
+        run.slot,
+        run.version,
+        run.r0,
+        answer_cell(is_granted),
+        reply_cells(entry.reply).granted,
+        field_cell(&entry.run, 0, 4),
+        field_cell(&entry.run, 4, 4),
+        field_cell(&entry.run, 8, 4),
+        field_cell(&entry.run, 12, 4),
+        field_cell(&entry.run, 16, 4),
+        field_cell(&entry.run, 20, 4),
+        field_cell(&entry.run, 24, 8),
+        field_cell(&entry.run, 32, 8),
+        field_cell(&entry.run, 40, 4),
+        field_cell(&entry.run, 44, 4),
+        field_cell(&entry.run, 48, 4),
+        field_cell(&entry.run, 52, 4),
+        field_cell(&entry.run, 56, 8),
+        field_cell(&entry.run, 64, 8),
+        field_cell(&entry.run, 72, 4),
+    ]
+}
+
+/// Returns the row of an entry's decision, if a rule decided.
+#[tactic(auto, unfolding(crate::specs::Rows::decision_row))]
+pub(crate) fn decision_row(entry: &Entry) -> Option<[Cell; 26]>
+    ensures { result ≡ decision_row entry.now }
+{
+    let decision = decision_of(entry)?;
+    Some(decision_cells(entry, decision.is_granted))
+}
+
+/// Returns the row of an entry.
+#[tactic(auto, unfolding(crate::specs::Rows::event_row))]
+pub(crate) fn event_row(entry: &Entry) -> [Cell; 21]
+    ensures { result ≡ event_row entry.now }
+{
+    let act = act_cells(&entry.act);
+    let reply = reply_cells(entry.reply);
+    [
+        number(entry.number),
+        number(entry.pass),
+        moment_cell(entry.moment),
+        act.sender,
+        act.till,
+        act.point,
+        act.verb,
+        act.product,
+        act.nozzle,
+        act.transaction,
+        act.amount,
+        act.volume,
+        act.slot,
+        act.mask,
+        act.layout,
+        reply.reply,
+        reply.granted,
+        reply.version,
+        reply.order,
+        reply.refusal,
+        reply.detail,
+    ]
+}

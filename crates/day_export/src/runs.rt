@@ -1,0 +1,62 @@
+//! The cells of the run of a rule.
+
+ghost use Rattle.std.specs.Prelude.{◌≡◌, ◌≤◌, ◌+◌};
+ghost use Rattle.day_export.specs.Acts.{field_cell, number_at, run_cells};
+
+use crate::cells::{Cell, number};
+use byteorder::{ByteOrder, LittleEndian};
+use decision_journal::Run;
+
+/// The slot, the version and the answer of a run.
+#[derive(Clone, Copy, Drop)]
+pub(crate) struct RunCells {
+    pub(crate) slot: Cell,
+    pub(crate) version: Cell,
+    pub(crate) r0: Cell,
+}
+
+/// Returns the slot, the version and the answer of a run, if there is one.
+pub(crate) fn run_cells(run: &Option<Run>) -> RunCells
+    ensures { result ≡ run_cells run.now }
+{
+    match run {
+        None => RunCells {
+            slot: Cell::Nothing,
+            version: Cell::Nothing,
+            r0: Cell::Nothing,
+        },
+        Some(run) => RunCells {
+            slot: number(run.slot),
+            version: number(run.version),
+            r0: Cell::Number(run.r0),
+        },
+    }
+}
+
+/// Returns the number in `size` bytes at an offset, the least significant byte first, or nothing where the bytes end
+/// before.
+fn number_at(bytes: &[u8], offset: usize, size: usize) -> Cell
+    requires some { 1 ≤ size }
+    requires few { size ≤ 8 }
+    requires near { offset ≤ 80 }
+    ensures { result ≡ number_at bytes.now offset size }
+{
+    if offset + size <= bytes.len() {
+        Cell::Number(LittleEndian::read_uint(&bytes[offset..], size))
+    } else {
+        Cell::Nothing
+    }
+}
+
+/// Returns a field of the context of a run, if there is one. `offset` and `size` are the field's, in bytes.
+pub(crate) fn field_cell(run: &Option<Run>, offset: usize, size: usize) -> Cell
+    requires some { 1 ≤ size }
+    requires few { size ≤ 8 }
+    requires near { offset ≤ 80 }
+    ensures { result ≡ field_cell run.now offset size }
+{
+    match run {
+        None => Cell::Nothing,
+        Some(run) => number_at(run.context.bytes(), offset, size),
+    }
+}

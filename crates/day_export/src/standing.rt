@@ -1,0 +1,246 @@
+//! The state of a day between two entries: the points, the prices, and the deliveries that aren't paid yet.
+
+ghost use Rattle.std.specs.Prelude.{◌≡◌, ◌<◌, ◌≤◌, ◌+◌, ◌++◌, ℕ, All, IfOk, OnOk, length, option_to_list};
+ghost use Rattle.fuelling_point.specs.Table.{PointState};
+ghost use Rattle.site_core.specs.State.{at_number};
+ghost use Rattle.site_core.specs.declared.site.TheConstants.{ENTRIES};
+ghost use Rattle.day_report.specs.Walk.{with_entry};
+ghost use Rattle.day_report.specs.Following.{Follows};
+ghost use Rattle.day_export.specs.Standing.{became, ended_as, ended_at, ended_by, number_cleared, point_asked, point_named};
+ghost use Rattle.day_export.specs.Standing.{price_of, prices_after, stand_before, uncleared, with_price, without};
+ghost use Rattle.day_export.specs.Standing.{Moves, stand_of};
+
+use day_report::{Sale, closed_points, follow, sale_of};
+use decision_journal::Entry;
+use fuelling_point::Point;
+use site_core::Config;
+use std::alloc::{AllocError, Global};
+use till_request::{Act, Reply, Request};
+
+/// A delivery that ended: its point, the number of the transaction that it became, the number of the entry that ended
+/// it, its product (1 to 8), and the price of that in thousandths.
+#[derive(Clone, Copy, Drop)]
+pub(crate) struct Ended {
+    pub(crate) point: u32,
+    pub(crate) transaction: u32,
+    pub(crate) number: u32,
+    pub(crate) product: u32,
+    pub(crate) price: u64,
+}
+
+/// The state of a day between two entries: the points, the prices of the products in thousandths, and the deliveries
+/// that ended and weren't cleared, oldest first.
+#[derive(Drop)]
+pub(crate) struct Standing {
+    pub(crate) points: Vec<Point>,
+    pub(crate) prices: Vec<u64>,
+    pub(crate) unpaid: Vec<Ended>,
+}
+
+/// Returns the price of a product, or 0 if it has none.
+fn price_of(prices: &[u64], product: u32) -> u64
+    ensures { result ≡ price_of prices.now product }
+{
+    if product == 0 || product as usize > prices.len() {
+        return 0;
+    }
+    prices[product as usize - 1]
+}
+
+/// Changes the price of a product, if there is such a product.
+fn set_price(prices: &mut [u64], product: u32, price: u64)
+    ensures { prices.new ≡ with_price prices.old product price }
+{
+    if product >= 1 && product as usize <= prices.len() {
+        prices[product as usize - 1] = price;
+    }
+}
+
+/// Changes the price that an act with this reply changed, if it changed one.
+fn change_price(prices: &mut [u64], act: &Act, reply: Reply)
+    ensures { prices.new ≡ prices_after prices.old act.now reply }
+{
+    if let Act::Till {
+        request: Request::Price(product, _),
+        ..
+    } = act
+    {
+        if let Reply::Granted(granted, _) = reply {
+            set_price(prices, *product, granted);
+        }
+    }
+}
+
+/// Returns the number of the point that a request names, or 0 if it names none.
+fn point_asked(request: Request) -> u32
+    ensures { result ≡ point_asked request }
+{
+    match request {
+        Request::Release(n, _) | Request::Preset(n, _) => n,
+        Request::Price(_, _) => 0,
+        Request::OpenPoint(n) | Request::ClosePoint(n) => n,
+        Request::Suspend(n) | Request::Resume(n) | Request::Stop(n) => n,
+        Request::Lock(n, _) | Request::Unlock(n, _) | Request::Clear(n, _) => n,
+        Request::Show(n) => n,
+    }
+}
+
+/// Returns the number of the point that an act names, or 0 if it names none.
+fn point_named(act: &Act) -> u32
+    ensures { result ≡ point_named act.now }
+{
+    match act {
+        Act::Till { request, .. } => point_asked(*request),
+        Act::Dispenser { point, .. } => *point,
+        Act::Load { .. } => 0,
+    }
+}
+
+/// Returns point `n`, if there is one.
+fn point_at(points: &[Point], n: u32) -> Option<Point>
+    ensures { result ≡ at_number points.now n }
+{
+    if n == 0 || n as usize > points.len() {
+        return None;
+    }
+    Some(points[n as usize - 1])
+}
+
+/// Returns the delivery that ended at point `n` with entry `number`, if one ended. `before` and `after` are the point
+/// before the entry and after it.
+fn ended_at(prices: &[u64], number: u32, n: u32, before: &Point, after: &Point) -> Option<Ended>
+    requires { before.now.last < ENTRIES }
+    ensures { result ≡ ended_at prices.now number n before.now after.now }
+{
+    if after.last() != before.last() + 1 {
+        return None;
+    }
+    Some(Ended {
+        point: n,
+        transaction: after.last(),
+        number,
+        product: before.nozzle(),
+        price: price_of(prices, before.nozzle()),
+    })
+}
+
+/// Changes the points as an entry changed them, and returns the delivery that it ended, if it ended one. The prices are
+/// those before the entry.
+#[tactic(auto, unfolding(crate::specs::Standing::ended_by))]
+fn follow_points(points: &mut [Point], prices: &[u64], entry: &Entry) -> Option<Ended>
+    requires { All (λ (p : PointState). p.last < ENTRIES) points.old }
+    ensures follows { Follows points.old (with_entry points.old entry.now) points.new }
+    ensures ended { result ≡ ended_by points.old prices.now entry.now }
+{
+    let n = point_named(&entry.act);
+    let before = point_at(points, n);
+    follow(points, entry);
+    match (before, point_at(points, n)) {
+        (Some(before), Some(after)) => ended_at(prices, entry.number, n, &before, &after),
+        _ => None,
+    }
+}
+
+/// Returns the transaction that an act clears if it clears one, or else 0.
+pub(crate) fn number_cleared(act: &Act) -> u32
+    ensures { result ≡ number_cleared act.now }
+{
+    match act {
+        Act::Till {
+            request: Request::Clear(_, transaction),
+            ..
+        } => *transaction,
+        _ => 0,
+    }
+}
+
+/// Returns whether the delivery became this transaction of point `n`.
+fn became(n: u32, transaction: u32, ended: &Ended) -> bool
+    ensures { result ≡ became n transaction ended.now }
+{
+    ended.point == n && ended.transaction == transaction
+}
+
+/// Returns the delivery that became this transaction of point `n`, if it is among these.
+pub(crate) fn ended_as(unpaid: &[Ended], n: u32, transaction: u32) -> Option<Ended>
+    ensures { result ≡ ended_as unpaid.now n transaction }
+{
+    unpaid
+        .iter()
+        .copied()
+        .find(|ended| became(n, transaction, ended))
+}
+
+/// Returns the deliveries without the one that became this transaction of point `n`. The error is that memory ran out.
+fn without(
+    alloc: Global,
+    unpaid: &[Ended],
+    n: u32,
+    transaction: u32,
+) -> Result<Vec<Ended>, AllocError>
+    ensures { IfOk result (λ left. left.items ≡ without unpaid.now n transaction) }
+{
+    unpaid
+        .iter()
+        .copied()
+        .filter(|ended| !became(n, transaction, ended))
+        .collect(alloc)
+}
+
+/// Takes the delivery out of the unpaid ones that an act cleared, if it made a sale. The error is that memory ran out.
+fn clear_paid(
+    alloc: Global,
+    unpaid: &mut Vec<Ended>,
+    sale: Option<Sale>,
+    act: &Act,
+) -> Result<(), AllocError>
+    ensures { OnOk result (unpaid.new.items ≡ uncleared unpaid.old.items sale act.now) }
+{
+    if let Some(sale) = sale {
+        *unpaid = without(alloc, unpaid, sale.point, number_cleared(act))?;
+    }
+    Ok(())
+}
+
+/// Adds a delivery to the unpaid ones, if there is one. The error is that memory ran out.
+fn add_ended(unpaid: &mut Vec<Ended>, ended: Option<Ended>) -> Result<(), AllocError>
+    ensures { OnOk result (unpaid.new.items ≡ unpaid.old.items ++ option_to_list ended) }
+{
+    if let Some(ended) = ended {
+        unpaid.push(ended)?;
+    }
+    Ok(())
+}
+
+impl Standing {
+    /// Returns the state at the start of a day. The error is that memory ran out.
+    pub(crate) fn start(alloc: Global, config: &Config) -> Result<Standing, AllocError>
+        ensures { IfOk result (λ standing. stand_of standing ≡ stand_before config.now) }
+    {
+        let points = closed_points(alloc, config.points().len())?;
+        let prices = config
+            .prices()
+            .iter()
+            .map(|price| u64::from(*price))
+            .collect(alloc)?;
+        Ok(Standing {
+            points,
+            prices,
+            unpaid: Vec::new(alloc),
+        })
+    }
+
+    /// Changes the state as an entry changed it. The error is that memory ran out.
+    #[tactic(auto, unfolding(crate::specs::Standing::stand_after))]
+    pub(crate) fn follow(&mut self, alloc: Global, entry: &Entry) -> Result<(), AllocError>
+        requires { All (λ (p : PointState). p.last < ENTRIES) self.old.points.items }
+        ensures { OnOk result (Moves self.old entry.now self.new) }
+    {
+        let sale = sale_of(&self.points, entry);
+        let ended = follow_points(&mut self.points, &self.prices, entry);
+        clear_paid(alloc, &mut self.unpaid, sale, &entry.act)?;
+        add_ended(&mut self.unpaid, ended)?;
+        change_price(&mut self.prices, &entry.act, entry.reply);
+        Ok(())
+    }
+}

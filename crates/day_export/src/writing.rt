@@ -1,0 +1,126 @@
+//! Writes the rows of a day.
+
+ghost use Rattle.std.specs.Prelude.{◌≡◌, ◌≤◌, IfOk, OnOk, length, map, option_to_list};
+ghost use Rattle.std.specs.List.{concat};
+ghost use Rattle.std.specs.Io.KnownBytes.{Appends};
+ghost use Rattle.site_core.specs.declared.site.TheConstants.{ENTRIES};
+ghost use Rattle.day_export.specs.Rows.{row_of, rows_of};
+ghost use Rattle.day_export.specs.Standing.{stand_of};
+ghost use Rattle.day_export.specs.Text.{row_bytes, rows_text};
+
+use crate::cells::{Cell, Format, Rows};
+use crate::csv_rows::CsvRows;
+use crate::fault::RowsFault;
+use crate::json_rows::JsonRows;
+use crate::rows::{decision_row, event_row, sale_row};
+use crate::standing::Standing;
+use crate::taking::RowTaker;
+use decision_journal::Entry;
+use site_core::{Config, Site};
+use std::alloc::Global;
+use std::io::Write;
+
+/// Writes a row, if there is one.
+fn put_some<T: RowTaker, const N: usize>(
+    to: &mut T,
+    rows: Rows,
+    row: Option<[Cell; N]>,
+) -> Result<(), RowsFault>
+    requires { T.is_ready to.old }
+    ensures text { OnOk result (Appends (T.taken to.old) (T.taken to.new) (concat (map (row_bytes rows T.format) (option_to_list row.entry)))) }
+    ensures ready { OnOk result (T.is_ready to.new) }
+{
+    match row {
+        None => Ok(()),
+        Some(cells) => to.take_row(rows, &cells),
+    }
+}
+
+/// Writes the row of an entry, if it has one. `standing` is the state before the entry.
+fn put_row<T: RowTaker>(
+    to: &mut T,
+    rows: Rows,
+    standing: &Standing,
+    entry: &Entry,
+) -> Result<(), RowsFault>
+    requires { T.is_ready to.old }
+    ensures text { OnOk result (Appends (T.taken to.old) (T.taken to.new)
+        (concat (map (row_bytes rows T.format) (option_to_list (row_of rows (stand_of standing.now) entry.now))))) }
+    ensures ready { OnOk result (T.is_ready to.new) }
+{
+    match rows {
+        Rows::Sales => put_some(to, rows, sale_row(standing, entry)),
+        Rows::Decisions => put_some(to, rows, decision_row(entry)),
+        Rows::Events => put_some(to, rows, Some(event_row(entry))),
+    }
+}
+
+/// Writes the rows of a history, one after another.
+fn put_rows<T: RowTaker>(
+    alloc: Global,
+    to: &mut T,
+    rows: Rows,
+    config: &Config,
+    entries: &[Entry],
+) -> Result<(), RowsFault>
+    requires ready { T.is_ready to.old }
+    requires few { length entries.now ≤ ENTRIES }
+    ensures text { OnOk result (Appends (T.taken to.old) (T.taken to.new)
+        (concat (map (row_bytes rows T.format) (rows_of rows config.now entries.now)))) }
+    ensures after { OnOk result (T.is_ready to.new) }
+{
+    let mut standing = Standing::start(alloc, config)?;
+    for entry in entries {
+        put_row(to, rows, &standing, entry)?;
+        standing.follow(alloc, entry)?;
+    }
+    Ok(())
+}
+
+/// Writes rows as CSV, and returns the writer.
+fn write_csv<W: Write + Drop>(
+    alloc: Global,
+    site: &Site,
+    rows: Rows,
+    out: W,
+) -> Result<W, RowsFault>
+    ensures { IfOk result (λ after. Appends (W.contents out) (W.contents after)
+        (rows_text rows Format.Csv site.now.config site.now.history)) }
+{
+    let mut to = CsvRows::start(alloc, rows, out)?;
+    put_rows(alloc, &mut to, rows, site.config(), site.history())?;
+    to.finish()
+}
+
+/// Writes rows as lines of JSON, and returns the writer.
+fn write_json<W: Write + Drop>(
+    alloc: Global,
+    site: &Site,
+    rows: Rows,
+    out: W,
+) -> Result<W, RowsFault>
+    ensures { IfOk result (λ after. Appends (W.contents out) (W.contents after)
+        (rows_text rows Format.Json site.now.config site.now.history)) }
+{
+    let mut to = JsonRows { alloc, out };
+    put_rows(alloc, &mut to, rows, site.config(), site.history())?;
+    Ok(to.out)
+}
+
+/// Writes the rows of a site's history, one after another, and returns the writer. No row is kept. The error is that
+/// memory ran out, or the writer's own error; some of the rows may be written then.
+pub fn write_rows<W: Write + Drop>(
+    alloc: Global,
+    site: &Site,
+    rows: Rows,
+    format: Format,
+    out: W,
+) -> Result<W, RowsFault>
+    ensures { IfOk result (λ after. Appends (W.contents out) (W.contents after)
+        (rows_text rows format site.now.config site.now.history)) }
+{
+    match format {
+        Format::Csv => write_csv(alloc, site, rows, out),
+        Format::Json => write_json(alloc, site, rows, out),
+    }
+}
