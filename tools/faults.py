@@ -374,7 +374,7 @@ class Served(Call):
 
 
 def calls_of_files(shim):
-    """Plays, audits, pages and what is said of one file, each accepted and refused; their files are made here."""
+    """Plays, audits, pages, rows and what is said of one file, each accepted and refused; their files are made here."""
     def put(name, text):
         write(os.path.join(shim.folder, name), text)
 
@@ -405,6 +405,11 @@ def calls_of_files(shim):
     yield Call("audit of standard input", "audit", "site.toml", "-", stdin=journal)
     yield Call("report", "report", "site.toml", "day.journal")
     yield Call("report of another reply", "report", "site.toml", "told.journal")
+    yield Call("export of sales", "export", "sales", "site.toml", "day.journal")
+    yield Call("export of decisions in JSON", "export", "--json", "decisions", "site.toml", "day.journal")
+    yield Call("export of entries from standard input", "export", "events", "site.toml", "-", stdin=journal)
+    yield Call("export of another reply", "export", "sales", "site.toml", "told.journal")
+    yield Call("export of no rows", "export", "prices", "site.toml", "day.journal")
     yield Call("asm", "asm", "rule.bpf")
     yield Call("asm of no form", "asm", "form.bpf")
     yield Call("asm of no label", "asm", "label.bpf")

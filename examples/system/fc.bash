@@ -2,9 +2,10 @@
 # In bash fc is a command of the shell's own too. These words are completed where the program is called by its path, as
 # /usr/local/bin/fc, and behind `enable -n fc`.
 
-# Sets `takes` to the number of files that a command takes, and `options` to its own options.
+# Sets `takes` to the number of words that a command takes, `options` to its own options, and `kinds` to the words of
+# which the first has to be one; all others are files.
 _fc_command() {
-    takes=0 options=''
+    takes=0 kinds='' options=''
     case $1 in
         asm) takes=1 ;;
         dis) takes=1 options='--units' ;;
@@ -12,6 +13,7 @@ _fc_command() {
         play) takes=2 ;;
         audit) takes=2 ;;
         report) takes=2 ;;
+        export) takes=3 kinds='sales decisions events' options='--json' ;;
         serve) takes=1 options='--journal --sync' ;;
     esac
 }
@@ -32,7 +34,8 @@ _fc_value() {
 }
 
 _fc() {
-    local commands='asm dis verify play audit report serve help' takes options word before name='' files=0 at
+    local commands='asm dis verify play audit report export serve help' takes kinds options
+    local word before name='' files=0 at
     COMPREPLY=()
     word=${COMP_WORDS[COMP_CWORD]}
     before=${COMP_WORDS[COMP_CWORD - 1]}
@@ -57,7 +60,7 @@ _fc() {
             ;;
     esac
 
-    # The files that stand before this word, and the options that don't.
+    # The files that stand before this word, with a kind, and the options that don't.
     _fc_command "$name"
     for ((at = 2; at < COMP_CWORD; at++)); do
         case ${COMP_WORDS[at]} in
@@ -72,7 +75,13 @@ _fc() {
     done
     case $word in
         -*) _fc_words "$options -h --help" "$word" ;;
-        *) [ "$files" -ge "$takes" ] || _fc_files "$word" ;;
+        *)
+            if [ -n "$kinds" ] && [ "$files" = 0 ]; then
+                _fc_words "$kinds" "$word"
+            elif [ "$files" -lt "$takes" ]; then
+                _fc_files "$word"
+            fi
+            ;;
     esac
 }
 complete -F _fc fc

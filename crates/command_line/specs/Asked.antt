@@ -12,6 +12,10 @@ use Rattle.clap.specs.declared.error.kind.ErrorKind.TheVariants as kind
 use Rattle.clap.specs.declared.builder.value_parser.ValueParser.TheVariants as parser
 use Rattle.bpf_model.specs.declared.context.Layout.{Layout}
 use Rattle.bpf_model.specs.declared.context.Layout.TheVariants as layouts
+use Rattle.command_line.specs.declared.job.Rows.{Rows}
+use Rattle.command_line.specs.declared.job.Rows.TheVariants as kinds
+use Rattle.command_line.specs.declared.job.Format.{Format}
+use Rattle.command_line.specs.declared.job.Format.TheVariants as formats
 use Rattle.command_line.specs.declared.job.Job.{Job}
 use Rattle.command_line.specs.declared.job.Job.TheVariants as job
 use Rattle.command_line.specs.declared.job.CommandFault.{CommandFault}
@@ -22,6 +26,10 @@ use Rattle.command_line.specs.declared.job.CommandFault.TheVariants as refusal
 -- a file that is wanted
 abbrev pub file_rule : Text → Rule
 file_rule name = record (new_rule name) { required = true }
+
+-- KIND, a word that says which rows are wanted
+abbrev pub kind_rule : Rule
+kind_rule = record (new_rule (codes "kind")) { required = true }
 
 -- --counters MASK, a number from 0 to 2^32 - 1, which is 0 if the option isn't given
 abbrev pub mask_rule : Rule
@@ -70,6 +78,11 @@ audit_app = of_files (codes "audit") (codes "config") (codes "journal")
 abbrev pub report_app : App
 report_app = of_files (codes "report") (codes "config") (codes "journal")
 
+abbrev pub export_app : App
+export_app =
+    with_rule (with_rule (with_rule (with_rule (new_app (codes "export")) kind_rule) (file_rule (codes "config"))) (file_rule (codes "journal")))
+    (flag_rule (codes "json"))
+
 abbrev pub serve_app : App
 serve_app = with_rule (with_rule (of_file (codes "serve") (codes "config")) journal_rule) (flag_rule (codes "sync"))
 
@@ -77,11 +90,11 @@ abbrev pub top_app : App
 top_app = record (new_app (codes "fc")) { top = record (new_app (codes "fc")).top { has_version = true } }
 
 -- asm FILE, dis [--units] FILE, verify [--counters MASK] [--context LAYOUT] FILE, play CONFIG SCRIPT,
--- audit CONFIG JOURNAL, report CONFIG JOURNAL, serve [--journal FILE [--sync]] CONFIG
+-- audit CONFIG JOURNAL, report CONFIG JOURNAL, export [--json] KIND CONFIG JOURNAL, serve [--journal FILE [--sync]] CONFIG
 abbrev pub fc_app : App
 fc_app =
-    with_subcommand (with_subcommand (with_subcommand (with_subcommand (with_subcommand (with_subcommand (with_subcommand top_app
-    asm_app.top) dis_app.top) verify_app.top) play_app.top) audit_app.top) report_app.top) serve_app.top
+    with_subcommand (with_subcommand (with_subcommand (with_subcommand (with_subcommand (with_subcommand (with_subcommand (with_subcommand top_app
+    asm_app.top) dis_app.top) verify_app.top) play_app.top) audit_app.top) report_app.top) export_app.top) serve_app.top
 
 -- ---- what they ask for
 
@@ -94,6 +107,7 @@ pub data Asked : Type 0 where
   play : Text → Text → Asked
   audit : Text → Text → Asked
   report : Text → Text → Asked
+  export : Rows → Format → Text → Text → Asked
   serve : Text → Asked
   serve_kept : Text → Text → Asked
   serve_synced : Text → Text → Asked
@@ -129,6 +143,25 @@ verify_in rows =
     option_and_then (λ (n : ℕ). option_and_then (λ (layout : Layout). option_map (verify n layout) (first_of (codes "file") rows))
     (layout_in rows)) (mask_in rows)
 
+-- the rows that a text names
+abbrev pub rows_named : Text → Option Rows
+rows_named t =
+    if bytes_eq t (codes "sales") then Some kinds.Sales
+    else if bytes_eq t (codes "decisions") then Some kinds.Decisions
+    else if bytes_eq t (codes "events") then Some kinds.Events
+    else None
+
+abbrev pub kind_in : List Row → Option Rows
+kind_in rows = option_and_then rows_named (first_of (codes "kind") rows)
+
+-- lines of JSON where --json is given, and else CSV
+abbrev pub format_in : List Row → Format
+format_in rows = if is_set (codes "json") rows then formats.Json else formats.Csv
+
+abbrev pub export_in : List Row → Option Asked
+export_in rows =
+    option_and_then (λ (kind : Rows). files_in (codes "config") (codes "journal") (export kind (format_in rows)) rows) (kind_in rows)
+
 -- a site to serve, and the file that keeps its journal where one is named; what isn't kept can't be synced
 abbrev pub serve_by : Bool → Option Text → Text → Option Asked
 serve_by false None config = Some (serve config)
@@ -149,6 +182,7 @@ asked_by name rows =
     else if bytes_eq name (codes "play") then files_in (codes "config") (codes "script") play rows
     else if bytes_eq name (codes "audit") then files_in (codes "config") (codes "journal") audit rows
     else if bytes_eq name (codes "report") then files_in (codes "config") (codes "journal") report rows
+    else if bytes_eq name (codes "export") then export_in rows
     else if bytes_eq name (codes "serve") then serve_in rows
     else None
 
@@ -166,6 +200,7 @@ asked (job.Verify counters context file) = Some (verify counters context (string
 asked (job.Play config script) = Some (play (string_bytes config) (string_bytes script))
 asked (job.Audit config journal) = Some (audit (string_bytes config) (string_bytes journal))
 asked (job.Report config journal) = Some (report (string_bytes config) (string_bytes journal))
+asked (job.Export rows format config journal) = Some (export rows format (string_bytes config) (string_bytes journal))
 asked (job.Serve config) = Some (serve (string_bytes config))
 asked (job.ServeKept config journal) = Some (serve_kept (string_bytes config) (string_bytes journal))
 asked (job.ServeSynced config journal) = Some (serve_synced (string_bytes config) (string_bytes journal))
@@ -181,7 +216,7 @@ IsShown k = (k ≡ kind.DisplayHelp) ⊎ (k ≡ kind.DisplayVersion)
 abbrev pub MayShow : Kinds → Type 0
 MayShow kinds = (k : ErrorKind) × IsAmong k kinds × IsShown k
 
--- something else is, which isn't out of memory
+-- Among what `clap` may answer is an error other than help, the version and out of memory.
 abbrev pub MayRefuse : Kinds → Type 0
 MayRefuse kinds = (k : ErrorKind) × IsAmong k kinds × ¬ IsShown k × (k ≢ kind.OutOfMemory)
 
@@ -203,6 +238,7 @@ further = codes "For more information, try '--help'." ++ 10 ∷ []
 abbrev pub unasked_by : Text → Text
 unasked_by name =
     if bytes_eq name (codes "serve") then codes "error: --sync wants --journal FILE" ++ 10 ∷ 10 ∷ further
+    else if bytes_eq name (codes "export") then codes "error: export takes sales, decisions or events" ++ 10 ∷ 10 ∷ further
     else codes "error: --context takes 1 or 2" ++ 10 ∷ 10 ∷ further
 
 abbrev pub unasked_text : Option (Text × List Row) → Text

@@ -2,7 +2,8 @@
 ghost use Rattle.std.specs.Prelude.{◌≡◌, false, IfOk, codes};
 ghost use Rattle.clap.specs.Words.{app_of, new_app, rule_of, with_subcommand};
 ghost use Rattle.clap.specs.declared.builder.command.Command.TheViews.{out-Command};
-ghost use Rattle.command_line.specs.Asked.{context_rule, file_rule, flag_rule, journal_rule, mask_rule};
+ghost use Rattle.command_line.specs.Asked.{context_rule, file_rule, flag_rule, journal_rule, kind_rule};
+ghost use Rattle.command_line.specs.Asked.{mask_rule};
 ghost use Rattle.command_line.specs.Asked.{fc_app, top_app};
 ghost use Rattle.command_line.specs.Described.{app_for, option_rule, rule_for, with_words};
 
@@ -14,6 +15,8 @@ use std::alloc::{AllocError, Global};
 enum Argument {
     /// A file that must be given: its name, and its help text.
     File(&'static str, &'static str),
+    /// The word that says which rows are wanted.
+    Kind,
     /// The option `--counters MASK`.
     Mask,
     /// The option `--context LAYOUT`.
@@ -39,6 +42,14 @@ fn file_arg<'a>(alloc: Global, name: &'a str, help: &'a str) -> Arg<'a>
     ensures local { result.global ≡ false }
 {
     Arg::new(alloc, name).help(help).required(true)
+}
+
+/// Makes the argument for the word that says which rows are wanted.
+fn kind_arg<'a>(alloc: Global) -> Arg<'a>
+    ensures rule { rule_of result ≡ kind_rule }
+    ensures local { result.global ≡ false }
+{
+    file_arg(alloc, "kind", "which rows: sales, decisions or events")
 }
 
 /// Makes an option `--NAME VALUE`.
@@ -100,7 +111,7 @@ const JOURNAL: &str = "what a play or a served site printed of its entries";
 
 const PROGRAM: &str = "the program's bytes, as hexadecimal digits";
 
-const WORDS: [Word; 7] = [
+const WORDS: [Word; 8] = [
     Word {
         name: "asm",
         about: "Prints the units of a rule",
@@ -154,6 +165,17 @@ const WORDS: [Word; 7] = [
         ],
     },
     Word {
+        name: "export",
+        about: "Prints rows of a journal for other programs, as CSV or as JSON",
+        example: "Examples: fc export sales site.toml day.journal, fc export --json events site.toml day.journal",
+        arguments: &[
+            Argument::Kind,
+            Argument::File("config", CONFIG),
+            Argument::File("journal", JOURNAL),
+            Argument::Flag("json", "print a line of JSON for each row, in place of CSV"),
+        ],
+    },
+    Word {
         name: "serve",
         about: "Serves a site at ports and local sockets, then prints its journal",
         example: "Examples: fc serve site.toml > day.journal, fc serve --journal day.journal site.toml",
@@ -185,6 +207,7 @@ fn argument_of<'a>(alloc: Global, argument: Argument) -> Arg<'a>
 {
     match argument {
         Argument::File(name, help) => file_arg(alloc, name, help),
+        Argument::Kind => kind_arg(alloc),
         Argument::Mask => mask_arg(alloc),
         Argument::Context => context_arg(alloc),
         Argument::Journal => journal_arg(alloc),

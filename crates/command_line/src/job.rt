@@ -4,6 +4,25 @@ ghost use Rattle.std.specs.Prelude.{◌≡◌};
 use bpf_model::context::Layout;
 use std::alloc::AllocError;
 
+/// The rows of a journal that `export` prints.
+#[derive(Clone, Copy, Drop)]
+pub enum Rows {
+    /// A row for each sale.
+    Sales,
+    /// A row for each decision of a rule.
+    Decisions,
+    /// A row for each entry.
+    Events,
+}
+
+/// The form in which `export` prints rows.
+#[derive(Clone, Copy, Drop)]
+pub enum Format {
+    Csv,
+    /// A line of JSON for each row.
+    Json,
+}
+
 /// The job that a command line asks for. Each `String` is the name of a file, as the command line has it, except the
 /// one of `Show`.
 #[derive(Drop)]
@@ -34,6 +53,13 @@ pub enum Job {
     },
     /// Audit a journal against a configuration, and print it as a page of pictures and tables.
     Report {
+        config: String,
+        journal: String,
+    },
+    /// Audit a journal against a configuration, and print rows of its day.
+    Export {
+        rows: Rows,
+        format: Format,
         config: String,
         journal: String,
     },

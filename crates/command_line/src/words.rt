@@ -3,11 +3,11 @@ ghost use Rattle.std.specs.Prelude.{◌≡◌, IsTrue, IsSome, None, false, [], 
 ghost use Rattle.std.specs.Prelude.{map, codes, option_map, string_bytes, ◌↔◌};
 ghost use Rattle.clap.specs.Words.{first_of, rows_of, found_of, subcommand_of, subcommand_rows_of, takes, fault_of};
 ghost use Rattle.command_line.specs.Asked.{fc_app, asked, asked_of, is_set, layout_in, layout_named, IsShown, MayShow};
-ghost use Rattle.command_line.specs.Asked.{RefusesBy, unasked_by, unasked_text};
+ghost use Rattle.command_line.specs.Asked.{RefusesBy, format_in, kind_in, rows_named, unasked_by, unasked_text};
 ghost use Rattle.command_line.specs.Refusing.{Finds, FindsFiles, FindsIn, ReadsMask, IsUnasked, IsRefusalOf};
 
 use crate::app::fc;
-use crate::job::{CommandFault, Job};
+use crate::job::{CommandFault, Format, Job, Rows};
 use bpf_model::context::Layout;
 use clap::ArgMatches;
 use clap::error::ErrorKind;
@@ -152,6 +152,61 @@ fn report_of(alloc: Global, matches: &ArgMatches) -> Result<Option<Job>, AllocEr
     }
 }
 
+/// Returns the rows that a text names: `sales`, `decisions` or `events`; `None` for any other text.
+fn rows_named(text: &str) -> Option<Rows>
+    ensures { result ≡ rows_named text.now }
+{
+    if text == "sales" {
+        Some(Rows::Sales)
+    } else if text == "decisions" {
+        Some(Rows::Decisions)
+    } else if text == "events" {
+        Some(Rows::Events)
+    } else {
+        None
+    }
+}
+
+/// Returns the rows that the argument `kind` names, if it names some.
+fn kind_asked(matches: &ArgMatches) -> Option<Rows>
+    ensures { result ≡ kind_in (rows_of (found_of matches.now)) }
+{
+    match matches.get_str("kind") {
+        Some(text) => rows_named(text),
+        None => None,
+    }
+}
+
+/// Returns the form of the rows: JSON if `--json` is given, else CSV.
+fn format_asked(matches: &ArgMatches) -> Format
+    ensures { result ≡ format_in (rows_of (found_of matches.now)) }
+{
+    if is_set(matches, "json") {
+        Format::Json
+    } else {
+        Format::Csv
+    }
+}
+
+/// Returns the job of `fc export`. There is none if its first word names no rows.
+fn export_of(alloc: Global, matches: &ArgMatches) -> Result<Option<Job>, AllocError>
+    ensures { IfOk result (Finds (codes "export") (rows_of (found_of matches.now))) }
+{
+    let Some(rows) = kind_asked(matches) else {
+        return Ok(None);
+    };
+    let format = format_asked(matches);
+    match files_of(alloc, matches, "config", "journal")? {
+        Some((config, journal)) => Ok(Some(Job::Export {
+            rows,
+            format,
+            config,
+            journal,
+        })),
+        None => Ok(None),
+    }
+}
+
 /// Returns the job of `fc serve`. There is none for `--sync` without `--journal`.
 fn serve_of(alloc: Global, matches: &ArgMatches) -> Result<Option<Job>, AllocError>
     ensures { IfOk result (Finds (codes "serve") (rows_of (found_of matches.now))) }
@@ -172,22 +227,16 @@ fn serve_of(alloc: Global, matches: &ArgMatches) -> Result<Option<Job>, AllocErr
 fn named_job(alloc: Global, name: &str, matches: &ArgMatches) -> Result<Option<Job>, AllocError>
     ensures { IfOk result (Finds name.now (rows_of (found_of matches.now))) }
 {
-    if name == "asm" {
-        asm_of(alloc, matches)
-    } else if name == "dis" {
-        dis_of(alloc, matches)
-    } else if name == "verify" {
-        verify_of(alloc, matches)
-    } else if name == "play" {
-        play_of(alloc, matches)
-    } else if name == "audit" {
-        audit_of(alloc, matches)
-    } else if name == "report" {
-        report_of(alloc, matches)
-    } else if name == "serve" {
-        serve_of(alloc, matches)
-    } else {
-        Ok(None)
+    match name {
+        "asm" => asm_of(alloc, matches),
+        "dis" => dis_of(alloc, matches),
+        "verify" => verify_of(alloc, matches),
+        "play" => play_of(alloc, matches),
+        "audit" => audit_of(alloc, matches),
+        "report" => report_of(alloc, matches),
+        "export" => export_of(alloc, matches),
+        "serve" => serve_of(alloc, matches),
+        _ => Ok(None),
     }
 }
 
@@ -207,6 +256,12 @@ const UNKEPT: &str = "error: --sync wants --journal FILE
 For more information, try '--help'.
 ";
 
+/// The message for a command line that `clap` accepts, but in which `export` is asked for rows that aren't there.
+const KINDS: &str = "error: export takes sales, decisions or events
+
+For more information, try '--help'.
+";
+
 /// The message for a command line that `clap` accepts, but whose `--context` is neither 1 nor 2.
 const LAYOUTS: &str = "error: --context takes 1 or 2
 
@@ -217,7 +272,13 @@ For more information, try '--help'.
 fn unasked_by(name: &str) -> &'static str
     ensures { result.now ≡ unasked_by name.now }
 {
-    if name == "serve" { UNKEPT } else { LAYOUTS }
+    if name == "serve" {
+        UNKEPT
+    } else if name == "export" {
+        KINDS
+    } else {
+        LAYOUTS
+    }
 }
 
 /// Returns the message for a command line that `clap` accepts, but that asks for no job.

@@ -1,12 +1,12 @@
 //! The doors of a served site: where its tills, its dispensers and the owner connect.
-use crate::sockets::{SocketFault, SocketFile, listen_at};
+use crate::sockets::{Beside, Listening, SocketFile, listen_at};
 use file_jobs::{FAILED, Place, Stop};
 use site_config::{Address, Door};
 use site_server::{Listener, OpenDoor};
 use std::alloc::AllocError;
 use std::fmt::{self, Display};
 use std::fs::Files;
-use std::io::ErrorKind;
+use std::io::{self, ErrorKind};
 use std::net::{Net, TcpListener, TcpStream};
 use till_request::Role;
 
@@ -44,11 +44,13 @@ fn write_points<W: fmt::Write>(f: &mut fmt::Formatter<W>, points: u32) -> fmt::R
     Ok(())
 }
 
-fn is_port(door: &Door) -> bool {
-    match door.address {
-        Address::Port(_) => true,
-        Address::Socket(_) => false,
+fn are_ports(doors: &[Door]) -> bool {
+    for door in doors {
+        if let Address::Socket(_) = door.address {
+            return false;
+        }
     }
+    true
 }
 
 /// Writes the address of a door: of a port the number alone where all doors are ports, since their list begins with
@@ -71,7 +73,7 @@ pub struct OpenDoors<'a>(pub &'a [Door]);
 
 impl Display for OpenDoors<'_> {
     fn fmt<W: fmt::Write>(&self, f: &mut fmt::Formatter<W>) -> fmt::Result {
-        let are_ports = self.0.iter().all(is_port);
+        let are_ports = are_ports(self.0);
         f.write_str(if are_ports {
             "serving on 127.0.0.1:"
         } else {
@@ -96,14 +98,19 @@ fn mode_of(role: Role) -> u32 {
 }
 
 /// Says why a socket can't be opened, with the configuration's file and the key that names the socket.
-fn refuse_socket(rt: &HostRuntime, word: &str, door: &Door, fault: SocketFault<'_>) -> Stop {
-    if let SocketFault::Failed(error) = fault {
-        if error.kind() == ErrorKind::OutOfMemory && error.raw_os_error().is_none() {
-            return Stop::Failed(error);
-        }
+fn refuse_socket(rt: &HostRuntime, word: &str, door: &Door, error: io::Error) -> Stop {
+    if error.kind() == ErrorKind::OutOfMemory && error.raw_os_error().is_none() {
+        return Stop::Failed(error);
     }
     let (place, key) = (Place::of(word), &door.place);
-    let _ = eprintln!(rt; "fc: {place}: {key}: {fault}");
+    let _ = eprintln!(rt; "fc: {place}: {key}: {error}");
+    Stop::Said(FAILED)
+}
+
+/// Says that something has the name of the folder beside a socket's path.
+fn refuse_folder(rt: &HostRuntime, word: &str, door: &Door, folder: Beside<'_>) -> Stop {
+    let (place, key) = (Place::of(word), &door.place);
+    let _ = eprintln!(rt; "fc: {place}: {key}: {folder} is in the way");
     Stop::Said(FAILED)
 }
 
@@ -123,11 +130,6 @@ fn open_port<H: Net<Listener = TcpListener, Stream = TcpStream>>(
 }
 
 impl<'a> Opened<'a> {
-    fn keep(&mut self, file: SocketFile<'a>) -> Result<(), AllocError> {
-        self.files.push(file)?;
-        Ok(())
-    }
-
     fn add(&mut self, door: &Door, listener: Listener) -> Result<(), AllocError> {
         self.doors.push(OpenDoor {
             role: door.role,
@@ -137,24 +139,42 @@ impl<'a> Opened<'a> {
         Ok(())
     }
 
+    fn add_socket(&mut self, door: &Door, listening: Listening<'a>) -> Result<(), AllocError> {
+        let (listener, file) = listening;
+        self.files.push(file)?;
+        self.add(door, Listener::Socket(listener))
+    }
+
     /// Opens a door, and keeps the file of a socket.
-    fn listen<H: Files + Net<Listener = TcpListener, Stream = TcpStream>>(
+    fn open<H: Files + Net<Listener = TcpListener, Stream = TcpStream>>(
         &mut self,
         rt: &'a HostRuntime,
         host: &H,
         word: &str,
-        door: &Door,
-    ) -> Result<Listener, Stop> {
+        door: &'a Door,
+    ) -> Result<(), Stop> {
         match &door.address {
-            Address::Port(port) => open_port(rt, host, *port),
+            Address::Port(port) => Ok(self.add(door, open_port(rt, host, *port)?)?),
             Address::Socket(path) => match listen_at(rt, host, path, mode_of(door.role)) {
-                Ok((listener, file)) => {
-                    self.keep(file)?;
-                    Ok(Listener::Socket(listener))
-                }
-                Err(fault) => Err(refuse_socket(rt, word, door, fault)),
+                Ok(Some(listening)) => Ok(self.add_socket(door, listening)?),
+                Ok(None) => Err(refuse_folder(rt, word, door, Beside(path))),
+                Err(error) => Err(refuse_socket(rt, word, door, error)),
             },
         }
+    }
+
+    /// Opens doors in their order, up to the first that can't be opened.
+    fn open_all<H: Files + Net<Listener = TcpListener, Stream = TcpStream>>(
+        &mut self,
+        rt: &'a HostRuntime,
+        host: &H,
+        word: &str,
+        doors: &'a [Door],
+    ) -> Result<(), Stop> {
+        for door in doors {
+            self.open(rt, host, word, door)?;
+        }
+        Ok(())
     }
 }
 
@@ -164,15 +184,14 @@ pub fn open_doors<'a, H: Files + Net<Listener = TcpListener, Stream = TcpStream>
     rt: &'a HostRuntime,
     host: &H,
     word: &str,
-    doors: &[Door],
+    doors: &'a [Door],
 ) -> Result<Opened<'a>, Stop> {
     let mut opened = Opened {
         doors: Vec::new(rt.alloc()),
         files: Vec::new(rt.alloc()),
     };
-    for door in doors {
-        let listener = opened.listen(rt, host, word, door)?;
-        opened.add(door, listener)?;
+    match opened.open_all(rt, host, word, doors) {
+        Ok(()) => Ok(opened),
+        Err(stop) => Err(stop),
     }
-    Ok(opened)
 }

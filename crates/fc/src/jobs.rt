@@ -1,9 +1,10 @@
 //! The jobs of the program: which function does which.
-use crate::kept::{serve_kept, serve_synced};
+use crate::kept::{After, serve_kept};
 use crate::printed::serve_printed;
 use command_line::Job;
 use file_jobs::{
-    DONE, Stop, Tell, audit_files, play_files, play_input, report_files, say, tell_file,
+    DONE, Stop, Tell, audit_files, export_files, play_files, play_input, report_files, say,
+    tell_file,
 };
 use std::fs::Files;
 use std::net::{Net, TcpListener, TcpStream};
@@ -31,8 +32,14 @@ pub fn do_job<
         Job::Play { config, script } => play_files(rt, config, script),
         Job::Audit { config, journal } => audit_files(rt, config, journal),
         Job::Report { config, journal } => report_files(rt, config, journal),
+        Job::Export {
+            rows,
+            format,
+            config,
+            journal,
+        } => export_files(rt, *rows, *format, config, journal),
         Job::Serve(config) => serve_printed(rt, host, config),
-        Job::ServeKept { config, journal } => serve_kept(rt, host, config, journal),
-        Job::ServeSynced { config, journal } => serve_synced(rt, host, config, journal),
+        Job::ServeKept { config, journal } => serve_kept(rt, host, config, journal, After::Write),
+        Job::ServeSynced { config, journal } => serve_kept(rt, host, config, journal, After::Sync),
     }
 }

@@ -41,7 +41,7 @@ fn audited(
 
 /// Prints on standard error why a journal was refused. It opens and reads the journal again for that. Prints nothing
 /// where it can't be opened.
-fn explain_journal(rt: &HostRuntime, word: &str, config: Config) {
+pub fn explain_journal(rt: &HostRuntime, word: &str, config: Config) {
     if let Ok(source) = source_of(rt, word) {
         explain_source(rt, word, config, &mut stream(source));
     }

@@ -220,7 +220,8 @@ pub fn tell_journal(rt: &HostRuntime, word: &str, line: Option<u32>, flaw: &Jour
     complain(rt, place, flaw, code);
 }
 
-/// Prints on standard error which fault of a line stopped a script: one that is too long, or a last one without LF.
+/// Prints on standard error why a script stopped at a line: the line has over 8,400 bytes (L1), or it is the last one
+/// and has no LF (L4). Prints nothing for other faults.
 pub fn tell_cut(rt: &HostRuntime, word: &str, line: u64, fault: LineFault) {
     let place = Place::of(word).line(line);
     match fault {

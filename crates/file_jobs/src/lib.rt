@@ -1,8 +1,11 @@
-//! What the commands of `fc` do with files: show programs, play scripts, audit journals and show them as pages.
+//! What the commands of `fc` do with files: show programs, play scripts, audit journals and show them as pages or as
+//! rows.
 #![tactic(auto)]
 
 mod answers;
+mod audited;
 mod audits;
+mod export;
 mod faults;
 mod files;
 mod kept;
@@ -17,6 +20,7 @@ mod stop;
 
 pub use audits::audit_files;
 pub use console::Serve;
+pub use export::export_files;
 pub use faults::{
     Place, cannot_read, complain, once_printed, out_of_memory, refuse, say, tell, tell_at,
     tell_loss,

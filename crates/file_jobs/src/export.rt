@@ -1,0 +1,52 @@
+//! The rows of an audited journal, for other programs.
+use crate::audited::audited_site;
+use crate::faults::{once_printed, out_of_memory};
+use crate::statuses::DONE;
+use crate::stop::Stop;
+use command_line::{Format, Rows};
+use day_export::{RowsFault, write_rows};
+use site_core::Site;
+use std::io::{self, BufWriter, Write};
+
+/// Audits the journal in one file against the configuration in another, prints rows of its day, and returns the exit
+/// status. Where the journal is refused, prints what its audit prints, and no row.
+pub fn export_files(
+    rt: &HostRuntime,
+    rows: Rows,
+    format: Format,
+    config: &str,
+    journal: &str,
+) -> Result<u8, Stop> {
+    let site = audited_site(rt, config, journal)?;
+    print_rows(rt, &site, rows_of(rows), format_of(format))
+}
+
+fn rows_of(rows: Rows) -> day_export::Rows {
+    match rows {
+        Rows::Sales => day_export::Rows::Sales,
+        Rows::Decisions => day_export::Rows::Decisions,
+        Rows::Events => day_export::Rows::Events,
+    }
+}
+
+fn format_of(format: Format) -> day_export::Format {
+    match format {
+        Format::Csv => day_export::Format::Csv,
+        Format::Json => day_export::Format::Json,
+    }
+}
+
+fn print_rows(
+    rt: &HostRuntime,
+    site: &Site,
+    rows: day_export::Rows,
+    format: day_export::Format,
+) -> Result<u8, Stop> {
+    let output = BufWriter::new(rt.alloc(), io::writer(rt))?;
+    let printed = match write_rows(rt.alloc(), site, rows, format, output) {
+        Ok(mut output) => output.flush(),
+        Err(RowsFault::Io(error)) => Err(error),
+        Err(RowsFault::OutOfMemory) => return Ok(out_of_memory(rt)),
+    };
+    Ok(once_printed(rt, printed, DONE))
+}
