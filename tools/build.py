@@ -1,15 +1,16 @@
 #!/usr/bin/env python3
 """Proves the crates of a program side by side, and builds the program.
 
-usage: tools/build.py FOLDER NAME    FOLDER: crates.txt and crates/, a copy that is this call's to change
-                                     NAME: the program's crate, whose program is then FOLDER/crates/NAME/out/NAME
+usage: tools/build.py FOLDER NAME    FOLDER: has crates.txt and crates/, and this call may change it
+                                     NAME: the program's crate; the program is then in FOLDER/crates/NAME/out/NAME
 
 Two calls of `rt` in one tree wait for each other, so each crate is proved in a tree of its own. What was proved is
 linked into the trees of the crates above it. Of the crates that can begin, the one with the longest chain up to the
-program comes first. It gets several processes, and so do others with nearly as long a chain. The rest run behind them,
-by `nice`: a long one by two processes, since it keeps these when the others are done. FC_JOBS is the most processes;
-left out, they are at most two for each processor, as memory allows. What `rt` says goes to standard output, with a line
-'rt: NAME proved' at the end of each crate.
+program comes first. It gets several processes, and so do others with nearly as long a chain. The rest run with a lower
+priority (`nice`). A large crate among them gets two processes, since it keeps these when the others are done. FC_JOBS
+is the most processes. If it isn't set, they are at most two for each processor, as memory allows. What `rt` prints goes
+to standard output, with a line 'rt: NAME proved' at the end of each crate.
+The exit status is 0 if all was proved and the program was built.
 """
 import os
 import shutil
@@ -26,7 +27,7 @@ PATIENT = 10  # the niceness of the others
 
 
 class Crate:
-    """A crate: what it stands on, its lines of code, and the most lines in a chain from it up to the program."""
+    """A crate: the crates it depends on, its lines of code, and the most lines in a chain from it up to the program."""
 
     def __init__(self, folder, name, line, deps):
         self.name, self.line, self.deps = name, line, deps
@@ -38,7 +39,7 @@ class Crate:
 
 
 def crates_of(folder, top):
-    """The crates that the top one consists of, by name, with their chains."""
+    """The crate `top` and all crates below it, by name, with their chains."""
     lines = {}
     with open(os.path.join(folder, "crates.txt"), encoding="utf-8") as file:
         for line in file:
@@ -62,7 +63,7 @@ def crates_of(folder, top):
 
 
 class Build:
-    """The trees of a build, below one folder, and who is being proved in them."""
+    """A build: its folder, in which each crate gets a tree, and its crates."""
 
     def __init__(self, folder, top):
         self.folder, self.top, self.crates = folder, top, crates_of(folder, top)
@@ -76,7 +77,7 @@ class Build:
         return os.path.join(self.folder, "trees", tree, "crates", name)
 
     def make_tree(self, name):
-        """A repository of the crate and of those below it, with what was proved of these."""
+        """Makes a repository of a crate and of those below it, with the proved libraries of those below it."""
         tree = os.path.join(self.folder, "trees", name)
         os.makedirs(os.path.join(tree, ".git"))
         shutil.copy(os.path.join(self.folder, "HANDLES"), tree)
@@ -91,13 +92,14 @@ class Build:
             shutil.copytree(made, os.path.join(self.path(name, one), proved), copy_function=os.link)
 
     def forget(self, name):
-        """Takes away what the tree of a proved crate has beside that: it is some hundred times as large."""
+        """Removes from the tree of a proved crate all but its library: the rest is some hundred times as large."""
         for one in self.below(name):
             shutil.rmtree(self.path(name, one))
         shutil.rmtree(os.path.join(self.path(name, name), "out", "incremental"), ignore_errors=True)
 
     def prove(self, name, jobs, niceness):
-        """Whether a crate is proved. The program is built too, and asked for its version."""
+        """Proves a crate, and returns whether it could be proved. The program's crate is also built, and run for its
+        version."""
         self.make_tree(name)
         words = ["rt", "lib", "--jobs", str(jobs)]
         if name == self.top:
@@ -114,7 +116,8 @@ class Build:
         return is_proved
 
     def run(self, processors, most):
-        """Proves all on these processors, by at most this many processes, until one isn't; whether all were."""
+        """Proves all crates on this many processors, by at most `most` processes, up to the first that can't be proved.
+        Returns whether all were proved."""
         left = sorted(self.crates.values(), key=lambda it: -it.chain)
         done, running = set(), {}
         with ThreadPoolExecutor(len(left)) as pool:

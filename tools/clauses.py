@@ -1,11 +1,12 @@
 #!/usr/bin/env python3
-"""Lists the clauses of the public functions, and what of them differs from another commit's. A function is named by its
-crate, its type or trait and its own name; its clauses are what stands behind `requires` and `ensures`, with blanks and
-ends of lines alike. What a crate of tests promises isn't listed.
+"""Lists the clauses of the public functions, or how they differ from those of another commit. A function is named by
+its crate, its type or trait and its own name. Its clauses are what comes after `requires` and `ensures`, with a blank
+for each row of blanks and ends of lines. The clauses of the crates of tests aren't listed.
 
-usage: tools/clauses.py              prints each clause, a line each
-       tools/clauses.py COMMIT       prints what differs here from COMMIT: lines that went ('-') and came ('+')
-       tools/clauses.py COMMIT OTHER the same of the commit OTHER in place of this folder
+usage: tools/clauses.py              prints each clause on a line
+       tools/clauses.py COMMIT       prints how the clauses of this folder differ from those of COMMIT: the lines that
+                                     were removed ('-') and added ('+')
+       tools/clauses.py COMMIT OTHER prints how the clauses of the commit OTHER differ from those of COMMIT
 """
 import os
 import re
@@ -23,13 +24,13 @@ CLAUSE = re.compile(r"\s*(requires|ensures)\b\s*([A-Za-z_][\w-]*)?\s*(?=\{)")
 
 
 def bare(text):
-    """Returns a text without its comments, and with each literal text emptied, as long as before."""
+    """Returns a text in which each comment and each literal is replaced by as many blanks."""
     blank = lambda it: re.sub(r"[^\n]", " ", it[0])
     return re.sub(r'//[^\n]*|"(?:\\.|[^"\\])*"|b?\'(?:\\.|[^\'\\])\'', blank, text, flags=re.S)
 
 
 def end_of(text, at):
-    """Returns where the bracket that opens at a place is closed, one behind it."""
+    """Returns the place after the bracket that closes the one at the place `at`."""
     depth = 0
     for place in range(at, len(text)):
         if text[place] in OPENERS:
@@ -42,7 +43,7 @@ def end_of(text, at):
 
 
 def clauses_behind(text, at):
-    """Returns the clauses of a function whose name ends at a place."""
+    """Returns the clauses of the function whose name ends at the place `at`."""
     depth, place = 0, at
     while place < len(text):
         if depth == 0 and (text[place] in "{;" or re.match(r"\s(requires|ensures)\b", text[place : place + 10])):
@@ -57,7 +58,7 @@ def clauses_behind(text, at):
 
 
 def owner_of(head):
-    """Returns the name that an impl block's or a trait's functions go by, and whether they are public as they stand."""
+    """Returns the name of the type or trait of a block, and whether its functions are public without the word `pub`."""
     words = " ".join(head[:-1].split())
     if "trait " in words:
         return re.search(r"trait (\w+)", words)[1], words.startswith("pub trait")

@@ -1,6 +1,6 @@
 #!/usr/bin/env python3
-"""Looks at the documents' text: no line has more than 120 characters, and each file of the repository that a document
-names (`crates/..`, `docs/..`, a page beside it, a file of a crate as `site_core/src/site.rt`) is there.
+"""Checks the documents' text: no line has more than 120 characters, and each file of the repository exists that a
+document names (`crates/..`, `docs/..`, a page beside it, a file of a crate as `site_core/src/site.rt`).
 
     documents.py     the last line is 'N passed, M failed', of documents
 """

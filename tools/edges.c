@@ -1,5 +1,5 @@
-// Writes crates/bpf_model/proofs/Edges.antt: what each operator and condition gives at edge values, by the C compiler.
-// Independent of the definitions in crates/bpf_model/specs: plain C on fixed width integers.
+// Prints crates/bpf_model/proofs/Edges.antt: the result of each operator and condition at edge values, computed in
+// plain C on integers of fixed width. So the results don't depend on the definitions in crates/bpf_model/specs.
 //     gcc -O0 -o /tmp/edges tools/edges.c && /tmp/edges > crates/bpf_model/proofs/Edges.antt
 #include <inttypes.h>
 #include <stdio.h>

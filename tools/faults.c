@@ -1,10 +1,12 @@
-/* Preloaded into the program by tools/faults.py: refuses one of its allocations, reads, writes or syncs, or all from
- * that one on, or cuts each read and write to one byte. What is written on standard error is let alone.
+/* A library that tools/faults.py preloads into the program. It refuses one of the program's allocations, reads, writes
+ * or syncs, or all from that one on, or cuts each read and write to one byte. Writes to standard error are never
+ * refused.
  *
- * FAULTS=KIND AT HOW FILE    KIND: memory, read, write, sync or cut; AT: which one, from 1; HOW: once or on; FILE: of
- *                            five numbers of 64 bits, the counts of the four kinds and whether one was refused
+ * FAULTS=KIND AT HOW FILE    KIND: memory, read, write, sync or cut. AT: which call is refused, from 1. HOW: once, or
+ *                            on. FILE: has five numbers of 64 bits, which the library sets: the counts of the four
+ *                            kinds, and whether a call was refused
  *
- * It calls the C library by names that have no version, so that it goes with whichever one the program is run with. */
+ * It calls the C library by names without a version, so that it works with the one that the program is run with. */
 #include <errno.h>
 #include <fcntl.h>
 #include <stddef.h>
@@ -23,7 +25,7 @@ void *__libc_realloc(void *block, size_t size);
 enum { MEMORY, READ, WRITE, SYNC, CUT, KINDS };
 static const char *const names[KINDS] = {"memory", "read", "write", "sync", "cut"};
 
-/* How many there were of each kind, and whether one was refused. */
+/* How many calls of each kind there were, and whether one was refused. */
 struct counts {
     uint64_t calls[CUT];
     uint64_t refused;
@@ -34,7 +36,7 @@ static int kind = KINDS;
 static uint64_t at;
 static int goes_on;
 
-/* The word at *rest, which then stands behind it. */
+/* Returns the next word of the text at *rest, and moves *rest behind it. */
 static const char *next_word(const char **rest, size_t *length)
 {
     const char *word = *rest;
@@ -66,7 +68,7 @@ __attribute__((constructor)) static void begin(void)
     kind = found;
 }
 
-/* Counts a call, and answers whether it is refused. */
+/* Counts a call of the kind `of`, and returns whether it is refused. */
 static int is_refused(int of)
 {
     uint64_t number = __atomic_add_fetch(&counts->calls[of], 1, __ATOMIC_SEQ_CST);

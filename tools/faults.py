@@ -1,19 +1,21 @@
 #!/usr/bin/env python3
-"""Refuses the program each allocation, read, write and sync in turn, once and from then on, and looks at what it says.
+"""Refuses the program each allocation, read, write and sync in turn, and checks what it reports. A call is refused only
+once, or all calls of its kind are refused from it on.
 
 usage: tools/faults.py PROGRAM [WORD]    WORD: only the calls whose name has it
 
-tools/faults.c, preloaded, refuses the Nth of a kind, N from 1 until a call ends unhindered. What has to hold:
-- the status is that of the unhindered call, or 3; no signal ends it;
-- with the unhindered status all is printed as then, else a beginning of it. A line of a script may be answered S31:
-  then the others are answered as without that line;
-- with status 3 a line on standard error says why; each line there begins with 'fc: ' and has no debug text, or is the
-  beginning of one that the unhindered call says;
-- a kept journal's file has each answered line, and its whole lines are legal;
+tools/faults.c is preloaded, and refuses the Nth call of a kind. N goes from 1 up to the first run in which nothing is
+refused. This has to hold:
+- the exit status is that of the unhindered run, or 3, and no signal ends the run;
+- with the unhindered status, all is printed that the unhindered run prints, else a beginning of it. A line of a script
+  may be answered S31: then the other lines are answered as if that line weren't there;
+- with status 3, a line on standard error says why. Each line there begins with 'fc: ' and has no debug text, or is the
+  beginning of a line that the unhindered run prints there;
+- the file of a kept journal has each answered line, and its whole lines are legal;
 - a served site leaves no local socket, and no folder in which it makes one;
-- where each read and write is cut to one byte, all is as unhindered.
-Where no C compiler is there (CC, or cc), nothing is tried, and said. The last line is 'N passed, M failed', of calls,
-each with one kind and one way of refusing.
+- if each read and write is cut to one byte, all is as in the unhindered run.
+If there is no C compiler (CC, or cc), nothing is tried, and that is printed. The last line is 'N passed, M failed': it
+counts the calls, each with one kind and one way of refusing.
 """
 import itertools
 import os
@@ -84,7 +86,8 @@ till 1 release 1 3000
 till 9 show 1
 till 1 show 1
 """
-# A file is read in blocks of 4,096 bytes, and answers leave before the next is read. The first block ends with a line.
+# A file is read in blocks of 4,096 bytes, and all answers are written before the next block is read. This script is
+# filled up so that its first block ends with a line.
 SCRIPT = MORNING + (4095 - len(MORNING)) * "x" + "\n" + EVENING
 
 
@@ -99,7 +102,7 @@ def text_of(path):
 
 
 class Told:
-    """What a call said and left, how often it called, and whether it was refused something."""
+    """What a run of the program printed and left, how many calls of each kind it made, and whether one was refused."""
 
     def __init__(self, status, printed, said, counts, journal="", answers=()):
         self.status, self.printed, self.said = status, printed, said
@@ -111,7 +114,7 @@ class Told:
 
 
 class Shim:
-    """The library that refuses, the program that it is put before, and the folder for both."""
+    """The library that refuses calls, the program into which it is preloaded, and the folder of the runs."""
 
     def __init__(self, program, folder):
         self.program, self.folder = program, folder
@@ -123,11 +126,11 @@ class Shim:
         subprocess.run([compiler, "-shared", "-fPIC", "-O2", "-nostdlib", "-o", self.library, source], check=True)
 
     def path(self, name):
-        """A path that no other run has."""
+        """A path below the folder that no other run uses."""
         return os.path.join(self.folder, f"{name}{next(self.numbers)}")
 
     def environment(self, fault, counts):
-        """The environment in which this is refused, with the file that its counts come to."""
+        """The environment in which the calls of `fault` are refused. The library writes its counts to `counts`."""
         with open(counts, "wb") as file:
             file.write(bytes(COUNTS.size))
         return {**os.environ, "LD_PRELOAD": self.library, "FAULTS": f"{fault[0]} {fault[1]} {fault[2]} {counts}"}
@@ -169,7 +172,7 @@ def ended_ill(told, plain):
 
 
 def printed_ill(told, wanted, status):
-    """What is wrong with what a call printed, where this is wanted of one that ends with this status."""
+    """What is wrong with what a call printed: it must be `wanted` if it ended with `status`, else a beginning of it."""
     if told.status == status and told.printed != wanted:
         return f"status {status}, and it prints {told.printed[-300:]!r}"
     if not wanted.startswith(told.printed):
@@ -178,7 +181,7 @@ def printed_ill(told, wanted, status):
 
 
 class Call:
-    """A call of the program: its name, its words and what it reads."""
+    """A call of the program: its name here, its arguments and its standard input."""
 
     def __init__(self, name, *words, stdin=""):
         self.name, self.words, self.stdin = name, words, stdin
@@ -190,7 +193,7 @@ class Call:
         return ended_ill(told, plain) or printed_ill(told, plain.printed, plain.status)
 
     def command(self, shim, fault):
-        """How it is called by hand, in the folder of a run."""
+        """The command that makes this call by hand, in the folder of a run."""
         refusing = "FAULTS={} LD_PRELOAD=faults.so ".format(shlex.quote("{} {} {} counts".format(*fault)))
         return refusing + shlex.join([shim.program, *self.words])
 
@@ -203,7 +206,7 @@ class Play(Call):
         self.script, self.without = script, {}
 
     def answered_without(self, shim, left_out):
-        """What the script is answered without these of its lines."""
+        """The answers to the script without these of its lines."""
         if left_out not in self.without:
             lines = [line for at, line in enumerate(self.script.splitlines(True)) if at not in left_out]
             path = shim.path("script")
@@ -220,7 +223,7 @@ class Play(Call):
 
 
 class Start(Call):
-    """The start of a site that goes on from this journal, whose ports are taken."""
+    """The start of a site that goes on from this journal, but can't open its ports, since another process has them."""
 
     def __init__(self, name, journal, *words):
         super().__init__(name, "serve", "--journal", "day.journal", *words, "../taken.toml")
@@ -258,7 +261,7 @@ class Peer:
             self.socket = self.reader = None
 
     def ask(self, line):
-        """The answer, if there is one."""
+        """The answer to a line, or None if there is none."""
         if self.socket is None:
             return None
         try:
@@ -330,7 +333,7 @@ class Served(Call):
 
     @staticmethod
     def talk(program, doors, said):
-        """Sends the lines, each to its door, once the doors are open, and gives each with its answer."""
+        """Sends each line to its door, once the doors are open. Returns the answered lines, with their answers."""
         until = time.monotonic() + PATIENCE
         while "fc: serving" not in text_of(said) and program.poll() is None and time.monotonic() < until:
             time.sleep(0.005)
@@ -361,7 +364,7 @@ class Served(Call):
 
     @staticmethod
     def missing(told, whole):
-        """What an answer says that the journal doesn't."""
+        """The first answer that isn't in the journal as it was given."""
         entries = {}
         for line in whole.splitlines():
             number, _, _, rest = line.split(" ", 3)
@@ -374,7 +377,7 @@ class Served(Call):
 
 
 def calls_of_files(shim):
-    """Plays, audits, pages, rows and what is said of one file, each accepted and refused; their files are made here."""
+    """Plays, audits, pages, rows, and calls with a program file, some accepted and some refused. Makes their files."""
     def put(name, text):
         write(os.path.join(shim.folder, name), text)
 
@@ -423,7 +426,7 @@ def calls_of_files(shim):
 
 
 def calls_of_sites(shim, taken):
-    """Starts of a site that goes on from a journal, at a port that is taken, and days that are served."""
+    """Starts of a site that goes on from a journal, at a port that another process has, and days that are served."""
     journal = text_of(os.path.join(shim.folder, "day.journal"))
     write(os.path.join(shim.folder, "taken.toml"), SITE + SERVE % (taken, *free_ports(2)))
     yield Start("start with a line that is cut, synced", journal + "21 1 0 ti", "--sync")
@@ -436,7 +439,7 @@ def calls_of_sites(shim, taken):
 
 
 def look(shim, call, pool):
-    """Tries a call under each fault: how many runs there were, and what is wrong by kind and way of refusing."""
+    """Tries a call with each fault. Returns the number of runs, and what is wrong, by kind and way of refusing."""
     plain = call.run(shim)
     wrong, runs = {}, 2
     for kind, how in itertools.product(KINDS, ("once", "on")):

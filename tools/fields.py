@@ -1,6 +1,6 @@
 #!/usr/bin/env python3
-"""Holds the documentation's table of the context's fields, and the header for rules in C, against the definition from
-which contexts are laid: each field's place, bytes and layouts, and the word for what it holds.
+"""Compares the table of the context's fields in the documents, and the header for rules in C, with the definition of
+contexts: each field's offset, size and layouts, and the word for what it holds.
 
     fields.py     the last line is 'N passed, M failed', of fields and of the layouts' lengths
 """
@@ -15,7 +15,7 @@ LENGTHS = "crates/bpf_model/specs/Layouts.antt"
 HEADER = "examples/c/forecourt.h"
 HEAD = "| offset | bytes | layouts | field |"
 SIZES = {"Four": 4, "Eight": 8}
-# Which word of the table stands for a term of the definition.
+# The terms of the definition, and for each the word that the table has for it.
 WORDS = {
     "till": "till",
     "q.point": "point",
@@ -34,7 +34,7 @@ WORDS = {
     "(open_points s)": "open",
     "0": "zero",
 }
-# Which field of C stands for a word of the table, where it has another name.
+# The fields of the C structs whose names differ from the table's words, and for each the table's word.
 MEMBERS = {
     "asked": "amount",
     "busy_points": "busy",
@@ -91,14 +91,14 @@ def members(struct):
 
 
 def asserted(struct):
-    """The same, as its static assertions have them."""
+    """Each field of a struct of the header: its place, bytes and word, as its static assertion has them."""
     assertion = rf"^FORECOURT_AT\((\d+), (\d+), {struct}, (\w+)\);$"
     for place, size, name in re.findall(assertion, text_of(HEADER), re.MULTILINE):
         yield int(place), int(size), MEMBERS.get(name, name)
 
 
 def compare(count, fields, rows, where):
-    """Counts the fields: those that are as they are defined passed."""
+    """Counts the fields: a field passed if its row has what the definition has."""
     for at in range(max(len(fields), len(rows))):
         field, row = (list_of[at] if at < len(list_of) else None for list_of in (fields, rows))
         fault = f"field {at + 1}: {FIELDS} has {field}, {where} has {row}"

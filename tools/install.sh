@@ -1,18 +1,18 @@
 #!/bin/sh
-# Installs the proved program below PREFIX, with its unit of systemd, its page of the manual and its words for bash:
+# Installs the proved program below PREFIX, with its systemd unit, its manual page and its completions for bash:
 #   bin/fc  lib/systemd/system/fc.service  share/man/man1/fc.1  share/bash-completion/completions/fc
-# With --uninstall it takes exactly these four away; folders stay. Where DESTDIR is set all of them lie below that, and
-# the unit names the program as PREFIX has it. An older file of ours in one of these places is replaced. Where one is
-# somebody else's (a link too), that is said, and nothing is changed.
+# With --uninstall it removes exactly these four files; folders stay. If DESTDIR is set, all four are below DESTDIR, but
+# the unit names the program by its path below PREFIX. An older file of fc in one of these places is replaced. If
+# something else is there (also a link), that is printed, and nothing is changed.
 # usage: tools/install.sh [--uninstall] PREFIX
-# Status: 0 done, 1 it can't be done, 2 the words are wrong.
+# Status: 0 done, 1 it can't be done, 2 the arguments are wrong.
 set -u
 umask 022
 here=$(CDPATH='' cd -P -- "$(dirname -- "$0")/.." && pwd) || exit 1
 program=$here/out/fc
 system=$here/examples/system
 places='bin/fc lib/systemd/system/fc.service share/man/man1/fc.1 share/bash-completion/completions/fc'
-# What all four have in their text, the program in that of its help.
+# These words are in each of the four files, and in the program as a part of its help. A file without them isn't ours.
 ours="a petrol station's site"
 
 say() { printf 'install.sh: %s\n' "$*" >&2; }
@@ -54,7 +54,7 @@ make_folders() {
     done
 }
 
-# What comes to a place.
+# Prints the content of the file that is installed at the place $1.
 text_of() {
     case $1 in
         bin/fc) cat "$program" ;;
@@ -70,7 +70,7 @@ take_new_away() {
     for place in $places; do rm -f -- "$root/$place.new$$"; done
 }
 
-# All four are written beside their places first, and then take them: a program that runs goes on as the old one.
+# Writes all four files beside their places first, and then renames them. A program that is running goes on as it was.
 put_in_place() {
     trap take_new_away EXIT
     trap 'exit 1' HUP INT TERM
@@ -119,7 +119,7 @@ case $1 in
     /*) ;;
     *) usage "PREFIX begins with /, and $1 doesn't" ;;
 esac
-# A unit's line gives another meaning to these, and sed to & and |.
+# A PREFIX can't have these characters. In a unit systemd gives them a meaning of their own, and so does sed to & and |.
 case $1 in
     *[[:space:][:cntrl:]\"\'\\%\$\;\&\|]*)
         stop "a unit can't name a program below $1: a PREFIX has no blanks, and none of \" ' \\ % \$ ; & |"

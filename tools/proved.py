@@ -1,6 +1,7 @@
 #!/usr/bin/env python3
-"""Looks that what docs/code/PROVED.md names is in the sources: each call is a public function of its crate, each clause
-stands in that function's contract, and each must-fail edit is one of that crate, or of the crate before its slash.
+"""Checks that what docs/code/PROVED.md names is in the sources. Each call must be a public function of its crate, and
+each clause must be in that function's contract. Each must-fail edit must be one of that crate, or of the crate that is
+named before a slash.
 
     proved.py [DOCUMENT]     the last line is 'N passed, M failed', of table rows
 """
@@ -32,7 +33,8 @@ def owner_of(line):
 
 
 def contracts_of(crate):
-    """By type ('' for none) and name, the clauses of each public function; `-` for one without a name."""
+    """The names of the clauses of each public function, by its type ('' for none) and its name. A clause without a name
+    is `-`."""
     found = {}
     for path in glob.glob(os.path.join(HERE, "crates", crate, "src", "**", "*.rt"), recursive=True):
         owner, clauses = "", None

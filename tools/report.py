@@ -1,11 +1,11 @@
 #!/usr/bin/env python3
-"""Makes pages of journals by fc report, and holds their figures against a count over the journal's lines.
+"""Makes pages of journals by fc report, and compares their figures with a count over the journal's lines.
 
 usage: tools/report.py PROGRAM
 
 The journals are an empty one, that of a day with two tills, two rules, unpaid deliveries and refusals, and a long one
-of bench/script.awk. Where tidy is there, it has to find nothing; where Chromium is there, it has to open each page and
-to find the headline in it. What isn't there is left out, and said. The last line is 'N passed, M failed'.
+of bench/script.awk. If tidy is installed, it must find no fault in a page. If Chromium is installed, it must open each
+page and show the headline. If one isn't installed, that is printed. The last line is 'N passed, M failed'.
 """
 import html.parser
 import os
@@ -95,7 +95,7 @@ def money(cents):
 
 
 def count(lines):
-    """What the lines of a journal come to, counted without fc."""
+    """The sales, the unpaid transactions, the refusals, the decisions and the loads of a journal, found without fc."""
     flow, last, unpaid, sold = {}, {}, {}, []
     refused, decided, loads = {}, {}, []
     for line in lines:
@@ -216,7 +216,7 @@ def show(checks, program, work, name, site, lines):
 
 
 def faulty(checks, program, site, work, day):
-    """A journal with a fault has no page, and its line is its audit's."""
+    """Checks that a journal with a fault gives no page, but the line that its audit prints."""
     journal = os.path.join(work, "journal")
     for change in (("granted 8000", "granted 9000"), ("= done", "= gone"), ("\n2 ", "\n3 ")):
         text = "".join(line + "\n" for line in day).replace(*change, 1)

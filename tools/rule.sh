@@ -1,10 +1,11 @@
 #!/bin/sh
-# Compiles a rule in C and lets it be verified. Prints its units as `fc asm` does, and on standard error how many they
-# are, the mask of the counters that it uses, and the layout of its request. With -o the units go to FILE.hex, and that
-# line to standard output. What can't be loaded is told with its line of C, and leaves FILE.hex as it was.
+# Compiles a rule in C and has it verified by fc. Prints its units as `fc asm` does, and a line on standard error: how
+# many units there are, the mask of the counters that the rule uses, and the layout of its request. With -o the units go
+# to FILE.hex, and the line to standard output. If the rule can't be loaded, the reason is printed with its line of C,
+# and FILE.hex stays as it was.
 # usage: tools/rule.sh [-o FILE.hex] FILE.c    or FILE.o, an object that was compiled before
-# LLVM is what stands behind the names of the compiler and its tools (LLVM=-19 for clang-19); FC is the program to ask.
-# Status as of fc: 0 done, 1 the rule is refused, 2 the words are wrong, 3 a tool or a file can't be had.
+# LLVM is the end of the names of the compiler and its tools (LLVM=-19 for clang-19). FC is the fc that verifies.
+# Status: 0 done, 1 the rule is refused, 2 the arguments are wrong, 3 a tool or a file can't be used.
 set -u
 here=$(CDPATH='' cd -- "$(dirname -- "$(readlink -f -- "$0")")/.." && pwd -P) || exit 3
 fc=${FC-$here/fc}
@@ -30,8 +31,9 @@ need_tools() {
     "$fc" --version >/dev/null || stop 3 "$fc doesn't run"
 }
 
-# Functions are put where they are called, and loops of a constant number of turns written out, however large: the site
-# takes neither calls nor jumps backwards. A switch becomes no table, and an if stays a branch, which is shorter here.
+# Compiles the file $1. Functions are inlined, and loops with a constant number of turns are unrolled, however large
+# they get: fc accepts neither calls of a rule's own functions nor jumps backwards. A switch isn't compiled to a table.
+# An if stays a branch, which is shorter here.
 compile() {
     "clang$LLVM" --target=bpfel -mcpu=v3 -O2 -g -ffreestanding -fno-jump-tables \
         -mllvm -inline-threshold=20000 -mllvm -unroll-threshold=20000 -mllvm -two-entry-phi-node-folding-threshold=0 \
@@ -39,7 +41,7 @@ compile() {
         -I "$here/examples/c" -c -o "$object" -- "$1" >&2 || exit 1
 }
 
-# The first bytes of an object: ELF, 64 bits, the least byte first, and 247 for BPF.
+# Checks the first bytes of the object: ELF, 64 bits, least significant byte first, and the machine 247, which is BPF.
 look_at_target() {
     begins=$(od -An -v -tx1 -N20 "$object" | tr -d ' \n')
     case $begins in
@@ -49,7 +51,7 @@ look_at_target() {
     esac
 }
 
-# The section of the rule, its units, and where in the source each of them stands.
+# Finds the section of the rule. Writes to files its units, the place of each unit in the source, and its relocations.
 read_section() {
     "llvm-objdump$LLVM" -h "$object" | awk '$NF == "TEXT" && $3 !~ /^0+$/ { print $2 }' >"$work/sections"
     section=$(grep -x -e rule -e rule2 "$work/sections" | head -n 1)
@@ -69,7 +71,7 @@ read_section() {
         inside && $1 ~ /^[0-9a-f]+$/' >"$work/references"
 }
 
-# Tells what is wrong at a unit, with its line of C, and ends.
+# Prints that at the unit $1 this is wrong: $2. Prints its line of C too, and ends with status 1.
 fault() {
     place=$(sed -n "s/^$1://p" "$work/places")
     line=${place##*:}
@@ -83,7 +85,7 @@ fault() {
     exit 1
 }
 
-# All code has to be one function in one section.
+# Checks that all code is one function in one section.
 look_at_functions() {
     "llvm-objdump$LLVM" -t "$object" | awk '$3 == "F" { print $4, $6 }' >"$work/functions"
     [ "$(grep -c '^rule2\{0,1\} ' "$work/functions")" = 1 ] || stop 1 "$source: two rules: a file has one"
@@ -95,13 +97,13 @@ look_at_functions() {
     stop 1 "$source: $words"
 }
 
-# The first unit that refers to a name.
+# Prints the first unit that refers to the name $1. The status isn't 0 if there is none.
 unit_of() {
     awk -v name="$1" '$3 == name { print $1; exit }' "$work/references" >"$work/reference"
     read -r offset <"$work/reference" && echo $((0x$offset / 8))
 }
 
-# What a linker would have to fill in.
+# Checks that a linker would have nothing to fill in.
 look_at_references() {
     read -r offset type name <"$work/references" || return 0
     unit=$((0x$offset / 8))
@@ -116,7 +118,7 @@ look_at_references() {
     esac
 }
 
-# Jumps backwards: a jump's distance stands in its offset, of gotol (06) in its imm.
+# Checks that no jump goes backwards. The distance of a jump is in its offset, or for gotol (06) in its immediate value.
 look_at_jumps() {
     awk '
         wide { wide = 0; next }
@@ -130,7 +132,7 @@ look_at_jumps() {
     fault "$unit" "$words"
 }
 
-# The counters that the code names: the constant last put into r1 before each call of the helpers 1 to 3.
+# Sets `mask` to the counters that the code uses: the last constant in r1 before each call of the helpers 1 to 3.
 find_mask() {
     awk '/^b701/ { counter = substr($0, 9, 2) } /^850000000[123]/ { print counter }' "$work/hex" |
         sort -u >"$work/counters"

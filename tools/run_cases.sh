@@ -1,10 +1,11 @@
 #!/bin/sh
-# Runs the program's own cases, the folders below cases/ that hold a file stdout. In such a folder the program is run
-# with the words of the file args, one a line, and with stdin as its input, if these are there; what it prints and its
-# status must be stdout and status (0 where there is no such file), and what it says on standard error must be stderr
-# where there is such a file. Where there is an executable run, that is run with the program's path, and drives it.
-# A folder without stdout fails, unless it is a part of a case, has cases or tables below it, or files that tables name.
-# Prints each case that differs, and then 'N passed, M failed'.
+# Runs the program's own cases: the folders below cases/ that have a file `stdout`. In such a folder the program is run
+# with each line of the file `args` as an argument, and with the file `stdin` as its input, if these files exist. It
+# must print `stdout` and end with the status in `status`, or with 0 if there is no such file. If there is a file
+# `stderr`, it must print that on standard error. If there is an executable `run`, that is run instead, with the
+# program's path as $1.
+# A folder without `stdout` fails, unless it is a part of a case, has cases or tables below it, or is named by a table.
+# Prints each case that differs, and then 'N passed, M failed'. The exit status is 0 only if nothing failed.
 # usage: tools/run_cases.sh PROGRAM [WORD]    WORD: only the cases whose path has it
 set -u
 program=$(readlink -f -- "$1") || exit 1
@@ -14,8 +15,8 @@ work=$(mktemp -d) || exit 1
 trap 'rm -rf "$work"' EXIT
 passed=0 failed=0
 
-# Whether a folder without stdout is no case: it is a part of one; or it has no file that cases alone have, but cases or
-# tables below it, or files that tables name.
+# Whether the folder $1 may be without stdout (status 0). It may if it lies in a case's folder. It also may if it has
+# none of the other files of a case, and there are cases or tables below it, or a table names a file in it.
 is_no_case() {
     [ ! -f "${1%/*}/stdout" ] || return 0
     for file in args stdin run status stderr; do [ ! -e "$1/$file" ] || return 1; done

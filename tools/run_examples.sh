@@ -1,9 +1,10 @@
 #!/bin/sh
-# Runs the examples of the documents: in each block marked `console`, a line that begins with `$ ` is a command (with
-# its text up to END, where it says <<'END'), and what stands below it is what it must print on standard output. The
-# commands of one document run in one new folder, with `fc`, `examples` and `tools` in it. A block whose mark has words
-# behind it, as `console clang`, needs these commands: where the machine is without one it is skipped, with a word that
-# says so. Prints each example that differs, and then 'N passed, M failed'.
+# Runs the examples of the documents. In each block marked `console`, a line that begins with `$ ` is a command, and the
+# lines below it are what it must print on standard output. If the command ends with <<'END', the lines up to END are
+# its input. The commands of one document run in one new folder, with `fc`, `examples` and `tools` in it. A block marked
+# `console clang` needs the command clang, and likewise for other names. If the machine doesn't have the command, the
+# block is skipped, which is printed. Prints each example that differs, and then 'N passed, M failed'.
+# The exit status is 0 only if nothing failed.
 # usage: tools/run_examples.sh PROGRAM DOCUMENT..
 set -u
 program=$(readlink -f -- "$1") || exit 1

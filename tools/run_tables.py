@@ -1,25 +1,27 @@
 #!/usr/bin/env python3
-"""Runs the program's tables of cases, the files below cases/ that end in .table. Such a file begins with a comment
-(lines that begin with '#'), then says what is done with its rows, then lists them, a row a line, its columns parted by
-' | '. An empty line and a line that begins with '#' are no rows. In a column \\n is a new line, \\t a tab, \\\\ a
-backslash, \\xHH a byte, ~N*TEXT~ is TEXT, N times, and ~AS_ASKED~ the program of a rule that grants what is asked.
+"""Runs the program's tables of cases: the files below cases/ whose names end in .table. Such a file begins with a
+comment (lines that begin with '#'). A line then says what is done with the rows, and each further line is a row. Its
+columns are separated by ' | '. Empty lines, and lines that begin with '#', aren't rows. In a column \\n is a new line,
+\\t a tab, \\\\ a backslash, \\xHH a byte, ~N*TEXT~ is TEXT, N times, and ~AS_ASKED~ is the program of a rule that
+grants what is asked.
 
-    run: COMMAND    the shell runs COMMAND for each row, in the table's folder, with `fc` on the path: $1, $2, .. are
-                    the row's columns but the last, and what is printed, without the new line at its end, is the last
-    play: CONFIG    the rows up to an empty line are one play of the site in the file CONFIG: a line of its script each,
-                    and what it answers. A play that is cut off or ends with another status than 0 has a last row
-                    'status | N'; where a row begins with '<', it is no line of the script but a further line of the
-                    answer of the row above it
+    run: COMMAND    the shell runs COMMAND for each row, in the table's folder, with `fc` on the path. $1, $2, .. are
+                    all columns of the row except the last. The last column is what COMMAND must print, without the new
+                    line at the end
+    play: CONFIG    the rows up to an empty line are one play of the site in the file CONFIG. Each row is a line of its
+                    script, and the answer to it. A row that begins with '<' is a further line of the answer of the row
+                    above it. A play that is cut off, or ends with another status than 0, has a last row 'status | N'
     audit: CONFIG JOURNAL
                     a row is an audit of the file JOURNAL with one change, for the site in the file CONFIG. Its columns
                     are a name, the change, what is printed and, in some rows, what standard error says. A change is
-                    LINEs/OLD/NEW/, where OLD stands once in that line; an empty column changes nothing. The status is
-                    0 where 'legal' is printed, and else 1
+                    LINEs/OLD/NEW/, and OLD must be in that line exactly once; an empty column changes nothing. The
+                    status must be 0 if 'legal' is printed, and else 1
 
-A line 'needs: COMMAND..' in front of that names what the machine may be without: then the table is skipped, with a word
-that says so. Where LLVM is set (LLVM=-19), it stands behind each of these names.
+A line 'needs: COMMAND..' before 'run', 'play' or 'audit' names commands. If the machine doesn't have one of them, the
+table is skipped, and that is printed. If LLVM is set (LLVM=-19), it is appended to each of these names.
 
-Each row is a case of its own, of a play each play. Prints each case that differs, and then 'N passed, M failed'.
+Each row is a case of its own; in a table of plays, each play is one. Prints each case that differs, and then
+'N passed, M failed'.
 usage: tools/run_tables.py PROGRAM [WORD]    WORD: only the tables whose path has it
 """
 import os
@@ -55,7 +57,8 @@ def wanting(commands):
 
 
 def rows_of(path):
-    """Returns what a table does, with what, and its rows as (number of the line, columns), None for an empty line."""
+    """Returns the kind of a table (run, play or audit), what comes after the colon, and its rows. A row is the number
+    of its line, and its columns; None is an empty line."""
     kind, what, rows = None, None, []
     with open(path, encoding="utf-8") as file:
         for number, line in enumerate(file, 1):
@@ -79,7 +82,7 @@ def rows_of(path):
 
 
 def run(command, folder, program, row):
-    """Returns what the command prints for a row, and what it should."""
+    """Returns what the command prints for a row, what it should print, and what standard error says."""
     *given, wanted = row
     with tempfile.TemporaryDirectory() as room:
         os.symlink(program, f"{room}/fc")
@@ -90,7 +93,7 @@ def run(command, folder, program, row):
 
 
 def play(config, folder, program, rows):
-    """Returns what a play of the rows prints, and what it should."""
+    """Returns what a play of the rows prints, what it should print, and what standard error says."""
     script, wanted, status = b"", b"", b"0"
     for row in rows:
         first, last = plain(row[0]), plain(row[-1])
@@ -105,7 +108,7 @@ def play(config, folder, program, rows):
 
 
 def changed(journal, change):
-    """Returns a journal with a change, or None where that can't be made."""
+    """Returns a journal with a change, or None if the change can't be made."""
     if not change:
         return journal
     it, lines = CHANGE.fullmatch(change), journal.splitlines(keepends=True)
@@ -117,7 +120,7 @@ def changed(journal, change):
 
 
 def audit(what, folder, program, row):
-    """Returns what an audit of a changed journal gives, and what it should."""
+    """Returns what an audit of a changed journal prints, what it should print, and what standard error says."""
     config, base = what.split()
     _, change, verdict, *words = map(plain, row)
     with open(f"{folder}/{base}", "rb") as file:
@@ -153,7 +156,7 @@ def cases_of(path, program):
 
 
 def tried(case):
-    """Returns what a case gives, or says that it came to no end."""
+    """Returns the results of a case. If the case doesn't end, they say so."""
     try:
         return case()
     except subprocess.TimeoutExpired as late:

@@ -2,9 +2,9 @@
 """Compares the table of states in docs/use/protocol.md with what the program answers, cell by cell.
 
 Each state is reached in every way that makes a difference to some cell (SITUATIONS, and BEFORE for unpaid
-transactions). In each of these situations each line of the table is sent to a point, and its answer, the state after
-it, the order that is pending then and the number of unpaid transactions have to be those that the table's cell tells.
-What a cell tells for a condition that no situation meets is a fault of the table.
+transactions). In each of these situations each line of the table is sent to a point. The table's cell must then have
+the line's answer, the state after it, the order that is pending then and the number of unpaid transactions. If no
+situation meets the condition of an alternative in a cell, that is a fault of the table.
 
     states.py FC [DOCUMENT]     the last line is 'N passed, M failed', of cells
 """
@@ -61,7 +61,8 @@ SITUATIONS = [
     (9, STARTED_FILLING + [flow(LIMIT + 1000)], True, "stop", True, LIMIT + 1000),
 ]
 
-# What came before: the tills that hold the unpaid transactions (0: nobody), and the lines that lead there.
+# The unpaid transactions that a point may have from before: the till that holds each (0: nobody), and the lines that
+# lead there.
 DELIVERY = STARTED_FILLING + [flow(100), DOWN]
 BEFORE = [
     ([], []),
@@ -93,7 +94,7 @@ LINES = {
 }
 
 
-# What one letter stands for in a cell, where the state stays as it is.
+# The text that a cell of one letter stands for. The state stays the same in these cells.
 SHORT = {"L": "{} n, S27 t, S28", "M": "{} m, S27 t, S28"}
 
 
@@ -131,8 +132,8 @@ class Situation:
         }[condition]
 
     def told(self, name, line, cell):
-        """Which alternative of a cell is for this situation, and what it says: the answer, the state, the pending order
-        and the number of unpaid transactions after it."""
+        """Which alternative of a cell is for this situation, and what it says of the line: its answer, and the state,
+        the pending order and the number of unpaid transactions after it."""
         for place, words in enumerate(cell):
             outcome, *rest = words
             conditions = [word for word in rest if re.fullmatch("[a-z]", word)]
@@ -162,7 +163,7 @@ def situations():
 
 
 def answered(fc, config, trials):
-    """What the program answers to each trial, a situation and a line, each at a point of its own."""
+    """The program's answers to each trial. A trial is a situation and a line, at a point of its own."""
     script = [f"load 0 0 {AS_ASKED}", f"load 1 0 {AS_ASKED}"]
     for point, (situation, line) in enumerate(trials, 1):
         lines = situation.lines + ["till 2 show P", line, "till 2 show P", "disp P order"]

@@ -11,7 +11,7 @@ PATIENCE = 10  # seconds that an answer may take
 
 
 def connected(where):
-    """A connection to a port, or to a local socket."""
+    """Connects to the port or to the path of a local socket that `where` is, and returns the connection."""
     if where.isdigit():
         return socket.create_connection(("127.0.0.1", int(where)), timeout=PATIENCE)
     made = socket.socket(socket.AF_UNIX)

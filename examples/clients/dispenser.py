@@ -16,7 +16,7 @@ STEPS = 5
 
 
 class Controller:
-    """A connection to the site: a line, and its answer."""
+    """A connection to the site, over which a line is sent and its answer is read."""
 
     def __init__(self, where):
         if where.isdigit():
@@ -29,7 +29,7 @@ class Controller:
         self.answers = self.socket.makefile("r", encoding="ascii", newline="\n")
 
     def ask(self, line):
-        """The words of the answer, without its entry's number."""
+        """Sends a line, and returns the words of the answer, without the number of its entry."""
         try:
             self.socket.sendall(f"{line}\n".encode("ascii"))
             answer = self.answers.readline()
@@ -42,7 +42,7 @@ class Controller:
 
 
 def wait_for_release(site, point):
-    """The limit in cents. An order that is left from an earlier delivery is passed over."""
+    """Waits for the order to authorise, and returns its limit in cents. Orders from an earlier delivery are skipped."""
     while True:
         answer = site.ask(f"disp {point} order")
         if answer[:2] == ["order", "authorise"]:
@@ -51,7 +51,7 @@ def wait_for_release(site, point):
 
 
 def wait_for_resume(site, point):
-    """Whether the delivery goes on after a suspend order, and isn't stopped."""
+    """Waits for the next order after a suspend order, and returns whether it is to resume."""
     while True:
         answer = site.ask(f"disp {point} order")
         if answer[0] == "order":
@@ -60,7 +60,7 @@ def wait_for_resume(site, point):
 
 
 def fuel(site, point, cents, price):
-    """Reports the flow in steps up to so many cents, and obeys what the till orders meanwhile. Gives what flowed."""
+    """Reports the flow in steps up to `cents`, and obeys the till's orders meanwhile. Returns how many cents flowed."""
     amount = 0
     for step in range(1, STEPS + 1):
         now = cents * step // STEPS

@@ -1,10 +1,10 @@
 #!/usr/bin/env python3
-"""A till that sells one delivery at a point which it alone sells: opens the point, waits for a customer, asks for a
-release, reads the amount while the site tells it, and settles the transaction.
+"""A till that sells one delivery at a point where no other till sells. It opens the point, waits for a customer, asks
+for a release, reads the amount during the delivery, and settles the transaction.
 
-    till.py PORT|PATH TILL POINT CENTS [LAST]     a port of 127.0.0.1, or the path of a local socket; CENTS is the most
-                                                  that is asked for; LAST the number of the point's last transaction
-                                                  that this till knows of, 0 at the start of a day
+    till.py PORT|PATH TILL POINT CENTS [LAST]     a port of 127.0.0.1, or the path of a local socket; CENTS is the
+                                                  amount that is asked for; LAST is the number of the last transaction
+                                                  of the point that this till knows, 0 at the start of a day
 """
 
 import socket
@@ -17,7 +17,7 @@ CLOSED, CALLING, AUTHORISED, SUSPENDED_FUELLING = 2, 4, 5, 9
 
 
 class Controller:
-    """A connection to the site: a line, and its answer."""
+    """A connection to the site, over which a line is sent and its answer is read."""
 
     def __init__(self, where):
         if where.isdigit():
@@ -30,7 +30,7 @@ class Controller:
         self.answers = self.socket.makefile("r", encoding="ascii", newline="\n")
 
     def ask(self, line):
-        """The words of the answer, without its entry's number."""
+        """Sends a line, and returns the words of the answer, without the number of its entry."""
         try:
             self.socket.sendall(f"{line}\n".encode("ascii"))
             answer = self.answers.readline()
@@ -43,7 +43,7 @@ class Controller:
 
 
 def look(site, till, point):
-    """State, amount in cents, volume in centilitres and number of unpaid transactions."""
+    """The point's state, its amount in cents, its volume in centilitres and the number of its unpaid transactions."""
     answer = site.ask(f"till {till} show {point}")
     if answer[0] != "point":
         raise SystemExit(f"point {point}: {' '.join(answer)}")
@@ -61,7 +61,8 @@ def wait_for_a_nozzle(site, till, point):
 
 
 def follow(site, till, point):
-    """The last amount and volume that were shown while the delivery lasted, and how many transactions are unpaid."""
+    """Waits for the end of the delivery. Returns the last amount and volume during it, and how many transactions are
+    unpaid after it."""
     state, amount, volume = AUTHORISED, 0, 0
     while True:
         time.sleep(PAUSE)
@@ -72,7 +73,7 @@ def follow(site, till, point):
 
 
 def settle(site, till, point, last):
-    """Takes and clears the point's next transaction: numbers rise by 1, and one that is settled is no longer there."""
+    """Locks and clears the point's next transaction. Numbers rise by 1, and a settled transaction is gone (S28)."""
     number = last + 1
     while site.ask(f"till {till} lock {point} {number}") == ["S28"]:
         number += 1

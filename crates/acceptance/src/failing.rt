@@ -27,8 +27,8 @@ impl Clock for Still {
     }
 }
 
-/// What a session left: how it ended, how many reads and writes failed, how many receipts its pass got, how many
-/// answers were written, and whether the output is a beginning of the answers.
+/// The outcome of a session: how it ended, how many reads and writes failed, and how many receipts its pass got. Also
+/// how many answers were written, and whether the output is a beginning of the expected answers.
 #[derive(Clone, Copy, PartialEq, Drop)]
 struct Seen {
     ended: Result<Ended, SessionFault>,
@@ -38,7 +38,7 @@ struct Seen {
     is_front: bool,
 }
 
-/// What a session without a fault leaves: all 14 lines are entered and answered.
+/// The outcome of a session without a fault: all 14 lines are entered and answered.
 const WHOLE: Seen = Seen {
     ended: Ok(Ended {
         lines: 14,
@@ -50,7 +50,7 @@ const WHOLE: Seen = Seen {
     is_front: true,
 };
 
-/// Returns how many LF these bytes have.
+/// Returns how many LF there are in these bytes.
 fn lines_in(bytes: &[u8]) -> usize {
     let mut lines = 0usize;
     for byte in bytes {
@@ -61,7 +61,7 @@ fn lines_in(bytes: &[u8]) -> usize {
     lines
 }
 
-/// Runs a session with these devices at a desk with this pass, and returns what it left.
+/// Runs a session with these devices at a desk with this pass, and returns its outcome.
 fn seen_at<L: SiteLedger, R: Wait>(
     rt: &R,
     alloc: Global,
@@ -89,7 +89,7 @@ fn seen_at<L: SiteLedger, R: Wait>(
     }
 }
 
-/// Runs a session with these devices at the desk of a new forecourt, and returns what it left.
+/// Runs a session with these devices at the desk of a new forecourt, and returns its outcome.
 fn sat<L: SiteLedger, R: Wait>(
     rt: &R,
     alloc: Global,
@@ -132,7 +132,7 @@ fn sat_of<R: Wait>(
     sat::<Brand, R>(rt, alloc, Blank::new(1), config, input, output)
 }
 
-/// Runs a session with these devices at a new site of two points, and returns what it left.
+/// Runs a session with these devices at a new site of two points, and returns its outcome.
 fn seen_by<R: Wait>(
     rt: &R,
     alloc: Global,
@@ -148,7 +148,8 @@ fn seen_after_reads<R: Wait>(rt: &R, alloc: Global, good: u64) -> Result<Seen, F
     seen_by(rt, alloc, input, answers(alloc, 4096, None))
 }
 
-/// Returns what a session must leave if it fails with this fault after `entries` entries and `lines` answers.
+/// Returns the outcome that a session must have if it fails with this fault after `entries` entries and `lines`
+/// answers.
 fn failed(ended: SessionFault, entries: usize, lines: usize) -> Seen {
     let failed = match ended {
         SessionFault::Write => (0, 1),
@@ -173,8 +174,8 @@ fn lines_before(place: usize) -> usize {
     )
 }
 
-/// Runs sessions whose first 0, 1, 2 and so on reads succeed, and returns the first of these numbers at which a session
-/// leaves something wrong. In the last session no read fails.
+/// Runs sessions whose first 0, 1, 2 and so on reads succeed. Returns the first of these numbers at which the outcome
+/// of the session is wrong. In the last session no read fails.
 fn unlike_after_reads<R: Wait>(rt: &R, alloc: Global) -> Result<Option<u64>, Fail> {
     for good in 0..DELIVERY.len().wrapping_add(2) {
         let lines = lines_before(good);
@@ -195,9 +196,9 @@ fn seen_after_writes<R: Wait>(rt: &R, alloc: Global, good: u64) -> Result<Seen, 
     seen_by(rt, alloc, input, answers(alloc, 4, Some(good)))
 }
 
-/// Runs sessions whose first 0, 1, 2 and so on writes succeed, and returns the first of these numbers at which a
-/// session leaves something wrong. The event of the answer whose write fails must stay entered. A session makes more
-/// than 14 writes.
+/// Runs sessions whose first 0, 1, 2 and so on writes succeed. Returns the first of these numbers at which the outcome
+/// of the session is wrong. If the write of an answer fails, the event that it answers must stay entered. A session
+/// makes more than 14 writes.
 fn unlike_after_writes<R: Wait>(rt: &R, alloc: Global) -> Result<Option<u64>, Fail> {
     for good in 0..100u64 {
         let seen = seen_after_writes(rt, alloc, good)?;
@@ -327,8 +328,8 @@ fn unlike_after_journal_writes(alloc: Global) -> Result<Option<u64>, Fail> {
     Ok(Some(200))
 }
 
-/// Returns the first wrong number of successful reads and writes of a session, and of a journal; `None` where all are
-/// right.
+/// Tries the reads and the writes of a session and of a journal. Returns for each of the four the first number of
+/// successful calls at which the outcome is wrong, or `None` if there is none.
 fn first_unlike<R: Wait>(rt: &R, alloc: Global) -> Result<[Option<u64>; 4], Fail> {
     let reads = unlike_after_reads(rt, alloc)?;
     let writes = unlike_after_writes(rt, alloc)?;

@@ -39,8 +39,8 @@ enum Verdict {
     Answered(u64),
 }
 
-/// The results of many programs: how many passed the decoder, how many were accepted, the sum of all answers, and how
-/// many were refused without a number from 1 to 20.
+/// The results of many programs: how many passed the decoder, how many were accepted, and the sum of all answers.
+/// `unnumbered` is how many were refused without a number from 1 to 20.
 #[derive(Clone, Copy)]
 struct Tally {
     decoded: u32,

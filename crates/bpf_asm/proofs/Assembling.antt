@@ -1,4 +1,4 @@
--- The units of rows without fault are a program.
+-- If the rows of a text have no fault, their units are a program.
 use Rattle.std.proofs.Common.{◌≡◌, ℕ, zero, suc, ◌+◌, ◌^◌, ◌<◌, ◌≤◌, List, [], ◌∷◌, ◌++◌, length, Option, Some, None, Bool, true, false, refl, sym, ap, ◌∙◌}
 use Rattle.std.proofs.Common.{subst, arith, rules, w16, w32, FitsSigned}
 use Rattle.std.specs.Prelude.{◌%◌, ◌/◌, ◌&&◌, not, Ok, nat_le, cond, ℤ, pos}
@@ -236,7 +236,7 @@ jump_units f p z rest h offset imm more = (
 zero16 : FitsSigned w16 (pos 0)
 zero16 = search rules
 
--- the fields of a jump fit, whichever of them holds the distance
+-- the offset and the immediate of a jump fit their bits, whichever of the two holds the distance
 jump_fits : (f : Form) (p : Fields) (z : ℤ) → FitsSigned w16 z → FitsSigned w32 z → FitsSigned w32 (int_of p.imm)
     → FitsSigned w16 (jump_inst f p z).offset × FitsSigned w32 (jump_inst f p z).imm
 jump_fits form.Ja32 p z a b d = (zero16, b)
@@ -319,7 +319,7 @@ module _ (labels : List Definition) (within : AreWithin 512 labels) where
   units_are at (r ∷ rows) l fit h = line_is at r.label r.says (units_from labels (at + line_len_of r.says) rows) (omega arith) fit.0 h.0
       (units_are (at + line_len_of r.says) rows (omega arith) fit.1 h.1)
 
--- the units of rows without a fault are those of a program
+-- rows in range, of at most 512 units, give instructions without a fault, each wide load with its second unit
 pub spelled_units : (rows : List Row) → units_in rows ≤ 512 → AreRight rows → AreSound rows → AreUnits true (spelled rows)
 spelled_units rows l fit h = units_are (labels_from 0 rows) (places_within rows l) 0 rows (omega arith) fit h
 
@@ -352,7 +352,7 @@ is_fault OutOfMemory = tt
 pub fault_is : (o : Option AsmFault) (f : AsmFault) → o ≡ Some f → IsFault o f
 fault_is o f e = subst (λ p. IsFault p f) (sym e) (is_fault f)
 
--- a line's own fault is the fault of the text
+-- if f is the fault that the first check finds, then it is the fault of both checks together
 pub line_refused : (o r : Option AsmFault) (f : AsmFault) → IsFault o f → IsFault (or_fault o r) f
 line_refused o r (BadLine n) h = ap (λ p. or_fault p r) h
 line_refused o r (BadLabel n) h = ap (λ p. or_fault p r) h

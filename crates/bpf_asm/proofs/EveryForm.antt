@@ -1,4 +1,4 @@
--- The canonical text of a program spells the program: each form in turn, then whole programs.
+-- The canonical text of a program assembles to the program: each form in turn, then whole programs.
 use Rattle.std.proofs.Common.{◌≡◌, ◌<◌, ◌≤◌, ℕ, zero, suc, List, [], ◌∷◌, Option, Some, None, Bool, true, false, refl, ap, sym, ◌∙◌, subst, arith, rules, w16}
 use Rattle.std.proofs.Common.{w32, FitsSigned, inl, inr}
 use Rattle.std.specs.Prelude.{◌&&◌, ◌||◌, ◌==◌, ◌⊎◌, not, nat_le, cond, ℤ, pos, negsuc, ⊤}
@@ -44,7 +44,7 @@ use Rattle.bpf_asm.specs.Program.{cut, fault_of, assembled_with, assembled, IsFa
 use Rattle.bpf_asm.specs.RoundTrip.{RoundTrip}
 use Rattle.bpf_asm.proofs.ReadBack.{AllSay, spells_again}
 
--- a form that some opcode has
+-- whether an opcode has this form
 abbrev has_opcode : Form → Bool
 has_opcode (form.Arithmetic op w s) = has_form op w s
 has_opcode (form.LoadSigned n) = not (is_double n)
@@ -496,11 +496,11 @@ memory_alone (OutOfRange n) h = absurd (cc)
 memory_alone Length h = absurd (cc)
 memory_alone OutOfMemory h = refl
 
--- a text that spells a program is refused only where memory runs out
+-- a text that assembles to a program can be refused only because memory runs out
 pub only_memory : (text : Text) (code : List ProgramUnit) (f : AsmFault) → assembled text ≡ Ok code → IsFault (fault_of (cut text)) f → f ≡ OutOfMemory
 only_memory text code f e h = memory_alone f (subst (λ o. IsFault o f) (no_fault (cut text) (fault_of (cut text)) code e) h)
 
--- the canonical text of a program spells the program
+-- the canonical text of a program assembles to the program
 pub canon_spells : (code : List ProgramUnit) → IsProgram code → assembled (canon code) ≡ Ok code
 canon_spells code p =
     let count = count_of_units p.0 code p.1 in

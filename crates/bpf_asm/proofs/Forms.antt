@@ -1,4 +1,4 @@
--- The line of each form says the instruction of that form.
+-- The canonical line of an instruction is parsed as this instruction, for each form.
 use Rattle.std.proofs.Common.{◌≡◌, ◌<◌, ◌≤◌, ◌+◌, ◌^◌, ◌*◌, ◌/◌, ◌%◌, ℕ, suc, List, [], ◌∷◌, ◌++◌, length, map, Option, Some, None, Bool, true, false, refl, ap}
 use Rattle.std.proofs.Common.{sym, ◌∙◌, subst, arith, rules, w16, w32, FitsSigned, inl, inr}
 use Rattle.std.specs.Prelude.{codes, ◌&&◌, ◌==◌, ◌⊎◌, ℤ, pos, negsuc, option_map, ⊤}
@@ -125,7 +125,8 @@ register_kind Bits32 n l = narrow_by n (up_to_ten n l)
 
 -- ---- operators and conditions
 
--- a token that is written out, and comes before a blank
+-- before a blank, the text t is split off as one token, which is k; t is also clean, so it neither ends a line nor
+-- begins a comment
 pub record IsWritten (t : Text) (k : Token) : Type 0 where
   pub front : (u : Text) → IsFront t (32 ∷ u)
   pub plain_text : clean t ≡ true
@@ -611,7 +612,7 @@ pub shift_stops : (z : ℤ) (ps : List Piece) → stops continues_word (body (sh
 shift_stops (pos n) ps = refl
 shift_stops (negsuc n) ps = refl
 
--- the text of a SIZE, and its token
+-- the text t of a SIZE is split off as one token between `(` and a blank, and its token is k
 pub record IsSize (t : Text) (k : Token) : Type 0 where
   pub front : (u : Text) → IsFront t (32 ∷ u)
   pub open_front : (u : Text) → IsFront (codes "(") (t ++ u)

@@ -1,4 +1,4 @@
--- The text of pieces is one line, which is cut into the pieces' tokens again.
+-- The text of a list of pieces is one line, and is split into the tokens of these pieces again.
 use Rattle.std.proofs.Common.{◌≡◌, ◌<◌, ◌^◌, ℕ, suc, List, [], ◌∷◌, ◌++◌, length, take, take_all, map, Some, None, Bool, true, false, refl, ap, sym, ◌∙◌}
 use Rattle.std.proofs.Common.{append_assoc, arith}
 use Rattle.std.specs.Prelude.{◌&&◌, ◌||◌, ◌==◌, not, nat_lt, cond, slice_index, ⊤}
@@ -103,7 +103,7 @@ decimal_clean n small = digits_clean (decimal n) (decimal_digits n small)
 
 -- ---- lines of pieces
 
--- each token is taken off the front of what follows it, and is clean
+-- each piece's token is split off in front of the text of the pieces after it, and is clean
 abbrev pub AreGood : List Piece → Type 0
 AreGood [] = ⊤
 AreGood (Next t ∷ ps) = IsFront t (body ps) × (clean t ≡ true) × AreGood ps
@@ -133,7 +133,7 @@ words_are ps g =
     ∙ ap split (take_all (length t) t (omega arith))
     ∙ cut_again ps (good_cut ps g)
 
--- a line of pieces says what its tokens say
+-- the text of the pieces is parsed as the same line as their tokens
 pub line_says : (ps : List Piece) (l : Line) → AreGood ps → line_of (map kind_of (map token_of ps)) ≡ Some l
     → row_of (body ps) ≡ Some (row l (label_of l (map token_of ps)))
 line_says ps l g h = ap row_by (words_are ps g) ∙ ap (λ o. row_with o (map token_of ps)) h

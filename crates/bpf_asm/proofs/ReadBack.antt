@@ -1,4 +1,5 @@
--- The canonical text of a program spells the program, if the line of each of its instructions says the instruction.
+-- If the canonical line of each instruction is parsed as this instruction, then the canonical text of a program
+-- assembles to it.
 use Rattle.std.proofs.Common.{◌≡◌, ◌<◌, ◌≤◌, ◌+◌, ℕ, List, [], ◌∷◌, ◌++◌, length, map, Some, None, Bool, true, false, refl, ap, sym, ◌∙◌, subst, append_assoc}
 use Rattle.std.proofs.Common.{arith, length-append}
 use Rattle.std.specs.Prelude.{◌&&◌, not, Ok, cond, ℤ, is_some, ⊤}
@@ -20,12 +21,12 @@ use Rattle.bpf_asm.specs.Program.{fault_of, assembled_with, assembled, cut}
 use Rattle.bpf_asm.proofs.Again.{body}
 use Rattle.bpf_asm.proofs.LineText.{AreGood, body_clean, cut_clean, line_body, line_says}
 
--- the units of an instruction
+-- the units of an instruction: two of a wide load (true), one of any other
 abbrev pub units_by : Bool → Inst → ℤ → List ProgramUnit
 units_by true i high = First i ∷ Second high ∷ []
 units_by false i high = First i ∷ []
 
--- the line of these pieces says the instruction, which takes one unit or two
+-- the text of these pieces is parsed as the instruction i, its numbers are in range, and it names no label
 pub record SaysOf (ps : List Piece) (wide : Bool) (i : Inst) (high : ℤ) : Type 0 where
   pub says : Statement
   pub good : AreGood ps
@@ -35,7 +36,7 @@ pub record SaysOf (ps : List Piece) (wide : Bool) (i : Inst) (high : ℤ) : Type
   pub len : statement_len says ≡ length (units_by wide i high)
   pub units : (labels : List Definition) (at : ℕ) (name : Text) → statement_units labels at name says ≡ units_by wide i high
 
--- the canonical line of an instruction says the instruction
+-- the canonical line of an instruction is parsed as this instruction
 abbrev pub Says : Form → Inst → ℤ → Type 0
 Says f i high = SaysOf (pieces f i high) (is_wide (Some f)) i high
 
@@ -47,7 +48,7 @@ AllSay false [] = ⊥
 AllSay false (First i ∷ us) = ⊥
 AllSay false (Second v ∷ us) = AllSay true us
 
--- the lines of the text have no fault and no label, and spell these units
+-- the lines of the text have neither faults nor labels, and their units are `us`
 record Back (text : Text) (us : List ProgramUnit) : Type 0 where
   none : (n : ℕ) → first_line_fault n (cut text) ≡ None
   labels : (at : ℕ) → labels_from at (rows_of (cut text)) ≡ []
@@ -124,7 +125,7 @@ all_back false (Second v ∷ us) h = all_back true us h
 good_length : (n : ℕ) → 0 < n → n ≤ 512 → length_fault n ≡ None
 good_length n low high = grind (arith, nat_tests)
 
--- the canonical text of these units spells them
+-- if the line of each instruction is parsed as this instruction, then the canonical text of 1 to 512 units assembles to them
 pub spells_again : (us : List ProgramUnit) → 0 < length us → length us ≤ 512 → AllSay true us → assembled (canon us) ≡ Ok us
 spells_again us some few h =
     let b = all_back true us h in

@@ -1,4 +1,4 @@
--- Definitions: what a fault of the assembler names of its text (this profile).
+-- Definitions: the line or the label that the message of an assembler fault shows (this profile).
 use Rattle.std.specs.Prelude.{◌≡◌, ℕ, ◌-◌, ◌&&◌, nat_eq, Bool, true, false, List, [], ◌∷◌, Option, Some, None, slice_get, unwrap_or, ⊤}
 use Rattle.std.specs.List.{starts_with, ends_with}
 use Rattle.bpf_asm.specs.declared.AsmFault.{AsmFault}
@@ -10,7 +10,7 @@ use Rattle.bpf_asm.specs.declared.grammar.Line.TheVariants as line
 use Rattle.bpf_asm.specs.Lex.{Text}
 use Rattle.bpf_asm.specs.Program.{Row, cut, row, row_of}
 
--- a line by its number, which counts from 1
+-- the line of a text with this number, counted from 1; empty if there is none
 abbrev pub line_at : Text → ℕ → Text
 line_at text number = unwrap_or (slice_get (cut text) (number - 1)) []
 
@@ -26,13 +26,14 @@ ends_with_return text = ends_with nat_eq text (13 ∷ [])
 abbrev pub is_marked : Text → ℕ → Bool
 is_marked text number = nat_eq number 1 && begins_with_mark text
 
--- the line neither defines a label nor names one
+-- the line can't be parsed, or it is empty: it neither defines a label nor names one
 abbrev pub HasNoLabel : Option Row → Type 0
 HasNoLabel None = ⊤
 HasNoLabel (Some r) = r.says ≡ line.Empty
 
--- The flaw explains the fault: it has the text of the line that the fault names, or the label that this line defines, or names in a jump. Of a line
--- without a form it is the mark before it, else the CR at its end, and its text only where there is neither.
+-- The flaw explains the fault. It has the text of the line that the fault names, or the label that this line defines or
+-- jumps to. For a line that can't be parsed it is the byte order mark before the line, else the CR at its end, else its
+-- text.
 abbrev pub Explains : Text → AsmFault → AsmFlaw → Type 0
 Explains text (fault.BadLine number) ByteOrderMark = is_marked text number ≡ true
 Explains text (fault.BadLine number) CarriageReturn = (is_marked text number ≡ false) × (ends_with_return (line_at text number) ≡ true)

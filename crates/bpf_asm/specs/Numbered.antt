@@ -6,13 +6,13 @@ use Rattle.bpf_model.specs.declared.instruction.Unit.TheVariants.{First, Second}
 use Rattle.bpf_model.specs.Reading.{form_of}
 use Rattle.bpf_asm.specs.Text.{instruction_text, high_of}
 
--- the line of the instruction that begins at the first of the units
+-- the line of the instruction that begins at the first of these units; None if none begins there
 abbrev pub front_line : List ProgramUnit → Option (List ℕ)
 front_line [] = None
 front_line (First i ∷ units) = Some (instruction_text (form_of i.opcode) i (high_of units))
 front_line (Second v ∷ units) = None
 
--- the line of the instruction that begins at a unit
+-- the line of the instruction that begins at unit `number`; None if none begins there
 abbrev pub line_of_unit : List ProgramUnit → ℕ → Option (List ℕ)
 line_of_unit units number = front_line (drop number units)
 

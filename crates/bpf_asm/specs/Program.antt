@@ -1,5 +1,5 @@
--- Definitions: the program that a text spells, or the fault of the text. The assembler format is this profile's; its opcodes are
--- those of RFC 9669 sections 4 and 5.
+-- Definitions: the program that a text assembles to, or the fault of the text. The assembler format is this profile's.
+-- Its opcodes are those of RFC 9669 sections 4 and 5.
 use Rattle.std.specs.Prelude.{◌≡◌, ℕ, suc, ◌+◌, ◌*◌, ◌/◌, ◌%◌, ◌^◌, ◌==◌, ◌≤◌, nat_lt, nat_le, Bool, true, false, not, ◌&&◌, ◌||◌, if◌then◌else◌, ℤ, pos, neg_ℤ}
 use Rattle.std.specs.Prelude.{List, [], ◌∷◌, ◌++◌, map, take, Option, Some, None, is_some, Result, Ok, Err, ⊤}
 use lib.IntN.{◌-ℤ◌}
@@ -45,16 +45,16 @@ abbrev pub cut : Text → List Text
 cut [] = []
 cut (b ∷ text) = if b == 10 then [] ∷ cut text else with_byte b (cut text)
 
--- how many bytes come before the LF or the end
+-- the length of a text's first line, without its LF
 abbrev pub line_len : Text → ℕ
 line_len [] = 0
 line_len (b ∷ text) = if b == 10 then 0 else suc (line_len text)
 
--- the texts of a line's tokens; None where a byte isn't ASCII or begins no token
+-- the texts of a line's tokens; None if a byte isn't ASCII or can't begin a token
 abbrev pub words_of : Text → Option (List Text)
 words_of text = if list_all (λ b. nat_lt b 128) text then split (take (code_len text) text) else None
 
--- the first token of a line, and the last one
+-- the text of a line's first token, and of its last one; empty if the line has no tokens
 abbrev pub first_word : List Text → Text
 first_word [] = []
 first_word (word ∷ words) = word
@@ -64,7 +64,8 @@ last_word [] = []
 last_word (word ∷ []) = word
 last_word (word ∷ other ∷ words) = last_word (other ∷ words)
 
--- a parsed line, with the label that it defines, or the last word of an instruction, which is the label of a jump
+-- A parsed line with a label. For the definition of a label it is this label. For an instruction it is the last token,
+-- which for a jump to a label is that label.
 pub record Row : Type 0 where
   pub says : Line
   pub label : Text
@@ -92,7 +93,7 @@ abbrev pub with_row : Option Row → List Row → List Row
 with_row None rows = rows
 with_row (Some r) rows = r ∷ rows
 
--- the parsed lines; a line that has no form of the assembler has no row
+-- the parsed lines; a line that can't be parsed is left out
 abbrev pub rows_of : List Text → List Row
 rows_of [] = []
 rows_of (text ∷ lines) = with_row (row_of text) (rows_of lines)
@@ -123,7 +124,7 @@ line_fits line.Empty = true
 line_fits line.Label = true
 line_fits (line.Statement s) = statement_fits s
 
--- the fault that a line has of its own
+-- the fault of line `number` by itself: that it can't be parsed, or that a number in it is out of range
 abbrev pub row_fault : ℕ → Option Row → Option AsmFault
 row_fault number None = Some (BadLine number)
 row_fault number (Some r) = if line_fits r.says then None else Some (OutOfRange number)
@@ -132,7 +133,7 @@ abbrev pub or_fault : Option AsmFault → Option AsmFault → Option AsmFault
 or_fault (Some f) other = Some f
 or_fault None other = other
 
--- the first fault that a line has of its own; the lines count from `number`
+-- the fault of the first line that can't be parsed or has a number out of range; the lines count from `number`
 abbrev pub first_line_fault : ℕ → List Text → Option AsmFault
 first_line_fault number [] = None
 first_line_fault number (text ∷ lines) = or_fault (row_fault number (row_of text)) (first_line_fault (number + 1) lines)
@@ -251,7 +252,7 @@ defining line.Label name at more = definition name at ∷ more
 defining line.Empty name at more = more
 defining (line.Statement s) name at more = more
 
--- the labels of the rows, in their order, each with the unit that it names
+-- the labels that the rows define, in their order, each with the unit that it names
 abbrev pub labels_from : ℕ → List Row → List Definition
 labels_from at [] = []
 labels_from at (r ∷ rows) = defining r.says r.label at (labels_from (at + line_len_of r.says) rows)
@@ -274,7 +275,7 @@ goes_to_label (Jump f p (Distance v)) = false
 goes_to_label (Plain f p) = false
 goes_to_label (Wide dst n) = false
 
--- a row defines a label that is among `before`, or goes to one that no row defines
+-- whether a row defines a label that is among `before`, or jumps to one that no row defines
 abbrev pub is_wrong : List Definition → List Text → Line → Text → Bool
 is_wrong all before line.Empty name = false
 is_wrong all before line.Label name = is_among before name
@@ -285,7 +286,7 @@ with_name line.Label name names = names ++ name ∷ []
 with_name line.Empty name names = names
 with_name (line.Statement s) name names = names
 
--- the fault of the first line that defines a label again, or goes to one that no line defines
+-- the fault of the first line that defines a label again, or jumps to one that no line defines
 abbrev pub label_fault : List Definition → ℕ → List Text → List Row → Option AsmFault
 label_fault all number before [] = None
 label_fault all number before (r ∷ rows) =
@@ -322,7 +323,7 @@ units_from labels at (r ∷ rows) = line_units labels at r.label r.says ++ units
 abbrev pub length_fault : ℕ → Option AsmFault
 length_fault n = if nat_le 1 n && nat_le n 512 then None else Some Length
 
--- the fault of rows without a fault of their own: the length's, else a label's
+-- the fault of rows in range: that they don't have 1 to 512 units, or else that of the first line with a wrong label
 abbrev pub rows_fault : List Row → Option AsmFault
 rows_fault rows = or_fault (length_fault (units_in rows)) (label_fault (labels_from 0 rows) 1 [] rows)
 
@@ -339,11 +340,11 @@ assembled_with lines None = Ok (spelled (rows_of lines))
 abbrev pub assembled : Text → Result (List ProgramUnit) AsmFault
 assembled text = assembled_with (cut text) (fault_of (cut text))
 
--- the text spells these units
+-- the text assembles to these units
 abbrev pub Spells : Text → List ProgramUnit → Type 0
 Spells text units = assembled text ≡ Ok units
 
--- the fault that was found is this one; out of memory can come whatever was found
+-- the returned fault is the one that was found, or that memory ran out, which can happen for every text
 abbrev pub IsFault : Option AsmFault → AsmFault → Type 0
 IsFault found OutOfMemory = ⊤
 IsFault found (BadLine n) = found ≡ Some (BadLine n)
@@ -351,7 +352,7 @@ IsFault found (BadLabel n) = found ≡ Some (BadLabel n)
 IsFault found (OutOfRange n) = found ≡ Some (OutOfRange n)
 IsFault found Length = found ≡ Some Length
 
--- the fault of the text is this one
+-- the returned fault is that of the text, or that memory ran out
 abbrev pub IsRefused : Text → AsmFault → Type 0
 IsRefused text fault = IsFault (fault_of (cut text)) fault
 
@@ -360,6 +361,6 @@ abbrev pub AreRight : List Row → Type 0
 AreRight [] = ⊤
 AreRight (r ∷ rows) = (line_fits r.says ≡ true) × AreRight rows
 
--- no label names a unit above this one
+-- each label names a unit of at most n
 abbrev pub AreWithin : ℕ → List Definition → Type 0
 AreWithin n labels = (name : Text) → place_of labels name ≤ n

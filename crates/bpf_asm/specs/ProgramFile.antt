@@ -6,7 +6,7 @@ use Rattle.hex.specs.declared.error.FromHexError.{FromHexError}
 use Rattle.bpf_asm.specs.declared.program_file.ProgramFileFault.{ProgramFileFault}
 use Rattle.bpf_asm.specs.declared.program_file.ProgramFileFault.TheVariants.{TooLong, BadDigits, OutOfMemory}
 
--- space, tab, CR, LF
+-- a blank: space, tab, CR or LF
 abbrev pub is_blank : ℕ → Bool
 is_blank b = (b == 32) || (b == 9) || (b == 13) || (b == 10)
 
@@ -14,12 +14,12 @@ abbrev pub bytes_or_fault : Result (List ℕ) FromHexError → Result (List ℕ)
 bytes_or_fault (Ok bytes) = Ok bytes
 bytes_or_fault (Err e) = Err BadDigits
 
--- the bytes that the digits of a text are, blanks skipped
+-- the bytes that the hexadecimal digits of a program file stand for, with blanks skipped; or the fault of the file
 unfoldable pub program_in : List ℕ → Result (List ℕ) ProgramFileFault
 program_in text =
     if nat_le (length text) 65536 then bytes_or_fault (decode_of (filter (λ b. not (is_blank b)) text)) else Err TooLong
 
--- what a function returned, seen by view, is what the definition says, unless memory ran out
+-- a function that returns this fault is right if the definition says `Err` with the same fault, or if memory ran out
 abbrev pub Fails : {B : Type 0} → ProgramFileFault → Result B ProgramFileFault → Type 0
 Fails OutOfMemory said = ⊤
 Fails fault said = said ≡ Err fault
@@ -28,7 +28,7 @@ abbrev pub Gives : {A B : Type 0} → (A → B) → Result A ProgramFileFault �
 Gives view (Ok x) said = said ≡ Ok (view x)
 Gives view (Err fault) said = Fails fault said
 
--- the line of a unit: 16 digits and an LF
+-- the line of a unit: its bytes as 16 hexadecimal digits, and an LF
 abbrev pub line_at : List ℕ → ℕ → List ℕ
 line_at bytes unit = encode_lower (take 8 (drop (8 * unit) bytes)) ++ 10 ∷ []
 

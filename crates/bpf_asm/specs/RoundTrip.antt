@@ -1,10 +1,10 @@
--- Promises: the canonical text of a program is read back.
+-- Promises: the canonical text of a program assembles to the program.
 use Rattle.std.specs.Prelude.{◌≡◌, List}
 use Rattle.bpf_model.specs.declared.instruction.Unit.{Unit as ProgramUnit}
 use Rattle.bpf_decode.specs.Faults.{IsProgram}
 use Rattle.bpf_asm.specs.Program.{Spells}
 use Rattle.bpf_asm.specs.Text.{canon}
 
--- the canonical text of a program spells the program, and nothing else
+-- the canonical text of a program assembles to the program, and to no other
 abbrev pub RoundTrip : Type 0
 RoundTrip = (code : List ProgramUnit) → IsProgram code → Spells (canon code) code × ((other : List ProgramUnit) → Spells (canon code) other → other ≡ code)

@@ -8,7 +8,7 @@ use Rattle.bpf_asm.specs.declared.grammar.Line.{Line}
 use Rattle.bpf_asm.specs.declared.grammar.Line.TheVariants as line
 use Rattle.bpf_asm.specs.Program.{Row, opcode_of, inst_of, int_of, jump_inst}
 
--- the form has an opcode and isn't a wide load, and these are registers
+-- the form is that of an opcode, and not a wide load; d and s are numbers of registers, 0 to 10
 pub record IsOf (f : Form) (d s : ℕ) : Type 0 where
   pub form_is : form_of (opcode_of f) ≡ Some f
   pub narrow : is_wide (Some f) ≡ false
@@ -20,7 +20,7 @@ pub record IsSoundForm (f : Form) (p : Fields) : Type 0 where
   pub fields : has_right_fields f (inst_of f p.dst p.src (int_of p.offset) (int_of p.imm)) ≡ true
   pub registers : has_right_registers f (inst_of f p.dst p.src (int_of p.offset) (int_of p.imm)) ≡ true
 
--- whatever its distance, a jump is an instruction of this profile
+-- with every distance, the jump is an instruction of this profile
 pub record IsJump (f : Form) (p : Fields) : Type 0 where
   pub is_of : IsOf f p.dst p.src
   pub fields : (z : ℤ) → has_right_fields f (jump_inst f p z) ≡ true

@@ -13,11 +13,11 @@ use std::fmt;
 /// A fault of an assembler text, with the line or the label that its message shows.
 #[derive(Clone, Copy)]
 pub enum AsmFlaw<'a> {
-    /// A1 (no form of the assembler) in the first line, as a byte order mark comes before it.
+    /// A1: a byte order mark comes before the first line, which therefore can't be parsed.
     ByteOrderMark,
-    /// A1 (no form of the assembler) in a line with a CR before its LF.
+    /// A1: the line ends with a CR before its LF, and therefore can't be parsed.
     CarriageReturn,
-    /// A1: this line has no form of the assembler.
+    /// A1: this line can't be parsed.
     NoForm(&'a [u8]),
     /// A2: an earlier line defines this label too.
     LabelAgain(&'a [u8]),
@@ -39,7 +39,7 @@ impl fmt::Display for AsmFlaw<'_> {
 }
 
 /// Returns the words before the line or the label that a flaw's message shows, that line or label, and the words after
-/// it. Where the message shows none the line is empty.
+/// it. If the message shows neither a line nor a label, the part in the middle is empty.
 fn parts_of(flaw: AsmFlaw<'_>) -> (&'static str, &[u8], &'static str) {
     match flaw {
         AsmFlaw::ByteOrderMark => ("the text begins with a byte order mark", &[], ""),
@@ -104,8 +104,8 @@ fn has_return(line: &[u8]) -> bool
     line.ends_with(b"\r")
 }
 
-/// Returns the flaw of a line that has no form of the assembler (A1): a byte order mark, a CR at its end, or the line
-/// itself.
+/// Returns the flaw of a line that can't be parsed (A1): a byte order mark before it, else a CR at its end, else its
+/// text.
 fn formless<'a>(alloc: Global, text: &'a [u8], number: u64) -> Result<AsmFlaw<'a>, AllocError>
     ensures { IfOk result (Explains text.now (AsmFault.BadLine number)) }
 {
@@ -140,7 +140,7 @@ fn out_of_range<'a>(alloc: Global, text: &'a [u8], number: u64) -> Result<AsmFla
 }
 
 /// Returns the flaw for a fault of a text, with the line or the label that its message shows. The error is that memory
-/// ran out, now or as the fault itself.
+/// ran out: in this call, or because the fault is `OutOfMemory`.
 pub fn explain<'a>(
     alloc: Global,
     text: &'a [u8],

@@ -276,8 +276,8 @@ fn is_full(width: Width) -> bool
     matches!(width, Width::Bits64)
 }
 
-// The next functions return the instruction for the tokens after `r1 =` (or another register) and one token more, if it
-// has a form that exists for `=` only: a negation, a sign extension, END or a wide load.
+// Parses the tokens after `r1 = -`, which for NEG are the same register again. This function and the next three are for
+// one form each that exists only with `=`: NEG, a sign extension, END and a wide load.
 fn negated(width: Width, dst: u8, tokens: &[Token]) -> Option<Statement>
     ensures { result ≡ spec.only_assigned width dst (Token.Minus ∷ tokens.now) }
 {
@@ -337,7 +337,7 @@ fn wide(n: Option<u64>, width: Width, dst: u8, tokens: &[Token]) -> Option<State
     }
 }
 
-// Returns the instruction `dst = tokens` if it has a form that exists for `=` only: one of these, or a load.
+// Parses the tokens after `r1 =`, if the form exists only with `=`: NEG, a sign extension, END, a wide load or a load.
 fn only_assigned(width: Width, dst: u8, tokens: &[Token]) -> Option<Statement>
     ensures { result ≡ spec.only_assigned width dst tokens.now }
 {
@@ -362,7 +362,8 @@ fn assigned(width: Width, dst: u8, tokens: &[Token]) -> Option<Statement>
     }
 }
 
-// Returns the instruction of a store, if the tokens after the store's address are right.
+// Parses the tokens of a store after its address: `=` and a register or a number. The store's size, base and offset are
+// given.
 fn stored(size: Size, base: u8, offset: Value, tokens: &[Token]) -> Option<Statement>
     ensures { result ≡ spec.stored size base offset tokens.now }
 {
@@ -530,7 +531,7 @@ fn exit(tokens: &[Token]) -> Option<Statement>
     }
 }
 
-/// Returns the instruction that the tokens of a line mean; `None` if they have no form of the assembler.
+/// Returns the instruction that the tokens of a line mean; `None` if they can't be parsed as one.
 pub fn statement_of(tokens: &[Token]) -> Option<Statement>
     ensures { result ≡ spec.statement tokens.now }
 {
@@ -547,7 +548,7 @@ pub fn statement_of(tokens: &[Token]) -> Option<Statement>
     }
 }
 
-/// Parses the tokens of a line; `None` if they have no form of the assembler.
+/// Parses the tokens of a line; `None` if they are neither empty nor a label's definition nor an instruction.
 pub fn line_of(tokens: &[Token]) -> Option<Line>
     ensures { result ≡ spec.line_of tokens.now }
 {

@@ -1,5 +1,5 @@
-// Labels, and the units that they name. A row is a parsed line with a name: the label that the line defines, or the
-// last word of an instruction, which for a jump is the label of its target.
+// Labels, and the units that they name. A row is a parsed line with a name. The name is the label that the line
+// defines, or the last word of an instruction, which for a jump is the label of its target.
 
 ghost use Rattle.std.specs.Prelude.{◌≡◌, ◌≤◌, ◌++◌, [], ℕ, List, map, IfOk, OnOk, Some, is_some};
 ghost use Rattle.bpf_asm.specs.Program as spec;

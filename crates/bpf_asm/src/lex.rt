@@ -180,7 +180,7 @@ pub fn code_len(line: &[u8]) -> usize
     at
 }
 
-/// Returns the texts of a line's tokens; `None` if there is a byte that is no blank and begins no token.
+/// Returns the texts of a line's tokens; `None` if a byte that isn't blank can't begin a token.
 pub fn split<'a>(alloc: Global, text: &'a [u8]) -> Result<Option<Vec<&'a [u8]>>, AllocError>
     ensures { IfOk result (λ found. option_map (λ v. map (λ t. t.now) v.items) found ≡ spec.split text.now) }
 {

@@ -17,10 +17,10 @@ use grammar::Line;
 use std::alloc::{AllocError, Global};
 use std::fmt::Write;
 
-/// Why a text is no program. The number is that of a line, counted from 1. `explain` finds the words for it.
+/// Why a text can't be assembled. The number is that of a line, counted from 1. `explain` finds what its message shows.
 #[derive(Clone, Copy)]
 pub enum AsmFault {
-    /// A1: the line has none of the assembler's forms.
+    /// A1: the line can't be parsed.
     BadLine(u64),
     /// A2: the line defines a label again, or jumps to one that no line defines.
     BadLabel(u64),
@@ -128,8 +128,8 @@ fn is_length(count: u64) -> bool
     1 <= count && count <= 512
 }
 
-// Returns the program of parsed lines that have no fault of their own. The error is that it doesn't have 1 to 512
-// units, else the first wrong label, or that memory ran out.
+// Returns the program of parsed lines whose numbers are in range. The error is that it doesn't have 1 to 512 units,
+// else the first wrong label, or that memory ran out.
 fn assemble_rows(alloc: Global, rows: &[(Line, &[u8])]) -> Result<Code, AsmFault>
     requires fits { spec.AreRight (map (λ p. spec.row p.0 p.1.now) rows.now) }
     requires sound { AreSound (map (λ p. spec.row p.0 p.1.now) rows.now) }
@@ -157,8 +157,8 @@ fn assemble_rows(alloc: Global, rows: &[(Line, &[u8])]) -> Result<Code, AsmFault
     Ok(Code::from_units(units))
 }
 
-/// Assembles a text. The error is the fault of the first line that has one of its own, else that the program doesn't
-/// have 1 to 512 units, else the first wrong label; or that memory ran out.
+/// Assembles a text. The error is the fault of the first line that can't be parsed or has a number out of range. Else
+/// it is that the program doesn't have 1 to 512 units, else the first wrong label. It can also be that memory ran out.
 pub fn assemble(alloc: Global, text: &[u8]) -> Result<Code, AsmFault>
     ensures ok { IfOk result (λ code. spec.Spells text.now code) }
     ensures refused { IfErr result (λ fault. spec.IsRefused text.now fault) }

@@ -58,7 +58,7 @@ fn label_of<'a>(line: Line, words: &[&'a [u8]]) -> &'a [u8]
     }
 }
 
-// Returns the parsed line with its label; `None` if the tokens have no form of the assembler.
+// Parses the tokens of a line, and returns it with its label; `None` if they can't be parsed.
 fn row_with<'a>(tokens: &[Token], words: &[&'a [u8]]) -> Option<(Line, &'a [u8])>
     ensures { option_map (λ p. spec.row p.0 p.1.now) result
         ≡ spec.row_with (line_said tokens.now) (map (λ t. t.now) words.now) }
@@ -67,7 +67,7 @@ fn row_with<'a>(tokens: &[Token], words: &[&'a [u8]]) -> Option<(Line, &'a [u8])
     Some((says, label_of(says, words)))
 }
 
-// Parses the words of a line, and returns it with its label; `None` if they have no form of the assembler.
+// Parses the words of a line, and returns it with its label; `None` if they can't be parsed.
 fn row_by<'a>(alloc: Global, words: &[&'a [u8]]) -> Result<Option<(Line, &'a [u8])>, AllocError>
     ensures { IfOk result (λ found. option_map (λ p. spec.row p.0 p.1.now) found
         ≡ spec.row_by (Some (map (λ t. t.now) words.now))) }
@@ -76,8 +76,8 @@ fn row_by<'a>(alloc: Global, words: &[&'a [u8]]) -> Result<Option<(Line, &'a [u8
     Ok(row_with(tokens.as_slice(), words))
 }
 
-/// Parses a line, and returns it with its label: the one that it defines, or for an instruction its last word, which is
-/// the label of a jump. Returns `None` if the line has no form of the assembler.
+/// Parses a line, and returns it with its label. That is the label that the line defines, or for an instruction its
+/// last word, which for a jump is the label of its target. Returns `None` if the line can't be parsed.
 pub fn row_of<'a>(alloc: Global, line: &'a [u8]) -> Result<Option<(Line, &'a [u8])>, AllocError>
     ensures { IfOk result (λ found. option_map (λ p. spec.row p.0 p.1.now) found ≡ spec.row_of line.now) }
 {
@@ -166,8 +166,8 @@ pub fn cut<'a>(alloc: Global, text: &'a [u8]) -> Result<Vec<&'a [u8]>, AllocErro
     Ok(lines)
 }
 
-/// Parses line `number`, and returns it with its label. The error is the line's own fault (A1 or A3), or that memory
-/// ran out.
+/// Parses line `number`, and returns it with its label. The error is that it can't be parsed (A1), that a number in it
+/// is out of range (A3), or that memory ran out.
 fn row_at<'a>(alloc: Global, number: u64, line: &'a [u8]) -> Result<(Line, &'a [u8]), AsmFault>
     ensures ok { IfOk result (λ p. spec.row_of line.now ≡ Some (spec.row p.0 p.1.now)) }
     ensures none { IfOk result (λ p. spec.row_fault number (spec.row_of line.now) ≡ None) }
@@ -186,8 +186,8 @@ fn row_at<'a>(alloc: Global, number: u64, line: &'a [u8]) -> Result<(Line, &'a [
     }
 }
 
-/// Parses all lines, and returns each with its label. The error is the fault of the first line that has one of its own
-/// (A1 or A3), or that memory ran out.
+/// Parses all lines, and returns each with its label. The error is the fault of the first line that can't be parsed
+/// (A1) or has a number out of range (A3). It can also be that memory ran out.
 pub fn rows_of<'a>(alloc: Global, lines: &[&'a [u8]]) -> Result<Vec<(Line, &'a [u8])>, AsmFault>
     ensures ok { IfOk result
         (λ v. map (λ p. spec.row p.0 p.1.now) v.items ≡ spec.rows_of (map (λ t. t.now) lines.now)) }

@@ -16,7 +16,7 @@ pub enum ProgramFileFault {
     /// L1: the file is too long.
     #[error("over 65,536 bytes")]
     TooLong,
-    /// H1: a byte is no hexadecimal digit and no blank, or the number of digits is odd.
+    /// H1: a byte is neither a hexadecimal digit nor a blank, or the number of digits is odd.
     #[error("another byte than hexadecimal digits and blanks, or an odd count of digits")]
     BadDigits,
     #[error("out of memory")]
@@ -40,7 +40,7 @@ fn is_a_blank(byte: u8) -> bool
     byte == b' ' || byte == b'\t' || byte == b'\r' || byte == b'\n'
 }
 
-/// Returns the bytes of a text that are no blanks.
+/// Returns the bytes of a text that aren't blanks.
 fn without_blanks(alloc: Global, text: &[u8]) -> Result<Vec<u8>, AllocError>
     ensures { IfOk result (λ kept. kept.items ≡ filter (λ b. not (is_blank b)) text.now) }
 {

@@ -159,8 +159,8 @@ fn write_operand(
     }
 }
 
-// The next functions append what comes after the symbol of an operator, and the end of the line. NEG and END have one
-// register, and MOV can extend a sign.
+// Appends what follows the `=` of END, as in ` le16 r1`, and the end of the line. This function and the next four each
+// append what follows the symbol of an operator.
 fn write_swapped(
     out: &mut String,
     width: Width,
@@ -216,7 +216,7 @@ fn write_moved(out: &mut String, width: Width, source: Source, inst: Inst) -> Re
     }
 }
 
-// The same for any operator but NEG, END and MOV.
+// Appends the second operand and the end of the line, for all operators except NEG, END and MOV.
 fn write_second(
     out: &mut String,
     operator: Operator,
@@ -314,7 +314,7 @@ fn write_place(out: &mut String, size: &str, base: u8, offset: i16) -> Result<()
     out.push_str(")")
 }
 
-// Appends the line of a load of a size that has this name.
+// Appends the line of a load. `size` is the name of its size, such as `u8`.
 fn write_load(out: &mut String, size: &str, inst: Inst) -> Result<(), AllocError>
     ensures { OnOk result (string_bytes out.new ≡ string_bytes out.old
         ++ line_text (Next (register_text Width.Bits64 inst.dst) ∷ After (codes "=") ∷ After (codes "*")

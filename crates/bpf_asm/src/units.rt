@@ -116,7 +116,7 @@ pub fn opcode_of(form: Form) -> u8
     }
 }
 
-/// Returns a value as a 32-bit number. It must be in the range of one.
+/// Returns a value as a 32-bit number. The value must be from -2^31 to 2^31 - 1.
 pub fn int_of(value: Value) -> i32
     requires { spec.fits (2 ^ 31) value ≡ true }
     ensures { result ≡ spec.int_of value }
@@ -133,7 +133,7 @@ pub fn int_of(value: Value) -> i32
     }
 }
 
-/// Returns a value as a 16-bit number. It must be in the range of one.
+/// Returns a value as a 16-bit number. The value must be from -2^15 to 2^15 - 1.
 fn short_of(value: Value) -> i16
     requires { spec.fits (2 ^ 15) value ≡ true }
     ensures { result ≡ spec.int_of value }

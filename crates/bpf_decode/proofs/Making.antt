@@ -1,4 +1,4 @@
--- Units that are sound one by one are a program: their bytes are read as these units.
+-- Instructions without a fault, each wide load with its second unit, are a program: their bytes are decoded as these units.
 use Rattle.std.proofs.Common.{◌≡◌, ℕ, zero, suc, ◌+◌, ◌*◌, ◌<◌, ◌≤◌, List, [], ◌∷◌, ◌++◌, Option, Some, None, Bool, true, false, refl, sym, ap, ◌∙◌, subst}
 use Rattle.std.proofs.Common.{arith, length, drop, append_assoc, w16, w32, FitsSigned}
 use Rattle.std.specs.Prelude.{◌/◌, ◌%◌, ◌==◌, ◌&&◌, not, cond, slice_index, ℤ}
@@ -41,7 +41,7 @@ small_offset z h = let f = Fits-of_z {w = w16} {z = z} h in omega (arith, f)
 small_imm : (z : ℤ) → FitsSigned w32 z → cast_unsigned w32 z < 4294967296
 small_imm z h = let f = Fits-of_z {w = w32} {z = z} h in omega (arith, f)
 
--- ---- a unit is read from its bytes
+-- ---- decoding one encoded unit
 
 module _ (bytes : List ℕ) (pc : ℕ) where
   index : (us : List ℕ) (k m : ℕ) → drop (8 * pc) bytes ≡ us → 8 * pc + k ≡ m → slice_index bytes m ≡ slice_index us k
@@ -81,7 +81,7 @@ module _ (bytes : List ℕ) (pc : ℕ) where
   zero_bytes : (v : ℤ) (rest : List ℕ) → drop (8 * pc) bytes ≡ unit_bytes (Second v) ++ rest → second_fault bytes pc ≡ None
   zero_bytes v rest h = ap (λ l. cond (little_number 4 l == 0) None (Some Field)) h
 
--- ---- no unit is at fault
+-- ---- units without a fault
 
 two_tests : (a b : Bool) (o : Option UnitFault) → cond (not a) (Some Field) (cond (not b) (Some BadRegister) o) ≡ None → (a ≡ true) × (b ≡ true) × (o ≡ None)
 two_tests true true o e = (refl, refl, e)
@@ -106,7 +106,7 @@ passes true true o e f g = g
 passes true false o e f g = absurd (cc)
 passes false b o e f g = absurd (cc)
 
--- a first unit that is sound before other units is also sound as the last one, unless it begins a wide load
+-- an instruction that has no fault before other units has none as the program's last unit, unless it is a wide load
 sound_at : (o : Option Form) (i : Inst) (last : Bool) → first_fault o i false ≡ None → (is_wide o ≡ true → last ≡ false) → first_fault o i last ≡ None
 sound_at o i false e w = e
 sound_at None i true e w = absurd (cc)
@@ -125,7 +125,8 @@ more_units true us e h = absurd (cc)
 more_units false us e h = some_next us h
 
 module _ (bytes : List ℕ) (n : ℕ) (whole : length bytes ≡ 8 * n) where
-  -- what stays true with one more unit
+  -- The first pc units are decoded as `front`, without a fault, and the units of `back` are encoded in the bytes after
+  -- them. `first` says whether an instruction begins at unit pc.
   record Kept (pc : ℕ) (first : Bool) (front back : List ProgramUnit) : Type 0 where
     rest : drop (8 * pc) bytes ≡ encoded back
     place : begins bytes pc ≡ first
@@ -203,7 +204,7 @@ module _ (bytes : List ℕ) (n : ℕ) (whole : length bytes ≡ 8 * n) where
       (one_more pc false true front us (Second v) k (second_sound pc v front us k h.0) (second_read pc v front us k h.0) refl) in
       (r.0, r.1 ∙ append_assoc front (Second v ∷ []) us)
 
--- ---- the bytes
+-- ---- the bytes of a list of units
 
 length_encoded : (us : List ProgramUnit) → length (encoded us) ≡ 8 * length us
 length_encoded [] = refl
@@ -247,7 +248,7 @@ are_bytes true (Second v ∷ us) h = absurd h
 are_bytes false (First i ∷ us) h = absurd h
 are_bytes false (Second v ∷ us) h = both_bytes (unit_bytes (Second v)) (encoded us) (second_bytes v) (are_bytes true us h.1)
 
--- sound units, 1 to 512, are a program
+-- 1 to 512 instructions without a fault, each wide load with its second unit, are a program
 pub program_of_units : (us : List ProgramUnit) → AreUnits true us → 0 < length us → length us ≤ 512 → IsProgram us
 program_of_units us h some few =
     let bytes = encoded us in
@@ -260,7 +261,7 @@ program_of_units us h some few =
       are_bytes true us h,
     )
 
--- ---- the converse: a program's units are sound one by one
+-- ---- the converse: the units of a program are instructions without a fault
 
 half_false : (f : Form) → half_wide f false ≡ None
 half_false Wide = refl
@@ -372,7 +373,7 @@ module _ (bytes : List ℕ) (small : AreBytes bytes) where
             (λ k m x g e. unit (suc k) m x g (omega arith)) (λ e. absurd (cc)),
       )
 
--- a program's units are sound one by one
+-- the units of a program are instructions without a fault, each wide load with its second unit
 pub units_of_program : (us : List ProgramUnit) → IsProgram us → AreUnits true us
 units_of_program us p =
     let long = length_of_units p.0 us p.1 in

@@ -6,7 +6,7 @@ use Rattle.bpf_model.specs.declared.instruction.Unit.{Unit as ProgramUnit}
 use Rattle.bpf_model.specs.declared.instruction.Unit.TheVariants.{First, Second}
 use Rattle.bpf_model.specs.Reading.{form_of, first_fault, is_wide}
 
--- an instruction without a fault of its own, whose fields fit their bits
+-- each field of the instruction fits its bits, and the instruction has no fault if another unit follows
 pub record IsInstruction (i : Inst) : Type 0 where
   pub opcode : i.opcode < 256
   pub dst : i.dst < 16
@@ -15,8 +15,8 @@ pub record IsInstruction (i : Inst) : Type 0 where
   pub imm : FitsSigned w32 i.imm
   pub sound : first_fault (form_of i.opcode) i false ≡ None
 
--- the list is instructions one after the other, each wide load with its second unit; `first` says that an instruction begins
--- here, true, or that a wide load's second unit comes, false
+-- The units are instructions without a fault, each wide load followed by its second unit. The list begins with an
+-- instruction if the Bool is true, and with a wide load's second unit if it is false.
 abbrev pub AreUnits : Bool → List ProgramUnit → Type 0
 AreUnits true [] = ⊤
 AreUnits true (First i ∷ us) = IsInstruction i × AreUnits (not (is_wide (form_of i.opcode))) us

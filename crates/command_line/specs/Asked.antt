@@ -1,4 +1,5 @@
--- Definitions: what words ask for, as `clap` reads them. The first word is the program's name.
+-- Definitions: the job that a command line asks for once `clap` has parsed it. Its first argument is the program's
+-- name.
 use Rattle.std.specs.Prelude.{◌≡◌, ◌≢◌, ◌⊎◌, ◌<◌, ◌^◌, ℕ, List, [], ◌∷◌, codes, Bool, true, false, Option, Some, None, option_and_then, option_map}
 use Rattle.std.specs.Prelude.{if◌then◌else◌, ◌++◌, string_bytes, pos}
 use Rattle.std.specs.Option.{option_map_or}
@@ -21,13 +22,13 @@ use Rattle.command_line.specs.declared.job.Job.TheVariants as job
 use Rattle.command_line.specs.declared.job.CommandFault.{CommandFault}
 use Rattle.command_line.specs.declared.job.CommandFault.TheVariants as refusal
 
--- ---- the words that the program takes
+-- ---- arguments of the program
 
--- a file that is wanted
+-- a file that must be given
 abbrev pub file_rule : Text → Rule
 file_rule name = record (new_rule name) { required = true }
 
--- KIND, a word that says which rows are wanted
+-- KIND, the argument that says which rows are to be printed
 abbrev pub kind_rule : Rule
 kind_rule = record (new_rule (codes "kind")) { required = true }
 
@@ -89,14 +90,15 @@ serve_app = with_rule (with_rule (of_file (codes "serve") (codes "config")) jour
 abbrev pub top_app : App
 top_app = record (new_app (codes "fc")) { top = record (new_app (codes "fc")).top { has_version = true } }
 
--- asm FILE, dis [--units] FILE, verify [--counters MASK] [--context LAYOUT] FILE, play CONFIG SCRIPT,
--- audit CONFIG JOURNAL, report CONFIG JOURNAL, export [--json] KIND CONFIG JOURNAL, serve [--journal FILE [--sync]] CONFIG
+-- All subcommands: asm FILE, dis [--units] FILE, verify [--counters MASK] [--context LAYOUT] FILE, play CONFIG SCRIPT,
+-- audit CONFIG JOURNAL, report CONFIG JOURNAL, export [--json] KIND CONFIG JOURNAL, and serve [--journal FILE [--sync]]
+-- CONFIG.
 abbrev pub fc_app : App
 fc_app =
     with_subcommand (with_subcommand (with_subcommand (with_subcommand (with_subcommand (with_subcommand (with_subcommand (with_subcommand top_app
     asm_app.top) dis_app.top) verify_app.top) play_app.top) audit_app.top) report_app.top) export_app.top) serve_app.top
 
--- ---- what they ask for
+-- ---- jobs
 
 pub data Asked : Type 0 where
   nothing : Asked
@@ -119,18 +121,18 @@ abbrev pub files_in : Text → Text → (Text → Text → Asked) → List Row �
 files_in first second ask rows =
     option_and_then (λ (a : Text). option_map (ask a) (first_of second rows)) (first_of first rows)
 
--- an option without a value is given
+-- whether an option without a value, such as --units, is given
 abbrev pub is_set : Text → List Row → Bool
 is_set id rows = option_map_or (λ (t : Text). bytes_eq t (codes "true")) (first_of id rows) false
 
 abbrev pub dis_in : List Row → Option Asked
 dis_in rows = file_in (codes "file") (if is_set (codes "units") rows then dis_units else dis) rows
 
--- the number of a mask
+-- the number that --counters gives
 abbrev pub mask_in : List Row → Option ℕ
 mask_in rows = option_map (λ (t : Text). digits_value 10 (without_leading_plus t)) (one_of (codes "counters") rows)
 
--- the layout that a text names
+-- the layout that a text names; None for a text that isn't 1 or 2
 abbrev pub layout_named : Text → Option Layout
 layout_named t =
     if bytes_eq t (codes "1") then Some layouts.One else if bytes_eq t (codes "2") then Some layouts.Two else None
@@ -143,7 +145,7 @@ verify_in rows =
     option_and_then (λ (n : ℕ). option_and_then (λ (layout : Layout). option_map (verify n layout) (first_of (codes "file") rows))
     (layout_in rows)) (mask_in rows)
 
--- the rows that a text names
+-- the kind of rows that a text names; None for any other text
 abbrev pub rows_named : Text → Option Rows
 rows_named t =
     if bytes_eq t (codes "sales") then Some kinds.Sales
@@ -154,7 +156,7 @@ rows_named t =
 abbrev pub kind_in : List Row → Option Rows
 kind_in rows = option_and_then rows_named (first_of (codes "kind") rows)
 
--- lines of JSON where --json is given, and else CSV
+-- the form of the rows: lines of JSON if --json is given, else CSV
 abbrev pub format_in : List Row → Format
 format_in rows = if is_set (codes "json") rows then formats.Json else formats.Csv
 
@@ -162,7 +164,8 @@ abbrev pub export_in : List Row → Option Asked
 export_in rows =
     option_and_then (λ (kind : Rows). files_in (codes "config") (codes "journal") (export kind (format_in rows)) rows) (kind_in rows)
 
--- a site to serve, and the file that keeps its journal where one is named; what isn't kept can't be synced
+-- What `serve` asks for, by whether --sync is given, and by the file of --journal. --sync without --journal asks for
+-- nothing.
 abbrev pub serve_by : Bool → Option Text → Text → Option Asked
 serve_by false None config = Some (serve config)
 serve_by false (Some journal) config = Some (serve_kept config journal)
@@ -173,7 +176,7 @@ abbrev pub serve_in : List Row → Option Asked
 serve_in rows =
     option_and_then (serve_by (is_set (codes "sync") rows) (first_of (codes "journal") rows)) (first_of (codes "config") rows)
 
--- what a subcommand's name and values ask for
+-- what a subcommand asks for, by its name and its values
 abbrev pub asked_by : Text → List Row → Option Asked
 asked_by name rows =
     if bytes_eq name (codes "asm") then file_in (codes "file") asm rows
@@ -190,7 +193,7 @@ abbrev pub asked_of : Option (Text × List Row) → Option Asked
 asked_of None = Some nothing
 asked_of (Some p) = asked_by p.0 p.1
 
--- A job is what is asked; a text that is shown asks for no job.
+-- What a job is a request for. The help or the version is a text to show, and counts as a request for nothing.
 abbrev pub asked : Job → Option Asked
 asked job.NoWords = Some nothing
 asked (job.Asm file) = Some (asm (string_bytes file))
@@ -206,27 +209,27 @@ asked (job.ServeKept config journal) = Some (serve_kept (string_bytes config) (s
 asked (job.ServeSynced config journal) = Some (serve_synced (string_bytes config) (string_bytes journal))
 asked (job.Show text) = None
 
--- ---- what is refused
+-- ---- refusals
 
--- help or the version
+-- an error of `clap` that prints the help or the version
 abbrev pub IsShown : ErrorKind → Type 0
 IsShown k = (k ≡ kind.DisplayHelp) ⊎ (k ≡ kind.DisplayVersion)
 
--- Help or the version is among what `clap` may answer to the words.
+-- the help or the version is among the errors that `clap` may return for the arguments
 abbrev pub MayShow : Kinds → Type 0
 MayShow kinds = (k : ErrorKind) × IsAmong k kinds × IsShown k
 
--- Among what `clap` may answer is an error other than help, the version and out of memory.
+-- among the errors that `clap` may return is one that isn't the help, the version or out of memory
 abbrev pub MayRefuse : Kinds → Type 0
 MayRefuse kinds = (k : ErrorKind) × IsAmong k kinds × ¬ IsShown k × (k ≢ kind.OutOfMemory)
 
--- the mask is a text that spells no number of 32 bits
+-- the value of --counters isn't the text of a number from 0 to 2^32 - 1
 abbrev pub HasNoMask : List Row → Type 0
 HasNoMask rows =
     (t : Text) × (one_of (codes "counters") rows ≡ Some t)
     × ¬ (IsNumeral 10 (without_leading_plus t) × (digits_value 10 (without_leading_plus t) < 2 ^ 32))
 
--- what was read asks for nothing
+-- a parsed command line asks for nothing, or its --counters isn't the text of a number from 0 to 2^32 - 1
 abbrev pub IsNothing : Option (Text × List Row) → Type 0
 IsNothing found = (asked_of found ≡ None) ⊎ ((p : Text × List Row) × (found ≡ Some p) × HasNoMask p.1)
 
@@ -245,7 +248,8 @@ abbrev pub unasked_text : Option (Text × List Row) → Text
 unasked_text None = unasked_by []
 unasked_text (Some p) = unasked_by p.0
 
--- A usage is returned only where `clap` may refuse the words, or where what it read of them asks for nothing and the usage says so.
+-- A usage message is returned only in two cases. Either `clap` may refuse the arguments. Or it accepts them but they
+-- ask for nothing, and the message is the one for that.
 abbrev pub RefusesBy : Kinds → Option (Text × List Row) → CommandFault → Type 0
 RefusesBy kinds found (refusal.Usage text) = MayRefuse kinds ⊎ (IsNothing found × (string_bytes text ≡ unasked_text found))
 RefusesBy kinds found refusal.OutOfMemory = Unit {0}

@@ -1,4 +1,4 @@
--- Promises: what a table of subcommands describes.
+-- Promises: the commands that a table of subcommands describes to `clap`.
 use Rattle.std.specs.Prelude.{List, [], ◌∷◌, Some}
 use Rattle.clap.specs.Words.{App, Rule, Text, new_app, new_rule, with_rule, with_subcommand}
 use Rattle.command_line.specs.Asked.{context_rule, file_rule, flag_rule, journal_rule, kind_rule, mask_rule}
@@ -6,7 +6,7 @@ use Rattle.command_line.specs.declared.app.Argument.{Argument}
 use Rattle.command_line.specs.declared.app.Argument.TheVariants as argument
 use Rattle.command_line.specs.declared.app.Word.{Word}
 
--- --NAME VALUE
+-- an option --NAME VALUE
 abbrev pub option_rule : Text → Rule
 option_rule name = record (new_rule name) { long = Some name; value_names = 1 }
 
@@ -18,7 +18,7 @@ rule_for argument.Context = context_rule
 rule_for argument.Journal = journal_rule
 rule_for (argument.Flag name help) = flag_rule name.now
 
--- a command with these arguments more
+-- adds these arguments to a command, in their order
 abbrev pub with_rules : App → List Argument → App
 with_rules a [] = a
 with_rules a (x ∷ xs) = with_rules (with_rule a (rule_for x)) xs
@@ -26,7 +26,7 @@ with_rules a (x ∷ xs) = with_rules (with_rule a (rule_for x)) xs
 abbrev pub app_for : Word → App
 app_for word = with_rules (new_app word.name.now) word.arguments.now
 
--- a command with these subcommands more
+-- adds these subcommands to a command, in their order
 abbrev pub with_words : App → List Word → App
 with_words a [] = a
 with_words a (word ∷ words) = with_words (with_subcommand a (app_for word).top) words

@@ -1,4 +1,4 @@
--- Promises: why no job was found.
+-- Promises: why a command line has no job.
 use Rattle.std.specs.Prelude.{◌≡◌, ◌≢◌, ◌⊎◌, ℕ, List, Option, Some, None, IsSome, Result, Ok, IsErr, String, string_bytes}
 use Rattle.std.specs.Global.{Global}
 use Rattle.std.specs.declared.alloc.AllocError.{AllocError}
@@ -10,18 +10,18 @@ use Rattle.command_line.specs.declared.job.Job.{Job}
 use Rattle.command_line.specs.declared.job.CommandFault.{CommandFault}
 use Rattle.command_line.specs.declared.job.CommandFault.TheVariants as refusal
 
--- the number of the mask was read
+-- the result is the number that --counters gives; None only if it gives none
 abbrev pub ReadsMask : List Row → Option ℕ → Type 0
 ReadsMask rows (Some n) = mask_in rows ≡ Some n
 ReadsMask rows None = (mask_in rows ≡ None) ⊎ HasNoMask rows
 
--- two files were found, whatever they are asked for
+-- the result is the two files that were found; whatever job they are for, the rows ask for it with these files
 abbrev pub FindsFiles : Text → Text → List Row → Option (String Global × String Global) → Type 0
 FindsFiles first second rows (Some p) =
     (ask : Text → Text → Asked) → files_in first second ask rows ≡ Some (ask (string_bytes p.0) (string_bytes p.1))
 FindsFiles first second rows None = (ask : Text → Text → Asked) → files_in first second ask rows ≡ None
 
--- what was found is what a subcommand's values ask for
+-- the result is the job that a subcommand's values ask for; None only if they ask for nothing or --counters is no mask
 abbrev pub Finds : Text → List Row → Option Job → Type 0
 Finds name rows (Some job) = (asked_by name rows ≡ asked job) × IsSome (asked job)
 Finds name rows None = (asked_by name rows ≡ None) ⊎ HasNoMask rows
@@ -30,13 +30,13 @@ abbrev pub FindsIn : Option (Text × List Row) → Option Job → Type 0
 FindsIn found (Some job) = (asked_of found ≡ asked job) × IsSome (asked job)
 FindsIn found None = IsNothing found
 
--- a usage is returned only where nothing is asked for, and says so
+-- a usage message is returned only if the command line asks for nothing, and is the message for that
 abbrev pub IsUnasked : Option (Text × List Row) → CommandFault → Type 0
 IsUnasked found (refusal.Usage text) = IsNothing found × (string_bytes text ≡ unasked_text found)
 IsUnasked found refusal.OutOfMemory = Unit {0}
 
--- A usage is the text that was made of an error which is neither help nor the version nor out of memory. Out of memory is returned
--- where the error is that, or no text could be made.
+-- A usage message is the text of an error that isn't the help, the version or out of memory. Out of memory is returned
+-- if that is the error, or if its text couldn't be made.
 abbrev pub IsRefusalOf : ErrorKind → Result (String Global) AllocError → CommandFault → Type 0
 IsRefusalOf k made (refusal.Usage text) = (¬ IsShown k) × (k ≢ kind.OutOfMemory) × (made ≡ Ok text)
 IsRefusalOf k made refusal.OutOfMemory = (k ≡ kind.OutOfMemory) ⊎ IsErr made

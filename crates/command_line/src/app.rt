@@ -15,7 +15,7 @@ use std::alloc::{AllocError, Global};
 enum Argument {
     /// A file that must be given: its name, and its help text.
     File(&'static str, &'static str),
-    /// The word that says which rows are wanted.
+    /// The argument that says which rows `export` prints.
     Kind,
     /// The option `--counters MASK`.
     Mask,
@@ -44,7 +44,7 @@ fn file_arg<'a>(alloc: Global, name: &'a str, help: &'a str) -> Arg<'a>
     Arg::new(alloc, name).help(help).required(true)
 }
 
-/// Makes the argument for the word that says which rows are wanted.
+/// Makes the argument that says which rows `export` prints.
 fn kind_arg<'a>(alloc: Global) -> Arg<'a>
     ensures rule { rule_of result ≡ kind_rule }
     ensures local { result.global ≡ false }

@@ -1,4 +1,4 @@
-//! The jobs that a command line can ask for.
+//! The jobs that the program can do.
 ghost use Rattle.std.specs.Prelude.{◌≡◌};
 
 use bpf_model::context::Layout;
@@ -23,11 +23,11 @@ pub enum Format {
     Json,
 }
 
-/// The job that a command line asks for. Each `String` is the name of a file, as the command line has it, except the
-/// one of `Show`.
+/// The job that a command line asks for. Each `String` is the name of a file, as it was given. Only the `String` of
+/// `Show` is a text to print.
 #[derive(Drop)]
 pub enum Job {
-    /// No argument was given: play a script from standard input, where the configuration comes before it.
+    /// No argument was given: play a configuration and then a script, both read from standard input.
     NoWords,
     /// Print the units of an assembler text.
     Asm(String),
@@ -41,7 +41,7 @@ pub enum Job {
         context: Layout,
         file: String,
     },
-    /// Answer the lines of a script, from a new site of this configuration.
+    /// Answer the lines of a script, with a new site of this configuration.
     Play {
         config: String,
         script: String,
@@ -56,7 +56,7 @@ pub enum Job {
         config: String,
         journal: String,
     },
-    /// Audit a journal against a configuration, and print rows of its day.
+    /// Audit a journal against a configuration, and print the rows of its sales, decisions or entries.
     Export {
         rows: Rows,
         format: Format,
@@ -70,7 +70,7 @@ pub enum Job {
         config: String,
         journal: String,
     },
-    /// Serve a site like `ServeKept`, and send no answer before its line in the journal is synced.
+    /// Serve a site like `ServeKept`, and send an answer only after its line in the journal is synced.
     ServeSynced {
         config: String,
         journal: String,
@@ -79,7 +79,7 @@ pub enum Job {
     Show(String),
 }
 
-/// Why a command line asks for no job.
+/// Why a command line gives no job.
 #[derive(Drop)]
 pub enum CommandFault {
     /// The command line isn't valid. The text is the message for the user.

@@ -1,4 +1,4 @@
-//! The command line of `fc`: its parsing, and the jobs that it can ask for.
+//! The command line of `fc`: how it is parsed, and the jobs that it can ask for.
 #![tactic(auto)]
 
 mod app;

@@ -26,7 +26,7 @@ fn file_of(alloc: Global, matches: &ArgMatches, id: &str) -> Result<Option<Strin
     }
 }
 
-/// Returns the mask that `--counters` gives, if there is one.
+/// Returns the mask that `--counters` gives, or `None` if it gives none.
 fn mask_of(matches: &ArgMatches) -> Option<u32>
     ensures { ReadsMask (rows_of (found_of matches.now)) result }
 {
@@ -46,7 +46,7 @@ fn layout_named(text: &str) -> Option<Layout>
     }
 }
 
-/// Returns the layout that `--context` names, if it names one.
+/// Returns the layout that `--context` names, or `None` if it names none.
 fn layout_of(matches: &ArgMatches) -> Option<Layout>
     ensures { result ≡ layout_in (rows_of (found_of matches.now)) }
 {
@@ -167,7 +167,7 @@ fn rows_named(text: &str) -> Option<Rows>
     }
 }
 
-/// Returns the rows that the argument `kind` names, if it names some.
+/// Returns the rows that the argument `kind` names, or `None` if it names none.
 fn kind_asked(matches: &ArgMatches) -> Option<Rows>
     ensures { result ≡ kind_in (rows_of (found_of matches.now)) }
 {
@@ -188,7 +188,7 @@ fn format_asked(matches: &ArgMatches) -> Format
     }
 }
 
-/// Returns the job of `fc export`. There is none if its first word names no rows.
+/// Returns the job of `fc export`, or `None` if its argument KIND names no rows or a file isn't given.
 fn export_of(alloc: Global, matches: &ArgMatches) -> Result<Option<Job>, AllocError>
     ensures { IfOk result (Finds (codes "export") (rows_of (found_of matches.now))) }
 {
@@ -207,7 +207,7 @@ fn export_of(alloc: Global, matches: &ArgMatches) -> Result<Option<Job>, AllocEr
     }
 }
 
-/// Returns the job of `fc serve`. There is none for `--sync` without `--journal`.
+/// Returns the job of `fc serve`, or `None` for `--sync` without `--journal` or if CONFIG isn't given.
 fn serve_of(alloc: Global, matches: &ArgMatches) -> Result<Option<Job>, AllocError>
     ensures { IfOk result (Finds (codes "serve") (rows_of (found_of matches.now))) }
 {
@@ -256,7 +256,7 @@ const UNKEPT: &str = "error: --sync wants --journal FILE
 For more information, try '--help'.
 ";
 
-/// The message for a command line that `clap` accepts, but in which `export` is asked for rows that aren't there.
+/// The message for a command line that `clap` accepts, but that has an unknown KIND of rows after `export`.
 const KINDS: &str = "error: export takes sales, decisions or events
 
 For more information, try '--help'.
@@ -291,7 +291,8 @@ fn unasked(matches: &ArgMatches) -> &'static str
     }
 }
 
-/// Returns the job of a parsed command line. The error is the message if it asks for none, or that memory ran out.
+/// Returns the job of a parsed command line. The error is the message for one that asks for no job, or that memory ran
+/// out.
 fn found_job(alloc: Global, matches: &ArgMatches) -> Result<Job, CommandFault>
     ensures asked { IfOk result (λ job. asked_of (subcommand_rows_of matches.now) ≡ asked job) }
     ensures some { IfOk result (λ job. IsSome (asked job)) }
@@ -303,15 +304,15 @@ fn found_job(alloc: Global, matches: &ArgMatches) -> Result<Job, CommandFault>
     }
 }
 
-/// Returns whether an error of `clap` is one that the user asked for: the help or the version.
+/// Returns whether an error of `clap` is a text that the user asked for: the help or the version.
 fn is_asked_text(kind: ErrorKind) -> bool
     ensures { IsTrue result ↔ IsShown kind }
 {
     matches!(kind, ErrorKind::DisplayHelp | ErrorKind::DisplayVersion)
 }
 
-/// Returns what an error of `clap` leads to: `Show` if it is the help or the version, else the error `Usage` with its
-/// text, or that memory ran out.
+/// Returns `Show` for an error of `clap` that is the help or the version. Otherwise the error is `Usage` with the text
+/// of the error, or that memory ran out.
 fn told_of(kind: ErrorKind, made: Result<String, AllocError>) -> Result<Job, CommandFault>
     ensures none { IfOk result (λ job. asked job ≡ None) }
     ensures shown { OnOk result (IsShown kind) }
@@ -329,8 +330,8 @@ fn told_of(kind: ErrorKind, made: Result<String, AllocError>) -> Result<Job, Com
     }
 }
 
-/// Parses a command line, whose first word is the program's name, and returns its job. The error is the message for a
-/// command line that isn't valid, or that memory ran out.
+/// Parses a command line, whose first argument is the program's name, and returns its job. The error is the message for
+/// a command line that isn't valid, or that memory ran out.
 pub fn command(alloc: Global, words: Vec<String>) -> Result<Job, CommandFault>
     ensures asked { IfOk result
         (λ job. IsSome (asked job) → asked_of (subcommand_of fc_app (map string_bytes words.items)) ≡ asked job) }

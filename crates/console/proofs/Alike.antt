@@ -1,4 +1,4 @@
--- Two plays over the same bytes.
+-- Two plays over the same bytes give the same answers and leave the same site, if neither answers that memory ran out.
 use Rattle.std.proofs.Common.{◌≡◌, ℕ, List, Option, Some, None, Result, Ok, Err, refl, sym, ◌∙◌, ap, ap₂}
 use Rattle.reg_types.specs.declared.refusal.Refusal.{Refusal}
 use Rattle.reg_types.specs.declared.refusal.Refusal.TheVariants as refusals
@@ -43,7 +43,7 @@ event_alike old moment act (answers.Line fault) b new other h k p q = absurd h
 event_alike old moment act (answers.Program n u t) b new other h k p q = absurd h
 event_alike old moment act answers.JournalFailed b new other h k p q = absurd h
 
--- A refusal that shows numbers is the one that the program has.
+-- A refusal with numbers to print is the refusal that the verifier's definition gives for the program.
 wanted_is : (wanted : Option Refusal) (refusal : Refusal) (numbers : ℕ × (Option ℕ) × (Option ℕ)) → IsRefusal wanted refusal
     → shown_by refusal ≡ Some numbers → wanted ≡ Some refusal
 wanted_is wanted refusals.OutOfMemory numbers h e = absurd (cc)

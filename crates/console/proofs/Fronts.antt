@@ -1,4 +1,5 @@
--- Beginnings of texts, and sessions that answered nothing.
+-- What is promised of a play that failed: a beginning of its answers was written. This also holds if no line was
+-- answered.
 use Rattle.std.proofs.Common.{◌≡◌, ℕ, List, [], ◌∷◌, ◌++◌, length, take, Option, None, Result, Ok, Err, OnErr, IfOk, IfErr, inl, refl, sym, ◌∙◌, ap, subst}
 use Rattle.std.specs.Io.KnownBytes.{Appends}
 use Rattle.decision_journal.specs.Writing.{AppendsFront}
@@ -65,7 +66,7 @@ stopped_from (Err e) a b m left i j o p same h =
     let P : SiteValue → Type 0 = λ s. Stops Plays drops_none TakesMemory e (0, s) (m, left) i j o p in
     λ other. record { moment = m; left = left; stops = subst P same (h other) }
 
--- what is said to a line is written as far as the device takes it
+-- if writing an answer failed, the device took only a beginning of the answer's text
 module _ {S O : Type 0} (out : O → Option (List ℕ)) (says : S → List ℕ → List ℕ → S → Type 0) (line text : List ℕ) (s s' : S) (o o' : O)
     (said : says s line text s') (takes : List ℕ → Type 0) where
   pub falls_short : {T : Type 0} (r : Result T HandlerError) → OnErr r ((k : ℕ) × Appends (out o) (out o') (take k text)) → IfErr r (λ e. e ≡ error.Write)

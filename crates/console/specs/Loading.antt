@@ -14,13 +14,13 @@ abbrev pub IsRefusedAct : Act → Refusal → Type 0
 IsRefusedAct (acts.Load slot mask layout bytes) refusal = refusal_of (as_loaded bytes mask layout) ≡ Some refusal
 IsRefusedAct act refusal = ⊥
 
--- If the act is a load, its program is accepted and good, or memory ran out.
+-- If the act is a load, then its program is accepted and good, or the answer is that memory ran out.
 abbrev pub IsNotRefused : Act → Answer → Type 0
 IsNotRefused (acts.Load slot mask layout bytes) answer = Passes (as_loaded bytes mask layout) ⊎ (answer ≡ answers.OutOfMemory)
 IsNotRefused act answer = ⊤
 
--- The verifier's refusal of the program that the act loads. None if the act is no load, if its program is accepted, or
--- if the answer is that memory ran out.
+-- The verifier's refusal of the program that the act loads. None if the act isn't a load, if its program is accepted,
+-- or if the answer is that memory ran out.
 abbrev pub IsWhyRefused : Act → Answer → Option Refusal → Type 0
 IsWhyRefused act answer (Some refusal) = IsRefusedAct act refusal
 IsWhyRefused act answer None = IsNotRefused act answer

@@ -1,7 +1,7 @@
--- Definitions: the answer to each line of a script (this profile), given the moment that was set last and the site that the
--- lines before it left. An act is an event of pass 1 at that moment. The bytes of a load are verified first: a refused program
--- is answered with its V line and is no event. Where memory runs out the answer is `S31`, where the journal is full it is `S29`,
--- and both leave the site unchanged.
+-- Definitions: the answer to each line of a script (this profile). It depends on the moment that was set last, and on
+-- the site after the lines before. An act is an event of pass 1 at that moment. The program of a load is verified
+-- first. If it is refused, the answer is its V line, and there is no event. If memory runs out the answer is `S31`, and
+-- if the journal is full it is `S29`. Both leave the site unchanged.
 use Rattle.std.specs.Prelude.{◌≡◌, ◌≢◌, ◌⊎◌, ⊤, ℕ, List, [], ◌∷◌, ◌++◌, length, codes, Option, Some, None, Result, Ok, Err}
 use Rattle.std.specs.Fmt.{decimal}
 use Rattle.std.specs.List.{join_with_byte}
@@ -29,7 +29,7 @@ use Rattle.console.specs.declared.script.ScriptLine.{ScriptLine}
 use Rattle.console.specs.declared.script.ScriptLine.TheVariants as lines
 use Rattle.console.specs.Script.{line_of}
 
--- The answer to an event: the number and the reply of its entry, or why it isn't entered.
+-- The answer to an event: the number and the reply of its entry, or the reason why it wasn't entered.
 abbrev pub EventAnswered : SiteValue → ℕ → Act → Answer → SiteValue → Type 0
 EventAnswered old moment act (answers.Entered number reply) new = (length old.history ≢ 1048576) × Enters old 1 moment act number reply new
 EventAnswered old moment act answers.JournalFull new = (length old.history ≡ 1048576) × (new ≡ old)
@@ -38,7 +38,7 @@ EventAnswered old moment act (answers.Line fault) new = ⊥
 EventAnswered old moment act (answers.Program number unit part) new = ⊥
 EventAnswered old moment act answers.JournalFailed new = ⊥
 
--- The verifier refuses the program with a refusal that shows these numbers, and the site is unchanged.
+-- The verifier refuses the program, these are the numbers of its V line, and the site is unchanged.
 pub record ProgramRefused (old : SiteValue) (p : ProgramText) (number : ℕ) (unit part : Option ℕ) (new : SiteValue) : Type 0 where
   pub refusal : Refusal
   pub refused : IsRefused p refusal
@@ -55,7 +55,7 @@ pub record IsAccepted (p : ProgramText) : Type 0 where
 abbrev pub load_of : ℕ → ProgramText → Act
 load_of slot p = acts.Load slot p.declared p.layout p.bytes
 
--- The answer to a load. A program whose load was entered, or found the journal full, is accepted.
+-- The answer to a load. If the load was entered, or if the journal was full, then its program is accepted.
 abbrev pub LoadAnswered : SiteValue → ℕ → ℕ → ProgramText → Answer → SiteValue → Type 0
 LoadAnswered old moment slot p (answers.Entered number reply) new = IsAccepted p × EventAnswered old moment (load_of slot p) (answers.Entered number reply) new
 LoadAnswered old moment slot p answers.JournalFull new = IsAccepted p × EventAnswered old moment (load_of slot p) answers.JournalFull new
@@ -69,23 +69,24 @@ ActAnswered old moment (acts.Till till request) answer new = EventAnswered old m
 ActAnswered old moment (acts.Dispenser point event) answer new = EventAnswered old moment (acts.Dispenser point event) answer new
 ActAnswered old moment (acts.Load slot mask layout bytes) answer new = LoadAnswered old moment slot (as_loaded bytes mask layout) answer new
 
--- The text is the line of an answer to the act.
+-- The text is the line of an answer that the act may get.
 pub record ActSaid (old : SiteValue) (moment : ℕ) (act : Act) (text : List ℕ) (new : SiteValue) : Type 0 where
   pub answer : Answer
   pub answered : ActAnswered old moment act answer new
   pub text_is : text ≡ answer_line answer
 
--- The answer to the line that sets a moment, which is that line again.
+-- The answer to the line `moment N`, which is that line again.
 abbrev pub moment_text : ℕ → List ℕ
 moment_text n = join_with_byte 32 (codes "moment" ∷ decimal n ∷ []) ++ 10 ∷ []
 
--- The answer to a counter's line: its value and bound, or the fault of a bad number where no counter has the number.
+-- The answer to the line `counter C`: the counter's value and bound, or the fault of a bad number if there is no such
+-- counter.
 abbrev pub counter_text : Option (ℕ × ℕ) → List ℕ
 counter_text (Some p) = join_with_byte 32 (codes "counter" ∷ decimal p.0 ∷ decimal p.1 ∷ []) ++ 10 ∷ []
 counter_text None = answer_line (answers.Line faults.BadNumber)
 
--- The answer to a line that asks this, and the moment and the site after it. The answer to `journal` is the journal of a history that a site of
--- this configuration can have.
+-- The answer to a parsed line, and the moment and the site after it. The answer to `journal` is the journal of a
+-- history that a site of this configuration can have.
 abbrev pub LineSaid : Result ScriptLine LineFault → ℕ × SiteValue → List ℕ → ℕ × SiteValue → Type 0
 LineSaid (Err fault) s text s' = (text ≡ answer_line (answers.Line fault)) × (s' ≡ s)
 LineSaid (Ok (lines.Act act)) s text s' = ActSaid s.1 s.0 act text s'.1 × (s'.0 ≡ s.0)
@@ -97,7 +98,7 @@ LineSaid (Ok lines.Journal) s text s' = (text ≡ journal_text s.1.history) × I
 abbrev pub Plays : ℕ × SiteValue → List ℕ → List ℕ → ℕ × SiteValue → Type 0
 Plays s line text s' = LineSaid (line_of line) s text s'
 
--- The line is one that only scripts have.
+-- The line is `moment N`, `counter C` or `journal`, which only scripts have.
 abbrev pub IsOwn : Result ScriptLine LineFault → Type 0
 IsOwn (Ok (lines.Moment n)) = ⊤
 IsOwn (Ok (lines.Counter c)) = ⊤
@@ -105,31 +106,33 @@ IsOwn (Ok lines.Journal) = ⊤
 IsOwn (Ok (lines.Act act)) = ⊥
 IsOwn (Err fault) = ⊥
 
--- The lines that take memory before anything changes: a load, for its bytes, and a script's own lines, for their answers.
+-- The lines that need memory before anything changes: a load for its bytes, and `moment`, `counter` and `journal` for
+-- their answers.
 abbrev pub TakesMemory : List ℕ → Type 0
 TakesMemory line = IsLoad All (words line) ⊎ IsOwn (line_of line)
 
--- A script was answered from moment 0 on, and left some moment and site.
+-- A script was answered from moment 0 on. At its end the moment is `moment`, and the site is `left`.
 pub record PlaysOut (site : SiteValue) (in_old in_new out_old out_new : Option (List ℕ)) (count : ℕ) (cut : Option LineFault) : Type 0 where
   pub moment : ℕ
   pub left : SiteValue
   pub ends : Ends Plays (0, site) (moment, left) in_old in_new out_old out_new count cut
 
--- The play failed. The output has a beginning of the answers, and each line that changed anything has an answer.
+-- The play failed. Of the answers to the lines so far a beginning was written. Whatever changed was changed by a line
+-- that has an answer.
 pub record PlayBreaks (site : SiteValue) (in_old in_new out_old out_new : Option (List ℕ)) : Type 0 where
   pub moment : ℕ
   pub left : SiteValue
   pub breaks : Breaks Plays drops_none (0, site) (moment, left) in_old in_new out_old out_new
 
--- The play failed although no write did: the whole answers to the lines so far were written. If memory ran out, the
--- site couldn't start, the next line couldn't be read, or that line needs memory.
+-- The play failed, but no write failed: the answers to all lines so far were written whole. If memory ran out, it was
+-- when the site was started, when the next line was read, or at a next line that needs memory.
 pub record PlayStops (fault : SessionFault) (site : SiteValue) (in_old in_new out_old out_new : Option (List ℕ)) : Type 0 where
   pub moment : ℕ
   pub left : SiteValue
   pub stops : Stops Plays drops_none TakesMemory fault (0, site) (moment, left) in_old in_new out_old out_new
 
--- Two plays of the same bytes from the same site, which both end and both add to the same output, wrote the same and left the same moment and site,
--- if neither ran out of memory at a line.
+-- Two plays of the same bytes from the same site write the same answers and leave the same moment and site. Both must
+-- have ended, started with the same output, and never answered that memory ran out.
 abbrev pub PlaysAlike : Type 0
 PlaysAlike =
     (site : SiteValue) (bytes out out_t out_u : List ℕ) (in_t in_u : Option (List ℕ)) (count_t count_u : ℕ) (cut_t cut_u : Option LineFault)

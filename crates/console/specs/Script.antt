@@ -1,5 +1,5 @@
--- Definitions: the lines of a script (this profile). They are the lines of all roles, and `moment N`, `counter C` and `journal`,
--- which are read by the same rules: where the words are none of the known forms the line is bad, or else its value is read.
+-- Definitions: the lines of a script (this profile). They are the lines of all roles, and `moment N`, `counter C` and
+-- `journal`. If the words have none of these forms, the line is bad. Otherwise the value is read as a number.
 use Rattle.std.specs.Prelude.{ℕ, List, [], ◌∷◌, codes, Bool, ◌&&◌, Result, Ok, if◌then◌else◌}
 use Rattle.std.specs.Str.{bytes_eq}
 use Rattle.till_request.specs.declared.act.LineFault.{LineFault}
@@ -8,7 +8,7 @@ use Rattle.till_request.specs.Grammar.{words, number, is_some_word, act_of_words
 use Rattle.console.specs.declared.script.ScriptLine.{ScriptLine}
 use Rattle.console.specs.declared.script.ScriptLine.TheVariants as lines
 
--- The line is an act of any role.
+-- Reads the words of a line as an act of any role.
 abbrev pub act_line : List (List ℕ) → Result ScriptLine LineFault
 act_line ws = do
   act ← act_of_words All ws
@@ -17,7 +17,7 @@ act_line ws = do
 abbrev pub line_alone : List ℕ → List (List ℕ) → Result ScriptLine LineFault
 line_alone word ws = if bytes_eq word (codes "journal") then Ok lines.Journal else act_line ws
 
--- The word is this name, and the value isn't empty.
+-- The word is this name, and the value after it isn't empty.
 abbrev pub is_named : List ℕ → List ℕ → List ℕ → Bool
 is_named word name value = bytes_eq word name && is_some_word value
 
@@ -40,6 +40,6 @@ line_of_words (word ∷ []) = line_alone word (word ∷ [])
 line_of_words (word ∷ value ∷ []) = line_with_value word value (word ∷ value ∷ [])
 line_of_words ws = act_line ws
 
--- What a line of a script asks.
+-- Parses a line of a script.
 abbrev pub line_of : List ℕ → Result ScriptLine LineFault
 line_of line = line_of_words (words line)

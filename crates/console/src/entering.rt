@@ -12,7 +12,7 @@ use std::alloc::Global;
 use std::sync::Arc;
 use till_request::{Act, Answer, Bytes};
 
-/// The pass that a script's acts are entered under: one for all of them.
+/// The number of the pass with which all acts of a script are entered.
 const PASS: u32 = 1;
 
 /// Applies an event to a site at a moment, and returns the answer.
@@ -34,7 +34,7 @@ fn enter_event(site: &mut Site, moment: u64, what: What) -> Answer
     }
 }
 
-/// The answer to an act.
+/// The answer to an act, and why its program was refused.
 #[derive(Clone, Copy, Drop)]
 pub struct Entered {
     pub answer: Answer,
@@ -42,8 +42,8 @@ pub struct Entered {
     pub refusal: Option<Refusal>,
 }
 
-/// Returns the answer to a load that the verifier refuses, with the refusal. Where memory ran out in the verifier, the
-/// answer says that, and there is no refusal.
+/// Returns the answer to a load that the verifier refuses, with the refusal. If memory ran out in the verifier, the
+/// answer says so, and there is no refusal.
 fn refuse_load(refusal: Refusal) -> Entered
     ensures answered { (old : SiteValue) (moment slot : ℕ) (p : ProgramText) → IsRefused p refusal
         → IsRefusal (refusal_of p) refusal → LoadAnswered old moment slot p result.answer old }
@@ -84,7 +84,7 @@ fn enter_load(
     }
 }
 
-/// Returns the result for an act whose program, if it loads one, wasn't refused: its answer, with no refusal.
+/// Returns the result for an act without a refused program: its answer alone.
 fn unrefused(answer: Answer) -> Entered
     ensures { result ≡ record { answer = answer; refusal = None } }
 {
@@ -94,7 +94,8 @@ fn unrefused(answer: Answer) -> Entered
     }
 }
 
-/// Carries out an act on a site at a moment. Returns the answer, and for a load that the verifier refuses, why.
+/// Carries out an act on a site at a moment. Returns the answer, and the refusal if the verifier refuses the program of
+/// a load.
 pub fn enter(alloc: Global, site: &mut Site, moment: u64, act: &Act) -> Entered
     ensures answered { ActAnswered site.old moment act.now result.answer site.new }
     ensures refused { IsWhyRefused act.now result.answer result.refusal }

@@ -1,5 +1,5 @@
-//! Plays of a script against a site. The calls that read the words of `fc` and a configuration are re-exported from
-//! their own crates.
+//! Plays a script against a site. Also re-exports from other crates what parses the arguments of `fc` and what reads a
+//! configuration.
 #![tactic(auto)]
 
 mod entering;

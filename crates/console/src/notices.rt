@@ -1,8 +1,8 @@
-//! The reports of a play that aren't part of its answers.
+//! What a play reports besides its answers.
 use reg_types::Refusal;
 use till_request::Act;
 
-/// Receives the reports of a play that aren't part of its answers.
+/// Receives what a play reports besides its answers.
 pub trait PlayNotices {
     ghost use Rattle.console.specs.Loading.{IsRefusedAct};
 

@@ -77,11 +77,11 @@ pub fn play<I: LineIn, O: LineOut>(
     play_within(alloc, config, input, output, &NoNotices, &mut left)
 }
 
-/// A law: the answers to a script don't depend on the sizes of the reads. Two plays of the same bytes with the same
-/// configuration that both end wrote the same and left the same site, if neither ran out of memory at a line.
+/// A law: the answers to a script don't depend on the sizes of the reads. Let two plays of the same bytes with the same
+/// configuration both end, and neither run out of memory at a line. Then they wrote the same and left the same site.
 ///
-/// The contract of `play` speaks only of the bytes of its input and not of the device that gives them. So the law
-/// follows.
+/// The law follows from the contract of `play`, which depends on the bytes of its input, but not on the device that
+/// gives them.
 pub fn law_of_the_cut()
     ensures { PlaysAlike }
 {}

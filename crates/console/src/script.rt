@@ -82,8 +82,8 @@ fn read_words(alloc: Global, words: &[&[u8]]) -> Result<ScriptLine, LineFault>
     }
 }
 
-/// Parses a line of a script, without its LF. The error is L2 where the words have none of the known forms, L3 where a
-/// value can't be read, or that there was no memory for the bytes of a load.
+/// Parses a line of a script, without its LF. The error is L2 if the words have none of the known forms, or L3 if a
+/// value can't be read. It may also be that there was no memory for the bytes of a load.
 pub fn parse_script_line(alloc: Global, line: &[u8]) -> Result<ScriptLine, LineFault>
     ensures given { Gives result (line_of line.now) }
     ensures memory { result ≡ Err LineFault.OutOfMemory → IsLoad Role.All (words_of line.now) }

@@ -99,7 +99,7 @@ impl Counters {
     }
 }
 
-// Gives the prover that each bound is below 2^64, as its type says.
+// Proves that each bound is below 2^64, which follows from its type.
 fn prove_small(cells: &[(u64, u64); 32])
     ensures { All (λ c. c.1 < 2 ^ 64) cells.now }
 {

@@ -1,4 +1,4 @@
--- What an entry does to the points: at most one changes, and it is the one that the act names.
+-- An entry changes at most one point, and it is the one that its act names.
 use Rattle.std.proofs.Common.{◌≡◌, ◌≤◌, ◌⊎◌, ℕ, ◌-◌, arith, Bool, true, false, List, [], ◌∷◌, zero, suc, Option, Some, None, slice_get, slice_set}
 use Rattle.std.proofs.Common.{refl, ap, sym, subst, inl, inr}
 use Rattle.std.specs.Prelude.{nat_le, nat_lt, if◌then◌else◌}
@@ -18,7 +18,7 @@ use Rattle.day_report.proofs.Walking.{changed-at, changed-nowhere}
 use Rattle.day_export.specs.Standing.{point_asked, point_named}
 use Rattle.day_export.proofs.Growing.{Grows, command-grows, event-grows}
 
--- Point m became q.
+-- only point m differs in the later points: p was replaced by q, and at most one transaction was added
 pub record Became (m : ℕ) (points later : List PointState) : Type 0 where
   pub p : PointState
   pub q : PointState
@@ -39,7 +39,7 @@ command-by : (points : List PointState) (till m : ℕ) (c : Command) (b : Bool)
 command-by points till m c true = changes points m (λ p. after_command p till c) (λ p. command-grows p till c) (at_number points m) refl
 command-by points till m c false = inl refl
 
--- The command that a request carried out is at the point that it names.
+-- If the command that a request carried out is one at point m, then at most point m changes.
 told-at : (points : List PointState) (till m : ℕ) (o : Option (ℕ × Command)) → ((n : ℕ) (c : Command) → o ≡ Some (n, c) → n ≡ m)
     → Changes m points (elim o as (λ _. List PointState) [ None ↦ points | Some c ↦ with_command points till c ])
 told-at points till m None here = inl refl
@@ -92,7 +92,7 @@ act-changes points (act.Till till q) (reply.Refused n v) = inl refl
 act-changes points (act.Dispenser n event) r = changes points n (λ p. after_event p event) (λ p. event-grows p event) (at_number points n) refl
 act-changes points (act.Load slot mask layout bytes) r = inl refl
 
--- ---- the points of other numbers
+-- ---- a point by its number, after one point was replaced
 
 get-set-other : (points : List PointState) (i k : ℕ) (q : PointState) → (i ≡ k → ⊥) → slice_get (slice_set points i q) k ≡ slice_get points k
 get-set-other [] i k q other = refl

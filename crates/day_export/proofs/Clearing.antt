@@ -1,4 +1,4 @@
--- A clearing that was answered `done` in a legal history took its transaction away.
+-- After a clearing of a legal history was answered `done`, its transaction is no longer among the point's unpaid ones.
 use Rattle.std.proofs.Common.{◌≡◌, ℕ, ◌-◌, ◌<◌, Bool, true, false, List, Option, Some, None, Ok, Err, slice_set, refl, ap, sym, subst, arith, ◌∙◌}
 use Rattle.std.specs.Prelude.{IsSome, if◌then◌else◌, ◌==◌}
 use Rattle.std.proofs.lemmas.Bool.{lt-ltb}
@@ -28,9 +28,9 @@ use Rattle.day_export.specs.Standing.{number_cleared}
 use Rattle.day_export.proofs.Growing.{gone}
 use Rattle.day_export.proofs.Changing.{at-same}
 
--- ---- which act makes a sale
+-- ---- the act of a sale
 
--- The sale of an entry with this act and this reply.
+-- the sale of an entry, if its act and its reply were these
 abbrev pub made : List PointState → Entry → Act → Reply → Option Sale
 made points e a r =
     elim (clearing_of a r) [
@@ -42,7 +42,7 @@ made points e a r =
           ]
     ]
 
--- The act cleared a transaction that was unpaid.
+-- The act that made this sale is a till's request Clear for an unpaid transaction, and it was answered `done`.
 pub record Cleared (points : List PointState) (a : Act) (r : Reply) (sale : Sale) : Type 0 where
   pub act_is : a ≡ act.Till sale.till (request.Clear sale.point (number_cleared a))
   pub reply_is : r ≡ reply.Done
@@ -83,9 +83,9 @@ made-clears points e a (reply.Order o) sale h = absurd (cc)
 made-clears points e a (reply.Point b c d f g i j) sale h = absurd (cc)
 made-clears points e a (reply.Refused n v) sale h = absurd (cc)
 
--- ---- what it leaves
+-- ---- the point after a clearing
 
--- The clearing was possible.
+-- If a clearing is accepted, then the point has its transactions without the one that was cleared.
 cleared-by : (b : Bool) (p q : PointState) (y : ℕ) (what d : Option ℕ)
     → ◌≡◌ {A = Answer (Option ℕ)} (if b then Ok (record p { unpaid = without y p.unpaid }, what) else Err NotYourTransaction) (Ok (q, d))
     → q.unpaid ≡ without y p.unpaid
@@ -110,7 +110,7 @@ fault-no NoSuchTransaction h = absurd (cc)
 fault-no NoOrder h = absurd (cc)
 fault-no Unexpected h = absurd (cc)
 
--- The point after a clearing that was answered `done`.
+-- If a clearing is answered `done`, then its point no longer has an unpaid transaction of this number.
 point-clears : (s : SiteState) (n y till : ℕ) (p : PointState) (a : Answer (Option ℕ)) → command_step p till (command.Clear y) ≡ a
     → (command_effect s n a).reply ≡ reply.Done → find_number y (after_command p till (command.Clear y)).unpaid ≡ None
 point-clears s n y till p (Err f) is h = fault-no f h
@@ -125,7 +125,7 @@ positive config till h = grind (arith, nat_tests, h)
 some-same : (a b : PointState) → ◌≡◌ {A = Option PointState} (Some a) (Some b) → a ≡ b
 some-same a b h = cc
 
--- The points after it.
+-- A clearing at point n that was answered `done` changes point n as the command Clear does, and no other point.
 points-after : (points : List PointState) (till n y : ℕ) (p : PointState) → 0 < till → at_number points n ≡ Some p
     → with_act points (act.Till till (request.Clear n y)) reply.Done ≡ slice_set points (n - 1) (after_command p till (command.Clear y))
 points-after points till n y p some at =

@@ -1,4 +1,4 @@
--- The row of a decision tells the context that the rule ran on.
+-- The row of a decision has the fields of the context that the rule ran on.
 use Rattle.std.proofs.Common.{◌≡◌, ◌≤◌, ◌<◌, ℕ, ◌+◌, ◌^◌, List, [], ◌∷◌, ◌++◌, length, drop, map, Option, refl, ap, arith, ◌∙◌}
 use Rattle.std.specs.List.{AllByRecursion}
 use Rattle.std.proofs.lemmas.Bool.{le-leb}
@@ -18,7 +18,7 @@ use Rattle.day_export.specs.declared.cells.Cell.TheVariants as cell
 use Rattle.day_export.specs.Acts.{field_cell, number_at}
 use Rattle.day_export.specs.Laws.{FitsField, RowsTellContexts, context_told, field_told}
 
--- A number that was laid at an offset is read there.
+-- If a number's bytes are at an offset, the least significant first, then this number is read there.
 read : (bytes rest : List ℕ) (offset size x : ℕ) → drop offset bytes ≡ little_bytes size x ++ rest → offset + size ≤ length bytes → x < 256 ^ size
     → number_at bytes offset size ≡ cell.Number x
 read bytes rest offset size x there long fits =
@@ -27,7 +27,7 @@ read bytes rest offset size x there long fits =
 abbrev laid-fields : SiteState → ℕ → ℕ → Question → List Field → List ℕ
 laid-fields s till moment q more = laid (shared_fields s till moment q ++ more)
 
--- The cells that both layouts have.
+-- the cells of the fields that both layouts have, read from the bytes of a context
 abbrev shared-cells : List ℕ → List Cell
 shared-cells bytes =
     number_at bytes 0 4 ∷ number_at bytes 4 4 ∷ number_at bytes 8 4 ∷ number_at bytes 12 4 ∷ number_at bytes 16 4 ∷ number_at bytes 20 4
@@ -70,7 +70,7 @@ layout-told layout.Two s till moment q fits =
     let open_ = read bytes _ 72 4 (open_points s) refl (omega arith) fits.1.1.1.1.1.1.1.1.1.1.1.1.1.1.0 in
     λ j. shared j ++ clears j ∷ open_ j ∷ []
 
--- The cells of a context, as a run has it.
+-- the cells of the context of a run, from the column `context_till` on
 abbrev run-cells : Option Run → List Cell
 run-cells run =
     field_cell run 0 4 ∷ field_cell run 4 4 ∷ field_cell run 8 4 ∷ field_cell run 12 4 ∷ field_cell run 16 4 ∷ field_cell run 20 4

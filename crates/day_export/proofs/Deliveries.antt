@@ -1,4 +1,5 @@
--- In a legal history the rows are made of what the site has.
+-- In a legal history the points and the prices that the rows are made of are the site's, and each sale has its
+-- delivery.
 use Rattle.std.proofs.Common.{◌≡◌, ◌⊎◌, ℕ, ◌+◌, ◌-◌, Bool, true, false, List, [], ◌∷◌, ◌++◌, zero, suc, length, map, replicate, reverse, Option, Some}
 use Rattle.std.proofs.Common.{None, slice_get, refl, ap, sym, subst, ◌∙◌, inl, inr, All}
 use Rattle.std.specs.Prelude.{◌==◌, ◌&&◌, not, IsSome, nat_le, if◌then◌else◌, option_to_list}
@@ -34,7 +35,7 @@ use Rattle.day_export.proofs.Changing.{Changes, act-changes, at-other, at-same, 
 use Rattle.day_export.proofs.Prices.{effect-prices}
 use Rattle.day_export.proofs.Clearing.{Cleared, effect-clears, made-clears}
 
--- ---- a delivery among others
+-- ---- one delivery in a list
 
 abbrev IsThere : List Ended → ℕ → ℕ → Type 0
 IsThere us n x = IsSome (ended_as us n x)
@@ -66,7 +67,7 @@ both-true : (a b : Bool) → (a && b) ≡ true → (a ≡ true) × (b ≡ true)
 both-true true b h = (refl, h)
 both-true false b h = absurd (let e : ◌≡◌ {A = Bool} false true = h in cc)
 
--- What became one transaction didn't become another.
+-- A delivery that became one transaction didn't become a second one.
 not-both : (u : Ended) (m y n x : ℕ) → ((m == n) && (y == x)) ≡ false → became m y u ≡ true → became n x u ≡ false
 not-both u m y n x other is =
     let two = both-true (u.point == m) (u.transaction == y) is in
@@ -82,13 +83,13 @@ there-without [] m y n x other h = nothing-there h
 there-without (u ∷ us) m y n x other h =
     there-kept n x u (without us m y) (ended_as us n x) (became m y u) (not-both u m y n x other) h (there-without us m y n x other)
 
--- ---- one more entry
+-- ---- the deliveries after one more entry
 
--- Each unpaid transaction is that of a delivery.
+-- for each unpaid transaction of a point, the delivery that became it is in the list
 abbrev Kept : List PointState → List Ended → Type 0
 Kept points unpaid = (n x : ℕ) (p : PointState) → at_number points n ≡ Some p → IsSome (find_number x p.unpaid) → IsThere unpaid n x
 
--- What an entry clears is no longer unpaid.
+-- the transaction that an entry clears is no longer among the unpaid ones of its point
 abbrev Takes : Stand → Entry → Type 0
 Takes s e =
     (sale : Sale) (q : PointState) → sale_of s.points e ≡ Some sale → at_number (with_act s.points e.act e.reply) sale.point ≡ Some q
@@ -97,7 +98,7 @@ Takes s e =
 none-some : {P : Type 0} (o : Option Transaction) → o ≡ None → IsSome o → P
 none-some o none some = nothing-there (subst IsSome none some)
 
--- The delivery that an entry ended.
+-- If a point gave out one more transaction number, then the entry ended the delivery that became this transaction.
 ended-core : (prices : List ℕ) (number m x : ℕ) (p q : PointState) → q.last ≡ p.last + 1 → (q.last == x) ≡ true
     → IsThere (option_to_list (ended_at prices number m p q)) m x
 ended-core prices number m x p q grew is =
@@ -113,7 +114,8 @@ ended-there points prices e p q x at later grew is =
     subst (λ a. IsThere (option_to_list (ended_between prices e.number m a (at_number (with_act points e.act e.reply) m))) m x) (sym at)
     (subst (λ b. IsThere (option_to_list (ended_between prices e.number m (Some p) b)) m x) (sym later) (ended-core prices e.number m x p q grew is))
 
--- A transaction that is unpaid at the point that an entry changed.
+-- If the point that an entry changed has an unpaid transaction, then the delivery that became it was in the list
+-- before, or the entry ended it.
 grown-there : (s : Stand) (e : Entry) (x : ℕ) (p q : PointState) (o : Option Transaction) → Kept s.points s.unpaid
     → at_number s.points (point_named e.act) ≡ Some p → at_number (with_act s.points e.act e.reply) (point_named e.act) ≡ Some q → Grows p q
     → find_number x p.unpaid ≡ o → IsSome (find_number x q.unpaid)
@@ -152,7 +154,7 @@ old-or-new s e n x q kept (inr b) at found =
           inl (kept n x q before found)
     ]
 
--- A delivery stays unless its transaction is cleared.
+-- If a transaction is still unpaid after an entry, then the delivery that became it is still in the list.
 survives : (s : Stand) (e : Entry) (n x : ℕ) (q : PointState) (o : Option Sale) → Takes s e → sale_of s.points e ≡ o
     → at_number (with_act s.points e.act e.reply) n ≡ Some q → IsSome (find_number x q.unpaid) → IsThere s.unpaid n x
     → IsThere (uncleared s.unpaid o e.act) n x
@@ -194,7 +196,7 @@ full-cells : (sale : Sale) (x : ℕ) (o : Option Ended) → IsSome o → HasDeli
 full-cells sale x None h = nothing-there h
 full-cells sale x (Some e) h = (tt, tt, tt)
 
--- What an entry with a sale cleared, in a legal history.
+-- the entry is the one that the site makes, and the points that are followed are the site's points before it
 record Fits (config : ConfigValue) (past : List Entry) (b : SiteState) (s : Stand) (e : Entry) : Type 0 where
   points : s.points ≡ b.points
   is : e ≡ entry_of past e.pass e.moment e.act (effect config past b e.moment e.act)
@@ -229,7 +231,7 @@ takes config past b s e fits = λ sale q is later.
     (λ j. at_number (with_act (sym fits.points j) (sym cleared.act_is j) (sym cleared.reply_is j)) sale.point) ∙ later in
     effect-clears config past b sale.till e.moment sale.point x at.0 q done before after
 
--- ---- a history, newest entry first
+-- ---- induction over a history, newest entry first
 
 record Comes (config : ConfigValue) (past : List Entry) (b : SiteState) : Type 0 where
   points : (stands (stand_before config) (reverse past)).points ≡ b.points

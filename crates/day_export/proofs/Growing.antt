@@ -1,4 +1,4 @@
--- What an event or a command does to the unpaid transactions of a point: at most one is added, and it has the next number.
+-- An event or a command adds at most one transaction to the unpaid ones of a point, and that one has the next number.
 use Rattle.std.proofs.Common.{◌≡◌, ◌⊎◌, ℕ, ◌+◌, Bool, true, false, List, [], ◌∷◌, ◌++◌, length, Option, Some, None, Ok, Err, refl, ap, ◌∙◌, inl, inr}
 use Rattle.std.specs.Prelude.{◌==◌, ◌&&◌, ◌||◌, not, nat_lt, if◌then◌else◌}
 use Rattle.fuelling_point.specs.Table.{PointState, Answer, find_number, hand_out, held_by, keep_delivery, rest_in, without}
@@ -17,9 +17,9 @@ use Rattle.fuelling_point.specs.declared.kinds.Transaction.{Transaction}
 use Rattle.site_core.specs.Decide.{after_command}
 use Rattle.day_report.specs.Walk.{after_event}
 
--- ---- a transaction of a number, among others
+-- ---- a transaction in a list, by its number
 
--- The first is another, and none is behind it.
+-- If a transaction isn't found in a list, then it isn't the first one, and it isn't found in the rest.
 none-first : (b : Bool) (t : Transaction) (rest : Option Transaction) → (if b then Some t else rest) ≡ None → (b ≡ false) × (rest ≡ None)
 none-first true t rest h = absurd (let e : ◌≡◌ {A = Option Transaction} (Some t) None = h in cc)
 none-first false t rest h = (refl, h)
@@ -43,7 +43,7 @@ none-held x holder y (t ∷ ts) h =
     let both = none-first (t.number == x) t (find_number x ts) h in
     none-if _ _ (find_number x (held_by holder y ts)) (ap (λ n. n == x) (held-number (t.number == y) t holder) ∙ both.0) (none-held x holder y ts both.1)
 
--- A list without one of its transactions, by whether the first is it.
+-- If neither t nor the rest of a list has the number x, then the list has no x, whether t is kept in it or not.
 none-kept : (b c : Bool) (t : Transaction) (x : ℕ) (rest : List Transaction) → (t.number == x) ≡ false → find_number x rest ≡ None
     → find_number x (if b then t ∷ rest else rest) ≡ None
 none-kept true c t x rest other h = none-if (t.number == x) t (find_number x rest) other h
@@ -64,9 +64,9 @@ pub gone : (y : ℕ) (ts : List Transaction) → find_number y (without y ts) �
 gone y [] = refl
 gone y (t ∷ ts) = gone-first (t.number == y) t y (without y ts) refl (gone y ts)
 
--- ---- how a point grows
+-- ---- the transactions that a point adds
 
--- No transaction is added; or one is, of the next number.
+-- the point gave out no transaction number, and each unpaid transaction of q was one of p before
 abbrev pub Stays : PointState → PointState → Type 0
 Stays p q = (q.last ≡ p.last) × ((x : ℕ) → find_number x p.unpaid ≡ None → find_number x q.unpaid ≡ None)
 
@@ -76,7 +76,7 @@ Adds p q = (q.last ≡ p.last + 1) × ((x : ℕ) → find_number x p.unpaid ≡ 
 abbrev pub Grows : PointState → PointState → Type 0
 Grows p q = Stays p q ⊎ Adds p q
 
--- The point after an answer.
+-- the point after a command or an event: the new point if it was accepted, or the old one if it was refused
 abbrev after : {T : Type 0} → PointState → Answer T → PointState
 after p a = elim a as (λ _. PointState) [ Ok o ↦ o.0 | Err f ↦ p ]
 

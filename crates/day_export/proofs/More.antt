@@ -1,4 +1,4 @@
--- How the rows change with one more entry.
+-- The rows of a history with one more entry are the rows before it, followed by the row of this entry, if it has one.
 use Rattle.std.proofs.Common.{subst, ◌≡◌, ℕ, ◌+◌, ◌<◌, List, [], ◌∷◌, ◌++◌, length, map, take, append_assoc, Option, Some, None, refl, ap, ◌∙◌, sym}
 use Rattle.std.proofs.Common.{get_or}
 use Rattle.std.specs.Prelude.{fold, option_to_list}
@@ -15,11 +15,11 @@ use Rattle.day_export.specs.Standing.{Stand, stand_after}
 use Rattle.day_export.specs.Rows.{row_of, rows_from}
 use Rattle.day_export.specs.Text.{row_bytes}
 
--- What stands after the entries.
+-- the state of a day after these entries
 abbrev pub stands : Stand → List Entry → Stand
 stands s entries = fold stand_after s entries
 
--- The text of rows without what stands before them.
+-- the text of rows, without a header
 abbrev pub bytes : Rows → Format → List (List Cell) → List ℕ
 bytes which form rows = concat (map (row_bytes which form) rows)
 
@@ -44,7 +44,7 @@ bytes-append which form (x ∷ xs) ys =
     ap (λ l. row_bytes which form x ++ l) (bytes-append which form xs ys)
     ∙ sym (append_assoc (row_bytes which form x) (bytes which form xs) (bytes which form ys))
 
--- What stands, and the text of the rows, at each step of a loop over the entries.
+-- The state after the first i + 1 entries is the state after the first i, followed by the entry at place i.
 pub stands-more : (s : Stand) (entries : List Entry) (i : ℕ) (entry : Entry) → i < length entries → entry ≡ get_or entries i entry
     → stands s (take (i + 1) entries) ≡ stand_after (stands s (take i entries)) entry
 stands-more s entries i entry h is =
@@ -59,7 +59,8 @@ bytes-more which form s entries i entry h is =
     ∙ ap (λ rows. bytes which form rows) (rows-push which s (take i entries) entry)
     ∙ bytes-append which form (rows_from which s (take i entries)) (option_to_list (row_of which (stands s (take i entries)) entry))
 
--- One more entry's row behind the rows of the entries before it.
+-- If the rows of the first i entries were appended, and then the row of the entry at place i, then the rows of the
+-- first i + 1 entries were appended.
 pub text-more : (a b c : Option (List ℕ)) (which : Rows) (form : Format) (s now : Stand) (entries : List Entry) (i : ℕ) (entry : Entry)
     → i < length entries → entry ≡ get_or entries i entry → now ≡ stands s (take i entries)
     → Appends a b (bytes which form (rows_from which s (take i entries))) → Appends b c (bytes which form (option_to_list (row_of which now entry)))

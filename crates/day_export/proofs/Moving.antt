@@ -1,4 +1,5 @@
--- What stands after an entry, by its parts.
+-- If points, prices and deliveries are each changed as an entry changes them, then together they are the state after
+-- it.
 use Rattle.std.proofs.Common.{◌≡◌, ℕ, List, ◌++◌, length, take, drop, arith, Option, ap, ◌∙◌}
 use Rattle.std.proofs.lemmas.Grind.{common_steps}
 use Rattle.std.specs.Prelude.{option_to_list}
@@ -10,7 +11,7 @@ use Rattle.day_report.specs.declared.sales.Sale.{Sale}
 use Rattle.day_export.specs.declared.standing.Ended.{Ended}
 use Rattle.day_export.specs.Standing.{Stand, ended_by, prices_after, stand_after, uncleared}
 
--- A list that was written over in place holds what was written.
+-- If all n items of a list are overwritten by new ones, then it is the list of the new items.
 pub refilled : {A : Type 0} (n : ℕ) (new old : List A) → length new ≡ length old → length old ≡ n → take n (new ++ drop (length new) old) ≡ new
 refilled n new old same long = grind (arith, common_steps)
 

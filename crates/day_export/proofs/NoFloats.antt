@@ -1,4 +1,4 @@
--- The object of a row has no float, so its text is known.
+-- The JSON object of a row has no floating-point number, so its text is defined.
 use Rattle.std.proofs.Common.{◌≡◌, ℕ, List, [], ◌∷◌, Bool, true, false, refl}
 use Rattle.std.specs.Prelude.{◌||◌}
 use Rattle.std.specs.Ordering.{nat_cmp, match_ordering}
@@ -27,7 +27,7 @@ cell-plain (cell.Number n) = refl
 cell-plain (cell.Word w) = refl
 cell-plain cell.Nothing = refl
 
--- The three ways in which a member is put.
+-- An object without a float to which a member without a float is added still has none.
 put-plain : (k : List ℕ) (d : Data) (ms : Members) → has_float d ≡ false → members_have_float ms ≡ false → members_have_float (put k d ms) ≡ false
 put-plain k d no_members p q = or-false (has_float d) false p refl
 put-plain k d (member l e ms) p q =

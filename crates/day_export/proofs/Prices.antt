@@ -1,4 +1,4 @@
--- The prices that an entry of a legal history shows are those of its site.
+-- The prices that follow from the entries of a legal history are those of its site.
 use Rattle.std.proofs.Common.{◌≡◌, ◌≤◌, ◌<◌, ℕ, ◌-◌, Bool, true, false, List, [], ◌∷◌, zero, suc, length, Option, Some, None, Result, Ok, Err}
 use Rattle.std.proofs.Common.{slice_set, refl, ap, sym, subst, arith, ◌∙◌}
 use Rattle.std.specs.Prelude.{◌==◌, ◌&&◌, nat_le, nat_lt, if◌then◌else◌}
@@ -49,7 +49,7 @@ commanded-same : (s : SiteState) (till n : ℕ) (c : Command) (o : Option PointS
 commanded-same s till n c None at = subst (Same s) (sym (commanded-none s till n c at)) refl
 commanded-same s till n c (Some p) at = subst (Same s) (sym (commanded-some s till n c p at)) (command-same s n (command_step p till c))
 
--- A question at a point that there is, or a refusal.
+-- a request leads to a question about a point that exists, or to a refusal
 abbrev AsksThere : SiteState → Result Question Reply → Type 0
 AsksThere s (Ok q) = (p : PointState) × (at_number s.points q.point ≡ Some p)
 AsksThere s (Err r) = Unit {0}
@@ -106,7 +106,7 @@ decided-same past s till moment (Ok q) there = version-same past s till moment q
 
 -- ---- price changes
 
--- What an act and its reply show is what the effect did to the prices.
+-- the prices after an act are those that follow from the act and its reply
 abbrev Tells : SiteState → Act → Effect → Type 0
 Tells s a e = e.after.prices ≡ prices_after s.prices a e.reply
 
@@ -128,7 +128,7 @@ with-is prices product price one =
     with-by prices product price (nat_le product (length prices)) refl one
     ∙ sym (ap (λ b. if b && nat_le product (length prices) then slice_set prices (product - 1) price else prices) least)
 
--- A question of this product's price, or a refusal.
+-- a request leads to a question about the price of this product, or to a refusal
 abbrev AsksPrice : ℕ → Result Question Reply → Type 0
 AsksPrice product (Ok q) = (q.point ≡ 0) × (q.product ≡ product) × (1 ≤ product)
 AsksPrice product (Err r) = (m : ℕ) × (v : Option ℕ) × (r ≡ reply.Refused m v)
@@ -174,7 +174,7 @@ price-tells past s till moment product price (Err r) asks =
     (subst (λ y. s.prices ≡ prices_after s.prices (act.Till till (request.Price product price)) y) (sym asks.2) refl)
 price-tells past s till moment product price (Ok q) asks = version-tells past s till moment q product price (in_force q.slot past) refl asks
 
--- ---- all acts
+-- ---- the prices after any act
 
 asked-tells : (config : ConfigValue) (past : List Entry) (s : SiteState) (till moment : ℕ) (r : Request)
     → Tells s (act.Till till r) (asked config past s till moment r)

@@ -1,4 +1,4 @@
--- What is written as CSV with CRLF is read back by the default reader.
+-- A reader of CSV with the default settings reads from CSV with CRLF the fields that were written.
 use Rattle.std.proofs.Common.{◌≡◌, ◌==◌, ◌++◌, ◌∷◌, ◌∙◌, [], ℕ, List, Bool, Some, None, refl, ap, subst, true, false, append_assoc, inl, inr, map}
 use Rattle.std.specs.Prelude.{◌||◌}
 use Rattle.std.specs.List.{list_any, concat}
@@ -18,7 +18,7 @@ not-true : (x : Bool) → (x ≡ true → ⊥) → x ≡ false
 not-true true n = absurd (n refl)
 not-true false n = refl
 
--- ---- a field's text doesn't depend on the end of the record
+-- ---- the text of a field
 
 escaped-same : (x : List ℕ) → escaped csv_writer x ≡ escaped default_writer x
 unfolding escaped
@@ -38,13 +38,13 @@ fields-same (x ∷ rest) = rw (field-same x, fields-same rest) refl
 
 -- ---- a record of at least two fields
 
--- A comma ends a field.
+-- At a comma the reader ends the field, and starts the next one.
 end-field : (fields : List (List ℕ)) (x u : List ℕ)
     → next_record default_config st.InField fields x (44 ∷ u) ≡ next_record default_config st.StartField (fields ++ (x ∷ [])) [] u
 unfolding next_record
 end-field fields x u = refl
 
--- What comes after a field.
+-- the byte after a field: a comma if more fields follow, else a carriage return
 abbrev head-of : List (List ℕ) → ℕ
 head-of [] = 13
 head-of (z ∷ zs) = 44
@@ -62,7 +62,7 @@ head-plain : (ys : List (List ℕ)) → (head-of ys == 34) ≡ false
 head-plain [] = refl
 head-plain (z ∷ zs) = refl
 
--- The rest of a record, after a field.
+-- After a field the reader reads the other fields of the record, up to its carriage return.
 rest-run : (fields : List (List ℕ)) (x : List ℕ) (rest : List (List ℕ)) (tail : List ℕ)
     → next_record default_config st.InField fields x (fields_text default_writer rest ++ (13 ∷ 10 ∷ tail)) ≡ Some (fields ++ (x ∷ rest), st.AfterCr, 10 ∷ tail)
 unfolding next_record fields_text
@@ -77,7 +77,7 @@ rest-run fields x (y ∷ ys) tail =
     ≡ Some ((fields ++ (x ∷ [])) ++ (y ∷ ys), st.AfterCr, 10 ∷ tail)) e more in
     rw (end-field fields x _, u) (run ∙ back ∙ rw (append_assoc fields (x ∷ []) (y ∷ ys)) refl)
 
--- A record starts as its first field does.
+-- At the start of a record the reader reads an unquoted field just as at the start of any other field.
 first-plain : (x tail : List ℕ) → list_any (needs_byte default_writer) x ≡ false
     → next_record default_config st.StartRecord [] [] (x ++ (44 ∷ tail)) ≡ next_record default_config st.StartField [] [] (x ++ (44 ∷ tail))
 first-plain [] tail p = record-same [] [] 44 tail refl refl
@@ -130,7 +130,7 @@ read-one [] tail long = absurd long
 read-one (x ∷ []) tail long = absurd long
 read-one (x ∷ y ∷ ys) tail long = read-row x y ys tail
 
--- The line feed behind a carriage return is passed over.
+-- After a carriage return the reader skips the line feed.
 past-feed : (tail : List ℕ) → next_record default_config st.AfterCr [] [] (10 ∷ tail) ≡ next_record default_config st.StartRecord [] [] tail
 unfolding next_record
 past-feed tail = refl
@@ -147,7 +147,7 @@ reached (row ∷ rows) long =
     let rest = concat (map (row_text csv_writer) rows) in
     ((row, st.AfterCr, 10 ∷ rest), past-feed (row_text csv_writer row ++ rest) ∙ read-one row rest long.0, refl, reached rows long.1)
 
--- All records of a header and of rows.
+-- From the text of a header and rows the reader reads the header and then each row as a record.
 pub read-all : (header : List (List ℕ)) (rows : List (List (List ℕ))) → IsLong header → AreLong rows
     → AreRecords default_config st.StartRecord (row_text csv_writer header ++ concat (map (row_text csv_writer) rows)) (header ∷ rows)
 unfolding Reached

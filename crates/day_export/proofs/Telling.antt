@@ -1,4 +1,4 @@
--- The rows tell the day.
+-- The rows of any history have what `RowsTellTheDay` promises.
 use Rattle.std.proofs.Common.{◌≡◌, ◌++◌, ◌∙◌, ℕ, List, [], ◌∷◌, length, map, Option, Some, None, refl, ap, sym, subst, All}
 use Rattle.std.specs.Prelude.{IfSome}
 use Rattle.std.specs.List.{concat, cons_option, filter_map}
@@ -48,9 +48,9 @@ events-told : (s : Stand) (entries : List Entry) → rows_from rows.Events s ent
 events-told s [] = refl
 events-told s (e ∷ entries) = ap (λ l. event_row e ∷ l) (events-told (stand_after s e) entries)
 
--- ---- how long a row is
+-- ---- the length of a row
 
--- A row has a cell for each column, and at least two.
+-- a row has as many cells as there are columns, and at least two
 abbrev IsFull : Rows → List Cell → Type 0
 IsFull which row = (length row ≡ length (columns which)) × IsLong (map cell_text row)
 

@@ -26,7 +26,7 @@ use Rattle.day_export.specs.Cells.{optional}
 
 -- ---- acts
 
--- The cells of an act that has a sender and a verb and nothing else.
+-- the cells of an act that has no values but its sender and its verb
 abbrev pub sent_by : Word → Word → ActCells
 sent_by sender verb =
     record {
@@ -44,7 +44,7 @@ sent_by sender verb =
       layout = cell.Nothing;
     }
 
--- A till's request at point n, and a till's request that names a transaction of point n.
+-- the cells of a till's request at point n
 abbrev pub asked_at : ℕ → Word → ℕ → ActCells
 asked_at till verb n = record (sent_by word.Till verb) { till = cell.Number till; point = cell.Number n }
 
@@ -66,7 +66,7 @@ request_cells till (request.Unlock n transaction) = asked_of till word.Unlock n 
 request_cells till (request.Clear n transaction) = asked_of till word.Clear n transaction
 request_cells till (request.Show n) = asked_at till word.Show n
 
--- A dispenser's event at point n.
+-- the cells of a dispenser's event at point n
 abbrev pub reported_at : ℕ → Word → ActCells
 reported_at n verb = record (sent_by word.Dispenser verb) { point = cell.Number n }
 
@@ -83,7 +83,7 @@ abbrev pub layout_number : Layout → ℕ
 layout_number layout.One = 1
 layout_number layout.Two = 2
 
--- The bytes of a load's program are left out.
+-- The cells of an act. The bytes of a load's program have no cell.
 abbrev pub act_cells : Act → ActCells
 act_cells (act.Till till request) = request_cells till request
 act_cells (act.Dispenser n event) = event_cells n event
@@ -92,7 +92,7 @@ act_cells (act.Load slot mask layout bytes) =
 
 -- ---- replies
 
--- The cells of a reply that has a word and nothing else.
+-- the cells of a reply that is only a word
 abbrev pub answered : Word → ReplyCells
 answered w =
     record {
@@ -113,7 +113,7 @@ order_cells order.Suspend = ordered word.Suspend
 order_cells order.Resume = ordered word.Resume
 order_cells order.Stop = ordered word.Stop
 
--- The numbers of a point that is shown are left out.
+-- The cells of a reply. If it shows a point, the numbers of the point have no cells.
 abbrev pub reply_cells : Reply → ReplyCells
 reply_cells reply.Done = answered word.Done
 reply_cells (reply.Granted granted version) = record (answered word.Granted) { granted = cell.Number granted; version = cell.Number version }
@@ -124,17 +124,17 @@ reply_cells (reply.Refused number value) = record (answered word.Refused) { refu
 
 -- ---- runs
 
--- The slot, the version and the answer of a run, if there is one.
+-- the cells of a run: its slot, its version and its answer; they are empty if no rule ran
 abbrev pub run_cells : Option Run → RunCells
 run_cells None = record { slot = cell.Nothing; version = cell.Nothing; r0 = cell.Nothing }
 run_cells (Some run) = record { slot = cell.Number run.slot; version = cell.Number run.version; r0 = cell.Number run.r0 }
 
--- The number in `size` bytes at an offset, the least significant byte first, or nothing where the bytes end before.
+-- The number in `size` bytes at an offset, the least significant byte first. The cell is empty if the bytes end before.
 abbrev pub number_at : List ℕ → ℕ → ℕ → Cell
 number_at bytes offset size =
     if nat_le (offset + size) (length bytes) then cell.Number (little_number size (drop offset bytes)) else cell.Nothing
 
--- A field of the context of a run, if there is one: its offset and its size in bytes.
+-- the field of `size` bytes at an offset of a run's context; the cell is empty if no rule ran
 abbrev pub field_cell : Option Run → ℕ → ℕ → Cell
 field_cell None offset size = cell.Nothing
 field_cell (Some run) offset size = number_at (bytes_of run.context) offset size

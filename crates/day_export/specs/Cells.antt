@@ -1,4 +1,4 @@
--- Definitions: the columns of each kind of rows, and what a cell says.
+-- Definitions: the columns of each kind of rows, and the text of a cell.
 use Rattle.std.specs.Prelude.{ℕ, ◌==◌, if◌then◌else◌, List, [], ◌∷◌, codes, decimal, Option, Some, None}
 use Rattle.day_export.specs.declared.cells.Rows.{Rows}
 use Rattle.day_export.specs.declared.cells.Rows.TheVariants as rows
@@ -55,17 +55,17 @@ word_text word.Point = codes "point"
 word_text word.Refused = codes "refused"
 word_text word.Authorise = codes "authorise"
 
--- The text of a cell: a number's decimal digits, a word, or nothing.
+-- The text of a cell: the decimal digits of a number, a word, or an empty text.
 unfoldable pub cell_text : Cell → List ℕ
 cell_text (cell.Number n) = decimal n
 cell_text (cell.Word w) = word_text w
 cell_text cell.Nothing = []
 
--- A number that may be missing.
+-- the cell of an optional number, which is empty for None
 abbrev pub optional : Option ℕ → Cell
 optional None = cell.Nothing
 optional (Some n) = cell.Number n
 
--- A moment in seconds since the start of 1970. 0 is no moment.
+-- the cell of a moment in seconds since the start of 1970; it is empty for 0, which means that there is no moment
 abbrev pub moment_cell : ℕ → Cell
 moment_cell moment = if moment == 0 then cell.Nothing else cell.Number moment

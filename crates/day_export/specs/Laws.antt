@@ -26,19 +26,19 @@ use Rattle.day_export.specs.Rows.{rows_of, decision_cells, decision_row, event_r
 use Rattle.day_export.specs.Standing.{stand_at}
 use Rattle.day_export.specs.Text.{rows_text}
 
--- The cells of a row under `cleared`, `point`, `volume`, `amount`, `till` and `moment`.
+-- the cells of a row in the columns `cleared`, `point`, `volume`, `amount`, `till` and `moment`
 abbrev pub sale_in : List Cell → List Cell
 sale_in row = map (λ column. slice_index_or row column cell.Nothing) (1 ∷ 2 ∷ 6 ∷ 7 ∷ 8 ∷ 9 ∷ [])
 
--- The cells that a sale has there.
+-- the cells of a sale for the columns `cleared`, `point`, `volume`, `amount`, `till` and `moment`
 abbrev pub sale_told : Sale → List Cell
 sale_told sale =
     cell.Number sale.number ∷ cell.Number sale.point ∷ cell.Number sale.volume ∷ cell.Number sale.amount ∷ cell.Number sale.till
     ∷ moment_cell sale.moment ∷ []
 
--- What the rows of a day have. The rows of sales are the report's sales, each once and in order. There is a row for each
--- decision and for each entry. Each row has a cell for each column. The CSV, read by a reader of CSV, gives the names of
--- the columns and then the texts of the rows.
+-- What is true of the rows of a day. The rows of sales are the report's sales, each once and in order. There is a row
+-- for each decision and for each entry. Each row has a cell for each column. A reader of CSV reads from the CSV the
+-- names of the columns, and then the texts of the rows.
 pub record RowsTellTheDay (config : ConfigValue) (history : List Entry) : Type 0 where
   pub sales : map sale_in (rows_of rows.Sales config history) ≡ map sale_told (sales_of config history)
   pub decisions : rows_of rows.Decisions config history ≡ filter_map decision_row history
@@ -47,7 +47,7 @@ pub record RowsTellTheDay (config : ConfigValue) (history : List Entry) : Type 0
   pub read_back : (which : Rows) → AreRecords default_config state.StartRecord (strip_bom (rows_text which format.Csv config history))
       (columns which ∷ map (map cell_text) (rows_of which config history))
 
--- This holds for every history, legal or not.
+-- `RowsTellTheDay` holds for every history, legal or not.
 abbrev pub RowsTellEachDay : Type 0
 RowsTellEachDay = (config : ConfigValue) (history : List Entry) → RowsTellTheDay config history
 
@@ -57,25 +57,25 @@ abbrev pub IsNumber : Cell → Type 0
 IsNumber (cell.Number n) = Unit {0}
 IsNumber _ = ⊥
 
--- The row says where the delivery of its sale came from: it has a number under `ended`, `product` and `price`.
+-- The row of a sale has a number in the columns `ended`, `product` and `price`, which its delivery gives.
 abbrev pub HasDelivery : List Cell → Type 0
 HasDelivery row =
     IsNumber (slice_index_or row 0 cell.Nothing) × IsNumber (slice_index_or row 4 cell.Nothing) × IsNumber (slice_index_or row 5 cell.Nothing)
 
--- The points and the prices after the history are the site's, and each sale has a delivery.
+-- The points and the prices after the history are those of the site's state, and each row of a sale has its delivery.
 pub record RowsTellTheSite (config : ConfigValue) (history : List Entry) (state : SiteState) : Type 0 where
   pub points : (stand_at config history).points ≡ state.points
   pub prices : (stand_at config history).prices ≡ state.prices
   pub deliveries : All HasDelivery (rows_of rows.Sales config history)
 
--- This holds for every legal history.
+-- `RowsTellTheSite` holds for every legal history.
 abbrev pub RowsTellEachSite : Type 0
 RowsTellEachSite =
     (config : ConfigValue) (history : List Entry) (state : SiteState) → LegalHistory config history state → RowsTellTheSite config history state
 
 -- ---- contexts
 
--- The number of a field fits the field's bytes.
+-- the value of a field is a number that its 4 or 8 bytes can hold
 abbrev pub FitsField : Field → Type 0
 FitsField (Four x) = x < 256 ^ 4
 FitsField (Eight x) = x < 256 ^ 8
@@ -84,13 +84,13 @@ abbrev pub field_told : Field → Cell
 field_told (Four x) = cell.Number x
 field_told (Eight x) = cell.Number x
 
--- The cells of a context: its fields in their order. The first layout has no count of cleared transactions and none of open points. The zero at
--- the end of the second layout has no cell.
+-- The cells of a context: its fields in their order. In the first layout the counts of cleared transactions and of open
+-- points don't exist, and their cells are empty. The zero at the end of the second layout has no cell.
 abbrev pub context_told : Layout → SiteState → ℕ → ℕ → Question → List Cell
 context_told layout.One s till moment q = map field_told (shared_fields s till moment q) ++ cell.Nothing ∷ cell.Nothing ∷ []
 context_told layout.Two s till moment q = map field_told (shared_fields s till moment q) ++ cell.Number s.clears ∷ cell.Number (open_points s) ∷ []
 
--- The row of a decision has the context that the rule ran on: from the column `context_till` on, the context's fields.
+-- From the column `context_till` on, the row of a decision has the fields of the context that the rule ran on.
 abbrev pub RowsTellContexts : Type 0
 RowsTellContexts =
     (layout : Layout) (s : SiteState) (till moment : ℕ) (q : Question) (entry : Entry) (run : Run) (is_granted : Bool) → entry.run ≡ Some run

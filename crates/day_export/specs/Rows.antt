@@ -1,4 +1,4 @@
--- Definitions: the rows of a day. A row has a cell for each column.
+-- Definitions: the rows of a day. Each row has one cell for each column.
 use Rattle.std.specs.Prelude.{ℕ, Bool, true, false, List, [], ◌∷◌, Option, Some, None}
 use Rattle.std.specs.List.{cons_option}
 use Rattle.decision_journal.specs.declared.entries.Entry.{Entry}
@@ -18,12 +18,12 @@ use Rattle.day_export.specs.Standing.{Stand, ended_as, number_cleared, stand_aft
 
 -- ---- sales
 
--- A number of a delivery, if the day has the entry that ended it.
+-- the cell of a number that a delivery has; it is empty if the delivery isn't known
 abbrev pub told_of : Option Ended → (Ended → ℕ) → Cell
 told_of None field = cell.Nothing
 told_of (Some e) field = cell.Number (field e)
 
--- The row of a sale that cleared this transaction.
+-- the row of a sale, with the number of its transaction and with its delivery, if that is known
 abbrev pub sale_cells : Sale → ℕ → Option Ended → List Cell
 sale_cells sale transaction ended =
     told_of ended (λ e. e.number)
@@ -38,7 +38,7 @@ sale_cells sale transaction ended =
     ∷ moment_cell sale.moment
     ∷ []
 
--- The row of the sale that an entry makes, if it makes one.
+-- The row of the sale that an entry makes; None if it makes none.
 unfoldable pub sale_row : Stand → Entry → Option (List Cell)
 sale_row s entry =
     elim (sale_of s.points entry) [
@@ -52,7 +52,7 @@ abbrev pub answer_cell : Bool → Cell
 answer_cell true = cell.Word word.Granted
 answer_cell false = cell.Word word.Denied
 
--- The row of a decision. The context's fields have the offsets and the sizes that rules read them by.
+-- The row of a decision. The fields of the context are read at the offsets and with the sizes that rules use.
 abbrev pub decision_cells : Entry → Bool → List Cell
 decision_cells entry is_granted =
     cell.Number entry.number
@@ -83,7 +83,7 @@ decision_cells entry is_granted =
     ∷ field_cell entry.run 72 4
     ∷ []
 
--- The row of an entry's decision, if a rule decided.
+-- The row of an entry's decision; None if no rule decided.
 unfoldable pub decision_row : Entry → Option (List Cell)
 decision_row entry = elim (decision_of entry) [ None ↦ None | Some d ↦ Some (decision_cells entry d.is_granted) ]
 
@@ -116,7 +116,7 @@ event_row entry =
 
 -- ---- a day
 
--- The row of an entry, if it has one. The second argument is the state before the entry.
+-- The row of an entry; None if it has none. The second argument is the state before the entry.
 abbrev pub row_of : Rows → Stand → Entry → Option (List Cell)
 row_of rows.Sales s entry = sale_row s entry
 row_of rows.Decisions s entry = decision_row entry
@@ -127,6 +127,6 @@ abbrev pub rows_from : Rows → Stand → List Entry → List (List Cell)
 rows_from which s [] = []
 rows_from which s (entry ∷ entries) = cons_option (row_of which s entry) (rows_from which (stand_after s entry) entries)
 
--- The rows of the history of a site of this configuration.
+-- all rows of one kind, for the history of a site of this configuration
 abbrev pub rows_of : Rows → ConfigValue → List Entry → List (List Cell)
 rows_of which config history = rows_from which (stand_before config) history

@@ -19,27 +19,28 @@ use Rattle.day_report.specs.declared.sales.Sale.{Sale}
 use Rattle.day_export.specs.declared.standing.Ended.{Ended}
 use Rattle.day_export.specs.declared.standing.Standing.{Standing}
 
--- The points, the prices of the products in thousandths, and the deliveries that ended and weren't cleared, oldest first.
+-- The state of a day: the points, and the prices of the products in thousandths. `unpaid` are the deliveries that ended
+-- and weren't cleared yet, oldest first.
 pub record Stand : Type 0 where
   pub points : List PointState
   pub prices : List ℕ
   pub unpaid : List Ended
 
--- The price of a product, or 0 where it has none. Products are numbered from 1.
+-- The price of a product; 0 if there is no such product. Products are numbered from 1.
 abbrev pub price_of : List ℕ → ℕ → ℕ
 price_of prices product = if nat_le 1 product then slice_index prices (product - 1) else 0
 
--- The prices after a product got this one. They are unchanged where there is no such product.
+-- The prices after the price of a product was changed. They stay the same if there is no such product.
 abbrev pub with_price : List ℕ → ℕ → ℕ → List ℕ
 with_price prices product price =
     if nat_le 1 product && nat_le product (length prices) then slice_set prices (product - 1) price else prices
 
--- The prices after an act with this reply. Only a price change that was granted changes one.
+-- The prices after an act with this reply. Only a price change that was granted changes a price.
 abbrev pub prices_after : List ℕ → Act → Reply → List ℕ
 prices_after prices (act.Till till (request.Price product price)) (reply.Granted granted version) = with_price prices product granted
 prices_after prices _ _ = prices
 
--- The number of the point that a request or an act names, or 0 where it names none.
+-- the number of the point that a request names; 0 if it names none
 abbrev pub point_asked : Request → ℕ
 point_asked (request.Release n amount) = n
 point_asked (request.Preset n amount) = n
@@ -59,8 +60,9 @@ point_named (act.Till till request) = point_asked request
 point_named (act.Dispenser n event) = n
 point_named (act.Load slot mask layout bytes) = 0
 
--- The delivery that ended at point n with an entry of this number, if one ended: the number of the point's newest transaction grew by one. The
--- product is the nozzle that was lifted before, and the price is the product's before.
+-- The delivery at point n that ended with the entry of this number; None if none ended. A delivery ended if the point
+-- gave out one more transaction number. Its product is the nozzle that was lifted before the entry, at the price before
+-- it.
 abbrev pub ended_at : List ℕ → ℕ → ℕ → PointState → PointState → Option Ended
 ended_at prices number n before after =
     if after.last == before.last + 1 then Some (record {
@@ -75,35 +77,35 @@ abbrev pub ended_between : List ℕ → ℕ → ℕ → Option PointState → Op
 ended_between prices number n (Some before) (Some after) = ended_at prices number n before after
 ended_between prices number n _ _ = None
 
--- The delivery that an entry ended, if it ended one, by the points and the prices before it.
+-- The delivery that an entry ended; None if it ended none. `points` and `prices` are those before the entry.
 unfoldable pub ended_by : List PointState → List ℕ → Entry → Option Ended
 ended_by points prices entry =
     ended_between prices entry.number (point_named entry.act) (at_number points (point_named entry.act))
     (at_number (with_entry points entry) (point_named entry.act))
 
--- The transaction that an act clears if it clears one, or else 0.
+-- the number of the transaction that an act asks to clear; 0 for any other act
 abbrev pub number_cleared : Act → ℕ
 number_cleared (act.Till till (request.Clear n transaction)) = transaction
 number_cleared _ = 0
 
--- The delivery became this transaction of point n.
+-- whether the delivery e became this transaction of point n
 abbrev pub became : ℕ → ℕ → Ended → Bool
 became n transaction e = e.point == n && e.transaction == transaction
 
--- The delivery that became this transaction of point n, if it is among these.
+-- The first delivery in the list that became this transaction of point n; None if there is none.
 abbrev pub ended_as : List Ended → ℕ → ℕ → Option Ended
 ended_as unpaid n transaction = find (λ (e : Ended). became n transaction e) unpaid
 
--- The deliveries without the one that became this transaction of point n.
+-- the list without the deliveries that became this transaction of point n
 abbrev pub without : List Ended → ℕ → ℕ → List Ended
 without unpaid n transaction = filter (λ (e : Ended). not (became n transaction e)) unpaid
 
--- The deliveries that are unpaid after an act that made this sale, or none.
+-- The deliveries that are still unpaid after an act. If the act made a sale, the delivery of this sale is removed.
 abbrev pub uncleared : List Ended → Option Sale → Act → List Ended
 uncleared unpaid None act = unpaid
 uncleared unpaid (Some sale) act = without unpaid sale.point (number_cleared act)
 
--- The state after an entry.
+-- the state of a day after an entry
 unfoldable pub stand_after : Stand → Entry → Stand
 stand_after s entry =
     record {
@@ -117,16 +119,16 @@ stand_after s entry =
 abbrev pub stand_before : ConfigValue → Stand
 stand_before config = record { points = closed_points (length config.points); prices = config.prices; unpaid = [] }
 
--- The state after the history of a site of this configuration.
+-- the state of a day after the history of a site of this configuration
 abbrev pub stand_at : ConfigValue → List Entry → Stand
 stand_at config history = fold stand_after (stand_before config) history
 
--- ---- for private clauses
+-- ---- promises of private functions
 
 abbrev pub stand_of : Standing → Stand
 stand_of s = record { points = s.points.items; prices = s.prices.items; unpaid = s.unpaid.items }
 
--- An entry was followed, and each point gave out at most one more transaction number.
+-- The state was changed as the entry changes it, and each point gave out at most one more transaction number.
 pub record Moves (old : Standing) (entry : Entry) (new : Standing) : Type 0 where
   pub is : stand_of new ≡ stand_after (stand_of old) entry
   pub bounded : (k : ℕ) → AreWithin k old.points.items → AreWithin (k + 1) new.points.items

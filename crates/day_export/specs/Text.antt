@@ -17,7 +17,8 @@ use Rattle.day_export.specs.declared.cells.Cell.TheVariants as cell
 use Rattle.day_export.specs.Cells.{columns, word_text, cell_text}
 use Rattle.day_export.specs.Rows.{rows_of}
 
--- A writer of CSV by RFC 4180: with commas, with quotes where a field needs them, and with CRLF at the end of a record.
+-- The settings of the CSV writer, by RFC 4180: commas, quotes around a field only if it needs them, and CRLF after each
+-- record.
 abbrev pub csv_writer : WriterBuilder
 csv_writer = with_terminator default_writer terminator.CRLF
 
@@ -27,7 +28,8 @@ cell_data (cell.Number n) = number (unsigned n)
 cell_data (cell.Word w) = string (word_text w)
 cell_data cell.Nothing = null
 
--- The members of an object after each name got its cell's value. An object has its members in the order of the names' bytes.
+-- Puts the value of each cell under its name into the members of an object. The members of an object are ordered by the
+-- bytes of their names.
 abbrev pub with_cells : Members → List (List ℕ) → List Cell → Members
 with_cells members (name ∷ names) (c ∷ cells) = with_cells (put name (cell_data c) members) names cells
 with_cells members _ _ = members
@@ -35,7 +37,7 @@ with_cells members _ _ = members
 abbrev pub object_of : List (List ℕ) → List Cell → Data
 object_of names cells = object (with_cells no_members names cells)
 
--- The text of a row. A line of JSON is an object in its compact text, and LF.
+-- The text of a row: a record of CSV, or an object of JSON in its compact text and an LF.
 unfoldable pub row_bytes : Rows → Format → List Cell → List ℕ
 row_bytes which format.Csv cells = row_text csv_writer (map cell_text cells)
 row_bytes which format.Json cells = compact_text (object_of (columns which) cells) ++ 10 ∷ []
@@ -45,13 +47,13 @@ unfoldable pub header_bytes : Rows → Format → List ℕ
 header_bytes which format.Csv = row_text csv_writer (columns which)
 header_bytes which format.Json = []
 
--- The text of all rows of the history of a site of this configuration.
+-- the text of all rows of one kind, for the history of a site of this configuration
 abbrev pub rows_text : Rows → Format → ConfigValue → List Entry → List ℕ
 rows_text which form config history = header_bytes which form ++ concat (map (row_bytes which form) (rows_of which config history))
 
--- ---- for private clauses
+-- ---- promises of private functions
 
--- The writer is set up for rows, and no record is begun.
+-- the writer has the settings for rows, and is between two records
 pub record IsBetween {W : Type 0} (writer : Writer W) : Type 0 where
   pub setup : writer_setup writer ≡ csv_writer
   pub fields : fields_written writer ≡ 0

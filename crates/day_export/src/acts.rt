@@ -9,7 +9,7 @@ use bpf_model::context::Layout;
 use fuelling_point::DispenserEvent;
 use till_request::{Act, Request};
 
-/// The cells of an act, one for each column. A column that the act has no value for is `Nothing`.
+/// The cells of an act, one for each column. If the act has no value for a column, its cell is `Nothing`.
 #[derive(Clone, Copy, Drop)]
 pub(crate) struct ActCells {
     pub(crate) sender: Cell,
@@ -26,7 +26,7 @@ pub(crate) struct ActCells {
     pub(crate) layout: Cell,
 }
 
-/// Returns the cells of an act that has a sender and a verb and nothing else.
+/// Returns the cells of an act that has no values but its sender and its verb.
 fn sent_by(sender: Word, verb: Word) -> ActCells
     ensures { result ≡ sent_by sender verb }
 {
@@ -151,7 +151,7 @@ fn layout_number(layout: Layout) -> u32
     }
 }
 
-/// Returns the cells of an act. The bytes of a load's program are left out.
+/// Returns the cells of an act. The bytes of a load's program have no cell.
 pub(crate) fn act_cells(act: &Act) -> ActCells
     ensures { result ≡ act_cells act.now }
 {

@@ -58,7 +58,7 @@ pub enum Word {
     Authorise,
 }
 
-/// What a row has in a column.
+/// The value that a row has in a column.
 #[derive(Clone, Copy, Drop)]
 pub enum Cell {
     Number(u64),
@@ -191,7 +191,7 @@ pub(crate) fn number(n: u32) -> Cell
     Cell::Number(u64::from(n))
 }
 
-/// Returns the cell of a number that may be missing.
+/// Returns the cell of an optional number, which is `Nothing` if the number is missing.
 pub(crate) fn optional(n: Option<u32>) -> Cell
     ensures { result ≡ optional n }
 {
@@ -201,7 +201,7 @@ pub(crate) fn optional(n: Option<u32>) -> Cell
     }
 }
 
-/// Returns the cell of a moment. 0 is no moment.
+/// Returns the cell of a moment, which is `Nothing` for 0: an entry without a moment has 0.
 pub(crate) fn moment_cell(moment: u64) -> Cell
     ensures { result ≡ moment_cell moment }
 {

@@ -1,4 +1,4 @@
-//! Rows as CSV.
+//! The writing of rows as CSV.
 
 ghost use Rattle.std.specs.Prelude.{◌≡◌, ◌++◌, ◌∷◌, [], OnOk, IfOk, map};
 ghost use Rattle.std.specs.Io.KnownBytes.{Appends, Keeps};
@@ -20,7 +20,7 @@ use std::io::Write;
 #[derive(Drop)]
 pub(crate) struct CsvRows<W: Write + Drop> {
     writer: Writer<W>,
-    /// The record that is written next. It is kept to use its memory again.
+    /// The record that is written next. It is kept so that its memory is used again for each row.
     row: ByteRecord,
 }
 
@@ -74,7 +74,7 @@ fn write_record<W: Write + Drop>(writer: &mut Writer<W>, row: &ByteRecord) -> Re
 }
 
 impl<W: Write + Drop> CsvRows<W> {
-    /// Begins with the names of the columns.
+    /// Makes a writer on top of `out`, and writes the names of the columns to it.
     pub(crate) fn start(alloc: Global, rows: Rows, out: W) -> Result<CsvRows<W>, RowsFault>
         ensures text { IfOk result (λ it. Appends (W.contents out) (text_written W.contents it.writer) (header_bytes rows format.Csv)) }
         ensures ready { IfOk result (λ it. IsBetween it.writer) }
@@ -88,7 +88,7 @@ impl<W: Write + Drop> CsvRows<W> {
         Ok(CsvRows { writer, row })
     }
 
-    /// Writes what isn't written yet, and returns the writer.
+    /// Writes the bytes that are still buffered, and returns the underlying writer.
     pub(crate) fn finish(self) -> Result<W, RowsFault>
         ensures { IfOk result (λ out. Keeps (text_written W.contents self.writer) (W.contents out)) }
     {

@@ -3,7 +3,7 @@
 use std::alloc::AllocError;
 use std::io;
 
-/// Why not all rows were written.
+/// Why rows couldn't be written.
 #[derive(Clone, Copy, Drop)]
 pub enum RowsFault {
     OutOfMemory,
@@ -43,7 +43,8 @@ impl From<csv::Error> for RowsFault {
     fn from(error: csv::Error) -> Self {
         match error.into_kind() {
             csv::ErrorKind::Io(error) => RowsFault::Io(error),
-            // A writer has no other error here, since all rows are as long as their header.
+            // Besides an I/O error a writer of CSV can only run out of memory here, since all rows are as long as their
+            // header.
             _ => RowsFault::OutOfMemory,
         }
     }

@@ -1,4 +1,4 @@
-//! Rows as lines of JSON.
+//! The writing of rows as lines of JSON.
 
 ghost use Rattle.std.specs.Prelude.{◌≡◌, ◌++◌, ◌∷◌, [], IfOk, OnOk, map, string_bytes};
 ghost use Rattle.serde_json.specs.View.{view, members_view};
@@ -20,7 +20,7 @@ pub(crate) struct JsonRows<W: Write + Drop> {
     pub(crate) out: W,
 }
 
-/// Returns the value of a cell. The error is that memory ran out.
+/// Returns the JSON value of a cell. The error is that memory ran out.
 #[tactic(auto, unfolding(crate::specs::Text::cell_data))]
 fn cell_value(alloc: Global, cell: Cell) -> Result<Value, AllocError>
     ensures { IfOk result (λ value. view value ≡ cell_data cell) }
@@ -52,7 +52,7 @@ fn put_cells(
     put_cells(members, alloc, names, cells)
 }
 
-/// Returns the object of a row. The error is that memory ran out.
+/// Returns a row as a JSON object. The error is that memory ran out.
 fn object_of(alloc: Global, rows: Rows, cells: &[Cell]) -> Result<Value, AllocError>
     ensures { IfOk result (λ value. view value ≡ object_of (columns rows) cells.now) }
 {
@@ -61,7 +61,7 @@ fn object_of(alloc: Global, rows: Rows, cells: &[Cell]) -> Result<Value, AllocEr
     Ok(Value::Object(members))
 }
 
-/// Returns the line of a row. The error is that memory ran out.
+/// Returns a row as a line of JSON. The error is that memory ran out.
 fn line_of(alloc: Global, rows: Rows, cells: &[Cell]) -> Result<String, AllocError>
     ensures { IfOk result (λ line. string_bytes line ≡ row_bytes rows format.Json cells.now) }
 {

@@ -7,7 +7,7 @@ use crate::cells::{Cell, Word, number, optional};
 use fuelling_point::Order;
 use till_request::Reply;
 
-/// The cells of a reply, one for each column. A column that the reply has no value for is `Nothing`.
+/// The cells of a reply, one for each column. If the reply has no value for a column, its cell is `Nothing`.
 #[derive(Clone, Copy, Drop)]
 pub(crate) struct ReplyCells {
     pub(crate) reply: Cell,
@@ -18,7 +18,7 @@ pub(crate) struct ReplyCells {
     pub(crate) detail: Cell,
 }
 
-/// Returns the cells of a reply that has a word and nothing else.
+/// Returns the cells of a reply that is only a word.
 fn answered(word: Word) -> ReplyCells
     ensures { result ≡ answered word }
 {
@@ -32,7 +32,7 @@ fn answered(word: Word) -> ReplyCells
     }
 }
 
-/// Returns the cells of a reply that is an order.
+/// Returns the cells of a reply that is an order, with the word of the order.
 fn ordered(word: Word) -> ReplyCells
     ensures { result ≡ ordered word }
 {
@@ -42,7 +42,7 @@ fn ordered(word: Word) -> ReplyCells
     }
 }
 
-/// Returns the cells of a reply that is this order.
+/// Returns the cells of a reply that is an order, with the order's amount if it has one.
 fn order_cells(order: Order) -> ReplyCells
     ensures { result ≡ order_cells order }
 {
@@ -57,7 +57,7 @@ fn order_cells(order: Order) -> ReplyCells
     }
 }
 
-/// Returns the cells of a reply. The numbers of a point that is shown are left out.
+/// Returns the cells of a reply. If it shows a point, the numbers of the point have no cells.
 pub(crate) fn reply_cells(reply: Reply) -> ReplyCells
     ensures { result ≡ reply_cells reply }
 {

@@ -12,8 +12,8 @@ use crate::standing::{Ended, Standing, ended_as, number_cleared};
 use day_report::{Sale, decision_of, sale_of};
 use decision_journal::Entry;
 
-/// Returns the row of a sale that cleared this transaction. `ended` is its delivery, if the day has the entry that ended
-/// it.
+/// Returns the row of a sale, with the number of its transaction. `ended` is its delivery, or `None` if the day has no
+/// entry that ended it.
 fn sale_cells(sale: &Sale, transaction: u32, ended: Option<Ended>) -> [Cell; 10]
     ensures { result ≡ sale_cells sale.now transaction ended }
 {
@@ -39,7 +39,7 @@ fn sale_cells(sale: &Sale, transaction: u32, ended: Option<Ended>) -> [Cell; 10]
     ]
 }
 
-/// Returns the row of the sale that an entry makes, if it makes one.
+/// Returns the row of the sale that an entry makes, or `None` if it makes none.
 #[tactic(auto, unfolding(crate::specs::Rows::sale_row))]
 pub(crate) fn sale_row(standing: &Standing, entry: &Entry) -> Option<[Cell; 10]>
     ensures { result ≡ sale_row (stand_of standing.now) entry.now }
@@ -50,7 +50,7 @@ pub(crate) fn sale_row(standing: &Standing, entry: &Entry) -> Option<[Cell; 10]>
     Some(sale_cells(&sale, transaction, ended))
 }
 
-/// Returns the answer of a rule.
+/// Returns the cell for the answer of a rule: `granted` or `denied`.
 fn answer_cell(is_granted: bool) -> Cell
     ensures { result ≡ answer_cell is_granted }
 {
@@ -61,7 +61,7 @@ fn answer_cell(is_granted: bool) -> Cell
     }
 }
 
-/// Returns the row of a decision. The context's fields have the offsets and the sizes that rules read them by.
+/// Returns the row of a decision. The fields of the context are read at the offsets and with the sizes that rules use.
 fn decision_cells(entry: &Entry, is_granted: bool) -> [Cell; 26]
     ensures { result ≡ decision_cells entry.now is_granted }
 {
@@ -97,7 +97,7 @@ fn decision_cells(entry: &Entry, is_granted: bool) -> [Cell; 26]
     ]
 }
 
-/// Returns the row of an entry's decision, if a rule decided.
+/// Returns the row of an entry's decision, or `None` if no rule decided.
 #[tactic(auto, unfolding(crate::specs::Rows::decision_row))]
 pub(crate) fn decision_row(entry: &Entry) -> Option<[Cell; 26]>
     ensures { result ≡ decision_row entry.now }
@@ -106,7 +106,7 @@ pub(crate) fn decision_row(entry: &Entry) -> Option<[Cell; 26]>
     Some(decision_cells(entry, decision.is_granted))
 }
 
-/// Returns the row of an entry.
+/// Returns the row that an entry has among the rows of all entries.
 #[tactic(auto, unfolding(crate::specs::Rows::event_row))]
 pub(crate) fn event_row(entry: &Entry) -> [Cell; 21]
     ensures { result ≡ event_row entry.now }

@@ -7,7 +7,7 @@ use crate::cells::{Cell, number};
 use byteorder::{ByteOrder, LittleEndian};
 use decision_journal::Run;
 
-/// The slot, the version and the answer of a run.
+/// The cells of a run: its slot, its version and its answer.
 #[derive(Clone, Copy, Drop)]
 pub(crate) struct RunCells {
     pub(crate) slot: Cell,
@@ -15,7 +15,7 @@ pub(crate) struct RunCells {
     pub(crate) r0: Cell,
 }
 
-/// Returns the slot, the version and the answer of a run, if there is one.
+/// Returns the cells of a run, which are `Nothing` if no rule ran.
 pub(crate) fn run_cells(run: &Option<Run>) -> RunCells
     ensures { result ≡ run_cells run.now }
 {
@@ -33,8 +33,8 @@ pub(crate) fn run_cells(run: &Option<Run>) -> RunCells
     }
 }
 
-/// Returns the number in `size` bytes at an offset, the least significant byte first, or nothing where the bytes end
-/// before.
+/// Returns the number in `size` bytes at an offset, the least significant byte first. Returns `Nothing` if the bytes
+/// end before.
 fn number_at(bytes: &[u8], offset: usize, size: usize) -> Cell
     requires some { 1 ≤ size }
     requires few { size ≤ 8 }
@@ -48,7 +48,7 @@ fn number_at(bytes: &[u8], offset: usize, size: usize) -> Cell
     }
 }
 
-/// Returns a field of the context of a run, if there is one. `offset` and `size` are the field's, in bytes.
+/// Returns the field of `size` bytes at an offset of a run's context, or `Nothing` if no rule ran.
 pub(crate) fn field_cell(run: &Option<Run>, offset: usize, size: usize) -> Cell
     requires some { 1 ≤ size }
     requires few { size ≤ 8 }

@@ -17,8 +17,8 @@ use site_core::Config;
 use std::alloc::{AllocError, Global};
 use till_request::{Act, Reply, Request};
 
-/// A delivery that ended: its point, the number of the transaction that it became, the number of the entry that ended
-/// it, its product (1 to 8), and the price of that in thousandths.
+/// A delivery that ended. It has its point, the number of the transaction that it became, the number of the entry that
+/// ended it, its product (1 to 8), and the product's price in thousandths.
 #[derive(Clone, Copy, Drop)]
 pub(crate) struct Ended {
     pub(crate) point: u32,
@@ -28,8 +28,8 @@ pub(crate) struct Ended {
     pub(crate) price: u64,
 }
 
-/// The state of a day between two entries: the points, the prices of the products in thousandths, and the deliveries
-/// that ended and weren't cleared, oldest first.
+/// The state of a day between two entries: the points, and the prices of the products in thousandths. `unpaid` are the
+/// deliveries that ended and weren't cleared yet, oldest first.
 #[derive(Drop)]
 pub(crate) struct Standing {
     pub(crate) points: Vec<Point>,
@@ -37,7 +37,7 @@ pub(crate) struct Standing {
     pub(crate) unpaid: Vec<Ended>,
 }
 
-/// Returns the price of a product, or 0 if it has none.
+/// Returns the price of a product, or 0 if there is no such product.
 fn price_of(prices: &[u64], product: u32) -> u64
     ensures { result ≡ price_of prices.now product }
 {
@@ -56,7 +56,7 @@ fn set_price(prices: &mut [u64], product: u32, price: u64)
     }
 }
 
-/// Changes the price that an act with this reply changed, if it changed one.
+/// Changes the price of a product if an act with this reply is a price change that was granted.
 fn change_price(prices: &mut [u64], act: &Act, reply: Reply)
     ensures { prices.new ≡ prices_after prices.old act.now reply }
 {
@@ -96,7 +96,7 @@ fn point_named(act: &Act) -> u32
     }
 }
 
-/// Returns point `n`, if there is one.
+/// Returns point `n`, or `None` if there is no such point.
 fn point_at(points: &[Point], n: u32) -> Option<Point>
     ensures { result ≡ at_number points.now n }
 {
@@ -106,8 +106,8 @@ fn point_at(points: &[Point], n: u32) -> Option<Point>
     Some(points[n as usize - 1])
 }
 
-/// Returns the delivery that ended at point `n` with entry `number`, if one ended. `before` and `after` are the point
-/// before the entry and after it.
+/// Returns the delivery that ended at point `n` with entry `number`, or `None` if none ended. `before` and `after` are
+/// the point before and after the entry.
 fn ended_at(prices: &[u64], number: u32, n: u32, before: &Point, after: &Point) -> Option<Ended>
     requires { before.now.last < ENTRIES }
     ensures { result ≡ ended_at prices.now number n before.now after.now }
@@ -124,8 +124,8 @@ fn ended_at(prices: &[u64], number: u32, n: u32, before: &Point, after: &Point) 
     })
 }
 
-/// Changes the points as an entry changed them, and returns the delivery that it ended, if it ended one. The prices are
-/// those before the entry.
+/// Changes the points in the way that an entry changed them. Returns the delivery that the entry ended, or `None` if it
+/// ended none. `prices` are those before the entry.
 #[tactic(auto, unfolding(crate::specs::Standing::ended_by))]
 fn follow_points(points: &mut [Point], prices: &[u64], entry: &Entry) -> Option<Ended>
     requires { All (λ (p : PointState). p.last < ENTRIES) points.old }
@@ -141,7 +141,7 @@ fn follow_points(points: &mut [Point], prices: &[u64], entry: &Entry) -> Option<
     }
 }
 
-/// Returns the transaction that an act clears if it clears one, or else 0.
+/// Returns the number of the transaction that an act asks to clear, or 0 for any other act.
 pub(crate) fn number_cleared(act: &Act) -> u32
     ensures { result ≡ number_cleared act.now }
 {
@@ -161,7 +161,7 @@ fn became(n: u32, transaction: u32, ended: &Ended) -> bool
     ended.point == n && ended.transaction == transaction
 }
 
-/// Returns the delivery that became this transaction of point `n`, if it is among these.
+/// Returns the first delivery in the list that became this transaction of point `n`, or `None` if there is none.
 pub(crate) fn ended_as(unpaid: &[Ended], n: u32, transaction: u32) -> Option<Ended>
     ensures { result ≡ ended_as unpaid.now n transaction }
 {
@@ -171,7 +171,7 @@ pub(crate) fn ended_as(unpaid: &[Ended], n: u32, transaction: u32) -> Option<End
         .find(|ended| became(n, transaction, ended))
 }
 
-/// Returns the deliveries without the one that became this transaction of point `n`. The error is that memory ran out.
+/// Returns the list without the deliveries that became this transaction of point `n`. The error is that memory ran out.
 fn without(
     alloc: Global,
     unpaid: &[Ended],
@@ -187,7 +187,7 @@ fn without(
         .collect(alloc)
 }
 
-/// Takes the delivery out of the unpaid ones that an act cleared, if it made a sale. The error is that memory ran out.
+/// If an act made a sale, removes the delivery of this sale from the unpaid ones. The error is that memory ran out.
 fn clear_paid(
     alloc: Global,
     unpaid: &mut Vec<Ended>,
@@ -202,7 +202,7 @@ fn clear_paid(
     Ok(())
 }
 
-/// Adds a delivery to the unpaid ones, if there is one. The error is that memory ran out.
+/// Adds the delivery `ended`, if there is one, to the unpaid ones. The error is that memory ran out.
 fn add_ended(unpaid: &mut Vec<Ended>, ended: Option<Ended>) -> Result<(), AllocError>
     ensures { OnOk result (unpaid.new.items ≡ unpaid.old.items ++ option_to_list ended) }
 {
@@ -230,7 +230,7 @@ impl Standing {
         })
     }
 
-    /// Changes the state as an entry changed it. The error is that memory ran out.
+    /// Changes the state in the way that an entry changed it. The error is that memory ran out.
     #[tactic(auto, unfolding(crate::specs::Standing::stand_after))]
     pub(crate) fn follow(&mut self, alloc: Global, entry: &Entry) -> Result<(), AllocError>
         requires { All (λ (p : PointState). p.last < ENTRIES) self.old.points.items }

@@ -1,9 +1,9 @@
-//! A place that takes rows.
+//! The trait of the two writers of rows: as CSV, and as lines of JSON.
 
 use crate::cells::{Cell, Rows};
 use crate::fault::RowsFault;
 
-/// A place that takes rows in one format.
+/// A writer of rows in one format.
 pub(crate) trait RowTaker {
     ghost use Rattle.std.specs.Prelude.{List, Option, ℕ, OnOk};
     ghost use Rattle.std.specs.Io.KnownBytes.{Appends};
@@ -13,13 +13,14 @@ pub(crate) trait RowTaker {
     /// The format of the rows.
     ghost format: { Format };
 
-    /// All bytes of the rows that it took, behind what its writer had, if they are known.
+    /// What the underlying writer had before, followed by the bytes of all rows that were taken; `None` if that isn't
+    /// known.
     ghost taken: { Self → Option (List ℕ) };
 
-    /// States that it can take a row. After an error it may not be.
+    /// States that a row can be taken. After an error this may no longer be so.
     ghost is_ready: { Self → Type 0 };
 
-    /// Takes a row.
+    /// Writes a row.
     fn take_row(&mut self, rows: Rows, cells: &[Cell]) -> Result<(), RowsFault>
         requires { is_ready self.old }
         ensures text { OnOk result (Appends (taken self.old) (taken self.new) (row_bytes rows format cells.now)) }

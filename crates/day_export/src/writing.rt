@@ -36,7 +36,7 @@ fn put_some<T: RowTaker, const N: usize>(
     }
 }
 
-/// Writes the row of an entry, if it has one. `standing` is the state before the entry.
+/// Writes the row of an entry, or nothing if it has none. `standing` is the state before the entry.
 fn put_row<T: RowTaker>(
     to: &mut T,
     rows: Rows,
@@ -77,7 +77,7 @@ fn put_rows<T: RowTaker>(
     Ok(())
 }
 
-/// Writes rows as CSV, and returns the writer.
+/// Writes rows as CSV, and returns the writer `out`.
 fn write_csv<W: Write + Drop>(
     alloc: Global,
     site: &Site,
@@ -92,7 +92,7 @@ fn write_csv<W: Write + Drop>(
     to.finish()
 }
 
-/// Writes rows as lines of JSON, and returns the writer.
+/// Writes rows as lines of JSON, and returns the writer `out`.
 fn write_json<W: Write + Drop>(
     alloc: Global,
     site: &Site,
@@ -107,8 +107,8 @@ fn write_json<W: Write + Drop>(
     Ok(to.out)
 }
 
-/// Writes the rows of a site's history, one after another, and returns the writer. No row is kept. The error is that
-/// memory ran out, or the writer's own error; some of the rows may be written then.
+/// Writes the rows of a site's history, one after another, and returns the writer. Only one row at a time is in memory.
+/// The error is that memory ran out, or the writer's own error. After an error some of the rows may be written.
 pub fn write_rows<W: Write + Drop>(
     alloc: Global,
     site: &Site,

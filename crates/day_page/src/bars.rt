@@ -49,7 +49,7 @@ fn most_sold(sums: &[Sum]) -> u128 {
     most
 }
 
-/// Adds the picture of sales by point: one bar for each.
+/// Adds the picture of sales by point: one bar for each point.
 pub(crate) fn add_points(sheet: &mut Sheet, sums: &[Sum]) {
     add_bars_head(
         sheet,
@@ -76,7 +76,7 @@ pub(crate) fn add_points(sheet: &mut Sheet, sums: &[Sum]) {
 /// How far from the left of the picture the bars of refusals begin: their names in words come before.
 const NUMBERS: usize = 440;
 
-/// Returns the greatest of the counts, and how many counts aren't 0: these have a bar.
+/// Returns the greatest of the counts, and how many counts aren't 0. Each of these gets a bar.
 pub(crate) fn most_refused(counts: &[usize]) -> (usize, usize) {
     let (mut most, mut bars) = (0usize, 0usize);
     for count in counts {
@@ -88,7 +88,7 @@ pub(crate) fn most_refused(counts: &[usize]) -> (usize, usize) {
     (most, bars)
 }
 
-/// Adds the picture of refusals: one bar for each number that was the reply.
+/// Adds the picture of refusals: one bar for each number of a refusal that occurred.
 pub(crate) fn add_refusals(sheet: &mut Sheet, counts: &[usize]) {
     let (most, bars) = most_refused(counts);
     add_bars_head(
@@ -111,7 +111,7 @@ pub(crate) fn add_refusals(sheet: &mut Sheet, counts: &[usize]) {
     sheet.add(END);
 }
 
-/// Adds the picture of sales by hour of the day: one column for each.
+/// Adds the picture of sales by hour of the day: one column for each hour.
 pub(crate) fn add_hours(sheet: &mut Sheet, sums: &[Sum]) {
     add_head(
         sheet,
@@ -143,11 +143,12 @@ fn add_hour(sheet: &mut Sheet, hour: usize, height: usize) {
     sheet.add("\n");
 }
 
-/// The number of versions from which on neighbours share a column, so that there are fewer columns than this.
+/// The bound for the number of columns. From this many versions on, neighbouring versions share a column, so that there
+/// are fewer columns than this.
 const COLUMNS: usize = 1000;
 
 /// Adds the picture of decisions by version, in the order of their loads. Each version has a column of two parts,
-/// granted and denied. Where there are 1,000 versions or more, some neighbours share a column.
+/// granted and denied. If there are 1,000 versions or more, neighbouring versions share a column.
 pub(crate) fn add_versions(sheet: &mut Sheet, totals: &Totals) {
     add_head(
         sheet,
@@ -164,7 +165,7 @@ pub(crate) fn add_versions(sheet: &mut Sheet, totals: &Totals) {
     sheet.add(COLUMNS_END);
 }
 
-/// Adds the columns, each for `together` neighbouring versions.
+/// Adds the columns of the picture, one for every `together` neighbouring versions.
 fn add_columns(sheet: &mut Sheet, totals: &Totals, together: usize)
     requires { 0 < together }
 {
@@ -177,7 +178,7 @@ fn add_columns(sheet: &mut Sheet, totals: &Totals, together: usize)
     }
 }
 
-/// Returns the most decisions that `together` neighbouring versions made.
+/// Returns the most decisions that any column counts, if each column is for `together` neighbouring versions.
 fn most_decided(totals: &Totals, together: usize) -> u128
     requires { 0 < together }
 {
@@ -211,9 +212,9 @@ fn decided(totals: &Totals, loads: &[Load]) -> (u128, u128) {
     (granted, denied)
 }
 
-/// Returns where the column at a place begins, and how wide it is, where there are `columns` columns.
+/// Returns the left edge and the width of the column at a place, if there are `columns` columns.
 fn column_at(place: usize, columns: usize) -> (usize, usize) {
-    // Fewer than 12 columns don't fill the whole width, so that none is too wide.
+    // Fewer than 12 columns leave a part of the width free, so that none is too wide.
     let room = 1000usize.min(scaled(columns as u128, 12, 1000));
     let left = scaled(place as u128, columns as u128, room);
     let next = scaled((place as u128).saturating_add(1), columns as u128, room);
@@ -222,7 +223,7 @@ fn column_at(place: usize, columns: usize) -> (usize, usize) {
     (left, width)
 }
 
-/// Adds the column at a place, where there are `columns` columns. `low` is the height of its lower part, `high` that of
+/// Adds the column at a place, if there are `columns` columns. `low` is the height of its lower part, `high` that of
 /// its upper part.
 fn add_column(sheet: &mut Sheet, place: usize, columns: usize, low: usize, high: usize) {
     let (left, width) = column_at(place, columns);

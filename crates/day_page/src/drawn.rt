@@ -6,7 +6,7 @@ use crate::texts::{Text, number, scaled};
 use day_report::{Axis, Bands, step_of};
 use fuelling_point::State;
 
-/// How far from the left of its picture a drawing begins.
+/// The distance from the left edge of a picture to the drawing in it.
 pub(crate) const LEFT: usize = 90;
 
 pub(crate) const WIDTH: usize = 900;
@@ -53,7 +53,7 @@ fn name_at(axis: Axis, quarters: usize) -> Text {
     }
 }
 
-/// The distance from a point's band to the next point's.
+/// The distance between the bands of two neighbouring points.
 const APART: usize = 26;
 
 /// Adds the picture of the points' states: a band for each point, coloured by its state.

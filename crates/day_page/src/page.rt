@@ -30,11 +30,11 @@ impl fmt::Display for Page {
     }
 }
 
-/// All that the page shows of a site's history.
+/// What the page shows of a site's history.
 #[derive(Drop)]
 struct Day {
     totals: Totals,
-    /// The value and the bound of each counter, after the last entry.
+    /// The value and the bound of each counter after the last entry.
     counters: [(u64, u64); 32],
     /// The prices of the eight products in the configuration, in thousandths.
     opening: [u32; 8],

@@ -5,10 +5,10 @@ use crate::sheet::Sheet;
 use crate::texts::{Text, number, scaled};
 use day_report::{Axis, PriceChange};
 
-/// At how many places, equally far apart, a product's line can rise or fall.
+/// The number of places, at equal distances, where a product's line can rise or fall.
 const PLACES: usize = 225;
 
-/// The distance between two such places, in units of the picture.
+/// The distance between two neighbouring places where a product's line can rise or fall, in units of the picture.
 const APART: usize = WIDTH / PLACES;
 
 /// The height of the drawing, in units of the picture.
@@ -29,7 +29,7 @@ impl Range {
         (HIGH + 10).saturating_sub(scaled(above, span, HIGH))
     }
 
-    /// Returns the smallest range that also has this price.
+    /// Returns this range, extended so that it has this price too.
     fn with(self, price: u64) -> Range {
         Range {
             least: self.least.min(price),

@@ -4,7 +4,7 @@ use crate::texts::{Date, Text, date_of};
 use html_text::Escaped;
 use std::alloc::{AllocError, Global};
 
-/// A text to which pieces are added. It remembers that memory ran out, so only `finish` returns that error.
+/// A text to which pieces are added. If memory runs out, it remembers that, and only `finish` returns the error.
 #[derive(Drop)]
 pub(crate) struct Sheet {
     text: String,
@@ -27,7 +27,7 @@ impl Sheet {
         if is_short { Err(AllocError) } else { Ok(text) }
     }
 
-    /// Remembers whether memory ran out when a piece was added.
+    /// Remembers that memory ran out, if adding a piece failed.
     fn note(&mut self, written: Result<(), AllocError>) {
         if written.is_err() {
             self.is_short = true;
@@ -40,7 +40,7 @@ impl Sheet {
         self.note(written);
     }
 
-    /// Adds a template of HTML in which the texts replace the places `{}` in order.
+    /// Adds a template of HTML in which the first text replaces the first `{}`, the second text the second, and so on.
     pub fn fill(&mut self, form: &str, texts: &[Text]) {
         let mut texts = texts.iter();
         for piece in form.split("{}") {
@@ -51,7 +51,7 @@ impl Sheet {
         }
     }
 
-    /// Adds a text in its form.
+    /// Adds a text in the form that belongs to its variant of `Text`.
     pub fn put(&mut self, text: Text) {
         match text {
             Text::Number(number) => self.number(number),

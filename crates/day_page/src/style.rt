@@ -1,7 +1,7 @@
 //! The start of a page, with its style sheet.
 
-/// The HTML before the page's body. The colours of the style differ in lightness too, so they can be told apart by
-/// those who don't see red and green apart.
+/// The HTML before the page's body. The colours of the style also differ in lightness, for people who can't tell red
+/// from green.
 pub(crate) const START: &str = "<!DOCTYPE html>
 <html lang=\"en\"><head><meta charset=\"utf-8\">
 <meta name=\"viewport\" content=\"width=device-width, initial-scale=1\">

@@ -5,7 +5,7 @@ use crate::texts::{Text, number, numbered};
 use day_report::{Load, Outcomes, PriceChange, Sum, Totals, Unpaid};
 use fuelling_point::Point;
 
-/// The most rows that a long table has.
+/// The most rows of the tables of price changes and of decisions by version and till. Further rows are left out.
 const ROWS: usize = 1000;
 
 /// Makes the start of a table: its id, and the names of its columns.
@@ -40,7 +40,7 @@ fn add_sum(sheet: &mut Sheet, name: Text, sum: &Sum) {
     add_row(sheet, name, &cells);
 }
 
-/// Adds a row of sales, with the number of unpaid transactions and the state at the end.
+/// Adds the row of a point: its sales, the number of its unpaid transactions, and its state at the end of the history.
 fn add_point(sheet: &mut Sheet, name: Text, sum: &Sum, unpaid: usize, state: &'static str) {
     let cells = [
         Text::Thousands(sum.count as u128),
@@ -91,7 +91,8 @@ pub(crate) const BY_TILL: &str = head!("by-till"; "Till", "Sales", "Money", "Lit
 /// The start of the table of sales by hour.
 pub(crate) const BY_HOUR: &str = head!("by-hour"; "Hour", "Sales", "Money", "Litres");
 
-/// Adds a table of sales by till or by hour, without those that have no sale. `first` is the number of the first row.
+/// Adds a table of sales by till or by hour, with a row for each till or hour that has a sale. `first` is the number of
+/// the first till or hour.
 pub(crate) fn add_parts(sheet: &mut Sheet, head: &str, sums: &[Sum], first: u64) {
     sheet.add(head);
     for (place, sum) in sums.iter().enumerate() {
@@ -128,7 +129,7 @@ pub(crate) fn add_unpaid(sheet: &mut Sheet, unpaid: &[Unpaid]) {
     sheet.add(FOOT);
 }
 
-/// Returns the count for a version: the number at the version's place, or 0 if there is none.
+/// Returns the count for a version: the number at the version's place in the list, or 0 if the list ends before.
 fn count_at(counts: &[u64], version: u32) -> u64 {
     counts.get(version as usize).copied().unwrap_or(0)
 }

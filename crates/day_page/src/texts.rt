@@ -45,7 +45,7 @@ pub(crate) struct Date {
 }
 
 /// Returns the date of a moment in seconds since the start of 1970. The computation uses years that begin in March, so
-/// that a leap day is the last of its year, and cycles of 400 years, which have 146,097 days.
+/// that a leap day is the last of its year. It also uses cycles of 400 years, which have 146,097 days.
 pub(crate) fn date_of(moment: u64) -> Date {
     let days = moment / 86_400 + 719_468;
     let cycle = days / 146_097;
@@ -67,7 +67,7 @@ pub(crate) fn date_of(moment: u64) -> Date {
     }
 }
 
-/// Returns `value` scaled so that `most` becomes `length`; never more than `length`.
+/// Returns `value` scaled so that `most` becomes `length`. The result is at most `length`.
 pub(crate) fn scaled(value: u128, most: u128, length: usize) -> usize
     ensures { result ≤ length }
 {

@@ -1,4 +1,4 @@
--- How each total changes with one more entry.
+-- Each total of a history with one more entry is the total before it, plus what this entry adds.
 use Rattle.std.proofs.Common.{◌≡◌, ℕ, ◌+◌, ◌<◌, List, [], ◌∷◌, ◌++◌, length, map, take, append_assoc, arith, Option, Some, None, refl, ap, ◌∙◌, sym, get_or}
 use Rattle.std.specs.Prelude.{fold, option_to_list}
 use Rattle.std.specs.List.{cons_option}
@@ -45,7 +45,7 @@ loads-push moment (e ∷ entries) entry =
     ∙ cons-append (load_of moment e) (loads (moment_after moment e) entries)
     (option_to_list (load_of (fold moment_after (moment_after moment e) entries) entry))
 
--- The points at each step of a loop over the entries.
+-- The points after the first i + 1 entries are the points after the first i, changed by the entry at place i.
 pub stand-more : (points : List PointState) (entries : List Entry) (i : ℕ) (entry : Entry) → i < length entries → entry ≡ get_or entries i entry
     → stand points (take (i + 1) entries) ≡ with_entry (stand points (take i entries)) entry
 stand-more points entries i entry h is =
@@ -93,7 +93,8 @@ pub unpaid-none : unpaid_of [] ≡ []
 unfolding unpaid_of
 unpaid-none = refl
 
--- One more point, with these two transactions, of which either may be missing.
+-- The unpaid transactions of the first i + 1 points are those of the first i, and then those of the point at place i.
+-- These are `first` and `second`, if it has them.
 pub unpaid-more : (points : List PointState) (i : ℕ) (p : PointState) (first second : Option Transaction) → i < length points → p ≡ get_or points i p
     → option_to_list first ++ option_to_list second ≡ p.unpaid
     → unpaid_of (take (i + 1) points) ≡ (unpaid_of (take i points) ++ option_to_list (option_map (unpaid_transaction (i + 1)) first))

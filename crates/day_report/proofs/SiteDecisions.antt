@@ -48,7 +48,7 @@ use Rattle.day_report.specs.declared.counting.Deciding.TheVariants as deciding
 use Rattle.day_report.proofs.OneMore.{loads-push}
 use Rattle.day_report.proofs.SiteSales.{one-key, add-keys, no-keys}
 
--- ---- the six counts of a version add up to one
+-- ---- the six counts of one version
 
 one-of-six : (a : Asked) (g b : Bool) → (if (is_release a && g) && b then 1 else 0) + (if (is_release a && not g) && b then 1 else 0)
     + (if (is_preset a && g) && b then 1 else 0) + (if (is_preset a && not g) && b then 1 else 0) + (if (is_price a && g) && b then 1 else 0)
@@ -81,7 +81,7 @@ six v (d ∷ ds) =
     let all = sum_by-cons (λ (x : Decision). if x.version == v then 1 else 0) d ds in
     omega (arith, here, rest, a, b, e, f, g, h, all)
 
--- ---- versions in a range
+-- ---- decisions by versions from 1 to n
 
 abbrev VersionsFit : ℕ → List Decision → Type 0
 VersionsFit n [] = Unit {0}
@@ -106,7 +106,7 @@ all-versions n (d ∷ ds) fits =
     let later = all-versions n ds fits.1 in
     (λ i. sum_by (λ v. sum_by-cons (λ (x : Decision). if x.version == v then 1 else 0) d ds i) (range_with_len 1 n)) ∙ omega (arith, sums, first, later)
 
--- ---- the version in force is one of those that were loaded
+-- ---- the version in force among those that were loaded
 
 abbrev InRange : Version → ℕ → Type 0
 InRange v n = (1 ≤ v.number) × (v.number ≤ n)
@@ -186,7 +186,7 @@ quiet past a r h =
       fits = subst (λ o. VersionsFit (versions past) (option_to_list o)) (sym none) tt;
     }
 
--- The reply of a version in force to a request that asks it is one decision.
+-- If a version in force replies to a request that a rule decides, then this reply counts as exactly one decision.
 says : (past : List Entry) (till : ℕ) (q : Request) (x : Asked) (r : Reply) (v : Version) (g : Bool) → asked_by q ≡ Some x → verdict_of r ≡ Some (v.number, g)
     → is_decided r ≡ true → InRange v (versions past) → DecidesOne past (act.Till till q) r
 says past till q x r v g asks gives is range =
@@ -233,7 +233,7 @@ question-says past s till moment r x (Err f) asks silent =
     subst (λ e. DecidesOne past (act.Till till r) e.reply) (sym (decided-refused past s till moment f)) (quiet past (act.Till till r) f silent)
 question-says past s till moment r x (Ok q) asks silent = version-says past s till moment q r x (in_force q.slot past) refl asks
 
--- ---- requests and replies that are no decision
+-- ---- requests and replies without a decision
 
 fault-no : (f : PointFault) → is_decided (fault_reply f) ≡ false
 fault-no (WrongState st) = refl
@@ -274,7 +274,7 @@ load-no true true v = refl
 load-no true false v = refl
 load-no false more v = refl
 
--- ---- all acts
+-- ---- the decision of any act
 
 asked-decides : (config : ConfigValue) (past : List Entry) (s : SiteState) (till moment : ℕ) (r : Request)
     → DecidesOne past (act.Till till r) (asked config past s till moment r).reply
@@ -313,7 +313,7 @@ effect-decides config past s moment (act.Dispenser n event) = quiet past (act.Di
 effect-decides config past s moment (act.Load slot mask layout bytes) =
     quiet past (act.Load slot mask layout bytes) _ (load-no (nat_le slot 15) (nat_lt (versions past) 4096) (versions past + 1))
 
--- ---- the walk
+-- ---- induction over the entries of a history
 
 entry-decides : (past : List Entry) (entry : Entry) → DecidesOne past entry.act entry.reply
     → (length (option_to_list (decision_of entry)) ≡ (if is_decided entry.reply then 1 else 0))

@@ -1,4 +1,4 @@
--- The sales in a journal agree with the state of its site.
+-- The number and the total of the sales in a journal are those that the state of its site has, and so are its points.
 use Rattle.std.proofs.Common.{◌≡◌, ℕ, zero, suc, ◌+◌, ◌-◌, ◌<◌, ◌≤◌, Bool, true, false, List, [], ◌∷◌, ◌++◌, length, map, replicate, reverse, Option, Some}
 use Rattle.std.proofs.Common.{None, slice_get, refl, arith, ap, ◌∙◌, sym, subst}
 use Rattle.std.specs.Prelude.{if◌then◌else◌, ◌==◌, nat_le, nat_lt, sum_by, option_to_list}
@@ -35,7 +35,7 @@ use Rattle.day_report.proofs.SiteSteps.{Tells, effect-says, paid, cents_of, one_
 
 -- ---- the sale of one entry
 
--- The sale of a clearing, if it pays a transaction.
+-- The sale of an entry that clears the transaction t; None if it clears nothing, or if there is no such transaction.
 sold : Entry → Option Clearing → Option Transaction → Option Sale
 sold entry None t = None
 sold entry (Some c) None = None
@@ -68,9 +68,9 @@ sale-of-paid points entry =
     let sums = sold-sums entry o points (paid points o) refl in
     (ap (λ x. cents_in part.All (option_to_list x)) is ∙ sums.0, ap (λ x. count_in part.All (option_to_list x)) is ∙ sums.1)
 
--- ---- whose sale it is
+-- ---- the point and the till of a sale
 
--- The sale is at a point and by a till that the configuration has.
+-- the sale is at a point and by a till that the configuration has
 record FitsOne (config : ConfigValue) (sale : Sale) : Type 0 where
   some_point : 1 ≤ sale.point
   point : sale.point ≤ length config.points
@@ -132,7 +132,7 @@ effect-clears config past s moment (act.Till till r) c h = till-clears config pa
 effect-clears config past s moment (act.Dispenser n event) c h = none-clearing (act.Dispenser n event) _ c refl h
 effect-clears config past s moment (act.Load slot mask layout bytes) c h = none-clearing (act.Load slot mask layout bytes) _ c refl h
 
--- Where a transaction of a point is paid, that point exists.
+-- If a point has an unpaid transaction of some number, then this point exists.
 there : (points : List PointState) (n x : ℕ) (t : Transaction) (o : Option PointState) → at_number points n ≡ o → unpaid_at points n x ≡ Some t
     → (p : PointState) × (at_number points n ≡ Some p)
 there points n x t None is h =
@@ -156,13 +156,13 @@ in-bounds points n p false is h = absurd (cc)
 within : (points : List PointState) (n : ℕ) (p : PointState) → at_number points n ≡ Some p → (1 ≤ n) × (n ≤ length points)
 within points n p is = in-bounds points n p (nat_le 1 n) refl is
 
--- ---- one more entry
+-- ---- the totals with one more entry
 
 same-points : (points : List (ℕ × ℕ)) → replicate (length points) fresh_point ≡ map (λ (_ : ℕ × ℕ). fresh_point) points
 same-points [] = refl
 same-points (p ∷ points) = ap (λ xs. fresh_point ∷ xs) (same-points points)
 
--- What a history, newest entry first, comes to.
+-- The points and the sales of a history, which is given newest entry first, agree with the state of its site.
 record Comes (config : ConfigValue) (past : List Entry) (s : SiteState) : Type 0 where
   points : stand (closed_points (length config.points)) (reverse past) ≡ s.points
   count : count_in part.All (sales_of config (reverse past)) ≡ s.clears
@@ -185,7 +185,7 @@ entry-tells config past b entry e is tells =
       tells.clears ∙ ap (λ r. b.clears + one_of (paid b.points (clearing_of entry.act r))) (sym answered),
     )
 
--- The number of points doesn't change from entry to entry.
+-- A site starts with as many points as its configuration has.
 opening-long : (points : List (ℕ × ℕ)) → length (map (λ (_ : ℕ × ℕ). fresh_point) points) ≡ length points
 opening-long [] = refl
 opening-long (p ∷ points) = ap suc (opening-long points)
@@ -214,7 +214,7 @@ entry-long : (points : List PointState) (entry : Entry) → length (with_entry p
 unfolding with_entry
 entry-long points entry = act-long points entry.act entry.reply
 
--- The sale of an entry is at a point and by a till that the site has.
+-- The sale of an entry is at a point and by a till that the configuration has.
 sold-fits : (config : ConfigValue) (points : List PointState) (entry : Entry) (o : Option Clearing) (t : Option Transaction)
     → length points ≡ length config.points → ((c : Clearing) → o ≡ Some c → is_till config c.till ≡ true) → paid points o ≡ t
     → Fit config (option_to_list (sold entry o t))
@@ -294,7 +294,7 @@ by-first a n x v false is least less later =
     let rest = later more (omega arith) in
     sum_by-cons (λ k. if x == k then v else 0) a (range_with_len (a + 1) n) ∙ (λ i. (if is i then v else 0) + rest i) ∙ omega arith
 
--- A key in the range is equal to one number of it, so a sum over the range counts its value once.
+-- If x is one of the n numbers from a on, then adding up v for each of them that equals x gives v.
 pub one-key : (a n x v : ℕ) → a ≤ x → x < a + n → sum_by (λ k. if x == k then v else 0) (range_with_len a n) ≡ v
 one-key a zero x v least less = absurd (omega arith)
 one-key a (suc n) x v least less = by-first a n x v (x == a) refl least less (λ more fewer. one-key (a + 1) n x v more fewer)
@@ -312,7 +312,7 @@ pub no-keys : (xs : List ℕ) → sum_by (λ (k : ℕ). 0) xs ≡ 0
 no-keys [] = refl
 no-keys (x ∷ xs) = sum_by-cons (λ (k : ℕ). 0) x xs ∙ (λ i. 0 + no-keys xs i)
 
--- The key of each sale is in the range.
+-- The key of each sale is one of the `n` numbers from `a` on.
 abbrev KeysFit : (Sale → ℕ) → ℕ → ℕ → List Sale → Type 0
 KeysFit key a n [] = Unit {0}
 KeysFit key a n (sale ∷ sales) = ((a ≤ key sale) × (key sale < a + n)) × KeysFit key a n sales

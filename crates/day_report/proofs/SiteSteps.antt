@@ -1,4 +1,5 @@
--- What an entry of a legal history shows is what its site did to the points, to the cleared total and to the count of cleared transactions.
+-- The act and the reply of an entry in a legal history show what the site did: to its points, to its cleared total and
+-- to its count of cleared transactions.
 use Rattle.std.proofs.Common.{◌≡◌, ℕ, ◌+◌, ◌-◌, ◌<◌, ◌&&◌, Bool, true, false, List, [], ◌∷◌, zero, suc, length, Option, Some, None, Result, Ok, Err, slice_set}
 use Rattle.std.proofs.Common.{slice_get, refl, arith, ap, ◌∙◌, sym, subst, get_or}
 use Rattle.std.specs.Prelude.{if◌then◌else◌, ◌==◌, nat_le, nat_lt, option_map, unwrap_or}
@@ -48,7 +49,7 @@ use Rattle.day_report.specs.Sales.{cleared_by, clearing_of, unpaid_at}
 use Rattle.day_report.specs.declared.sales.Clearing.{Clearing}
 use Rattle.day_report.proofs.Walking.{changed-at, changed-nowhere}
 
--- The transaction that a clearing pays, where `points` are the points before it.
+-- the transaction that a clearing pays; `points` are the points before the clearing
 abbrev pub paid : List PointState → Option Clearing → Option Transaction
 paid points None = None
 paid points (Some c) = unpaid_at points c.point c.number
@@ -61,7 +62,7 @@ abbrev pub one_of : Option Transaction → ℕ
 one_of None = 0
 one_of (Some t) = 1
 
--- What an act and its reply show agrees with the state after it.
+-- The points and the cleared total that follow from an act and its reply are those of the site's state after the act.
 pub record Tells (s : SiteState) (a : Act) (e : Effect) : Type 0 where
   pub points : with_act s.points a e.reply ≡ e.after.points
   pub cleared : e.after.cleared ≡ s.cleared + cents_of (paid s.points (clearing_of a e.reply))
@@ -162,7 +163,7 @@ found-clears : (o : Option Transaction) (b : Transaction → Bool) (x new : Poin
 found-clears None b x new what d h = err-clears NoSuchTransaction new d h
 found-clears (Some t) b x new what d h = (t, refl, if-clears (b t) x new NotYourTransaction (what t) d h)
 
--- A command that the point takes clears the transaction that it names.
+-- If a point accepts a command, then the amount it reports is that of the transaction which the command clears, if any.
 clears-is : (p new : PointState) (till : ℕ) (c : Command) (d : Option ℕ) → IsOk (command_step p till c) new d → d ≡ amount-of (clears-what p c)
 clears-is p new till command.OpenPoint d h = if-clears _ _ new _ None d h
 clears-is p new till command.ClosePoint d h = if-clears _ _ new _ None d h
@@ -182,7 +183,7 @@ some-both m n x c h =
     let both : ◌≡◌ {A = ℕ × Command} (m, x) (n, c) = cc in
     (ap (λ (p : ℕ × Command). p.0) both, ap (λ (p : ℕ × Command). p.1) both)
 
--- The transaction that a request clears is the one that its command clears.
+-- The transaction that a request clears is the one that the command made from it clears.
 clearing-paid : (points : List PointState) (till n : ℕ) (p : PointState) (r : Request) (c : Command) → at_number points n ≡ Some p
     → done_command r ≡ Some (n, c) → paid points (cleared_by (act.Till till r)) ≡ clears-what p c
 clearing-paid points till n p (request.OpenPoint m) c at told = let e : command.OpenPoint ≡ c =
@@ -219,7 +220,8 @@ one-amount : (o : Option Transaction) → clears_by (amount-of o) ≡ one_of o
 one-amount None = refl
 one-amount (Some t) = refl
 
--- The request of an entry shows what was done at the point.
+-- If a point accepts the command of a request, then the points after the entry are the old ones with this point
+-- changed.
 done-points : (s : SiteState) (till n : ℕ) (p new : PointState) (r : Request) (c : Command) (d : Option ℕ) → 0 < till → at_number s.points n ≡ Some p
     → done_command r ≡ Some (n, c) → command_step p till c ≡ Ok (new, d) → with_act s.points (act.Till till r) reply.Done ≡ slice_set s.points (n - 1) new
 done-points s till n p new r c d some at told ok =
@@ -250,7 +252,7 @@ done-tells s till n r c (Some p) some at told =
 
 -- ---- decisions
 
--- A question of this kind at this point, or a refusal.
+-- the result is a question of kind k at point n, or a refusal
 abbrev AsksAt : Kind → ℕ → Result Question Reply → Type 0
 AsksAt k n (Ok q) = (q.kind ≡ k) × (q.point ≡ n)
 AsksAt k n (Err r) = (m : ℕ) × (v : Option ℕ) × (r ≡ reply.Refused m v)
@@ -301,7 +303,7 @@ price-asks busy product price slot =
       slot = slot;
     }) refl refl
 
--- The request shows which command a grant carries out at the point.
+-- if the request is granted, its command is the release or preset of the granted amount at point n
 abbrev Grants : Kind → ℕ → Request → Type 0
 Grants k n r = (g : ℕ) → granted_command r g ≡ Some (n, command_of k g)
 
@@ -326,7 +328,8 @@ grant-at : (s : SiteState) (till r : ℕ) (q : Question) (p : PointState) → at
 unfolding grant
 grant-at s till r q p at = rw (at, grant)
 
--- What the request and the granted amount show agrees with the state after the grant. The counters are not looked at.
+-- The points that follow from a request and its granted amount are those of the state after the grant, and nothing was
+-- cleared. The counters of the two states may differ.
 record GrantTells (s : SiteState) (till : ℕ) (r : Request) (v : ℕ) (g : ℕ × SiteState) : Type 0 where
   points : with_act s.points (act.Till till r) (reply.Granted g.0 v) ≡ g.1.points
   cleared : g.1.cleared ≡ s.cleared
@@ -401,7 +404,7 @@ price-says past s till moment n a (Err f) asks =
 price-says past s till moment n a (Ok q) asks =
     version-says past s till moment q (request.Price n a) (in_force q.slot past) refl (λ v y d. price-tells s till y q n a v d asks.1)
 
--- ---- all acts
+-- ---- the steps of all acts
 
 show-tells : (s : SiteState) (till n : ℕ) (o : Option PointState) → at_number s.points n ≡ o
     → Tells s (act.Till till (request.Show n)) (replied (show_reply s n) s)

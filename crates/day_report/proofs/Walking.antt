@@ -1,4 +1,4 @@
--- What an entry does to the points and to how many transaction numbers they have given out.
+-- An entry changes at most one point, and that point gives out at most one more transaction number.
 use Rattle.std.proofs.Common.{◌≡◌, ℕ, ◌+◌, ◌-◌, ◌<◌, ◌≤◌, true, false, List, length, Option, Some, None, Result, Ok, Err, slice_set, refl, arith, ap, ◌∙◌, sym}
 use Rattle.std.proofs.Common.{subst, get_or, All}
 use Rattle.std.specs.Prelude.{nat_lt}
@@ -16,7 +16,7 @@ use Rattle.site_core.proofs.Points.{at_number-read}
 use Rattle.day_report.specs.Walk.{with_changed, with_command, with_event, after_event}
 use Rattle.day_report.specs.Following.{Follows}
 
--- The point after a command, whether it took it or not.
+-- The point after a command that the table accepts or refuses is the point that the code has then.
 after-command-is : (a : Answer (Option ℕ)) (p new : PointState) (outcome : Result (Option ℕ) PointFault) → FollowsTable a p outcome new
     → (elim a as (λ _. PointState) [ Ok o ↦ o.0 | Err f ↦ p ]) ≡ new
 after-command-is (Ok (q, given)) p new outcome h = sym h.1
@@ -27,7 +27,8 @@ after-event-is : (a : Answer (Option Order)) (p new : PointState) (outcome : Res
 after-event-is (Ok (q, given)) p new outcome h = sym h.1
 after-event-is (Err f) p new outcome h = sym h.1
 
--- Where one point gives out at most one more transaction number, the bound of all points rises by one.
+-- If no point has given out more than k transaction numbers, then no point has given out more than k + 1 after one
+-- point was replaced. The new point has given out at most one more than the old one.
 bounded-set : (points : List PointState) (n : ℕ) (p new : PointState) → 1 ≤ n → n ≤ length points → p ≡ get_or points (n - 1) p → new.last ≤ p.last + 1
     → (k : ℕ) → All (λ (x : PointState). x.last ≤ k) points → All (λ (x : PointState). x.last ≤ k + 1) (slice_set points (n - 1) new)
 bounded-set points n p new one le is last k all =
@@ -35,7 +36,7 @@ bounded-set points n p new one le is last k all =
     All-set (λ (x : PointState). x.last ≤ k + 1) points (n - 1) new (omega arith)
     (λ j d h. let l : (get_or points j d).last ≤ k = all j d h in omega (arith, l))
 
--- Where there is a point of the number, that point is changed and no other.
+-- If there is a point of this number, then it is changed, and all others stay the same.
 pub changed-at : (points : List PointState) (n : ℕ) (p : PointState) (becomes : PointState → PointState) → at_number points n ≡ Some p
     → with_changed points n becomes ≡ slice_set points (n - 1) (becomes p)
 unfolding with_changed
@@ -46,7 +47,7 @@ pub changed-nowhere : (points : List PointState) (n : ℕ) (becomes : PointState
 unfolding with_changed
 changed-nowhere points n becomes none = rw (none, with_changed) refl
 
--- Nothing is changed where there is no such till or no such point.
+-- A command of till 0 changes no point, since tills are numbered from 1.
 pub follows-nobody : (points : List PointState) (till n : ℕ) (command : Command) → till ≡ 0 → Follows points (with_command points till (n, command)) points
 follows-nobody points till n command zero =
     let nobody : nat_lt 0 till ≡ false = rw zero refl in

@@ -14,20 +14,21 @@ use Rattle.day_report.specs.declared.rulings.Decision.{Decision}
 use Rattle.day_report.specs.declared.rulings.PriceChange.{PriceChange}
 use Rattle.day_report.specs.declared.loading.Load.{Load}
 
--- What the request asks a rule to decide: a release, a preset or a price.
+-- what the request asks a rule to decide: a release, a preset or a price; None for any other request
 abbrev pub asked_by : Request → Option Asked
 asked_by (request.Release n amount) = Some asked.Release
 asked_by (request.Preset n amount) = Some asked.Preset
 asked_by (request.Price product price) = Some asked.Price
 asked_by _ = None
 
--- The version that decided, and whether it granted. The reply is then a grant, or S24 with the version that denied.
+-- The version that decided, and whether it granted. A grant has its version, and so has S24, the denial by a rule.
+-- Other replies are no decisions.
 abbrev pub verdict_of : Reply → Option (ℕ × Bool)
 verdict_of (reply.Granted amount version) = Some (version, true)
 verdict_of (reply.Refused number (Some version)) = if number == 24 then Some (version, false) else None
 verdict_of _ = None
 
--- The decision in an act with this reply, if there is one.
+-- The decision that an act with this reply stands for; None if no rule decided.
 abbrev pub decided : Act → Reply → Option Decision
 decided (act.Till till request) reply =
     elim (asked_by request) [
@@ -39,7 +40,7 @@ decided _ reply = None
 unfoldable pub decision_of : Entry → Option Decision
 decision_of entry = decided entry.act entry.reply
 
--- The number of the refusal, if the reply is one.
+-- The number of the refusal that a reply is; None for any other reply.
 abbrev pub refused_as : Reply → Option ℕ
 refused_as (reply.Refused number value) = Some number
 refused_as _ = None
@@ -47,8 +48,8 @@ refused_as _ = None
 unfoldable pub refusal_of : Entry → Option ℕ
 refusal_of entry = refused_as entry.reply
 
--- The price change in an act with this reply, if there is one: its entry's number and moment, the till, the product, the price in thousandths and
--- the version that granted it.
+-- The price change of an act with this reply; None unless a price was granted. `number` and `moment` are those of its
+-- entry. The price is in thousandths.
 abbrev pub changed_price : ℕ → ℕ → Act → Reply → Option PriceChange
 changed_price number moment (act.Till till (request.Price product price)) (reply.Granted granted version) =
     Some (record { number = number; moment = moment; till = till; product = product; price = granted; version = version })
@@ -57,11 +58,12 @@ changed_price number moment _ _ = None
 unfoldable pub price_change_of : Entry → Option PriceChange
 price_change_of entry = changed_price entry.number entry.moment entry.act entry.reply
 
--- The last moment after an entry: the entry's own, or the one before it where the entry has none.
+-- The last moment after an entry: the entry's own, or `moment`, the last one before it, if the entry has none.
 abbrev pub moment_after : ℕ → Entry → ℕ
 moment_after moment entry = if entry.moment == 0 then moment else entry.moment
 
--- The load in an act with this reply, if it was answered with a version: its entry's number, its slot and version, and the last moment before it.
+-- The load of an act with this reply; None unless the reply is a version. `number` is that of its entry, and `moment`
+-- is the last moment before it.
 abbrev pub loaded_at : ℕ → ℕ → Act → Reply → Option Load
 loaded_at number moment (act.Load slot mask layout bytes) (reply.Version version) =
     Some (record { number = number; moment = moment; slot = slot; version = version })
@@ -70,7 +72,7 @@ loaded_at number moment _ _ = None
 unfoldable pub load_of : ℕ → Entry → Option Load
 load_of moment entry = loaded_at entry.number moment entry.act entry.reply
 
--- The loads in the entries, oldest first, where `moment` is the last moment before the entries.
+-- The accepted loads of a history, oldest first. `moment` is the last moment before its entries.
 abbrev pub loads : ℕ → List Entry → List Load
 loads moment [] = []
 loads moment (entry ∷ entries) = cons_option (load_of moment entry) (loads (moment_after moment entry) entries)

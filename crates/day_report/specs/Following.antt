@@ -1,4 +1,4 @@
--- Promises: what the contract of following an entry says about the points.
+-- Promises: what an entry does to the points, and how many transaction numbers they have then given out.
 use Rattle.std.specs.Prelude.{◌≡◌, ℕ, ◌+◌, ◌≤◌, List, All}
 use Rattle.fuelling_point.specs.Table.{PointState}
 use Rattle.site_core.specs.declared.site.TheConstants.{ENTRIES}
@@ -7,7 +7,8 @@ use Rattle.site_core.specs.declared.site.TheConstants.{ENTRIES}
 abbrev pub AreWithin : ℕ → List PointState → Type 0
 AreWithin n points = All (λ (p : PointState). p.last ≤ n) points
 
--- A history has room for this many more entries, counted together with the transactions that any point has numbered.
+-- For some n, no point has given out more than n transaction numbers, and n and `entries` together are at most the most
+-- entries of a history.
 abbrev pub HaveRoom : List PointState → ℕ → Type 0
 HaveRoom points entries = (n : ℕ) × AreWithin n points × (n + entries ≤ ENTRIES)
 

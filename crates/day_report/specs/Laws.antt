@@ -19,9 +19,9 @@ use Rattle.day_report.specs.declared.sales.Part.TheVariants as part
 abbrev pub sales_of : ConfigValue → List Entry → List Sale
 sales_of config history = sales (closed_points (length config.points)) history
 
--- The sales in a journal agree with the state of its site: the points are the site's points, there are as many sales as the site cleared
--- transactions, and they come to its cleared total. So do the sales of all points together, and the sales of all tills together, where at least
--- the site's tills are added up.
+-- The sales in a journal agree with the state of its site. The points are the site's points, and there are as many
+-- sales as the site cleared transactions. The totals of all sales, of all points, and of all tills are the site's
+-- cleared total. The tills that are added up must be at least those of the site.
 pub record TellsItsSite (config : ConfigValue) (history : List Entry) (state : SiteState) : Type 0 where
   pub points : stand (closed_points (length config.points)) history ≡ state.points
   pub count : count_in part.All (sales_of config history) ≡ state.clears
@@ -29,17 +29,18 @@ pub record TellsItsSite (config : ConfigValue) (history : List Entry) (state : S
   pub by_point : sum_by (λ n. cents_in (part.Point n) (sales_of config history)) (range_with_len 1 (length config.points)) ≡ state.cleared
   pub by_till : (tills : ℕ) → config.tills ≤ tills → sum_by (λ t. cents_in (part.Till t) (sales_of config history)) (range_with_len 1 tills) ≡ state.cleared
 
--- This holds for every legal history.
+-- The sales in the journal of any legal history agree with the state that the history leads to.
 abbrev pub SalesTellTheSite : Type 0
 SalesTellTheSite = (config : ConfigValue) (history : List Entry) (state : SiteState) → LegalHistory config history state → TellsItsSite config history state
 
--- How many decisions a version made: releases, presets and prices, granted and denied.
+-- how many decisions a version made in all: on releases, presets and prices, granted and denied
 abbrev pub decided_in_all : ℕ → List Decision → ℕ
 decided_in_all v ds =
     decided_by deciding.Releases true v ds + decided_by deciding.Releases false v ds + decided_by deciding.Presets true v ds
     + decided_by deciding.Presets false v ds + decided_by deciding.Prices true v ds + decided_by deciding.Prices false v ds
 
--- The grants and denials of all loaded versions together are as many as the decisions of the history: the replies that only a rule leads to.
+-- The grants and denials of all loaded versions together are as many as the entries whose reply only a rule can lead
+-- to.
 abbrev pub VersionsTellAllDecisions : Type 0
 VersionsTellAllDecisions =
     (config : ConfigValue) (history : List Entry) (state : SiteState) → LegalHistory config history state →

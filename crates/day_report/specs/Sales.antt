@@ -14,7 +14,8 @@ use Rattle.day_report.specs.Walk.{with_entry}
 use Rattle.day_report.specs.declared.sales.Clearing.{Clearing}
 use Rattle.day_report.specs.declared.sales.Sale.{Sale}
 
--- What a till's Clear clears: the till, the point and the number of the transaction.
+-- What a till's request Clear asks to clear: the till, the point and the number of the transaction. None for another
+-- act.
 abbrev pub cleared_by : Act → Option Clearing
 cleared_by (act.Till till (request.Clear n number)) = Some (record { till = till; point = n; number = number })
 cleared_by _ = None
@@ -23,11 +24,11 @@ abbrev pub clearing_of : Act → Reply → Option Clearing
 clearing_of act reply.Done = cleared_by act
 clearing_of act _ = None
 
--- The unpaid transaction of number `number` at point n.
+-- the unpaid transaction at point n that has this number
 abbrev pub unpaid_at : List PointState → ℕ → ℕ → Option Transaction
 unpaid_at points n number = elim (at_number points n) [ None ↦ None | Some p ↦ find_number number p.unpaid ]
 
--- The sale that an entry makes, if it makes one, where `points` are the points before it.
+-- The sale that an entry makes; None if it makes none. `points` are the points before the entry.
 unfoldable pub sale_of : List PointState → Entry → Option Sale
 sale_of points entry =
     elim (clearing_of entry.act entry.reply) [
@@ -39,7 +40,7 @@ sale_of points entry =
           ]
     ]
 
--- The sales that the entries make, oldest first, where `points` are the points before the entries.
+-- The sales that the entries make, oldest first. `points` are the points before the entries.
 abbrev pub sales : List PointState → List Entry → List Sale
 sales points [] = []
 sales points (entry ∷ entries) = cons_option (sale_of points entry) (sales (with_entry points entry) entries)

@@ -23,15 +23,15 @@ use Rattle.day_report.specs.declared.counting.Deciding.TheVariants as deciding
 abbrev pub hour_of : ℕ → ℕ
 hour_of moment = moment / 3600 % 24
 
--- The sale is in the part: all sales, those at a point, those that a till cleared, or those of an hour of the day. A sale without a moment is in
--- no hour.
+-- Whether a sale is in a part. The parts are all sales, those at a point, those that a till cleared, and those of an
+-- hour of the day. A sale without a moment is in none of the hours.
 abbrev pub is_in : Part → Sale → Bool
 is_in part.All sale = true
 is_in (part.Point n) sale = sale.point == n
 is_in (part.Till till) sale = sale.till == till
 is_in (part.Hour hour) sale = not (sale.moment == 0) && hour_of sale.moment == hour
 
--- How many sales are in the part; the next two are their total in cents and in centilitres.
+-- how many sales are in the part
 abbrev pub count_in : Part → List Sale → ℕ
 count_in part sales = count_by (λ sale. is_in part sale) sales
 
@@ -53,34 +53,35 @@ abbrev pub is_price : Asked → Bool
 is_price asked.Price = true
 is_price _ = false
 
--- The decision is in the part: the releases, the presets, the prices, or all that a till asked.
+-- Whether a decision is in a part. The parts are the decisions on releases, on presets, on prices, and on what a till
+-- asked.
 abbrev pub is_among : Deciding → Decision → Bool
 is_among deciding.Releases d = is_release d.asked
 is_among deciding.Presets d = is_preset d.asked
 is_among deciding.Prices d = is_price d.asked
 is_among (deciding.Till till) d = d.till == till
 
--- The decision was a grant where the first argument is true, or else a denial.
+-- Whether a decision has this outcome: true is a grant, and false is a denial.
 abbrev pub has_outcome : Bool → Decision → Bool
 has_outcome true d = d.is_granted
 has_outcome false d = not d.is_granted
 
--- The decision is in the part and has the outcome.
+-- Whether a decision is in this part and has this outcome.
 unfoldable pub is_wanted : Deciding → Bool → Decision → Bool
 is_wanted part granted d = is_among part d && has_outcome granted d
 
--- How many of the decisions were made by this version, are in the part, and are grants if `granted` is true or else
--- denials.
+-- How many of the decisions are by this version, in the part, and grants if `granted` is true or denials if it is
+-- false.
 abbrev pub decided_by : Deciding → Bool → ℕ → List Decision → ℕ
 decided_by part granted version decisions = count_by (λ (d : Decision). is_wanted part granted d && d.version == version) decisions
 
--- The sum is what a part of the sales adds up to.
+-- The sum has the number of the sales in the part, and their totals in cents and in centilitres.
 pub record IsSum (sum : Sum) (part : Part) (sales : List Sale) : Type 0 where
   pub count : sum.count ≡ count_in part sales
   pub cents : sum.cents ≡ cents_in part sales
   pub centilitres : sum.centilitres ≡ centilitres_in part sales
 
--- The part at each place, counted from 0. Points and tills are numbered from 1, hours from 0.
+-- The part of a sum by its place in the list, counted from 0. Points and tills are numbered from 1, and hours from 0.
 abbrev pub part_of_point : ℕ → Part
 part_of_point k = part.Point (k + 1)
 
@@ -95,7 +96,7 @@ part_by by.Point k = part_of_point k
 part_by by.Till k = part_of_till k
 part_by by.Hour k = part_of_hour k
 
--- There are `count` sums, each of the part at its place.
+-- There are `count` sums. The sum at place k is that of the sales in the part of place k.
 pub record SumsUp (part_at : ℕ → Part) (count : ℕ) (sums : List Sum) (sales : List Sale) : Type 0 where
   pub long : length sums ≡ count
   pub each : (k : ℕ) (d : Sum) → k < length sums → IsSum (slice_index_or sums k d) (part_at k) sales
@@ -105,31 +106,32 @@ abbrev pub CountsNumbers : ℕ → List ℕ → List ℕ → Type 0
 CountsNumbers long counts numbers =
     (length counts ≡ long) × ((k : ℕ) → k < length counts → slice_index counts k ≡ count_by (λ n. n == 20 + k) numbers)
 
--- The counts of S20 to S34 among the numbers.
+-- There are 15 counts: how often each of S20 to S34 is among the numbers.
 abbrev pub CountsRefusals : List ℕ → List ℕ → Type 0
 CountsRefusals counts numbers = CountsNumbers 15 counts numbers
 
--- For each version below `versions`, at the place of its number, how many decisions in the part it granted and how many it denied.
+-- Both lists have a count for each version below `versions`, at the place of its number. They count how many decisions
+-- in the part the version granted, and how many it denied.
 pub record HasOutcomes (part : Deciding) (versions : ℕ) (decisions : List Decision) (found : Outcomes) : Type 0 where
   pub granted_long : length found.granted.items ≡ versions
   pub denied_long : length found.denied.items ≡ versions
   pub granted : (v : ℕ) → v < versions → slice_index found.granted.items v ≡ decided_by part true v decisions
   pub denied : (v : ℕ) → v < versions → slice_index found.denied.items v ≡ decided_by part false v decisions
 
--- One more than how many versions a history has. Versions are numbered from 1.
+-- the number of versions in a history, and one more, since versions are numbered from 1
 abbrev pub versions_of : List Entry → ℕ
 versions_of entries = length (loads 0 entries) + 1
 
--- The outcomes of what each till asked, from till 1 to till `tills`.
+-- For each till from 1 to `tills`: how often each version granted and denied its requests.
 pub record DecidedByTills (tills versions : ℕ) (decisions : List Decision) (found : List Outcomes) : Type 0 where
   pub long : length found ≡ tills
   pub each : (k : ℕ) (d : Outcomes) → k < length found → HasOutcomes (deciding.Till (k + 1)) versions decisions (slice_index_or found k d)
 
--- A transaction as an unpaid transaction of a point.
+-- a transaction of a point, with the number of this point
 abbrev pub unpaid_transaction : ℕ → Transaction → Unpaid
 unpaid_transaction point t = record { point = point; number = t.number; amount = t.amount; volume = t.volume; holder = t.holder }
 
--- The unpaid transactions of points, of which the first has number n.
+-- The unpaid transactions of all these points. The first point has the number n, the next one n + 1, and so on.
 abbrev pub unpaid_from : ℕ → List PointState → List Unpaid
 unpaid_from n [] = []
 unpaid_from n (p ∷ points) = map (unpaid_transaction n) p.unpaid ++ unpaid_from (n + 1) points

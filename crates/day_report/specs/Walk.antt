@@ -1,5 +1,5 @@
--- Definitions: the states of a site's points, as its journal shows them (this profile). Entries are oldest first. What a command or an event does
--- at a point is defined by the table of fuelling points.
+-- Definitions: the states of a site's points, as they follow from its journal (this profile). Entries are oldest first.
+-- The table of fuelling points defines what a command or an event does at a point.
 use Rattle.std.specs.Prelude.{ℕ, ◌-◌, nat_lt, if◌then◌else◌, List, replicate, fold, slice_set, Option, Some, None, Ok, Err}
 use Rattle.fuelling_point.specs.Table.{PointState, fresh_point, event_step}
 use Rattle.fuelling_point.specs.declared.kinds.Command.{Command}
@@ -15,13 +15,13 @@ use Rattle.till_request.specs.declared.act.Reply.TheVariants as reply
 use Rattle.site_core.specs.State.{at_number}
 use Rattle.site_core.specs.Decide.{after_command}
 
--- For a release or a preset that was granted: its point, and the command with the granted amount.
+-- The point and the command of a granted release or preset, with the granted amount; None for any other request.
 abbrev pub granted_command : Request → ℕ → Option (ℕ × Command)
 granted_command (request.Release n asked) granted = Some (n, command.Release granted)
 granted_command (request.Preset n asked) granted = Some (n, command.Preset granted)
 granted_command _ granted = None
 
--- For a request that was answered Done: its point and its command.
+-- The point and the command of a request that was answered Done; None for a request that never is.
 abbrev pub done_command : Request → Option (ℕ × Command)
 done_command (request.OpenPoint n) = Some (n, command.OpenPoint)
 done_command (request.ClosePoint n) = Some (n, command.ClosePoint)
@@ -33,21 +33,21 @@ done_command (request.Unlock n number) = Some (n, command.Unlock number)
 done_command (request.Clear n number) = Some (n, command.Clear number)
 done_command _ = None
 
--- The command that a till's request carried out, and its point, as the reply shows. A refused request carried out none.
+-- The point and the command that a till's request carried out, by its reply; None if the reply is a refusal.
 abbrev pub command_told : Request → Reply → Option (ℕ × Command)
 command_told request (reply.Granted granted version) = granted_command request granted
 command_told request reply.Done = done_command request
 command_told request _ = None
 
--- The points after the point of number n was changed. They are unchanged where there is no such point.
+-- The points after a change of point n. They stay the same if there is no point of this number.
 unfoldable pub with_changed : List PointState → ℕ → (PointState → PointState) → List PointState
 with_changed points n becomes = elim (at_number points n) [ None ↦ points | Some p ↦ slice_set points (n - 1) (becomes p) ]
 
--- The points after a till's command at its point. Tills are numbered from 1.
+-- The points after a till's command at its point. Tills are numbered from 1, so a command of till 0 changes nothing.
 abbrev pub with_command : List PointState → ℕ → ℕ × Command → List PointState
 with_command points till c = if nat_lt 0 till then with_changed points c.0 (λ p. after_command p till c.1) else points
 
--- The point after an event of its dispenser. It is unchanged where it refuses the event.
+-- A point after an event of its dispenser. It stays the same if it refuses the event.
 abbrev pub after_event : PointState → DispenserEvent → PointState
 after_event p event = elim (event_step p event) [ Ok o ↦ o.0 | Err _ ↦ p ]
 
@@ -70,6 +70,6 @@ with_entry points entry = with_act points entry.act entry.reply
 abbrev pub stand : List PointState → List Entry → List PointState
 stand points entries = fold with_entry points entries
 
--- This many closed points.
+-- a list of this many closed points, as a site has them at its start
 abbrev pub closed_points : ℕ → List PointState
 closed_points count = replicate count fresh_point

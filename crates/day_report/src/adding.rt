@@ -20,7 +20,7 @@ use decision_journal::Entry;
 use fuelling_point::{Point, Transaction};
 use std::alloc::{AllocError, Global};
 
-/// The most points that a site can have whose history is added up.
+/// The most points of a site whose history can be added up.
 pub const MOST_POINTS: usize = 1000;
 
 /// The most tills that a site can have.
@@ -47,7 +47,7 @@ pub struct Totals {
     pub by_till: Vec<Sum>,
     /// What was sold in each of the hours 0 to 23 of the day, in UTC.
     pub by_hour: Vec<Sum>,
-    /// The points after the last entry.
+    /// The fuelling points as they are after the last entry.
     pub points: Vec<Point>,
     /// How often each of the refusals S20 to S34 was the reply.
     pub refused: Vec<usize>,
@@ -77,7 +77,7 @@ pub struct Unpaid {
     pub holder: u32,
 }
 
-/// What sales are divided by.
+/// By what sales are divided into parts.
 #[derive(Clone, Copy, Drop)]
 enum By {
     Point,
@@ -85,7 +85,7 @@ enum By {
     Hour,
 }
 
-/// Returns the part of the sales at a place, counted from 0.
+/// Returns the part of the sales that is at this place in the list of the parts, counted from 0.
 fn part_at(by: By, place: usize) -> Part
     requires { place ≤ MOST_POINTS }
     ensures { result ≡ part_by by place }
@@ -128,7 +128,7 @@ fn refused_in(alloc: Global, entries: &[Entry]) -> Result<Vec<usize>, AllocError
     by_number(alloc, &numbers)
 }
 
-/// Returns how often each version below `versions` granted and denied, counted in one part of the decisions.
+/// Returns how often each version below `versions` granted and denied, among the decisions in one part.
 fn outcomes(
     alloc: Global,
     decisions: &[Decision],
@@ -158,7 +158,7 @@ fn by_till_asked(
     Ok(found)
 }
 
-/// Returns the unpaid transaction of point `point`, if the point has this transaction.
+/// Returns a transaction of point `point` with the number of this point, or `None` if there is no transaction.
 fn unpaid_as(point: usize, transaction: Option<Transaction>) -> Option<Unpaid>
     ensures { result ≡ option_map (unpaid_transaction point) transaction }
 {
@@ -218,7 +218,7 @@ fn sums_of(alloc: Global, sales: &[Sale], points: usize) -> Result<Sums, AllocEr
     })
 }
 
-/// How often each version granted and denied, by what was asked, and by which till asked.
+/// How often each version granted and denied: by what was asked, and by the till that asked.
 #[derive(Drop)]
 struct Verdicts {
     releases: Outcomes,
@@ -283,8 +283,8 @@ fn takings_of(alloc: Global, points: usize, entries: &[Entry]) -> Result<Takings
     })
 }
 
-/// The loads of rules in a history, and how often the rules granted and denied what tills asked: in all, and by version
-/// (`verdicts`).
+/// The loads of rules in a history, and how often rules granted and denied what tills asked. `verdicts` divides these
+/// by version.
 #[derive(Drop)]
 struct Decided {
     loads: Vec<Load>,

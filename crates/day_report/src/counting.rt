@@ -7,7 +7,8 @@ ghost use Rattle.day_report.specs.Totals.{is_among, has_outcome, is_wanted, deci
 use crate::rulings::{Asked, Decision};
 use std::alloc::{AllocError, Global};
 
-/// The part of the decisions that is counted: those on releases, on presets, on prices, or for one till.
+/// A part of the decisions that is counted: those on releases, on presets or on prices, or those on one till's
+/// requests.
 #[derive(Clone, Copy, Drop)]
 pub enum Deciding {
     Releases,
@@ -34,7 +35,7 @@ fn has_outcome(granted: bool, decision: &Decision) -> bool
     decision.is_granted == granted
 }
 
-/// Returns whether a decision is in this part, and a grant or a denial as `granted` says.
+/// Returns whether a decision is in this part, and is a grant if `granted` is true, or a denial if it is false.
 #[tactic(auto, unfolding(crate::specs::Totals::is_wanted))]
 fn is_wanted(part: Deciding, granted: bool, decision: &Decision) -> bool
     ensures { result ≡ is_wanted part granted decision.now }
@@ -54,8 +55,8 @@ fn count_if(counts: &mut [u64], at: usize, wanted: bool)
     }
 }
 
-/// Returns for each version below `versions` how many decisions of this part it granted, or denied if `granted` is
-/// false. The error is that memory ran out.
+/// Returns for each version below `versions` how many decisions in this part it granted, if `granted` is true, or
+/// denied, if it is false. The error is that memory ran out.
 pub fn tally(
     alloc: Global,
     decisions: &[Decision],

@@ -2,9 +2,9 @@
 
 ghost use Rattle.day_report.specs.Laws.{SalesTellTheSite, VersionsTellAllDecisions};
 
-/// A law: the sales in a journal agree with the site's own state. The points are the site's points, there are as many
-/// sales as the site cleared transactions, and the totals of all sales, of all points and of all tills are its cleared
-/// total.
+/// A law: the sales in a journal agree with the site's own state. The points are the site's points, and there are as
+/// many sales as the site cleared transactions. The totals of all sales, of all points and of all tills are the site's
+/// cleared total.
 pub fn law_of_sales()
     ensures { SalesTellTheSite }
 {}

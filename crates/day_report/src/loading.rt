@@ -8,8 +8,8 @@ use decision_journal::Entry;
 use std::alloc::{AllocError, Global};
 use till_request::{Act, Reply};
 
-/// A load of a program that was accepted: the number of its entry, its slot, its version, and the moment of the last
-/// entry before it that has one, or 0 if none has. The entry of a load has no moment.
+/// A load of a program that was accepted: the number of its entry, its slot and its version. Since the entry of a load
+/// has no moment, `moment` is that of the last entry before it that has one, or 0 if none has.
 #[derive(Clone, Copy, Drop)]
 pub struct Load {
     pub number: u32,
@@ -36,7 +36,7 @@ fn load_of(moment: u64, entry: &Entry) -> Option<Load>
     }
 }
 
-/// Returns the last moment after an entry: the entry's own, or `moment` if the entry has none.
+/// Returns the last moment after an entry: the entry's own, or `moment`, the last one before it, if the entry has none.
 fn moment_after(moment: u64, entry: &Entry) -> u64
     ensures { result ≡ moment_after moment entry.now }
 {

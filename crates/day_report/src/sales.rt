@@ -1,4 +1,4 @@
-//! The sales of a history: the transactions that tills cleared, which means that they were paid.
+//! The sales of a history: the transactions that tills cleared when they were paid.
 
 ghost use Rattle.std.specs.Prelude.{◌≡◌, ◌≤◌, ℕ, All, IfOk, length};
 ghost use Rattle.fuelling_point.specs.Table.{PointState};
@@ -14,8 +14,8 @@ use fuelling_point::{Point, Transaction};
 use std::alloc::{AllocError, Global};
 use till_request::{Act, Reply, Request};
 
-/// A transaction that a till cleared: the number and the moment of the entry that cleared it, the till, the point, the
-/// amount in cents and the volume in centilitres.
+/// A transaction that a till cleared. It has the number and the moment of the entry that cleared it, the till, the
+/// point, the amount in cents and the volume in centilitres.
 #[derive(Clone, Copy, Drop)]
 pub struct Sale {
     pub number: u32,
@@ -70,7 +70,7 @@ fn unpaid_at(points: &[Point], n: u32, number: u32) -> Option<Transaction>
     points[n as usize - 1].find(number)
 }
 
-/// Returns the sale that an entry made, if it made one. `points` are the points before the entry.
+/// Returns the sale that an entry made, or `None` if it made none. `points` are the points before the entry.
 #[tactic(auto, unfolding(crate::specs::Sales::sale_of))]
 pub fn sale_of(points: &[Point], entry: &Entry) -> Option<Sale>
     ensures { result ≡ sale_of points.now entry.now }
@@ -87,8 +87,8 @@ pub fn sale_of(points: &[Point], entry: &Entry) -> Option<Sale>
     })
 }
 
-/// Returns the sales that the entries made. `points` are the points before the entries, and are changed to those after
-/// them. The error is that memory ran out.
+/// Returns the sales that the entries made. At first `points` are the points before the entries, and at the end those
+/// after them. The error is that memory ran out.
 fn follow_sales(
     alloc: Global,
     points: &mut [Point],

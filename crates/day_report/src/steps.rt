@@ -1,4 +1,4 @@
-//! The states of the points, divided into the steps of a picture.
+//! The states of the points in each step of a picture's axis.
 
 ghost use Rattle.std.specs.Prelude.{◌≡◌, ◌+◌, ◌≤◌, ℕ, OnOk, length};
 ghost use Rattle.site_core.specs.declared.site.TheConstants.{ENTRIES};
@@ -11,16 +11,16 @@ use fuelling_point::{Point, State};
 use std::alloc::{AllocError, Global};
 use till_request::{Act, Request};
 
-/// The most steps that a picture has along its axis.
+/// The most steps into which the axis of a picture is divided.
 const STEPS: usize = 2000;
 
-/// The shortest history, in seconds, whose picture is drawn along time and not along the entries.
+/// How many seconds a history has to last for the axis of its picture to be time, and not its entries.
 const SPAN: u64 = 600;
 
 /// The axis of a picture of a history: its entries, or time.
 #[derive(Clone, Copy, Drop)]
 pub enum Axis {
-    /// The entries, from 1 to the number given.
+    /// The entries of a history, of which there are this many.
     Entries(usize),
     /// Time, from the first moment to the last, both in seconds since the start of 1970.
     Time(u64, u64),
@@ -47,7 +47,8 @@ pub fn axis_of(entries: &[Entry]) -> Axis {
     Axis::Time(first, last)
 }
 
-/// Returns the number of the step, from 0, in which `at` is, if `steps` equal steps divide the range from 0 to `most`.
+/// Returns the number of the step, counted from 0, that `at` belongs to. The range from 0 to `most` is divided into
+/// `steps` equal steps.
 pub fn step_of(at: u128, most: u128, steps: usize) -> usize
     ensures { result ≤ steps }
 {
@@ -65,7 +66,7 @@ fn steps_of(axis: Axis) -> usize {
     }
 }
 
-/// Returns the step in which the entry at a place is; `None` for one without a moment, if the axis is time.
+/// Returns the step that the entry at this place belongs to, or `None` if the axis is time and the entry has no moment.
 fn step_at(axis: Axis, place: usize, entry: &Entry, steps: usize) -> Option<usize> {
     match axis {
         Axis::Entries(count) => Some(step_of(place as u128, count as u128, steps)),
@@ -80,8 +81,8 @@ fn step_at(axis: Axis, place: usize, entry: &Entry, steps: usize) -> Option<usiz
     }
 }
 
-/// Divides a history into the steps of a picture's axis: returns for each step how many entries are in it or in an
-/// earlier step. Along time, an entry without a moment is in the step of the entry before it.
+/// Divides a history into the steps of a picture's axis. Returns for each step how many entries belong to it or to an
+/// earlier step. If the axis is time, an entry without a moment belongs to the step of the entry before it.
 fn cuts(
     alloc: Global,
     entries: &[Entry],
@@ -102,8 +103,7 @@ fn cuts(
     Ok(cuts)
 }
 
-/// The state of each point in each step: first the states of step 0, one for each point, then those of step 1, and so
-/// on.
+/// The state of each point in each step: first the states of all points in step 0, then those in step 1, and so on.
 #[derive(Drop)]
 pub struct Bands {
     pub points: usize,
@@ -126,7 +126,7 @@ fn point_of(entry: &Entry) -> Option<u32> {
     }
 }
 
-/// Sets the stored state of point `n` to its current state, if that has a greater number than the stored one.
+/// Sets the stored state of point `n` to its current state, if the current state has the greater number.
 fn raise(states: &mut [State], points: &[Point], n: u32) {
     if n == 0 {
         return;
@@ -140,8 +140,8 @@ fn raise(states: &mut [State], points: &[Point], n: u32) {
     }
 }
 
-/// Applies the entries of a step to the points, and keeps in `states` the greatest state that each point has in the
-/// step.
+/// Applies the entries of a step to the points. If a point has in the step a state with a greater number than its state
+/// in `states`, that one is stored there.
 fn follow_step(points: &mut [Point], states: &mut [State], entries: &[Entry])
     requires few { HaveRoom points.old (length entries.now) }
     ensures stand { points.new ≡ stand points.old entries.now }
@@ -155,8 +155,8 @@ fn follow_step(points: &mut [Point], states: &mut [State], entries: &[Entry])
     }
 }
 
-/// Applies the entries of a step to the points, and returns the greatest state that each point has in the step. The
-/// error is that memory ran out.
+/// Applies the entries of a step to the points, and returns for each point the state with the greatest number that it
+/// has in the step. The error is that memory ran out.
 fn step_states(
     alloc: Global,
     points: &mut [Point],

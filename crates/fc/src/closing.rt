@@ -1,4 +1,4 @@
-//! A served site that wasn't closed.
+//! Messages about a served site that couldn't be closed.
 use file_jobs::{FAILED, Place, REFUSED, complain, once_printed, out_of_memory, refuse};
 use site_server::{CloseRefusal, ServeFault};
 
@@ -26,7 +26,7 @@ pub fn tell_unclosed(rt: &HostRuntime, word: &str, why: ServeFault) -> u8 {
     match why {
         ServeFault::NotClosed(why) => refuse_close(rt, word, why),
         ServeFault::OutOfMemory => out_of_memory(rt),
-        // Why the journal failed was printed as it happened.
+        // The failure of the journal was printed when it happened.
         ServeFault::Journal => FAILED,
     }
 }

@@ -17,7 +17,7 @@ pub struct Opened<'a> {
     pub files: Vec<SocketFile<'a>>,
 }
 
-/// A door's name for an operator: whose lines it takes.
+/// The name of a door that is printed for an operator: whose lines the door takes.
 #[derive(Clone, Copy)]
 struct Name(Role);
 
@@ -33,7 +33,7 @@ impl Display for Name {
     }
 }
 
-/// Writes the numbers of the points whose bits are set.
+/// Writes the numbers of some points. Bit p of `points` stands for point p + 1.
 fn write_points<W: fmt::Write>(f: &mut fmt::Formatter<W>, points: u32) -> fmt::Result {
     f.write_str("points")?;
     for place in 0..32u32 {
@@ -53,8 +53,8 @@ fn are_ports(doors: &[Door]) -> bool {
     true
 }
 
-/// Writes the address of a door: of a port the number alone where all doors are ports, since their list begins with
-/// 127.0.0.1.
+/// Writes the address of a door. If all doors are ports, the address of a port is its number alone, since the list of
+/// the doors then begins with 127.0.0.1.
 fn write_address<W: fmt::Write>(
     f: &mut fmt::Formatter<W>,
     address: &Address,
@@ -67,7 +67,7 @@ fn write_address<W: fmt::Write>(
     }
 }
 
-/// The doors that are open, as an operator reads them.
+/// The list of the open doors that is printed for an operator.
 #[derive(Clone, Copy)]
 pub struct OpenDoors<'a>(pub &'a [Door]);
 
@@ -89,7 +89,8 @@ impl Display for OpenDoors<'_> {
     }
 }
 
-/// Who may connect to a socket: the owner's is for the program's own user, the others are for its group too.
+/// Returns the file mode of a socket for this role. Only the program's own user may connect to the owner's socket, and
+/// also the user's group to the others.
 fn mode_of(role: Role) -> u32 {
     match role {
         Role::Owner | Role::All => 0o600,
@@ -97,7 +98,7 @@ fn mode_of(role: Role) -> u32 {
     }
 }
 
-/// Says why a socket can't be opened, with the configuration's file and the key that names the socket.
+/// Prints why a socket can't be opened, with the configuration's file and the key that names the socket.
 fn refuse_socket(rt: &HostRuntime, word: &str, door: &Door, error: io::Error) -> Stop {
     if error.kind() == ErrorKind::OutOfMemory && error.raw_os_error().is_none() {
         return Stop::Failed(error);
@@ -107,7 +108,7 @@ fn refuse_socket(rt: &HostRuntime, word: &str, door: &Door, error: io::Error) ->
     Stop::Said(FAILED)
 }
 
-/// Says that something has the name of the folder beside a socket's path.
+/// Prints that something else has the name of the folder in which a socket is bound.
 fn refuse_folder(rt: &HostRuntime, word: &str, door: &Door, folder: Beside<'_>) -> Stop {
     let (place, key) = (Place::of(word), &door.place);
     let _ = eprintln!(rt; "fc: {place}: {key}: {folder} is in the way");
@@ -145,7 +146,7 @@ impl<'a> Opened<'a> {
         self.add(door, Listener::Socket(listener))
     }
 
-    /// Opens a door, and keeps the file of a socket.
+    /// Opens a door. If it is a socket, adds its file to `files`.
     fn open<H: Files + Net<Listener = TcpListener, Stream = TcpStream>>(
         &mut self,
         rt: &'a HostRuntime,
@@ -178,8 +179,7 @@ impl<'a> Opened<'a> {
     }
 }
 
-/// Opens the doors of a configuration in their order. Where one can't be opened, that is said, and those before it are
-/// closed.
+/// Opens the doors of a configuration in their order. If one can't be opened, prints why, and closes those before it.
 pub fn open_doors<'a, H: Files + Net<Listener = TcpListener, Stream = TcpStream>>(
     rt: &'a HostRuntime,
     host: &H,

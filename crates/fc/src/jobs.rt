@@ -1,4 +1,4 @@
-//! The jobs of the program: which function does which.
+//! The jobs of the program, and the function that does each of them.
 use crate::kept::{After, serve_kept};
 use crate::printed::serve_printed;
 use command_line::Job;
@@ -12,9 +12,10 @@ use std::sync::Wait;
 use std::thread::Threads;
 use std::time::Clock;
 
-/// Does a job, and returns the exit status. What goes wrong with a file or a device is printed on standard error.
+/// Does a job, and returns the exit status. Faults of files and devices are printed on standard error.
 ///
-/// `host` is the same runtime: only `main` can lend it as one that starts threads and opens sockets.
+/// `host` is the same runtime as `rt`, but of a type that can start threads and open sockets. Only `main` can lend it
+/// so.
 pub fn do_job<
     H: Files + Net<Listener = TcpListener, Stream = TcpStream> + Threads + Wait + Clock + Sync,
 >(rt: &HostRuntime, host: &H, job: &Job) -> Result<u8, Stop> {

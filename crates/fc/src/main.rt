@@ -1,4 +1,4 @@
-//! The program `fc`: words and files in, answers and an exit status out.
+//! The program `fc`: parses the command line, does the job that it asks for, and returns an exit status.
 #![tactic(auto)]
 
 mod closing;
@@ -23,12 +23,13 @@ fn words_of(rt: &HostRuntime) -> io::Result<Vec<String>> {
     Ok(words)
 }
 
-/// Reads the arguments of the command line as a job. Where they are none, a usage text was printed on standard error.
+/// Parses the arguments of the command line as a job. If they aren't valid, prints a usage text on standard error; the
+/// error has the exit status.
 fn job_of(rt: &HostRuntime) -> Result<Job, Stop> {
     let words = match words_of(rt) {
         Ok(words) => words,
         Err(error) if error.kind() == ErrorKind::OutOfMemory => return Err(Stop::Failed(error)),
-        // The only other cause: an argument isn't UTF-8.
+        // The only other cause is an argument that isn't UTF-8.
         Err(_) => {
             tell(rt, &"the words are not text; see fc --help");
             return Err(Stop::Said(USAGE));

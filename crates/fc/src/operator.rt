@@ -1,4 +1,4 @@
-//! What an operator reads on standard error while a site is served.
+//! The lines that are printed for an operator on standard error while a site is served.
 use site_server::{Limiter, Notices, SessionFailure, SessionFault};
 use std::fmt::{self, Display};
 use std::io;
@@ -6,8 +6,8 @@ use std::sync::{Mutex, Wait};
 use std::time::{Clock, SystemTime, UNIX_EPOCH};
 use till_request::{LineFault, Role};
 
-/// Prints reports for an operator on standard error, at most ten lines a second. A site serves whether or not anybody
-/// reads them.
+/// Prints reports for an operator on standard error, at most ten lines a second. If nobody reads them, the site is
+/// served all the same.
 #[derive(Drop)]
 pub struct Operator<'a, H: Wait + Clock> {
     rt: &'a HostRuntime,
@@ -15,7 +15,7 @@ pub struct Operator<'a, H: Wait + Clock> {
     limiter: Mutex<Limiter>,
 }
 
-/// Whom a worker serves, as an operator reads it.
+/// The name of a worker's peer that is printed for an operator: whose lines the worker takes.
 #[derive(Clone, Copy)]
 struct Peer(Role);
 
@@ -30,12 +30,13 @@ impl Display for Peer {
     }
 }
 
-/// Returns the fault number of what ended a session, in brackets and with a blank before it; nothing where it has none.
+/// Returns the number of the fault that ended a session, in brackets and with a blank before it. Returns an empty text
+/// if the fault has no number.
 fn code_of(failure: SessionFailure) -> &'static str {
     match failure {
         SessionFailure::Line(LineFault::TooLong) => " (L1)",
         SessionFailure::Line(LineFault::CutLine) => " (L4)",
-        // None of these ends a session.
+        // These faults of a line never end a session.
         SessionFailure::Line(LineFault::BadLine | LineFault::BadNumber | LineFault::OutOfMemory) =>
             "",
         SessionFailure::Session(SessionFault::Read) => " (N1)",
@@ -56,8 +57,8 @@ impl<'a, H: Wait + Clock> Operator<'a, H> {
         }
     }
 
-    /// Returns the current second. Where the clock can't be read, or is before 1970, it is 0, so all lines count for
-    /// one second.
+    /// Returns the current second. If the clock can't be read, or is before 1970, the second is 0, so that all lines
+    /// count for one second.
     fn second(&self) -> u64 {
         match SystemTime::now(self.host) {
             Ok(time) => match time.duration_since(UNIX_EPOCH) {
@@ -68,7 +69,7 @@ impl<'a, H: Wait + Clock> Operator<'a, H> {
         }
     }
 
-    /// Returns whether one more line may be printed now. Where lines were held back before it, prints how many.
+    /// Returns whether one more line may be printed now. If so, and if lines were held back before it, prints how many.
     fn is_admitted(&self) -> bool {
         let admitted = self.limiter.lock(self.host).admit(self.second());
         match admitted {

@@ -6,10 +6,11 @@ use std::net::Net;
 use std::os::unix::fs::{FileTypeExt, MetadataExt, PermissionsExt};
 use std::os::unix::net::{UnixListener, UnixStream};
 
-/// The most bytes that a socket's path has. The system takes 107, and the socket is bound at a path that has three more.
+/// The most bytes of a socket's path. The system takes 107, and the path at which the socket is bound has three bytes
+/// more.
 const MOST_BYTES: usize = 104;
 
-/// The folder beside a path in which its socket is bound: its name is that of the path, with a dot before it.
+/// The folder in which the socket of a path is bound at first. Its name is the path's name with a dot before it.
 #[derive(Clone, Copy)]
 pub struct Beside<'a>(pub &'a str);
 
@@ -22,7 +23,7 @@ impl Display for Beside<'_> {
     }
 }
 
-/// What is at a path, and which file that is: its device, and its number there.
+/// The kind of a file that was found at a path, and which file it is: its device, and its inode there.
 #[derive(Clone, Copy)]
 struct Found {
     kind: FileType,
@@ -30,7 +31,7 @@ struct Found {
     inode: u64,
 }
 
-/// Returns what is at a path. A link isn't followed.
+/// Returns which file is at a path. If it is a link, the link itself is meant.
 fn find(rt: &HostRuntime, path: &str) -> io::Result<Found> {
     match fs::symlink_metadata(rt, path) {
         Ok(there) => Ok(Found {
@@ -42,7 +43,8 @@ fn find(rt: &HostRuntime, path: &str) -> io::Result<Found> {
     }
 }
 
-/// The file of a socket that was bound here. It is removed when this is dropped, unless another file has its place.
+/// The file of a socket that was bound here. It is removed when this is dropped, unless another file is now at its
+/// path.
 pub struct SocketFile<'a> {
     rt: &'a HostRuntime,
     path: &'a str,
@@ -66,10 +68,11 @@ impl Drop for SocketFile<'_> {
     }
 }
 
-/// A socket at which connections come in, and its file.
+/// A listening socket, and its file.
 pub type Listening<'a> = (UnixListener, SocketFile<'a>);
 
-/// Refuses a socket at which somebody listens. To find out it connects, which a served site counts as a connection.
+/// Returns an error if somebody listens at a socket. To find out, it connects to the socket, which a served site counts
+/// as a connection.
 fn ask<H: Net>(host: &H, path: &str) -> io::Result<()> {
     match UnixStream::connect(host, path) {
         Ok(_) => Err(io::Error::new(ErrorKind::AddrInUse, "another process listens there")),
@@ -90,7 +93,7 @@ fn find_free<H: Net>(rt: &HostRuntime, host: &H, path: &str) -> io::Result<()> {
     }
 }
 
-/// Returns whether an entry of a folder is a socket `s`.
+/// Returns whether an entry of a folder is a socket with the name `s`.
 fn is_socket_s(entry: io::Result<DirEntry>) -> io::Result<bool> {
     let entry = entry?;
     if entry.file_name() != "s" {
@@ -102,7 +105,7 @@ fn is_socket_s(entry: io::Result<DirEntry>) -> io::Result<bool> {
     }
 }
 
-/// Returns whether a killed process may have left a folder: nothing but a socket `s` is in it.
+/// Returns whether a killed process may have left a folder: it has nothing in it but a socket with the name `s`.
 fn is_left(rt: &HostRuntime, folder: &str) -> io::Result<bool> {
     if !find(rt, folder)?.kind.is_dir() {
         return Ok(false);
@@ -124,7 +127,7 @@ fn remove(rt: &HostRuntime, path: &str) -> io::Result<()> {
     }
 }
 
-/// Makes the folder beside a path anew, if a killed process has left it. Returns whether it was left.
+/// Makes a folder beside a path again, if a killed process may have left it there. Returns whether it did.
 fn make_again<H: Net>(rt: &HostRuntime, host: &H, folder: &str, socket: &str) -> io::Result<bool> {
     if !is_left(rt, folder)? {
         return Ok(false);
@@ -136,8 +139,8 @@ fn make_again<H: Net>(rt: &HostRuntime, host: &H, folder: &str, socket: &str) ->
     Ok(true)
 }
 
-/// Makes the folder beside a path, which nobody else may enter. Returns false where something has its name, and isn't
-/// what a killed process has left.
+/// Makes the folder beside a path, which nobody else may enter. Returns false if something with its name is there
+/// already that a killed process can't have left.
 fn make_folder<H: Net>(rt: &HostRuntime, host: &H, folder: &str, socket: &str) -> io::Result<bool> {
     match rt.create_dir_with_mode(folder, 0o700) {
         Ok(()) => Ok(true),
@@ -148,8 +151,8 @@ fn make_folder<H: Net>(rt: &HostRuntime, host: &H, folder: &str, socket: &str) -
     }
 }
 
-/// Gives a socket a second name at its path, which replaces nothing. Where a socket is there at which nobody listens,
-/// that is removed first.
+/// Gives a socket's file a second name at its path, where nothing else may be. A socket there at which nobody listens
+/// is removed first.
 fn put_at<H: Net>(rt: &HostRuntime, host: &H, socket: &str, path: &str) -> io::Result<()> {
     match fs::hard_link(rt, socket, path) {
         Err(error) if error.kind() == ErrorKind::AlreadyExists => {
@@ -161,7 +164,7 @@ fn put_at<H: Net>(rt: &HostRuntime, host: &H, socket: &str, path: &str) -> io::R
     }
 }
 
-/// Gives a bound socket's file a mode, and moves it to its path.
+/// Sets the mode of a bound socket's file, and moves the file to its path.
 fn move_to<'a, H: Net>(
     rt: &'a HostRuntime,
     host: &H,
@@ -172,7 +175,7 @@ fn move_to<'a, H: Net>(
     fs::set_permissions(rt, socket, Permissions::from_mode(mode))?;
     let there = find(rt, socket)?;
     put_at(rt, host, socket, path)?;
-    // From here on, where the first name can't be removed, the one at the path is removed too.
+    // If the first name can't be removed, `file` is dropped, and so the name at the path is removed too.
     let file = SocketFile {
         rt,
         path,
@@ -185,7 +188,7 @@ fn move_to<'a, H: Net>(
     }
 }
 
-/// Binds a socket, and moves it to its path. Where it can't be moved it is removed.
+/// Binds a socket, and moves its file to its path. If the file can't be moved, it is removed.
 fn bind_and_move<'a, H: Files + Net>(
     rt: &'a HostRuntime,
     host: &H,
@@ -193,7 +196,7 @@ fn bind_and_move<'a, H: Files + Net>(
     path: &'a str,
     mode: u32,
 ) -> io::Result<Option<Listening<'a>>> {
-    // Where this fails, a socket with that name is another process's, and stays.
+    // If this fails, a socket with this name belongs to another process, and is left there.
     let listener = UnixListener::bind(host, socket)?;
     match move_to(rt, host, socket, path, mode) {
         Ok(file) => Ok(Some((listener, file))),
@@ -204,7 +207,7 @@ fn bind_and_move<'a, H: Files + Net>(
     }
 }
 
-/// Makes the folder beside a path, binds a socket in it, moves that to the path and removes the folder.
+/// Makes the folder beside a path, binds a socket in it, moves the socket's file to the path, and removes the folder.
 fn bind_beside<'a, H: Files + Net>(
     rt: &'a HostRuntime,
     host: &H,
@@ -223,11 +226,11 @@ fn bind_beside<'a, H: Files + Net>(
     made
 }
 
-/// Listens at a path. The socket's file has this mode from the moment at which others can see it: it is bound in a
-/// folder that nobody else may enter, and moved to the path. A socket at the path at which nobody listens is replaced;
-/// anything else there is refused, and stays as it is.
+/// Listens at a path. The socket is bound in a folder that nobody else may enter, and its file is then moved to the
+/// path. So the file has this mode from the moment at which others can see it. A socket at the path at which nobody
+/// listens is replaced. Anything else there is an error, and stays as it is.
 ///
-/// Returns `None` where something has the name of the folder, and isn't what a killed process has left.
+/// Returns `None` if something with the name of the folder is there already that a killed process can't have left.
 pub fn listen_at<'a, H: Files + Net>(
     rt: &'a HostRuntime,
     host: &H,

@@ -1,4 +1,4 @@
-//! The answers of a play, held in a buffer. All of them are written before more of the script is read.
+//! The answers of a play, in a buffer. All of them are written before more of the script is read.
 ghost use Rattle.std.specs.Prelude.{◌≤◌, IfOk, length};
 
 use crate::faults::tell_write;
@@ -12,7 +12,7 @@ use std::io::{self, BufWriter, Error, ErrorKind, Printer, Read, Write};
 type Waiting<'a> = BufWriter<Outlet<Printer<'a, HostRuntime>>>;
 
 /// The answers of a play that are buffered for standard output. They are written before more of the script is read, so
-/// whoever waits for one doesn't wait until the buffer is full.
+/// that each answer appears before the next line is awaited.
 #[derive(Drop)]
 pub struct Answers<'a> {
     waiting: RefCell<Waiting<'a>>,
@@ -34,13 +34,13 @@ impl<'a> Answers<'a> {
                 Ok(()) => Ok(()),
                 Err(error) => Err(waiting.get_mut().keep(error)),
             },
-            // This never comes: no borrow of the buffer outlasts a call.
+            // This never happens, since no borrow of the buffer outlasts a call.
             Err(_) => Err(Error::from(ErrorKind::WouldBlock)),
         }
     }
 
-    /// Appends a piece of an answer to the buffer, and returns how many of its bytes were taken. Returns an error where
-    /// an earlier write failed.
+    /// Appends a piece of an answer to the buffer, and returns how many of its bytes were taken. Returns an error if an
+    /// earlier write failed.
     fn add(&self, piece: &[u8]) -> io::Result<usize>
         ensures { IfOk result (λ count. count ≤ length piece.now) }
     {
@@ -53,8 +53,8 @@ impl<'a> Answers<'a> {
         }
     }
 
-    /// Writes the answers that are still buffered, and returns how the play ended: `ended`, or `Write` where `ended` is
-    /// no error but that write fails.
+    /// Writes the answers that are still buffered. Returns `ended`, or the error `Write` if the play ended well but
+    /// this write failed.
     pub fn end(&self, ended: Result<Ended, SessionFault>) -> Result<Ended, SessionFault> {
         match (ended, self.flush()) {
             (Ok(_), Err(_)) => Err(SessionFault::Write),
@@ -62,7 +62,7 @@ impl<'a> Answers<'a> {
         }
     }
 
-    /// Prints on standard error why the answers couldn't be written. Prints nothing where the reader of standard output
+    /// Prints on standard error why the answers couldn't be written. Prints nothing if the reader of standard output
     /// closed the pipe.
     pub fn tell_failure(&self, rt: &HostRuntime) {
         match self.waiting.try_borrow() {
@@ -99,7 +99,8 @@ pub struct Incoming<'a, 'b, 'c> {
 
 impl Read for Incoming<'_, '_, '_> {
     fn read(&mut self, buf: &mut [u8]) -> io::Result<usize> {
-        // Where the answers can't be written, the script is ended here. `Answers::end` then returns the error.
+        // If the answers can't be written, the play gets the end of its script here, and `Answers::end` then returns
+        // the error.
         if self.answers.flush().is_err() {
             return Ok(0);
         }

@@ -39,8 +39,8 @@ fn audited(
     }
 }
 
-/// Prints on standard error why a journal was refused. It opens and reads the journal again for that. Prints nothing
-/// where it can't be opened.
+/// Opens and reads a journal again, and prints on standard error why it was refused. Prints nothing if it can't be
+/// opened.
 pub fn explain_journal(rt: &HostRuntime, word: &str, config: Config) {
     if let Ok(source) = source_of(rt, word) {
         explain_source(rt, word, config, &mut stream(source));
@@ -51,7 +51,7 @@ pub fn explain_journal(rt: &HostRuntime, word: &str, config: Config) {
 fn explain_source(rt: &HostRuntime, word: &str, config: Config, input: &mut StreamIn<Source>) {
     match journal_flaw(rt.alloc(), config, input) {
         Ok(Some((line, flaw))) => tell_journal(rt, word, line, &flaw),
-        // Another process changed the file since the audit.
+        // The journal isn't at fault any more: another process changed the file since the audit.
         Ok(None) => (),
         Err(fault) => tell_unread(rt, word, fault, input.reader.failure()),
     }

@@ -8,8 +8,8 @@ use day_export::{RowsFault, write_rows};
 use site_core::Site;
 use std::io::{self, BufWriter, Write};
 
-/// Audits the journal in one file against the configuration in another, prints rows of its day, and returns the exit
-/// status. Where the journal is refused, prints what its audit prints, and no row.
+/// Audits the journal in one file against the configuration in another, prints the rows that are asked for, and returns
+/// the exit status. If the journal is refused, prints what its audit prints, and no rows.
 pub fn export_files(
     rt: &HostRuntime,
     rows: Rows,

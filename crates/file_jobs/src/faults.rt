@@ -80,7 +80,7 @@ pub fn complain<D: Display>(rt: &HostRuntime, place: Place<'_>, words: &D, code:
     let _ = eprintln!(rt; "fc: {place}: {words} ({code})");
 }
 
-/// Returns `status` where printing succeeded. Where it failed, prints why on standard error, and returns `FAILED`.
+/// Returns `status` if printing succeeded. If it failed, prints why on standard error, and returns `FAILED`.
 pub fn once_printed(rt: &HostRuntime, printed: io::Result<()>, status: u8) -> u8 {
     match printed {
         Ok(()) => status,
@@ -91,17 +91,17 @@ pub fn once_printed(rt: &HostRuntime, printed: io::Result<()>, status: u8) -> u8
     }
 }
 
-/// Prints a text on standard output, and returns `status`, or `FAILED` where the text can't be written.
+/// Prints a text on standard output, and returns `status`, or `FAILED` if the text can't be written.
 pub fn say(rt: &HostRuntime, text: &str, status: u8) -> u8 {
     once_printed(rt, print!(rt; "{text}"), status)
 }
 
-/// Prints a fault's number on standard output, and returns `REFUSED`, or `FAILED` where it can't be written.
+/// Prints a fault's number on standard output, and returns `REFUSED`, or `FAILED` if it can't be written.
 pub fn refuse(rt: &HostRuntime, fault: &str) -> u8 {
     once_printed(rt, println!(rt; "{fault}"), REFUSED)
 }
 
-/// Prints on standard error why standard output can't be written. Prints nothing where its reader closed the pipe.
+/// Prints on standard error why standard output can't be written. Prints nothing if its reader closed the pipe.
 pub fn tell_write(rt: &HostRuntime, failure: Option<&io::Error>) {
     match failure {
         Some(error) if error.kind() == ErrorKind::BrokenPipe => (),
@@ -109,7 +109,7 @@ pub fn tell_write(rt: &HostRuntime, failure: Option<&io::Error>) {
     }
 }
 
-/// Prints on standard error why standard output can't be written. Unlike `tell_write`, does so even where the reader
+/// Prints on standard error why standard output can't be written. Unlike `tell_write`, also prints it if the reader
 /// closed the pipe.
 pub fn tell_loss(rt: &HostRuntime, failure: Option<&io::Error>) {
     match failure {
@@ -175,7 +175,7 @@ pub fn tell_program(rt: &HostRuntime, word: &str, flaw: &ProgramFlaw) {
     }
 }
 
-/// Prints on standard error why an assembler text is refused. Prints nothing where it is accepted.
+/// Prints on standard error why an assembler text is refused. Prints nothing if it is accepted.
 pub fn tell_text(rt: &HostRuntime, word: &str, text: &[u8]) -> Result<(), AllocError> {
     match asm_flaw(rt.alloc(), text)? {
         Some((fault, flaw)) => tell_asm(rt, Place::of(word), fault, &flaw),
@@ -220,7 +220,7 @@ pub fn tell_journal(rt: &HostRuntime, word: &str, line: Option<u32>, flaw: &Jour
     complain(rt, place, flaw, code);
 }
 
-/// Prints on standard error why a script stopped at a line: the line has over 8,400 bytes (L1), or it is the last one
+/// Prints on standard error why a script stopped at a line. The line has over 8,400 bytes (L1), or it is the last one
 /// and has no LF (L4). Prints nothing for other faults.
 pub fn tell_cut(rt: &HostRuntime, word: &str, line: u64, fault: LineFault) {
     let place = Place::of(word).line(line);

@@ -1,4 +1,4 @@
-//! What the commands of `fc` do with files: show programs, play scripts, audit journals and show them as pages or as
+//! What the commands of `fc` do with files: print programs, play scripts, audit journals, and print them as pages or
 //! rows.
 #![tactic(auto)]
 

@@ -14,15 +14,16 @@ use site_core::Config;
 use std::io::{self, IsTerminal};
 use till_request::devices::{Ahead, StreamIn, StreamOut};
 
-/// The message to a user at a terminal who gave no argument, so that input is awaited.
+/// The message to a user at a terminal who gave no argument: input is awaited.
 const AWAITED: &str =
     "reading a configuration, a line --- and a script from standard input; fc --help tells more";
 
-/// The input of a play: it is read from the device in blocks, and taken by the play byte by byte.
+/// The input of a play. It is read from the device in blocks, and the play takes it byte by byte.
 type Script<'a, 'b, 'c> = Ahead<StreamIn<Incoming<'a, 'b, 'c>>>;
 
-/// Returns the exit status of a play that ended so, and prints on standard error what stopped it. The argument `word`
-/// names the script, `lines` lines come before it in the same input, and `read` is the error of a failed read.
+/// Returns the exit status of a play with the result `ended`, and prints on standard error what stopped it. `word` is
+/// the argument that names the script, and `lines` lines come before the script in the same input. `read` is the error
+/// of a failed read.
 fn status_of(
     rt: &HostRuntime,
     ended: Result<Ended, SessionFault>,
@@ -60,7 +61,7 @@ fn tell_broken(
         (SessionFault::Read, Some(error)) => complain(rt, place, error, "N1"),
         (SessionFault::Read, None) => complain(rt, place, &fault, "N1"),
         (SessionFault::ReadsSpent, _) => complain(rt, place, &fault, "N3"),
-        // Of these only `Write` comes: a play writes no journal, and `status_of` takes `OutOfMemory`.
+        // Only `Write` can come here: a play writes no journal, and `status_of` handles `OutOfMemory`.
         (SessionFault::Write | SessionFault::Journal | SessionFault::OutOfMemory, _) => {
             answers.tell_failure(rt);
         }
@@ -93,7 +94,7 @@ fn play_both<'a>(rt: &'a HostRuntime, input: &mut Script<'a, '_, '_>) -> Result<
     }
 }
 
-/// Returns the settings in `head`, the input up to the line that ends the configuration. Where they are refused, prints
+/// Returns the settings in `head`, the input up to the line that ends the configuration. If they are refused, prints
 /// why; the error has the exit status.
 fn settings_before(rt: &HostRuntime, head: &[u8]) -> Result<Settings, Stop> {
     match config_part(head) {
@@ -139,8 +140,8 @@ pub fn play_files(rt: &HostRuntime, config: &str, script: &str) -> Result<u8, St
     Ok(play_script(rt, settings.config, script, 0, &mut input, READS))
 }
 
-/// Plays a script, and returns the exit status. The argument `word` names the script, `lines` lines come before it in
-/// the same input, and at most `left` reads are made.
+/// Plays a script, and returns the exit status. `word` is the argument that names the script, and `lines` lines come
+/// before the script in the same input. At most `left` reads are made.
 fn play_script<'a>(
     rt: &'a HostRuntime,
     config: Config,

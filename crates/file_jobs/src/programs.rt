@@ -7,8 +7,8 @@ use bpf_model::context::Layout;
 use job_texts::{Told, asm_file, dis_file, dis_flaw, dis_units_file, verify_file, verify_flaw};
 use std::alloc::{AllocError, Global};
 
-/// What to print of a file: its units, its assembler text, that text with the numbers of units, or the verifier's
-/// result for a mask of counters and a layout.
+/// What to print of a file: its units, its text in assembler, or that text with the numbers of units. The fourth is the
+/// verifier's result for a mask of counters and a layout.
 #[derive(Clone, Copy)]
 pub enum Tell {
     Asm,
@@ -17,14 +17,14 @@ pub enum Tell {
     Verify(u32, Layout),
 }
 
-/// Prints of a file what `tell` asks for, and returns the exit status. The argument `word` names the file. Where the
+/// Prints what `tell` asks for about a file, and returns the exit status. The argument `word` names the file. If the
 /// file is refused, also prints why on standard error.
 pub fn tell_file(rt: &HostRuntime, word: &str, tell: Tell) -> Result<u8, Stop> {
     let text = text_of(rt, word)?;
     tell_bytes(rt, word, tell, &text)
 }
 
-/// Prints what `tell` asks for of a file whose bytes are `text`, and returns the exit status.
+/// Prints what `tell` asks for about a file with the bytes `text`, and returns the exit status.
 fn tell_bytes(rt: &HostRuntime, word: &str, tell: Tell, text: &[u8]) -> Result<u8, Stop> {
     let told = told_of(rt.alloc(), tell, text)?;
     if told.status == REFUSED {

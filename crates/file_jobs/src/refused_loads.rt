@@ -1,5 +1,5 @@
-//! Messages about loads in a script whose program the verifier refuses. They are printed on standard error, beside the
-//! answer, which has the refusal's number.
+//! Messages about loads in a script whose program the verifier refuses. They are printed on standard error. The answer
+//! to the load, on standard output, has only the refusal's number.
 use crate::progress::Progress;
 use console::PlayNotices;
 use job_texts::explain_refusal;
@@ -13,14 +13,14 @@ use till_request::Act;
 pub struct RefusedLoads<'a, 'b> {
     rt: &'a HostRuntime,
     name: &'a str,
-    /// How many lines of the input have begun, with those before the script.
+    /// The number of lines of the input that have begun, including those before the script.
     lines: Cell<u64>,
     /// The progress line, if one is shown. It is erased before a message.
     progress: Option<&'b Progress<'a>>,
 }
 
 impl<'a, 'b> RefusedLoads<'a, 'b> {
-    /// Makes the printer for the script of this name, before which there are `lines` lines in the same input.
+    /// Makes the printer for the script with this name. `lines` lines come before the script in the same input.
     pub fn new(
         rt: &'a HostRuntime,
         name: &'a str,
@@ -55,7 +55,7 @@ impl PlayNotices for RefusedLoads<'_, '_> {
     }
 
     fn refused_load(&self, load: &Act, refusal: Refusal) {
-        // Where memory runs out, there is no message, but the answer has the refusal's number.
+        // If memory runs out, no message is printed. The answer to the load still has the refusal's number.
         let _ = self.say(load, refusal);
     }
 }

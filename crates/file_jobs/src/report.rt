@@ -8,7 +8,7 @@ use site_core::Site;
 use std::io::{self, BufWriter, Write};
 
 /// Audits the journal in one file against the configuration in another, prints its page of HTML, and returns the exit
-/// status. Where the journal is refused, prints what its audit prints, and no page.
+/// status. If the journal is refused, prints what its audit prints, and no page.
 pub fn report_files(rt: &HostRuntime, config: &str, journal: &str) -> Result<u8, Stop> {
     let site = audited_site(rt, config, journal)?;
     print_page(rt, &site)

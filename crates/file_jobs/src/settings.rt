@@ -5,14 +5,14 @@ use crate::statuses::USAGE;
 use crate::stop::Stop;
 use console::{Settings, read_settings};
 
-/// Reads the configuration file that an argument names. Where it can't be read or is refused, prints why; the error has
+/// Reads the configuration file that an argument names. If it can't be read or is refused, prints why; the error has
 /// the exit status.
 pub fn settings_of(rt: &HostRuntime, word: &str) -> Result<Settings, Stop> {
     let text = text_of(rt, word)?;
     settings_in(rt, word, &text)
 }
 
-/// Reads the settings in the text of a configuration. Where it is refused, prints why; the error has the exit status.
+/// Reads the settings in the text of a configuration. If it is refused, prints why; the error has the exit status.
 pub fn settings_in(rt: &HostRuntime, word: &str, text: &[u8]) -> Result<Settings, Stop> {
     match read_settings(rt.alloc(), text) {
         Ok(settings) => Ok(settings),
@@ -20,7 +20,7 @@ pub fn settings_in(rt: &HostRuntime, word: &str, text: &[u8]) -> Result<Settings
     }
 }
 
-/// Reads the configuration file and opens the other file. Only one of the two may be standard input. Where one fails,
+/// Reads the configuration file and opens the other file. Only one of the two may be standard input. If one fails,
 /// prints why; the error has the exit status.
 pub fn settings_and(
     rt: &HostRuntime,

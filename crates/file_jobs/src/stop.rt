@@ -5,9 +5,9 @@ use std::io;
 /// Why a job ends before it is done.
 #[derive(Clone, Copy, Drop)]
 pub enum Stop {
-    /// What is wrong was printed already, and this is the exit status.
+    /// The reason was printed already, and this is the exit status.
     Said(u8),
-    /// A call failed, and nothing was printed yet.
+    /// A call failed, and nothing was printed about it yet.
     Failed(io::Error),
 }
 

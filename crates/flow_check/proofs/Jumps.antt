@@ -1,4 +1,4 @@
--- The first jump at fault, and what holds where there is none.
+-- The first jump with a fault; and where jumps go if none has a fault.
 use Rattle.std.proofs.Common.{◌≡◌, ℕ, zero, suc, ◌+◌, ◌<◌, ◌≤◌, ◌⊎◌, List, [], ◌∷◌, Option, Some, None, refl, sym, ap, ◌∙◌, subst, inl, inr, arith, add-one}
 use Rattle.std.proofs.Common.{length}
 use Rattle.std.specs.Prelude.{slice_get, ℤ, pos, negsuc, IfSome}
@@ -15,7 +15,7 @@ use Rattle.flow_check.specs.Faults.{IsShown, numbered}
 below_suc : (p m : ℕ) → p < suc m → (p ≡ m) ⊎ (p < m)
 below_suc p m h = elim (cases_lt p m) [ inl l ↦ inr l | inr g ↦ inl (omega arith) ]
 
--- a fault that comes first stays the first, however many more units are looked at
+-- the first unit whose jump has a fault, unit pc, is also the first one among n units, for each n above pc
 pub fault_stays : (us : List ProgramUnit) (pc n : ℕ) (f : JumpFault) → pc < n → flow_fault_below us pc ≡ None → jump_fault us pc ≡ Some f
     → flow_fault_below us n ≡ Some (pc, f)
 fault_stays us pc zero f lt a b = absurd (omega arith)
@@ -54,7 +54,7 @@ distance_inside : (us : List ProgramUnit) (pc : ℕ) (o : Option ProgramUnit) (z
 distance_inside us pc None z e d = absurd (cc)
 distance_inside us pc (Some u) z e d = get_inside us pc u e
 
--- where landing there is no fault, the target is the first unit of an instruction
+-- a unit that a jump may go to is the first unit of an instruction
 lands : (us : List ProgramUnit) (to : ℕ) (o : Option ProgramUnit) → slice_get us to ≡ o → landing_fault o ≡ None → (i : _) × (slice_get us to ≡ Some (First i))
 lands us to None e h = absurd (cc)
 lands us to (Some (First i)) e h = (i, e)
@@ -71,7 +71,7 @@ goes us pc (pos n) small e =
     let inside : pc + 1 + n < length us = get_inside us (pc + 1 + n) (First at.0) at.1 in
     (pc + 1 + n, reaches (pc + 1) n (omega arith), record { ahead = omega arith; inside = inside; first = at })
 
--- where no jump is at fault, each goes forward to an instruction
+-- if no jump has a fault, each one goes forward to the first unit of an instruction
 pub goes_forward : (us : List ProgramUnit) → length us ≤ 512 → flow_fault us ≡ None → GoesForward us
 goes_forward us small e =
     record {

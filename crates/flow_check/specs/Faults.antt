@@ -12,7 +12,7 @@ numbered Backward pc = BackwardJump pc
 numbered Out pc = JumpOut pc
 numbered IntoWide pc = JumpIntoWide pc
 
--- the refusal names the first unit whose jump is at fault, and what is wrong with it; it is never out of memory
+-- the refusal names the first unit whose jump has a fault, and that fault; it is never that memory ran out
 abbrev pub IsShown : List ProgramUnit → FlowFault → Type 0
 IsShown us (BackwardJump pc) = flow_fault us ≡ Some (pc, Backward)
 IsShown us (JumpOut pc) = flow_fault us ≡ Some (pc, Out)

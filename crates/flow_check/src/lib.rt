@@ -47,7 +47,7 @@ impl Model for Flow {
     ghost invariant = { λ f. GoesForward f.code };
 }
 
-// Returns the distance of a jump, in units from the unit behind it; `None` for an instruction that is no jump.
+// Returns the distance of a jump, in units from the unit behind it, or `None` if the instruction isn't a jump.
 fn distance_in(inst: Inst) -> Option<i64>
     ensures { result ≡ distance_by (form_of inst.opcode) inst }
 {
@@ -77,7 +77,8 @@ fn fault_of_landing(landing: Option<Unit>) -> Option<JumpFault>
     }
 }
 
-// Returns what is wrong with the jump at unit `pc`, if anything is. `distance` is `None` where no jump begins.
+// Returns what is wrong with the jump at unit `pc`; `None` if nothing is, or if `distance` is `None` since no jump
+// begins there.
 fn fault_of_distance(units: &[Unit], pc: usize, distance: Option<i64>) -> Option<JumpFault>
     requires { pc < UNITS }
     ensures { result ≡ distance_fault units.now pc distance }
@@ -110,7 +111,8 @@ fn first_jump_fault(units: &[Unit]) -> Option<(u32, JumpFault)>
     None
 }
 
-// Returns the target of the jump at unit `pc`; `None` where no jump begins.
+// Returns the target of the jump at unit `pc`; `None` if no jump begins there, or if it goes outside the units 0 to
+// 512.
 fn target_in(units: &[Unit], pc: u32) -> Option<u32>
     requires { length units.now ≤ UNITS }
     ensures { result ≡ target units.now pc }
@@ -130,7 +132,7 @@ fn fault_at(fault: JumpFault, pc: u32) -> FlowFault
 }
 
 /// Checks that each jump, whether a run can reach it or not, goes forward to the first unit of an instruction. The
-/// error is the first wrong jump. `OutOfMemory` never comes, as nothing is allocated.
+/// error is the first wrong jump. It is never `OutOfMemory`, as nothing is allocated.
 pub fn check_flow(_alloc: Global, code: Code) -> Result<Flow, FlowFault>
     ensures ok { IfOk result (λ flow. (flow ≡ code) × (flow_fault code ≡ None)) }
     ensures refused { IfErr result (λ fault. IsShown code fault) }

@@ -3,7 +3,7 @@
 
 use std::fmt;
 
-/// A text that is written with its special characters escaped, so that no character of it is read as HTML markup.
+/// A text that is written with its special characters escaped, so that none of them is parsed as HTML markup.
 #[derive(Clone, Copy, Drop)]
 pub struct Escaped<'a>(pub &'a str);
 

@@ -14,7 +14,7 @@ use helpers::View;
 use reg_types::Program;
 
 /// Sets `now` to the counters that a run on `now` would leave, without that run. An earlier run on the counters
-/// `before` answered `answer` and left `after`, and a run depends only on the declared counters, which must be the same
+/// `before` answered `answer` and left `after`. A run depends only on the declared counters, and these must be the same
 /// in `before` and `now`. So the answer is the same, and the declared counters become those of `after`.
 pub fn rebase(
     program: &Program,

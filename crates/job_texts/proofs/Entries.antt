@@ -1,4 +1,4 @@
--- What is told of the entry that an audit refuses.
+-- The flaw that is found in the entry named by an audit's fault is indeed a flaw of the audited entries.
 use Rattle.std.proofs.Common.{◌≡◌, ℕ, ◌+◌, ◌-◌, ◌<◌, ◌≤◌, List, [], ◌∷◌, ◌++◌, length, take, Option, Some, Ok, refl, sym, ap, ◌∙◌, subst, arith}
 use Rattle.std.proofs.Common.{inl, inr, length-append}
 use Rattle.std.specs.Prelude.{slice_get, reverse}
@@ -14,7 +14,7 @@ use Rattle.site_core.proofs.Complete.{own_audit}
 use Rattle.job_texts.specs.declared.journal_reasons.JournalFlaw.{JournalFlaw}
 use Rattle.job_texts.specs.JournalFlaws.{IsRejected, IsPlaceOf, TellsFault, ShowsFlawAt}
 
--- the entry at the place that a fault names
+-- the place that an audit's fault names is one more than the number of the entries before the refused one
 module _ (config : ConfigValue) (entries : List Entry) where
   shown : (fault : AuditFault) (place : ℕ) → ShowsFault config entries fault → IsPlaceOf fault place
       → (s : ShownAfter config entries fault) × (place ≡ length s.old.history + 1)
@@ -30,7 +30,7 @@ module _ (config : ConfigValue) (entries : List Entry) where
       let is : place ≡ length s.0.old.history + 1 = s.1 in
       (omega arith, omega arith)
 
-  -- what stands before it, and what stands there
+  -- `before` is the list of the entries before the place that the fault names, and `entry` is the one at this place
   module _ (fault : AuditFault) (place : ℕ) (shows : ShowsFault config entries fault) (at : IsPlaceOf fault place) (before : List Entry) (entry : Entry)
       (before_is : before ≡ take (place - 1) entries) (entry_is : slice_get entries (place - 1) ≡ Some entry) where
     count : place - 1 ≡ length (shown fault place shows at).0.old.history
@@ -57,12 +57,12 @@ module _ (config : ConfigValue) (entries : List Entry) where
               (subst (λ (b : List Entry). TellsFault config b entry fault told) (sym same_before) tells);
         }
 
--- a history leaves one site
+-- two sites with the same configuration and the same history are the same site
 one_site : (a b : SiteValue) → Upholds a → Upholds b → b.config ≡ a.config → b.history ≡ a.history → b ≡ a
 one_site a b u v config history =
     elim (own_audit a (Ok b) u (config, history, v)) as (λ _. b ≡ a) [ inl e ↦ cc | inr e ↦ absurd (cc) ]
 
--- an entry in which no part differs is what the site enters
+-- If an audit refuses an entry with F3, and the site has room for it, then its moment, reply or run isn't the site's.
 pub same_parts : (config : ConfigValue) (before : List Entry) (entry : Entry) (number : ℕ) → IsRejected config before entry (NotLegal number)
     → (site : SiteValue) → site.config ≡ config → site.history ≡ before → Upholds site → length before < 1048576
     → entry.moment ≡ (entered site entry.pass entry.moment entry.act).moment
@@ -84,7 +84,7 @@ same_parts config before entry number r site c h u room moment reply run =
       λ i. record { number = placed i; pass = entry.pass; moment = moments i; act = entry.act; reply = replies i; run = runs i },
     )
 
--- the last of a history that has one entry more
+-- the last entry of a history to which one entry was added is this entry
 pub last_is : (before : List Entry) (new last : Entry) (history : List Entry) → history ≡ before ++ new ∷ []
     → ◌≡◌ {A = Option Entry} (Some last) (slice_get history (length history - 1)) → last ≡ new
 last_is before new last history grown got =

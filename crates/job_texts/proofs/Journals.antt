@@ -1,4 +1,4 @@
--- What is told of a journal.
+-- What is printed after an audit of a journal is what `JournalTells` and `AuditTells` define.
 use Rattle.std.proofs.Common.{◌≡◌, ◌≢◌, ◌⊎◌, Bool, ℕ, List, [], ◌++◌, Option, Some, None, Result, Ok, Err, sym, ap, ◌∙◌, subst, inl, inr}
 use Rattle.std.specs.Prelude.{IfErr, IfOk, OnOk}
 use Rattle.std.specs.List.{AllByRecursion}
@@ -36,7 +36,7 @@ told-fault config entries fault (Ok told) complete shows said differs =
     inr (record { none = λ h. differs (complete h); fault = fault; shows = shows; no_want = differs; said = said })
 told-fault config entries fault (Err e) complete shows said differs = tt
 
--- the whole text was read
+-- If a text was read as these entries up to its end, then what is printed of the entries is right for the text too.
 module _ (text : List ℕ) (entries : List Entry) where
   all-is : (new : Option (List ℕ)) → Consumes (Some text) new (journal_text entries ++ []) → IsAtEnd new → text ≡ journal_text entries
   all-is None taken at_end = absurd taken
@@ -58,7 +58,8 @@ module _ (text : List ℕ) (entries : List Entry) where
       → JournalTells config text told
   all-told config new told r tells = judged config told (all-is new r.reads.taken r.at_end) r.reads.each tells
 
--- all was read, and audited entry by entry
+-- If a text was read up to its end, and each entry was audited as it was read, then what is printed is right for the
+-- text.
 pub all-taken : (text : List ℕ) (config : ConfigValue) (new : Option (List ℕ)) (before after : AuditorValue)
     (audited : Result SiteValue AuditFault) (told : Told)
     → before.site ≡ new_site config → before.fault ≡ None → TakesAll (Some text) new (TookEntries before after)
@@ -78,7 +79,7 @@ all-taken text config new before after audited told site fault taken audits comp
     no-fault (Ok s) h = tt
     no-fault (Err f) h = absurd h
 
--- a fault was read
+-- a text in which reading found a fault, other than of a device or of memory, isn't the journal of any history
 no-journal : (config : ConfigValue) (text : List ℕ) (new : Option (List ℕ)) (fault : JournalFault) → ReadsFault (Some text) new fault → (IsWant fault → ⊥)
     → IsJournal config text → ⊥
 no-journal config text new fault r wants j = wants (fault_again j.entries new fault j.written (subst (λ t. ReadsFault (Some t) new fault) j.text_is r))
@@ -93,7 +94,7 @@ fault-told config text new fault (Ok told) reads wants said =
     })
 fault-told config text new fault (Err e) reads wants said = tt
 
--- what fails for the device as another result does
+-- `FailsOrRunsOut` holds for a result if it holds for another one, and both or neither say that the device failed
 pub fails-so : {T U : Type 0} (r : Result T JournalFault) (s : Result U JournalFault) (a b c d : ℕ) → is_device s ≡ is_device r
     → FailsOrRunsOut r a b c d → FailsOrRunsOut s a b c d
 fails-so r s a b c d e = subst (λ (f : Bool). RoseBy (one_if f) a b ⊎ (RoseBy 0 a b × RoseBy journal_reads c d)) (sym e)

@@ -27,27 +27,27 @@ asm_fault_text (OutOfRange line) = codes "A3 " ++ decimal line ++ codes "\n"
 asm_fault_text Length = codes "A4\n"
 asm_fault_text OutOfMemory = []
 
--- the units that the text spells are printed
+-- the text can be assembled, and its units are printed
 abbrev pub ToldUnits : List ℕ → Told → Type 0
 ToldUnits text told = (code : List ProgramUnit) × Spells text code × IsSaid told (unit_lines (encoded code)) 0
 
--- it spells none, and its fault is printed, which isn't out of memory
+-- the text can't be assembled, and the reason is printed, which isn't that memory ran out
 pub record ToldAsmFault (text : List ℕ) (told : Told) : Type 0 where
   pub fault : AsmFault
   pub refused : IsRefused text fault
   pub no_want : fault ≢ OutOfMemory
   pub said : IsSaid told (asm_fault_text fault) 1
 
--- a text of over 65,536 bytes isn't looked at
+-- What `fc asm` prints of a text: L1 for a text of over 65,536 bytes, and else its units or its fault.
 abbrev pub AsmTells : List ℕ → Told → Type 0
 AsmTells text told =
     ((65537 ≤ length text) × IsSaid told (codes "L1\n") 1) ⊎ ((length text ≤ 65536) × (ToldUnits text told ⊎ ToldAsmFault text told))
 
--- the program's canonical text is printed
+-- the program is printed as assembler text, in its canonical form
 abbrev pub ToldText : List ℕ → Told → Type 0
 ToldText bytes told = (code : List ProgramUnit) × (units bytes ≡ Some code) × IsSaid told (canon code) 0
 
--- the bytes are no program, and their fault is printed
+-- the bytes can't be decoded as units, and the decoder's fault is printed
 pub record ToldDecodeFault (bytes : List ℕ) (told : Told) : Type 0 where
   pub fault : DecodeFault
   pub refused : IsRefusedFor bytes fault
@@ -64,7 +64,7 @@ DisOf (Err fault) told = IsSaid told (file_fault fault) 1
 abbrev pub DisTells : List ℕ → Told → Type 0
 DisTells file told = DisOf (program_in file) told
 
--- the program's text is printed with the number of each instruction's first unit
+-- the program's text is printed, with the number of its first unit before each instruction
 abbrev pub ToldNumbered : List ℕ → Told → Type 0
 ToldNumbered bytes told = (code : List ProgramUnit) × (units bytes ≡ Some code) × IsSaid told (numbered_from 0 code) 0
 

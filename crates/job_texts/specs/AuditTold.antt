@@ -17,7 +17,7 @@ use Rattle.site_core.specs.declared.auditing.AuditFault.TheVariants.{BadNumber, 
 use Rattle.job_texts.specs.declared.told.Told.{Told}
 use Rattle.job_texts.specs.Told.{IsSaid}
 
--- the text of a fault; a refused program is named with its V line
+-- the line for a load whose program is refused: F2, the number of its entry, and the V line of the refusal
 abbrev pub program_text : ℕ → Option (ℕ × (Option ℕ) × (Option ℕ)) → List ℕ
 program_text number None = []
 program_text number (Some p) = codes "F2 " ++ decimal number ++ codes " " ++ answer_line (Program p.0 p.1 p.2)
@@ -35,7 +35,7 @@ legal_text entries = codes "legal " ++ decimal (length entries) ++ codes "\n"
 abbrev pub ToldLegal : ConfigValue → List Entry → Told → Type 0
 ToldLegal config entries told = IsHistory config entries × IsSaid told (legal_text entries) 0
 
--- no site of it can have them, and the fault that they show is printed, which isn't out of memory
+-- No site of this configuration can have these entries. Their fault is printed, and it isn't that memory ran out.
 pub record ToldFault (config : ConfigValue) (entries : List Entry) (told : Told) : Type 0 where
   pub none : ¬ IsHistory config entries
   pub fault : AuditFault
@@ -46,7 +46,7 @@ pub record ToldFault (config : ConfigValue) (entries : List Entry) (told : Told)
 abbrev pub AuditTells : ConfigValue → List Entry → Told → Type 0
 AuditTells config entries told = ToldLegal config entries told ⊎ ToldFault config entries told
 
--- the line for a text that is no journal; faults of devices and memory are shown by the status alone
+-- The line for a text that isn't a journal. A fault of a device or of memory has no line, only an exit status.
 abbrev pub journal_fault_text : JournalFault → List ℕ
 journal_fault_text (journal.BadEntry line) = codes "J1 " ++ decimal line ++ codes "\n"
 journal_fault_text journal.Cut = codes "J2\n"
@@ -58,7 +58,7 @@ pub record LegalTold (config : ConfigValue) (text : List ℕ) (told : Told) : Ty
   pub journal : IsJournal config text
   pub said : IsSaid told (legal_text journal.entries) 0
 
--- the text has a fault, which is printed; neither a device's nor out of memory
+-- The text has a fault, and the fault is printed. It isn't that a device failed or that memory ran out.
 pub record TextFault (text : List ℕ) (told : Told) : Type 0 where
   pub new : Option (List ℕ)
   pub fault : JournalFault
@@ -66,17 +66,18 @@ pub record TextFault (text : List ℕ) (told : Told) : Type 0 where
   pub no_want : ¬ IsWant fault
   pub said : IsSaid told (journal_fault_text fault) 1
 
--- the fault of the entries whose journal the text is, or of the text itself
+-- the printed fault is that of the entries whose journal the text is, or that of the text itself
 abbrev pub FaultOf : ConfigValue → List ℕ → Told → Type 0
 FaultOf config text told =
     ((entries : List Entry) × (text ≡ journal_text entries) × ToldFault config entries told) ⊎ TextFault text told
 
--- the text is no such journal, and its fault is printed
+-- The text isn't the journal of a history that a site of this configuration can have, and its fault is printed.
 pub record RefusedTold (config : ConfigValue) (text : List ℕ) (told : Told) : Type 0 where
   pub none : ¬ IsJournal config text
   pub status_is : told.status ≡ 1
   pub of : FaultOf config text told
 
--- what is printed of a text that is audited as the journal of a site of this configuration: it is legal, or a fault of it
+-- What `fc audit` prints of a text. If it is the journal of a history that a site of this configuration can have, that
+-- is the number of entries, and else its fault.
 abbrev pub JournalTells : ConfigValue → List ℕ → Told → Type 0
 JournalTells config text told = LegalTold config text told ⊎ RefusedTold config text told

@@ -16,7 +16,7 @@ use Rattle.job_texts.specs.declared.file_flaws.ProgramFlaw.TheVariants.{File, Pr
 use Rattle.job_texts.specs.Told.{Passes}
 use Rattle.job_texts.specs.Reasons.{IsExplained, Names}
 
--- the file's own fault, or the refusal of its program for contexts of this layout
+-- why `fc verify` refuses a file: it isn't a program file, or its program is refused for contexts of this layout
 abbrev pub VerifyFlawOf : Result (List ℕ) ProgramFileFault → ℕ → Layout → ProgramFlaw → Type 0
 VerifyFlawOf (Err fault) counters layout (File told) = fault ≡ told
 VerifyFlawOf (Ok bytes) counters layout (Program told) = IsExplained (as_loaded bytes counters layout) told
@@ -25,7 +25,7 @@ VerifyFlawOf read counters layout flaw = ⊥
 abbrev pub IsVerifyFlaw : List ℕ → ℕ → Layout → ProgramFlaw → Type 0
 IsVerifyFlaw file counters layout flaw = VerifyFlawOf (program_in file) counters layout flaw
 
--- the decoder's fault of the bytes, which isn't out of memory, with what it names of them
+-- Why bytes can't be decoded as units, with the line of the unit that the fault names. It isn't that memory ran out.
 pub record IsUndecoded (bytes : List ℕ) (told : RefusedProgram) : Type 0 where
   pub fault : DecodeFault
   pub refused : IsRefusedFor bytes fault
@@ -33,7 +33,7 @@ pub record IsUndecoded (bytes : List ℕ) (told : RefusedProgram) : Type 0 where
   pub refusal_is : told.refusal ≡ Decode fault
   pub names : Names bytes told
 
--- the file's own fault, or why its bytes are no units
+-- why `fc dis` refuses a file: it isn't a program file, or its bytes can't be decoded as units
 abbrev pub DisFlawOf : Result (List ℕ) ProgramFileFault → ProgramFlaw → Type 0
 DisFlawOf (Err fault) (File told) = fault ≡ told
 DisFlawOf (Ok bytes) (Program told) = IsUndecoded bytes told
@@ -42,7 +42,7 @@ DisFlawOf read flaw = ⊥
 abbrev pub IsDisFlaw : List ℕ → ProgramFlaw → Type 0
 IsDisFlaw file flaw = DisFlawOf (program_in file) flaw
 
--- the file's program is accepted, and good for contexts of this layout
+-- the file is a program file, and its program is accepted and good for contexts of this layout
 abbrev pub AcceptedOf : Result (List ℕ) ProgramFileFault → ℕ → Layout → Type 0
 AcceptedOf (Ok bytes) counters layout = Passes (as_loaded bytes counters layout)
 AcceptedOf (Err fault) counters layout = ⊥
@@ -50,7 +50,7 @@ AcceptedOf (Err fault) counters layout = ⊥
 abbrev pub IsAccepted : List ℕ → ℕ → Layout → Type 0
 IsAccepted file counters layout = AcceptedOf (program_in file) counters layout
 
--- the file could be read as bytes, and these are the units of a program
+-- the file is a program file, and its bytes can be decoded as units
 abbrev pub ShownOf : Result (List ℕ) ProgramFileFault → Type 0
 ShownOf (Ok bytes) = (code : List ProgramUnit) × (units bytes ≡ Some code)
 ShownOf (Err fault) = ⊥

@@ -25,8 +25,8 @@ pub record IsRejected (config : ConfigValue) (before : List Entry) (entry : Entr
   pub upholds : Upholds old
   pub rejects : Rejects old entry fault
 
--- A site of this configuration whose history is `before` had room, and `new` has the history after the event of
--- `entry`.
+-- A site of this configuration whose history is `before` has room for one more entry. `new` has this history and after
+-- it the entry that the site makes of the event of `entry`.
 pub record AnsweredAfter (config : ConfigValue) (before : List Entry) (entry : Entry) (new : SiteValue) : Type 0 where
   pub old : SiteValue
   pub config_is : old.config ≡ config
@@ -35,7 +35,7 @@ pub record AnsweredAfter (config : ConfigValue) (before : List Entry) (entry : E
   pub room : length before < 1048576
   pub after : new.history ≡ before ++ entered old entry.pass entry.moment entry.act ∷ []
 
--- the first part in which the entry differs from what such a site enters; none exactly where that takes no entry more
+-- the first part in which the entry differs from the one that the site makes; `NoEntry` exactly if its history is full
 abbrev pub IsEntryFlaw : ConfigValue → List Entry → Entry → JournalFlaw → Type 0
 IsEntryFlaw config before entry (flaw.Entry difference) =
     (length before < 1048576) × (old : SiteValue) × (old.config ≡ config) × (old.history ≡ before) × Upholds old
@@ -43,20 +43,20 @@ IsEntryFlaw config before entry (flaw.Entry difference) =
 IsEntryFlaw config before entry flaw.NoEntry = length before ≡ 1048576
 IsEntryFlaw config before entry told = ⊥
 
--- the history's last entry differs from this one in its moment, its reply or its run
+-- the history's last entry differs from `entry` in its moment, its reply or its run
 pub record HasOtherLast (history : List Entry) (entry : Entry) : Type 0 where
   pub before : List Entry
   pub last : Entry
   pub history_is : history ≡ before ++ last ∷ []
   pub other : entry.moment ≡ last.moment → entry.reply ≡ last.reply → entry.run ≡ last.run → ⊥
 
--- the load's slot, and why the verifier refuses its program
+-- what is wrong with a load: its slot, and why the verifier refuses its program
 abbrev pub IsLoadFlaw : Act → JournalFlaw → Type 0
 IsLoadFlaw (act.Load number mask layout bytes) (flaw.Program slot refused) = (slot ≡ number) × IsReason (as_loaded bytes mask layout) refused
 IsLoadFlaw act told = ⊥
 
--- what is wrong with an entry by an audit's fault: for its number that and its place, for a load why its program is refused, else in what it
--- differs
+-- What is wrong with an entry that an audit refuses. For a wrong number it is that number and the entry's place. For a
+-- refused program it is why the program is refused. Otherwise it is the part in which the entry differs.
 abbrev pub TellsFault : ConfigValue → List Entry → Entry → AuditFault → JournalFlaw → Type 0
 TellsFault config before entry (BadNumber place) (flaw.Number number at) = (number ≡ entry.number) × (at ≡ place)
 TellsFault config before entry (BadProgram place refusal) told = IsLoadFlaw entry.act told
@@ -70,21 +70,22 @@ IsPlaceOf (BadProgram place refusal) at = at ≡ place
 IsPlaceOf (NotLegal place) at = at ≡ place
 IsPlaceOf OutOfMemory at = ⊥
 
--- the entries show a fault at this place, so they are no history, and this is wrong with the entry there
+-- An audit refuses the entry at this place, and `told` is what is wrong with it.
 pub record ShowsFlawAt (config : ConfigValue) (entries : List Entry) (at : ℕ) (told : JournalFlaw) : Type 0 where
   pub fault : AuditFault
   pub place : IsPlaceOf fault at
   pub shown : ShownAfter config entries fault
   pub tells : TellsFault config shown.old.history shown.entry fault told
 
--- the line that a fault of a text names
+-- the number of the line that a fault of a journal's text names; None if it names none
 abbrev pub line_in : JournalFault → Option ℕ
 line_in (journal.BadEntry line) = Some line
 line_in journal.Cut = None
 line_in journal.Device = None
 line_in journal.OutOfMemory = None
 
--- the text that was read has this fault, neither a device's nor out of memory, at this line
+-- The text that was read has this fault, at this line if the fault names one. It isn't that a device failed or that
+-- memory ran out.
 pub record IsTextFlaw (old new : Option (List ℕ)) (line : Option ℕ) (told : JournalFlaw) : Type 0 where
   pub fault : JournalFault
   pub reads : ReadsFault old new fault
@@ -92,7 +93,7 @@ pub record IsTextFlaw (old new : Option (List ℕ)) (line : Option ℕ) (told : 
   pub told_is : told ≡ flaw.Text fault
   pub line_is : line ≡ line_in fault
 
--- it is the journal of entries that show a fault at this line
+-- The text that was read is the journal of some entries. An audit refuses the entry on this line.
 pub record IsEntriesFlaw (config : ConfigValue) (old new : Option (List ℕ)) (line : Option ℕ) (told : JournalFlaw) : Type 0 where
   pub entries : List Entry
   pub reads : ReadsAll old new entries
@@ -100,6 +101,6 @@ pub record IsEntriesFlaw (config : ConfigValue) (old new : Option (List ℕ)) (l
   pub line_is : line ≡ Some place
   pub shows : ShowsFlawAt config entries place told
 
--- why the text that was read is refused, and at which line
+-- why the text that was read is refused, and the number of the line at fault if there is one
 abbrev pub IsJournalFlaw : ConfigValue → Option (List ℕ) → Option (List ℕ) → Option ℕ → JournalFlaw → Type 0
 IsJournalFlaw config old new line told = IsTextFlaw old new line told ⊎ IsEntriesFlaw config old new line told

@@ -13,27 +13,27 @@ use Rattle.reg_types.specs.Refusals.{shown_by}
 use Rattle.reg_types.specs.Shown.{IsRefused, refusal_of}
 use Rattle.job_texts.specs.declared.told.Told.{Told}
 
--- this text is printed, with this status
+-- this text is printed, with this exit status
 pub record IsSaid (told : Told) (text : List ℕ) (status : ℕ) : Type 0 where
   pub text_is : string_bytes told.text ≡ text
   pub status_is : told.status ≡ status
 
--- the line of a file's fault
+-- the line that is printed of a file that isn't a program file
 abbrev pub file_fault : ProgramFileFault → List ℕ
 file_fault TooLong = codes "L1\n"
 file_fault BadDigits = codes "H1\n"
 file_fault OutOfMemory = []
 
--- nothing is wrong with the program, which is good for the counters that it declares, on contexts of its layout
+-- the program is accepted, and it is good for the counters that it declares and for contexts of its layout
 pub record Passes (p : ProgramText) : Type 0 where
   pub accepted : refusal_of p ≡ None
   pub good : IsGood p
 
--- this many units are accepted
+-- the program is accepted, and the number of its units is printed
 abbrev pub Accepted : ProgramText → Told → Type 0
 Accepted p told = Passes p × IsSaid told (codes "accepted " ++ decimal (length p.bytes / 8) ++ codes "\n") 0
 
--- the numbers of the program's first fault are printed; the bytes show that refusal
+-- the numbers of the program's first fault are printed, and what the fault says of the program is true
 pub record Refused (p : ProgramText) (told : Told) : Type 0 where
   pub refusal : Refusal
   pub refused : refusal_of p ≡ Some refusal
@@ -44,7 +44,7 @@ pub record Refused (p : ProgramText) (told : Told) : Type 0 where
   pub shown : shown_by refusal ≡ Some (number, unit, part)
   pub said : IsSaid told (answer_line (Program number unit part)) 1
 
--- what is said of a file whose program declares these counters, for contexts of this layout
+-- what `fc verify` prints of a file whose program declares these counters, for contexts of this layout
 abbrev pub VerifyOf : Result (List ℕ) ProgramFileFault → ℕ → Layout → Told → Type 0
 VerifyOf (Ok bytes) counters layout told =
     Accepted (as_loaded bytes counters layout) told ⊎ Refused (as_loaded bytes counters layout) told

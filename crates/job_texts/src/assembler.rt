@@ -18,7 +18,7 @@ use bpf_decode::{Code, decode, encode};
 use reg_types::Refusal;
 use std::alloc::{AllocError, Global};
 
-/// Returns the units of a program as lines, with status 0.
+/// Returns the units of a program, each as a line of hexadecimal digits, with status 0.
 fn told_units(alloc: Global, code: &Code) -> Result<Told, AllocError>
     ensures { IfOk result (λ told. IsSaid told (unit_lines (encoded code.now)) 0) }
 {
@@ -107,8 +107,8 @@ fn dis_units(alloc: Global, bytes: &[u8]) -> Result<Told, AllocError>
     }
 }
 
-/// Returns what `fc dis --units` prints for a program file: the same as `dis_file`, with the number of its first unit,
-/// a colon and a blank before each instruction.
+/// Returns what `fc dis --units` prints for a program file. It is what `dis_file` returns, but each instruction has
+/// before it the number of its first unit, a colon and a blank.
 pub fn dis_units_file(alloc: Global, file: &[u8]) -> Result<Told, AllocError>
     ensures { IfOk result (DisUnitsTells file.now) }
 {

@@ -9,7 +9,7 @@ use reg_types::{Layout, Refusal};
 use std::alloc::{AllocError, Global};
 use std::fmt;
 
-/// Why a program file is refused: for a fault of the file, or of its program.
+/// Why a program file is refused: the file itself has a fault, or its program has one.
 #[derive(Drop)]
 pub enum ProgramFlaw {
     File(ProgramFileFault),
@@ -56,7 +56,7 @@ pub fn verify_flaw(
     }
 }
 
-/// Returns why `dis_file` refuses a program file, or `None` if it shows the file as text. The error is that memory ran
+/// Returns why `dis_file` refuses a program file, or `None` if it prints the file as text. The error is that memory ran
 /// out.
 pub fn dis_flaw(alloc: Global, file: &[u8]) -> Result<Option<ProgramFlaw>, AllocError>
     ensures { IfOk result (λ found. MatchOption found (IsShown file.now) (IsDisFlaw file.now)) }

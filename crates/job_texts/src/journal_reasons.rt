@@ -47,8 +47,8 @@ impl fmt::Display for JournalFlaw {
     }
 }
 
-/// Returns the site after the entries `before` and the event of `entry`, or `None` if its history is full before that
-/// event. The error is that memory ran out.
+/// Returns the site after the entries `before` and then the event of `entry`. The result is `None` if the site's
+/// history is full before that event. The error is that memory ran out.
 fn answered_after(
     alloc: Global,
     config: Config,
@@ -119,7 +119,7 @@ fn last_difference(site: &Site, entry: &Entry) -> Difference
     difference
 }
 
-/// Returns the flaw of a load whose program the verifier refuses. The error is that memory ran out.
+/// Returns what is wrong with a load whose program the verifier refuses. The error is that memory ran out.
 fn load_flaw(alloc: Global, act: &Act, refusal: Refusal) -> Result<JournalFlaw, AllocError>
     requires { load_refusal act.now ≡ Some refusal }
     ensures { IfOk result (IsLoadFlaw act.now) }
@@ -133,7 +133,8 @@ fn load_flaw(alloc: Global, act: &Act, refusal: Refusal) -> Result<JournalFlaw, 
     }
 }
 
-/// Returns the flaw of an entry that an audit refuses after the entries `before`. The error is that memory ran out.
+/// Returns what is wrong with an entry that an audit refuses after the entries `before`. The error is that memory ran
+/// out.
 fn fault_flaw(
     alloc: Global,
     config: Config,
@@ -164,7 +165,7 @@ fn place_of(fault: AuditFault) -> Option<u32>
     }
 }
 
-/// Returns the place of the entry that an audit refuses, and its flaw. The error is that memory ran out.
+/// Returns the place of the entry that an audit refuses, and what is wrong with it. The error is that memory ran out.
 fn shown_flaw(
     alloc: Global,
     config: Config,
@@ -183,8 +184,8 @@ fn shown_flaw(
     Ok((place, flaw))
 }
 
-/// Audits entries, and returns the place and the flaw of the first one that is at fault, or `None` if they are a
-/// history that a site of this configuration can have. The error is that memory ran out.
+/// Audits entries. Returns the place of the first one that is at fault, and what is wrong with it. Returns `None` if a
+/// site of this configuration can have these entries. The error is that memory ran out.
 pub fn entries_flaw(
     alloc: Global,
     config: Config,
@@ -199,8 +200,8 @@ pub fn entries_flaw(
     }
 }
 
-/// Returns the line that a fault of a journal's text names, if it names one, and the flaw. A fault of the device or of
-/// memory is returned as the error.
+/// Returns a fault of a journal's text as a flaw, with the number of the line that it names, if it names one. A fault
+/// of the device or of memory is returned as the error.
 fn text_flaw(fault: JournalFault) -> Result<(Option<u32>, JournalFlaw), JournalFault>
     ensures line { IfOk result (λ p. p.0 ≡ line_in fault) }
     ensures flaw { IfOk result (λ p. p.1 ≡ JournalFlaw.Text fault) }

@@ -59,9 +59,9 @@ fn verify_bytes(
     }
 }
 
-/// Returns what `fc verify` prints for a program file, for contexts of this layout; bit c of `counters` declares
-/// counter c. This is `accepted UNITS` with status 0, or with status 1 `L1` for a file of over 65,536 bytes, `H1` for
-/// wrong digits, or the V line of the program's first fault.
+/// Returns what `fc verify` prints for a program file, for contexts of this layout. Bit c of `counters` declares
+/// counter c. An accepted program gives `accepted UNITS` with status 0. With status 1 the result is `L1` for a file of
+/// over 65,536 bytes, `H1` for wrong digits, or the V line of the program's first fault.
 pub fn verify_file(
     alloc: Global,
     file: &[u8],

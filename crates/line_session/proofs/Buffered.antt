@@ -23,7 +23,8 @@ is_answered (Some fault) now rest h = h
 read_is_no_write : session.Read ≡ session.Write → ⊥
 read_is_no_write e = absurd (cc)
 
--- what waited goes out, in part
+-- if the first of the buffered bytes are written, then what held with all of them in the buffer holds with the rest
+-- there
 pub waits_on : (X : Option (List ℕ) → Option (List ℕ) → Type 0) (o p q : Option (List ℕ)) (waiting after : List ℕ) → Waits X o p waiting
     → Sends waiting after p q → Waits X o q after
 waits_on X o p q waiting after w s =
@@ -35,14 +36,14 @@ waits_on X o p q waiting after w s =
     }
 
 module _ {C D : Type 0} (says : C × D → List ℕ → List ℕ → C × D → Type 0) where
-  -- the lines so far are answered, and the answers are out, or wait
+  -- `count` lines were read and answered, and exactly their answers were written
   abbrev pub Answers : (s s' : C × D) (i j : Option (List ℕ)) (count : ℕ) → Option (List ℕ) → Option (List ℕ) → Type 0
   Answers s s' i j count o p = AnswersLines says s s' i j o p count [] []
 
   pub waits_none : (s : C × D) (i o : Option (List ℕ)) → Waits (Answers s s i i 0) o o []
   waits_none s i o = record { sent = []; as_if_out = talks_none says s i (Some []); out = appends_none o }
 
-  -- the next line is answered too, if its text waits
+  -- if one more line is read and answered, and the answer is buffered, then `Waits` holds for one line more
   text_waits : (s m s' : C × D) (i j k o p : Option (List ℕ)) (waiting : List ℕ) (count : ℕ) (l text : List ℕ) → Waits (Answers s m i j count) o p waiting
       → IsLine l → Consumes j k (l ++ 10 ∷ []) → says m l text s' → Waits (Answers s s' i k (count + 1)) o p (waiting ++ text)
   text_waits s m s' i j k o p waiting count l text w whole taken said = record {
@@ -58,7 +59,8 @@ module _ {C D : Type 0} (says : C × D → List ℕ → List ℕ → C × D → 
   waits_more s m s' i j k o p q waiting after count l w whole taken a =
       waits_on (Answers s s' i k (count + 1)) o p q (waiting ++ a.text) after (text_waits s m s' i j k o p waiting count l a.text w whole taken a.says_it) a.goes_on
 
-  -- the session ends
+  -- If the input has ended, or the next line is too long or has no LF, then the session ends. The answer to such a line
+  -- is in the buffer.
   ends_so : (s m : C × D) (i j k o p : Option (List ℕ)) (waiting : List ℕ) (count : ℕ) (cut : Option LineFault) (more : List ℕ)
       → Waits (Answers s m i j count) o p waiting → Consumes j k more → IsCut cut k more
       → Waits (λ a b. Ends says s m i k a b (count + cut_count cut) cut) o p (waiting ++ cut_line cut)
@@ -94,7 +96,7 @@ module _ {C D : Type 0} (says : C × D → List ℕ → List ℕ → C × D → 
       (waits_on (λ a b. Ends says s m i k a b (count + cut_count cut) cut) o p q (waiting ++ cut_line cut) after
       (ends_so s m i j k o p waiting count cut more w taken is) h.1))
 
-  -- it ended, and what waited is out
+  -- if the session has ended and all buffered bytes are then written, then `Ends` holds
   pub ends_out : (s m : C × D) (i k o p q : Option (List ℕ)) (waiting : List ℕ) (count : ℕ) (cut : Option LineFault)
       → Waits (λ a b. Ends says s m i k a b count cut) o p waiting → Sends waiting [] p q → Ends says s m i k o q count cut
   ends_out s m i k o p q waiting count cut w sends =
@@ -116,7 +118,7 @@ module _ {C D : Type 0} (says : C × D → List ℕ → List ℕ → C × D → 
       }
 
   module _ (drops : C × D → List ℕ → C × D → Type 0) where
-    -- what was said is broken off where a beginning of it is out
+    -- a session that broke off after writing a text would also have broken off after only a beginning of the text
     part_out : (s m : C × D) (i k o q : Option (List ℕ)) (text sent lost : List ℕ) → Breaks says drops s m i k (Some []) (Some text) → sent ++ lost ≡ text
         → Appends o q sent → Breaks says drops s m i k o q
     part_out s m i k o q text sent lost b in_order out = record {
@@ -146,7 +148,8 @@ module _ {C D : Type 0} (says : C × D → List ℕ → List ℕ → C × D → 
     breaks_so s m i j k o p waiting count more w taken is =
         record { sent = w.sent; as_if_out = breaks_here says drops s m i j (Some []) (Some (w.sent ++ waiting)) count k more w.as_if_out taken is; out = w.out }
 
-    -- a write failed: of what waited, of an answer, or of the answer to a cut
+    -- If a write fails, the session breaks off. It may be the write of buffered answers, of one answer, or of the
+    -- answer to a line's fault.
     pub breaks_gone : (s m : C × D) (i j o p q : Option (List ℕ)) (waiting : List ℕ) (count : ℕ) → Waits (Answers s m i j count) o p waiting
         → (lost : List ℕ) × Sends waiting lost p q → Breaks says drops s m i j o q
     breaks_gone s m i j o p q waiting count w e =
@@ -201,7 +204,7 @@ module _ {C D : Type 0} (says : C × D → List ℕ → List ℕ → C × D → 
         (ends_so s m i j k o p waiting count (Some h.0) more w taken (subst P h.1 is)) (h.2, h.3)
 
     module _ (takes : List ℕ → Type 0) where
-      -- no write failed
+      -- if the session failed, but not in a write, then `Stops` holds for what was written and what is buffered
       pub stops_read : (fault : SessionFault) (s m : C × D) (i j k o p : Option (List ℕ)) (waiting : List ℕ) (count : ℕ) (more : List ℕ)
           → Waits (Answers s m i j count) o p waiting → Consumes j k more → IsLine more → Waits (Stops says drops takes fault s m i k) o p waiting
       stops_read fault s m i j k o p waiting count more w taken line = record {
@@ -235,7 +238,7 @@ module _ {C D : Type 0} (says : C × D → List ℕ → List ℕ → C × D → 
         out = w.out;
       }
 
-      -- it broke off, and what waited is out
+      -- if the session failed and all buffered bytes are then written, then `StopsAtDoor` holds
       pub stops_out : (fault : SessionFault) (s m : C × D) (i k o p q : Option (List ℕ)) (waiting : List ℕ) → Waits (Stops says drops takes fault s m i k) o p waiting
           → Sends waiting [] p q → StopsAtDoor says drops takes fault s m i k o q
       unfolding part_out
@@ -243,14 +246,14 @@ module _ {C D : Type 0} (says : C × D → List ℕ → List ℕ → C × D → 
           let x = waits_on (Stops says drops takes fault s m i k) o p q waiting [] w sends in
           (part_out s m i k o q (x.sent ++ []) x.sent [] x.as_if_out.0 refl x.out, x.as_if_out.1, λ _. x.as_if_out.2, x.as_if_out.3)
 
-      -- the same, where what waited still does since a read failed
+      -- after a failed read the session ends in the same way, but the answers in the buffer are not written
       stops_waiting : (fault : SessionFault) (s m : C × D) (i k o p : Option (List ℕ)) (waiting : List ℕ) → Waits (Stops says drops takes fault s m i k) o p waiting
           → fault ≡ session.Read → StopsAtDoor says drops takes fault s m i k o p
       unfolding part_out
       stops_waiting fault s m i k o p waiting w is =
           (part_out s m i k o p (w.sent ++ waiting) w.sent waiting w.as_if_out.0 refl w.out, w.as_if_out.1, λ e. absurd (e is), w.as_if_out.3)
 
-      -- a device failed
+      -- if a device failed, but not in a write, then `StopsAtDoor` holds without a further write
       pub stops_off : (fault : SessionFault) (s m : C × D) (i k o p : Option (List ℕ)) (waiting : List ℕ) → (fault ≡ session.Read) ⊎ (fault ≡ session.Write)
           → (fault ≢ session.Write → Waits (Stops says drops takes fault s m i k) o p waiting) → fault ≢ session.Write
           → StopsAtDoor says drops takes fault s m i k o p

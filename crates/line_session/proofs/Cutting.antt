@@ -1,4 +1,4 @@
--- Two sessions over the same bytes.
+-- Two sessions that read the same bytes read the same lines, and end with the same fault.
 use Rattle.std.proofs.Common.{◌≡◌, ℕ, ◌+◌, ◌<◌, ◌≤◌, List, [], ◌∷◌, ◌++◌, length, Option, Some, None, Result, Ok, Err, refl, sym, ◌∙◌, ap, ap₂, subst, arith}
 use Rattle.std.proofs.Common.{append_assoc, length-append}
 use Rattle.std.specs.List.{AllByRecursion}
@@ -15,13 +15,13 @@ use Rattle.line_session.specs.Session.{AnswersAct, desk_says}
 use Rattle.line_session.specs.Answering.{with_lf, all_lines, all_texts, SaysAll, IsCut, cut_line, cut_count}
 use Rattle.line_session.specs.Cut.{NoWantTold, IsDetermined, CutsAlike, TellsOne, AnswersOne}
 
--- bytes without LF don't go past one
+-- if bytes begin with `r`, which has no LF, then their first LF isn't within `r`
 no_lf_within : (r k rest x : List ℕ) → HasNoLf r → length k < length r → r ++ rest ≡ k ++ 10 ∷ x → ⊥
 no_lf_within [] k rest x h l e = absurd (omega (arith, l))
 no_lf_within (b ∷ r) [] rest x h l e = h.0 (cc)
 no_lf_within (b ∷ r) (c ∷ k) rest x h l e = no_lf_within r k rest x h.1 (omega (arith, l)) (cc)
 
--- the first LF parts bytes in one way
+-- bytes can be split at their first LF in only one way
 first_lf : (k l x y : List ℕ) → HasNoLf k → HasNoLf l → k ++ 10 ∷ x ≡ l ++ 10 ∷ y → (k ≡ l) × (x ≡ y)
 first_lf [] [] x y h g e = (refl, cc)
 first_lf [] (c ∷ l) x y h g e = absurd (g.0 (cc))
@@ -31,12 +31,12 @@ first_lf (b ∷ k) (c ∷ l) x y h g e =
     let head : b ≡ c = cc in
     (ap₂ (λ p q. p ∷ q) head t.0, t.1)
 
--- the first line of what was taken, and what stands behind it
+-- the bytes of lines that begin with the line `l` are `l`, its LF, and the bytes of the other lines
 line_first : (l a r rest : List ℕ) → ((with_lf l ++ a) ++ r) ++ rest ≡ l ++ 10 ∷ ((a ++ r) ++ rest)
 line_first l a r rest =
     ap (λ t. (t ++ r) ++ rest) (append_assoc l (10 ∷ []) a) ∙ ap (λ t. t ++ rest) (append_assoc l (10 ∷ a) r) ∙ append_assoc l (10 ∷ (a ++ r)) rest
 
--- behind a session's last line no line stands
+-- the bytes after a session's last line don't begin with a line and its LF
 no_more : (cut : Option LineFault) (r k rest x : List ℕ) → IsCut cut (Some rest) r → IsLine k → r ++ rest ≡ k ++ 10 ∷ x → ⊥
 no_more None r k rest x h l e =
     let n : length (r ++ rest) ≡ length (k ++ 10 ∷ x) = ap length e in
@@ -50,7 +50,7 @@ no_more (Some line.BadLine) r k rest x h l e = h
 no_more (Some line.BadNumber) r k rest x h l e = h
 no_more (Some line.OutOfMemory) r k rest x h l e = h
 
--- how many bytes stand behind the lines, by the end of a session
+-- how many bytes come after the last whole line, for each way in which a session can end
 abbrev Size : Option LineFault → ℕ → Type 0
 Size None n = n ≡ 0
 Size (Some line.TooLong) n = 8401 ≤ n
@@ -95,7 +95,7 @@ one_cut (Some line.BadLine) d n h k = absurd h
 one_cut (Some line.BadNumber) d n h k = absurd h
 one_cut (Some line.OutOfMemory) d n h k = absurd h
 
--- bytes are cut into lines in one way
+-- bytes can be split into lines and a fault in only one way
 lines_alike : (ls ks : List (List ℕ)) (c d : Option LineFault) (r q rest more : List ℕ) → AllByRecursion IsLine ls → AllByRecursion IsLine ks
     → IsCut c (Some rest) r → IsCut d (Some more) q → (all_lines ls ++ r) ++ rest ≡ (all_lines ks ++ q) ++ more → (ls ≡ ks) × (c ≡ d)
 lines_alike [] [] c d r q rest more h k cr dq e =

@@ -1,4 +1,4 @@
--- A fault that a session hands on.
+-- If a session returns the fault of one of its steps, then what holds for this fault holds for the result.
 use Rattle.std.proofs.Common.{◌≡◌, Result, Ok, Err, IfErr, refl, sym, ◌∙◌, ap, subst}
 use Rattle.std.specs.Result.{IsErr, IsErrAnd}
 use Rattle.line_session.specs.declared.line_handler.HandlerError.{HandlerError}
@@ -25,7 +25,7 @@ pub handed : {T U : Type 0} (r : Result T SessionFault) (f : SessionFault) → I
 handed (Ok x) f h e = absurd (cc)
 handed (Err fault) f h e = ap Err (sym h.1 ∙ the_fault fault session.Journal e)
 
--- what is true of the fault that was handed on is true of the answer
+-- if the result is the fault `f`, and P holds for `f`, then P holds for the result's fault
 pub if_handed : {T : Type 0} (r : Result T SessionFault) (f : SessionFault) → IsErr r × IsErrAnd r (λ e. e ≡ f) → (P : SessionFault → Type 0) → P f → IfErr r P
 if_handed (Ok x) f h P p = tt
 if_handed (Err fault) f h P p = subst P (sym h.1) p

@@ -1,4 +1,4 @@
--- Behind the lines: what was found there ends a session.
+-- What is found after the last whole line ends the session.
 use Rattle.std.proofs.Common.{◌≡◌, ◌≢◌, ℕ, List, [], Option, false, Result, Ok, Err, IfErr, refl}
 use Rattle.std.specs.Io.KnownBytes.{Consumes}
 use Rattle.till_request.specs.declared.line.Found.{Found}
@@ -16,7 +16,7 @@ cut_found TooLong old now line other h = (h.0, h.1, (h.2, h.3))
 cut_found Cut old now line other h = (h.0, h.1, (h.2, h.3, h.4))
 cut_found End old now line other h = ([], h.0, (refl, h.1))
 
--- a fault that is a failed write is none of the others
+-- if a result's fault is a failed write, then it isn't one of the other faults
 module _ {T : Type 0} where
   pub write_alone : (r : Result T SessionFault) (P : SessionFault → Type 0) → IfErr r (λ e. e ≡ session.Write)
       → IfErr r (λ e. e ≢ session.Write → P e)

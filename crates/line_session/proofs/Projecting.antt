@@ -1,4 +1,4 @@
--- What was said from state to state was also said from what a caller sees of the states.
+-- What a session did with its states is also true of what a caller sees of these states.
 use Rattle.std.proofs.Common.{◌≡◌, ◌⊎◌, ℕ, List, [], ◌∷◌, Option, Some, None, Result, Ok, Err, ap, inl, inr}
 use Rattle.till_request.specs.declared.act.Act.{Act}
 use Rattle.till_request.specs.declared.act.Role.{Role}

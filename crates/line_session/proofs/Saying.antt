@@ -1,4 +1,4 @@
--- Line by line.
+-- What a session has read, answered and written, after each line and at its end.
 use Rattle.std.proofs.Common.{◌≡◌, ℕ, ◌+◌, List, [], ◌∷◌, ◌++◌, take, drop, Option, Some, None, Result, Ok, Err, IfOk, OnErr, refl, sym, ◌∙◌, ap, subst, arith, append_assoc, append-nil}
 use Rattle.std.proofs.Common.{length-append, inl, inr}
 use Rattle.std.specs.List.{flat_map, AllByRecursion}
@@ -64,7 +64,8 @@ module _ {C D : Type 0} (says : C × D → List ℕ → List ℕ → C × D → 
     counted = omega (arith, length-append t.texts (a.text ∷ []), t.counted);
   }
 
-  -- the session ended
+  -- If the lines so far were answered, and the input has ended or the next line is too long or has no LF, then `Ends`
+  -- holds for the session's result.
   pub ends_said : (s m : C × D) (i j k o p q : Option (List ℕ)) (count : ℕ) (cut : Option LineFault) (more : List ℕ) (r : Result Ended SessionFault)
       → AnswersLines says s m i j o p count [] [] → Consumes j k more → IsCut cut k more → IfOk r (λ e. IsEnd count cut e × Appends p q (cut_line cut))
       → IfOk r (λ e. Ends says s m i k o q e.lines e.cut)
@@ -108,7 +109,7 @@ module _ {C D : Type 0} (says : C × D → List ℕ → List ℕ → C × D → 
       begins = refl;
     }
 
-    -- the line that stands next was taken, and was dropped
+    -- if the next line was read and dropped, then the session breaks off there
     dropped_next : (s m s' : C × D) (i j k o p : Option (List ℕ)) (count : ℕ) (l : List ℕ)
         → AnswersLines says s m i j o p count [] [] → IsLine l → Consumes j k (l ++ 10 ∷ []) → drops m l s' → Breaks says drops s s' i k o p
     dropped_next s m s' i j k o p count l t whole taken d = record {
@@ -193,7 +194,7 @@ module _ {C D : Type 0} (says : C × D → List ℕ → List ℕ → C × D → 
         let P : Option LineFault → Type 0 = λ c. IsCut c k more in
         breaks_cut s m i j k o p q count more h.0 h.2 t taken (subst P h.1 is) h.3
 
-    -- no write failed
+    -- if the session failed, but not in a write, then `Stops` holds
     pub stops_here : (takes : List ℕ → Type 0) (fault : SessionFault) (s m : C × D) (i j o p : Option (List ℕ)) (count : ℕ) (k : Option (List ℕ))
         (more : List ℕ) → AnswersLines says s m i j o p count [] [] → Consumes j k more → IsLine more → Stops says drops takes fault s m i k o p
     unfolding breaks_here

@@ -1,4 +1,4 @@
--- Connection by connection.
+-- A worker that has served some connections and then serves one more has served all of them.
 use Rattle.std.proofs.Common.{◌≡◌, ℕ, ◌+◌, List, [], ◌∷◌, ◌++◌, refl, arith, length-append}
 use Rattle.line_session.specs.Serving.{Outcome, VisitsAll, Serves, good, one_good}
 

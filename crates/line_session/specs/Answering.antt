@@ -1,6 +1,6 @@
 -- Promises: the answers to lines, one after another. The input is split at LF. Each line in order is answered with one
--- text, in the state that the lines before it left. A line that is too long, or a last one without LF, is answered with
--- its fault, and ends the session.
+-- text, in the state to which the lines before it led. A line that is too long, or a last one without LF, is answered
+-- with its fault, and ends the session.
 use Rattle.std.specs.Prelude.{◌≡◌, ◌≢◌, ◌⊎◌, ℕ, ◌<◌, ◌≤◌, List, [], ◌∷◌, ◌++◌, ◌+◌, length, take, Option, Some, None, Result, Ok, Err, Bool, true, false}
 use Rattle.std.specs.Io.KnownBytes.{Appends, Consumes, IsAtEnd}
 use Rattle.std.specs.List.{flat_map, AllByRecursion}
@@ -33,7 +33,7 @@ pub record Dropped {S O : Type 0} (drops : S → List ℕ → S → Type 0) (lin
   pub drops_it : drops s line s'
   pub output : o' ≡ o
 
--- no line is dropped, as each line that changes something has an answer
+-- a line is never dropped, as each line that changes something has an answer
 abbrev pub drops_none : {S : Type 0} → S → List ℕ → S → Type 0
 drops_none s line s' = ⊥
 
@@ -55,7 +55,7 @@ FallsShort says drops takes out error.Journal line s s' o o' = Dropped drops lin
 abbrev pub FailsAt : {S : Type 0} → (S → List ℕ → S → Type 0) → S → Type 0
 FailsAt {S} fails s' = (s : S) × (line : List ℕ) × fails s line s'
 
--- the journal fails at no line, as none is kept
+-- the journal never fails, as none is kept
 abbrev pub fails_none : {S : Type 0} → S → List ℕ → S → Type 0
 fails_none s line s' = ⊥
 
@@ -104,7 +104,7 @@ abbrev pub cut_line : Option LineFault → List ℕ
 cut_line None = []
 cut_line (Some fault) = answer_line (Line fault)
 
--- the number of answers to such a fault: 1, or 0 if there is none
+-- the number of answers to the fault of the last line: 1, or 0 if there is no such fault
 abbrev pub cut_count : Option LineFault → ℕ
 cut_count None = 0
 cut_count (Some fault) = 1
@@ -156,15 +156,15 @@ abbrev pub WantsNext : {S : Type 0} → (S → List ℕ → S → Type 0) → (L
 WantsNext drops takes s s' rest = ((s' ≡ s) × IsLine rest)
     ⊎ ((line : List ℕ) × IsLine line × (rest ≡ with_lf line) × (((s' ≡ s) × takes line) ⊎ drops s line s'))
 
--- The session failed although no write did: the whole answers to all handled lines were written, and no fault of a line
--- was answered. If it failed as memory ran out, then there was something that needed memory.
+-- The session failed although no write did. The whole answers to all handled lines were written, and no answer to a
+-- fault of a line. If it failed because memory ran out, then there was something that needed memory.
 abbrev pub Stops : {S : Type 0} → (S → List ℕ → List ℕ → S → Type 0) → (S → List ℕ → S → Type 0) → (List ℕ → Type 0) → SessionFault → S → S
     → Option (List ℕ) → Option (List ℕ) → Option (List ℕ) → Option (List ℕ) → Type 0
 Stops says drops takes fault s s' in_old in_new out_old out_new =
     (b : Breaks says drops s s' in_old in_new out_old out_new) × (b.cut ≡ None) × (b.after ≡ [])
     × (fault ≡ session.OutOfMemory → WantsNext drops takes b.answered s' b.rest)
 
--- The same as `Stops`, for a session that buffers answers as long as more input has arrived. After a failed read the
+-- A session that buffers answers failed although no write did. Then `Stops` holds, except that after a failed read the
 -- buffered answers are not written.
 abbrev pub StopsAtDoor : {S : Type 0} → (S → List ℕ → List ℕ → S → Type 0) → (S → List ℕ → S → Type 0) → (List ℕ → Type 0) → SessionFault → S → S
     → Option (List ℕ) → Option (List ℕ) → Option (List ℕ) → Option (List ℕ) → Type 0

@@ -23,8 +23,8 @@ abbrev pub IsDetermined : {S : Type 0} → (S → List ℕ → List ℕ → S �
 IsDetermined {S} says =
     (s : S) (line text other : List ℕ) (m n : S) → says s line text m → says s line other n → ¬ IsWantTold text → ¬ IsWantTold other → (text ≡ other) × (m ≡ n)
 
--- two sessions wrote the same, left the same state, answered as many lines, and ended with the same fault of a line, if
--- any
+-- two sessions wrote the same, ended in the same state, answered as many lines, and ended with the same fault of a
+-- line, if any
 pub record EndAlike {S : Type 0} (s t : S) (out_s out_t : List ℕ) (count_s count_t : ℕ) (cut_s cut_t : Option LineFault) : Type 0 where
   pub state : s ≡ t
   pub written : out_s ≡ out_t

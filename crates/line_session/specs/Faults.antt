@@ -1,4 +1,4 @@
--- Promises: the faults of reading and of answering, as faults of a session.
+-- Promises: which fault of a session a fault of reading or of answering becomes.
 use Rattle.till_request.specs.declared.line.InputFault.{InputFault}
 use Rattle.till_request.specs.declared.line.InputFault.TheVariants as input
 use Rattle.line_session.specs.declared.line_handler.HandlerError.{HandlerError}

@@ -1,5 +1,5 @@
--- Promises: what a worker did. It opened one connection after another, and ran a session at each, from the state in
--- which the connections before left the clock and the desk.
+-- Promises: what a worker did. It opened one connection after another, and ran a session at each. The first session
+-- began in the state that the worker was given, and each other one in the state to which the connections before it led.
 use Rattle.std.specs.Prelude.{◌≡◌, ◌≢◌, ℕ, ◌+◌, ◌≤◌, List, [], ◌∷◌, length, Option, Some, None, Result, Ok, Err, IfOk, IfErr, OnErr}
 use Rattle.till_request.specs.declared.act.Act.{Act}
 use Rattle.till_request.specs.declared.act.Role.{Role}
@@ -26,9 +26,9 @@ abbrev pub good : List Outcome → ℕ
 good [] = 0
 good (outcome ∷ outcomes) = one_good outcome + good outcomes
 
--- A session over this input and output had this result. All was answered, or it failed and a beginning of the answers
--- was written. It failed by a device only if a device failed, for too many reads only if all were made, by the journal
--- only at a line at which that failed, and out of memory only if something needed memory.
+-- A session over this input and output had this result. Either all lines were answered, or the session failed and a
+-- beginning of the answers was written. Each fault has its cause: a device failed, all reads were made, the journal
+-- failed at a line, or something needed memory.
 pub record Sits {S I O : Type 0} (says : S → List ℕ → List ℕ → S → Type 0) (drops fails : S → List ℕ → S → Type 0) (takes : List ℕ → Type 0)
     (remaining : I → Option (List ℕ)) (reads read_failures : I → ℕ) (written : O → Option (List ℕ)) (write_failures : O → ℕ)
     (result : Result Ended SessionFault) (i : I) (o : O) (s s' : S) : Type 0 where
@@ -46,7 +46,7 @@ pub record Sits {S I O : Type 0} (says : S → List ℕ → List ℕ → S → T
   pub stopped : IfErr result
       (λ fault. fault ≢ Write → StopsAtDoor says drops takes fault s s' (remaining i) (remaining input) (written o) (written output))
 
--- the same as `Sits`, for a session of a role with a desk and a clock
+-- `Sits` holds for a session of this role with a desk and a clock
 abbrev pub SitsAtDesk : {C D I O : Type 0} → (D → Act → ℕ → Answer → D → Type 0) → (C → ℕ → C → Type 0) → Role → (I → Option (List ℕ)) → (I → ℕ) → (I → ℕ)
     → (O → Option (List ℕ)) → (O → ℕ) → Result Ended SessionFault → I → O → C × D → C × D → Type 0
 SitsAtDesk step tick role = Sits (desk_says step tick role) (desk_drops step tick role) (desk_fails step tick role) (desk_takes role)
@@ -57,7 +57,7 @@ abbrev pub Visits : {D S I O : Type 0} → (D → I → O → D → Type 0) → 
 Visits opens fails sits None d s d' s' = fails d d' × (s' ≡ s)
 Visits {D} {S} {I} {O} opens fails sits (Some result) d s d' s' = (i : I) × (o : O) × opens d i o d' × sits result i o s s'
 
--- the same as `Visits`, for these connections one after another
+-- these connections came one after another, and `Visits` holds for each
 abbrev pub VisitsAll : {D S : Type 0} → (Outcome → D → S → D → S → Type 0) → List Outcome → D → S → D → S → Type 0
 VisitsAll visits [] d s d' s' = (d' ≡ d) × (s' ≡ s)
 VisitsAll {D} {S} visits (outcome ∷ outcomes) d s d' s' = (m : D) × (t : S) × visits outcome d s m t × VisitsAll visits outcomes m t d' s'

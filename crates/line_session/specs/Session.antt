@@ -1,7 +1,7 @@
 -- Definitions: the answers of a desk to lines (this profile). The act of a line is answered at the moment that the
--- clock gives for it. A line that is no act is answered with its fault, and then neither clock nor desk is asked. If
--- the desk's answer is that memory ran out at a line, or that the journal failed, the line has no answer: the session
--- ends.
+-- clock gives for it. A line that can't be read as an act is answered with its fault, and then neither the clock nor
+-- the desk is asked. If the desk's answer is that memory ran out at a line, or that the journal failed, the line has no
+-- answer: the session ends.
 use Rattle.std.specs.Prelude.{◌≡◌, ℕ, List, take, Option, Result, Ok, Err, Bool, true, false}
 use Rattle.std.specs.Io.KnownBytes.{Appends}
 use Rattle.till_request.specs.declared.act.Act.{Act}
@@ -26,12 +26,12 @@ ends_unsaid (Line fault.OutOfMemory) = true
 ends_unsaid JournalFailed = true
 ends_unsaid answer = false
 
--- the answer has a line, and that was written
+-- the answer has a line, and this line was written
 pub record Writes {O : Type 0} (took : O → Option (List ℕ)) (answer : Answer) (o o' : O) : Type 0 where
   pub has_line : ends_unsaid answer ≡ false
   pub written : Appends (took o) (took o') (answer_line answer)
 
--- the answer has a line, and a beginning of that was written
+-- the answer has a line, and a beginning of this line was written
 pub record WritesFront {O : Type 0} (took : O → Option (List ℕ)) (answer : Answer) (o o' : O) : Type 0 where
   pub has_line : ends_unsaid answer ≡ false
   pub kept : ℕ
@@ -43,8 +43,8 @@ IsUnsaid error.Write answer = ⊥
 IsUnsaid error.OutOfMemory answer = answer ≡ Line fault.OutOfMemory
 IsUnsaid error.Journal answer = answer ≡ JournalFailed
 
--- why an answer isn't written whole: the device failed, and a beginning of its line was written; or it has no line, and
--- nothing was written
+-- Why an answer isn't written in full. The device failed, and a beginning of the answer's line was written. Or the
+-- answer has no line, and nothing was written.
 abbrev pub StaysUnsaid : {O : Type 0} → (O → Option (List ℕ)) → HandlerError → Answer → O → O → Type 0
 StaysUnsaid took error.Write answer o o' = WritesFront took answer o o'
 StaysUnsaid took error.OutOfMemory answer o o' = IsUnsaid error.OutOfMemory answer × (o' ≡ o)

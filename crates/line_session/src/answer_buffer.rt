@@ -10,7 +10,7 @@ use std::alloc::Global;
 use till_request::devices::MemoryOut;
 use till_request::{Answer, DeviceFault, LineOut, WriteFault, write_all, write_answer};
 
-/// The number of buffered bytes from which the buffer is written before the next line is read.
+/// If at least this many bytes are buffered, the buffer is written before the next line is read.
 const MOST_WAITING: usize = 16_384;
 
 /// Answers that are buffered in memory, to be written to a device together. If memory runs out for an answer, it is

@@ -73,7 +73,8 @@ impl From<HandlerError> for SessionFault {
     }
 }
 
-/// Returns the fault that ends a session where no whole line was found: one that is too long, or a last one without LF.
+/// Returns the fault that ends a session: the line is too long, or the last one has no LF. `None` for a whole line, or
+/// if no byte came before the end of the input.
 pub(crate) fn cut_of(found: Found) -> Option<LineFault>
     ensures { result ≡ cut_by found }
 {
@@ -84,7 +85,8 @@ pub(crate) fn cut_of(found: Found) -> Option<LineFault>
     }
 }
 
-/// Ends a session after `lines` answers. If a fault ends it, writes that as one more answer.
+/// Ends a session that has given `lines` answers. If its last line has the fault `cut`, writes the fault as one more
+/// answer.
 fn end<O: LineOut>(
     alloc: Global,
     output: &mut O,
@@ -115,8 +117,8 @@ fn end<O: LineOut>(
 /// Answers the lines of an input in order, with at most `left` reads, and sets `left` to the number of reads that
 /// remain.
 ///
-/// A line that is too long, or a last one without LF, is answered with its fault, and the session ends. A part of an
-/// answer is left only by a failed write.
+/// A line that is too long, or a last one without LF, is answered with its fault, and the session ends. An answer is
+/// written in part only if a write fails.
 pub fn answer_lines_within<I: LineIn, O: LineOut, C, D, S: LineHandler<C, D>>(
     alloc: Global,
     input: &mut I,

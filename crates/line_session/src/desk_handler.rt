@@ -11,7 +11,7 @@ use std::alloc::Global;
 use till_request::{Answer, LineFault, LineOut, Role, WriteFault, parse_line, write_answer};
 
 /// Returns the answer to a line from a role: the desk's answer to its act at the clock's moment, or the fault of a line
-/// that is no act of the role.
+/// that can't be read as an act of the role.
 pub fn answer_to<C: Clock, D: Desk>(
     alloc: Global,
     role: Role,
@@ -50,7 +50,8 @@ pub fn unsaid(answer: &Answer) -> Option<HandlerError>
     }
 }
 
-// Writes an answer. The error is that the write failed, or that this answer isn't written, as `unsaid` says.
+// Writes the line of an answer. The error is that the write failed. An answer that ends the session has no line: then
+// nothing is written, and the error is the one that `unsaid` returns.
 fn say<O: LineOut>(alloc: Global, output: &mut O, answer: &Answer) -> Result<(), HandlerError>
     ensures ok { OnOk result (Writes O.written answer.now output.old output.new) }
     ensures err { IfErr result (λ fault. StaysUnsaid O.written fault answer.now output.old output.new) }

@@ -91,7 +91,8 @@ impl Progress {
         self.waiting.put(alloc, output, &answer)
     }
 
-    /// Ends a session after `lines` answers. If a fault ends it, buffers or writes that as one more answer.
+    /// Ends a session that has given `lines` answers. If its last line has the fault `cut`, the fault is one more
+    /// answer, which is buffered or written.
     fn end<O: LineOut>(
         &mut self,
         output: &mut O,

@@ -21,7 +21,7 @@ fn config(alloc: Global) -> Option<Config> {
     Config::new(2, 2, [1799, 1849, 0, 0, 0, 0, 0, 0], points, [(0, 0); 32])
 }
 
-/// Loads a program into slot 0 that grants what is asked.
+/// Loads a program that grants what is asked into slot 0.
 fn load<L: SiteLedger, R: Wait>(
     rt: &R,
     alloc: Global,
@@ -49,7 +49,7 @@ fn open<L: SiteLedger, R: Wait>(
     Some(())
 }
 
-/// Returns whether a call was answered with the grant of 8000 cents, as the entry of this number.
+/// Returns whether a call was answered with a grant of 8000 cents by version 1, and its entry has this number.
 fn is_granted(answered: Result<Answered, CallFault>, number: u32) -> bool {
     match answered {
         Ok(answered) => answered.number == number && answered.reply == Reply::Granted(8000, 1),
@@ -67,7 +67,7 @@ struct Holding<'a> {
     in_time: bool,
 }
 
-/// Waits until a count is `wanted`, and returns true. Returns false after 100,000,000 looks.
+/// Waits until a count is `wanted`, and returns true. After looking 100,000,000 times it returns false.
 fn wait_for(count: &AtomicU64, wanted: u64) -> bool {
     for _ in 0..100_000_000u32 {
         if count.load(Ordering::SeqCst) == wanted {
@@ -93,7 +93,7 @@ impl Gate for Holding<'_> {
     }
 }
 
-/// Asks for a release as till 1. The gate waits at both runs, and both are stale, since point 2 changes each time. So
+/// Asks for a release as till 1. The gate waits at two runs, and both become stale, since point 2 changes each time. So
 /// the request is decided under the lock, as entry 6. Returns whether all this happened.
 fn held_call<L: SiteLedger, R: Wait>(
     rt: &R,
@@ -112,8 +112,8 @@ fn held_call<L: SiteLedger, R: Wait>(
     is_granted(answered, 6) && gate.calls == 2 && gate.in_time
 }
 
-/// Changes point 2 each time that till 1's gate waits, and then lets the gate go: first the nozzle is lifted, then till
-/// 2 is granted a release, after one run of its own. Returns whether all this happened.
+/// Each time that till 1's gate waits, changes point 2 and then lets the gate go. The first time, the nozzle is lifted.
+/// The second time, till 2 is granted a release after one run of its own. Returns whether all this happened.
 fn other_calls<L: SiteLedger, R: Wait>(
     rt: &R,
     forecourt: &Forecourt<L>,
@@ -131,7 +131,7 @@ fn other_calls<L: SiteLedger, R: Wait>(
     is_held && lifted.is_ok() && is_held_again && is_granted(released, 5) && gate.calls == 1
 }
 
-/// Makes the calls of both tills on two threads, and returns whether all went as they should.
+/// Makes the calls of both tills on two threads, and returns whether all of them had the expected results.
 fn beside<L: SiteLedger + Send + Sync, R: Threads + Wait + Sync>(
     rt: &R,
     forecourt: &Forecourt<L>,
@@ -186,8 +186,8 @@ fn closed_again<L: SiteLedger, R: Wait>(
     closed(rt, kept.forecourt.reopen(), passes)
 }
 
-/// Closes a forecourt without its last pass, which is refused, and then with all. Returns the refusal, and how many
-/// entries the site has.
+/// Closes a forecourt without its last pass, which is refused, and then with all passes. Returns the refusal, and how
+/// many entries the site has.
 fn closed_in_the_end<L: SiteLedger, R: Wait>(
     rt: &R,
     forecourt: Forecourt<L>,

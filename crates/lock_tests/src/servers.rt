@@ -58,7 +58,7 @@ fn address_of(listener: &Listener) -> io::Result<SocketAddr> {
     }
 }
 
-/// Where the workers of a till, of dispensers and of the owner serve.
+/// The listeners of the workers for a till, for dispensers and for the owner.
 #[derive(Drop)]
 struct Ports {
     till: Listener,
@@ -99,7 +99,7 @@ fn doors_at(alloc: Global, ports: Ports) -> Result<Vec<OpenDoor>, AllocError> {
     Ok(doors)
 }
 
-/// Connects as a peer, sends these lines, and appends to `heard` as many answers as `answers` says.
+/// Connects as a peer, sends these lines, and appends the next `answers` answers to `heard`.
 fn ask<R: Net<Listener = TcpListener, Stream = TcpStream>>(
     rt: &R,
     alloc: Global,
@@ -117,7 +117,7 @@ fn ask<R: Net<Listener = TcpListener, Stream = TcpStream>>(
     Ok(())
 }
 
-/// Sends lines as three peers in turn: the owner loads a program, a till opens a point and asks for a release, and the
+/// Sends lines as three peers in turn. The owner loads a program, a till opens a point and asks for a release, and the
 /// dispenser takes its order. Returns their answers.
 fn in_turn<R: Net<Listener = TcpListener, Stream = TcpStream>>(
     rt: &R,

@@ -1,4 +1,4 @@
--- What a new version changes.
+-- Installing a program as a new version changes only its slot, and adds the program to the versions.
 use Rattle.std.proofs.Common.{◌≡◌, ℕ, ◌+◌, ◌-◌, ◌<◌, ◌≤◌, List, [], ◌∷◌, ◌++◌, length, Option, Some, None, slice_set, refl, arith, ap, get_or, suc, zero, leb}
 use Rattle.std.proofs.Common.{cond}
 use Rattle.std.specs.List.{slice_get}

@@ -7,7 +7,7 @@ use Rattle.program_slots.specs.Value.{SlotsValue}
 abbrev pub no_versions : SlotsValue
 no_versions = record { installed = repeat 16 (None ∷ []); programs = [] }
 
--- The number of the version in a slot.
+-- The number of the version in a slot; None for an empty slot.
 abbrev pub number_in : SlotsValue → ℕ → Option ℕ
 number_in v slot = slice_index_or v.installed slot None
 
@@ -20,7 +20,7 @@ pub record Version : Type 0 where
   pub number : ℕ
   pub program : ProgramText
 
--- The version of the number that a slot holds.
+-- The version with the number that is stored in a slot; None for an empty slot.
 abbrev pub version_of : SlotsValue → Option ℕ → Option Version
 version_of v None = None
 version_of v (Some n) = elim (program_of v n) [ Some p ↦ Some (record { number = n; program = p }) | None ↦ None ]

@@ -1,11 +1,12 @@
-//! Allocates all memory of the process but one small block, which stays free.
+//! Allocates all memory of the process, except one small block that stays free.
 use std::alloc::Global;
 
-/// The bytes of a freed block that are allocated again, so that the rest of it is the free block. The allocator reuses
-/// a freed block of up to 1,032 bytes for its own size only, so the free block must be part of a larger one.
+/// To leave a free block, a block that is larger by this many bytes is freed, and this many bytes of it are allocated
+/// again. The free block must be a part of a larger one. A freed block of up to 1,032 bytes would be reused for its own
+/// size only.
 const HELD: usize = 1080;
 
-/// How many sizes of the free block a call is tried with, at most.
+/// The most sizes of the free block that are tried for a line.
 pub const TURNS: usize = 120;
 
 /// Allocates blocks of `size` bytes until that fails.
@@ -32,14 +33,15 @@ fn hoard(alloc: Global, blocks: &mut Vec<Vec<u8>>) {
     }
 }
 
-/// All memory but one free block. It is freed when this is dropped.
+/// All memory except one free block. It is freed when this is dropped.
 #[derive(Drop)]
 pub struct Taken {
     blocks: Vec<Vec<u8>>,
     held: Option<Vec<u8>>,
 }
 
-/// Allocates all memory but one block of `size` bytes, which stays free; `None` if there is too little memory for that.
+/// Allocates all memory except one block of `size` bytes, which stays free. Returns `None` if there is too little
+/// memory for that.
 pub fn take_but(alloc: Global, size: usize) -> Option<Taken> {
     let room: Vec<u8> = Vec::with_capacity(alloc, size.saturating_add(HELD)).ok()?;
     let mut blocks = Vec::with_capacity(alloc, 200_000).ok()?;
@@ -49,7 +51,7 @@ pub fn take_but(alloc: Global, size: usize) -> Option<Taken> {
     Some(Taken { blocks, held })
 }
 
-/// Allocates all memory but 64 MB, which are enough for what a test makes. With so little left, the later calls of
+/// Allocates all memory except 64 MB, which are enough for what a test makes. With so little left, the later calls of
 /// `take_but` take a hundredth of the time.
 pub fn leave_few(alloc: Global) -> Option<Taken> {
     take_but(alloc, 1 << 26)

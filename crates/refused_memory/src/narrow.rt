@@ -1,4 +1,4 @@
-//! An input that gives a script, and takes nearly all memory during one of its lines.
+//! An input that gives a script, and allocates nearly all memory during one of its lines.
 ghost use Rattle.std.specs.Prelude.{◌≡◌, Some, drop};
 
 use crate::hoarding::{Taken, take_but};
@@ -6,8 +6,8 @@ use std::alloc::Global;
 use till_request::devices::MemoryIn;
 use till_request::{DeviceFault, LineIn};
 
-/// An input that gives a script from memory. From the first byte of one line to its end, all memory but one free block
-/// is allocated.
+/// An input that gives a script from memory. From the first byte of one line to its end, all memory except one free
+/// block is allocated.
 #[derive(Drop)]
 pub struct Narrow {
     input: MemoryIn,
@@ -31,7 +31,7 @@ impl Narrow {
         }
     }
 
-    /// Allocates all memory but the free block if the line begins, and frees it if the line has ended.
+    /// Allocates all memory except the free block if the line begins, and frees it if the line has ended.
     fn turn(&mut self)
         ensures { self.new.input ≡ self.old.input }
     {

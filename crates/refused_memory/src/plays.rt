@@ -17,8 +17,8 @@ const STATION: &str =
     "tills = 2\nprice_slot = 2\nprices = [1799, 1849, 0, 0, 0, 0, 0, 0]\n[[point]]\nrelease = 0\npreset = 1\n\
         [[point]]\nrelease = 0\npreset = 1\n[[counter]]\nvalue = 0\nbound = 2\n";
 
-// The list of the history begins with memory for four entries, and allocates again for the fifth. Here that is the
-// release, which is granted when it is sent again.
+// The list of the history begins with memory for four entries, and is made larger for the fifth. In this script the
+// fifth entry is the release, which is granted when it is sent again.
 const RELEASE: &str =
     "load 0 0 79101800000000009500000000000000\ntill 1 show 1\ntill 1 show 1\ntill 1 open 1\n\
         till 1 release 1 8000\ntill 1 release 1 8000\n";
@@ -80,7 +80,7 @@ struct Wanted {
     told: Vec<u8>,
 }
 
-/// What happened to a line for which there was little memory.
+/// What happened to the line for which there was little memory.
 #[derive(Clone, Copy)]
 enum Became {
     Answered,
@@ -144,8 +144,8 @@ fn wanted_of(alloc: Global, site: &str, script: &str, line: usize) -> Option<Wan
 }
 
 /// Plays a script again and again, with a larger free block each time, until the line is answered. Returns how often
-/// the line was answered `S31`, and how often the play ended with `OutOfMemory`; `None` if it wrote something wrong, or
-/// no free block was enough.
+/// the line was answered `S31`, and how often the play ended with `OutOfMemory`. Returns `None` if the play wrote
+/// something wrong, or if no free block was large enough.
 fn count_refusals(
     alloc: Global,
     site: &str,
@@ -172,7 +172,7 @@ fn refused_at(alloc: Global, site: &str, script: &str, line: usize) -> Option<(u
 }
 
 /// Tries each line of a script in turn. Returns for how many lines the act was refused memory (`S31`), and for how many
-/// the play ended with `OutOfMemory`, as no memory could be had for the line itself.
+/// the play ended with `OutOfMemory` since the line itself found no memory.
 fn refused_in(alloc: Global, site: &str, script: &str, lines: usize) -> Option<(u32, u32)> {
     let (mut wanted, mut ended) = (0u32, 0u32);
     for line in 0..lines {

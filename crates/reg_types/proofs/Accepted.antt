@@ -1,4 +1,4 @@
--- A program without a flaw is covered by what is inferred of it.
+-- If no reached instruction of a program has a flaw, then the facts that are inferred of its units cover the program.
 use Rattle.std.proofs.Common.{◌≡◌, ◌≢◌, ℕ, zero, suc, ◌<◌, ◌≤◌, List, [], ◌∷◌, Option, Some, None, refl, sym, ap, ◌∙◌, subst, inl, inr, arith, length}
 use Rattle.std.specs.Prelude.{Result, Ok, Err, IsSome, ◌==◌, slice_get, ⊤}
 use Rattle.std.specs.List.{AllByRecursion}
@@ -48,9 +48,9 @@ some_is : (o : Option Form) → IsSome o → (form : Form) × (o ≡ Some form)
 some_is None h = absurd (cc)
 some_is (Some form) h = (form, refl)
 
--- ---- facts only come to say less
+-- ---- a unit's fact only gets weaker
 
--- if the first fact is there, so is the second, and it says no more
+-- if there is a first fact, then there is a second one, and each state that fits the first fits the second
 abbrev pub IsWider : Option Fact → Option Fact → Type 0
 IsWider None o = ⊤
 IsWider (Some fact) o = (wider : Fact) × (o ≡ Some wider) × IsBelow fact wider
@@ -95,7 +95,7 @@ by_wider q fact (Err flaw) tos o = IsWider-refl o
 by_wider q fact (Ok e) None o = IsWider-refl o
 by_wider q fact (Ok e) (Some tos) o = all_wider q (fact_after fact e) tos o
 
--- each unit that a fact comes to takes it in
+-- after an edge has brought `fact` to unit `to`, each state that fits `fact` fits the fact of the unit
 arrived_here : (to : ℕ) (fact : Fact) (o : Option Fact) → IsWider (Some fact) (arrived to fact to o)
 arrived_here to fact o = (taken_in o fact, cond-true (to == to) (Some (taken_in o fact)) o (eq-eqb to to refl), taken_right o fact)
 
@@ -107,7 +107,7 @@ all_come fact (to ∷ tos) old = (
   all_come fact tos (λ q. arrived q fact to (old q)),
 )
 
--- ---- earlier units stay as they are
+-- ---- edges don't go back: what is known of earlier units stays the same
 
 pub behind : (us : List ProgramUnit) (pc q : ℕ) (fact : Fact) → q ≤ pc → (tos : List ℕ) → AllByRecursion (IsAhead us pc) tos → (o : Option Fact)
     → arrived_all q fact tos o ≡ o
@@ -194,7 +194,8 @@ module _ (us : List ProgramUnit) (terms : LoadOptions) where
 
     -- ---- each reached unit is well typed
 
-    -- what is known of unit q after a unit whose instruction is accepted
+    -- if the instruction of unit pc is accepted, the fact after it is joined into what is known of each unit that it
+    -- leads to
     past_is : (pc q : ℕ) (fact : Fact) (x : Inst × Form) (e : Effect) (tos : List ℕ) → inferred us terms pc ≡ Some fact → instruction_at us pc ≡ Some x
         → ruled us terms pc fact x ≡ Ok e → leads pc x.0 x.1 ≡ Some tos
         → known us terms (suc pc) q ≡ arrived_all q (fact_after fact e) tos (known us terms pc q)

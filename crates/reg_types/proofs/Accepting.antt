@@ -1,4 +1,4 @@
--- The rules accept plain programs.
+-- The typing rules accept every plain program.
 use Rattle.std.proofs.Common.{◌≡◌, ℕ, zero, suc, ◌+◌, ◌-◌, ◌*◌, ◌^◌, ◌<◌, ◌≤◌, List, [], ◌∷◌, Option, Some, None, Bool, true, false, refl, sym, ap, ◌∙◌, subst}
 use Rattle.std.proofs.Common.{inl, inr, arith, length}
 use Rattle.std.specs.Prelude.{Result, Ok, Err, IsSome, ℤ, nat_le, slice_get, slice_set, ◌==◌, cond, ⊤}
@@ -48,7 +48,7 @@ ok_of e = Ok e
 abbrev Typed : Type 0
 Typed = Result RegType Flaw
 
--- the rules give a number's type
+-- the result of the typing rules is the type of a number, and not a flaw
 abbrev GivesNumber : Typed → Type 0
 GivesNumber (Ok t) = is_numeric t ≡ true
 GivesNumber (Err e) = ⊥
@@ -95,11 +95,11 @@ numbers_ok layout Neg w i a n h = gives (one_number i.dst a) (one_ok i.dst a h)
 numbers_ok layout SwapBytes w i a n h = gives (one_number i.dst a) (one_ok i.dst a h)
 numbers_ok layout op w i a n h = gives (two_numbers i.dst i.src a (Const n)) (two_ok i.dst i.src n a h)
 
--- the instruction is accepted, and its effect has plain types
+-- the instruction is accepted, and after it R1 points to the context and R0 holds a number
 abbrev Accepted : Result Effect Flaw → Type 0
 Accepted r = (e : Effect) × (r ≡ ok_of e) × ArePlain e.types
 
--- an instruction that writes a number to R0 is accepted, and leaves plain types
+-- an instruction that writes a number to R0 is accepted if R1 points to the context, and R1 still does afterwards
 set_first : (types : List RegType) (o : Typed) → 2 ≤ length types → type_at types 1 ≡ Ctx 0 → GivesNumber o → Accepted (set_type types 0 o)
 set_first types (Err e) l b g = absurd g
 set_first types (Ok t) l b g = (
@@ -119,7 +119,7 @@ load_ok : (o : Option ℕ) → IsSome o → GivesNumber (number_at o)
 load_ok None h = absurd (cc)
 load_ok (Some at) h = refl
 
--- a load into R0 from the context, through R1, is accepted, and leaves plain types: no pointer is spilled there
+-- A load from the context through R1 into R0 is accepted. It gives a number, since no pointer is spilled in the context.
 loaded_first : (layout : Layout) (fact : Fact) (i : Inst) (size : Size) → LoadsArgument layout i size → 2 ≤ length fact.types → type_at fact.types 1 ≡ Ctx 0
     → Accepted (set_type fact.types i.dst (loaded_type layout fact.stack fact.spills (type_at fact.types i.src) i (bytes_in size)))
 loaded_first layout fact i size f l b =
@@ -143,7 +143,7 @@ compare_ok types dst src n a h p =
 exit_ok : (types : List RegType) → ArePlain types → Accepted (exited types (type_at types 0))
 exit_ok types p = (unmarked types, ap (λ b. cond b (ok_of (unmarked types)) (Err (NotANumber 0))) p.number, p)
 
--- a plain instruction is accepted where R0 holds a number
+-- an instruction of a plain form is accepted if R1 points to the context and R0 holds a number
 plain_effect : (terms : LoadOptions) (fact : Fact) (i : Inst) (upper : ℤ) (form : Form) → ArePlain fact.types → IsPlainForm terms.layout i form
     → Accepted (effect terms fact i upper form)
 plain_effect terms fact i upper Ja p f = (unmarked fact.types, refl, p)
@@ -170,7 +170,7 @@ plain_effect terms fact i upper (StoreImmediate size) p f = absurd f
 plain_effect terms fact i upper (StoreRegister size) p f = absurd f
 plain_effect terms fact i upper Call p f = absurd f
 
--- the first instruction sets R0, and R1 points to the context there
+-- the first instruction of a plain program is accepted: R1 points to the context, and the instruction sets R0
 first_effect : (terms : LoadOptions) (fact : Fact) (i : Inst) (upper : ℤ) (form : Form) → 2 ≤ length fact.types → type_at fact.types 1 ≡ Ctx 0
     → IsPlainForm terms.layout i form → SetsFirst form → Accepted (effect terms fact i upper form)
 first_effect terms fact i upper Wide l b f s =
@@ -190,7 +190,7 @@ first_effect terms fact i upper (StoreImmediate size) l b f s = absurd s
 first_effect terms fact i upper (StoreRegister size) l b f s = absurd s
 first_effect terms fact i upper Call l b f s = absurd s
 
--- joins of plain facts are plain
+-- the join of two types of numbers is the type of a number
 join_numeric : (a b : RegType) → is_numeric a ≡ true → is_numeric b ≡ true → is_numeric (join_type a b) ≡ true
 join_numeric Num Num h g = refl
 join_numeric Num (Const d) h g = refl
@@ -225,7 +225,7 @@ is_exit form = false
 
 module _ (bytes : List ℕ) (us : List ProgramUnit) (terms : LoadOptions) (reads : units bytes ≡ Some us) (plain : ArePlainUnits terms.layout us) (pc : ℕ) (i : Inst)
     (at : slice_get us pc ≡ Some (First i)) where
-  -- the last unit is an exit
+  -- an instruction in the last unit of a plain program is an exit
   exits_last : (form : Form) → form_of i.opcode ≡ Some form → length us ≤ pc + 1 → Exit ≡ form
   exits_last form is l =
       let inside = slice_get_within us pc (First i) at in
@@ -316,7 +316,8 @@ above_of : (pc q : ℕ) (types : List RegType) → pc < q → PlainTypesAt q typ
 above_of pc q types l (inl z) = absurd (omega (arith, z.0))
 above_of pc q types l (inr p) = p
 
--- what can be known of a unit of a plain program
+-- What a fact of unit q of a plain program can be. It has the types on entry, and q is 0; or R1 points to the context
+-- and R0 holds a number.
 abbrev PlainKnown : ℕ → Option Fact → Type 0
 PlainKnown q None = ⊤
 PlainKnown q (Some fact) = PlainTypesAt q fact.types

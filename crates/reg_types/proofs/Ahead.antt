@@ -1,4 +1,4 @@
--- Where the instructions of a program lead: to units further on at which instructions begin.
+-- An instruction leads only to later units, and an instruction begins at each of these.
 use Rattle.std.proofs.Common.{◌≡◌, ℕ, zero, suc, ◌+◌, ◌<◌, ◌≤◌, List, [], ◌∷◌, Some, Bool, true, false, refl, sym, ap, ◌∙◌, arith, add-one, length}
 use Rattle.std.specs.Prelude.{ℤ, ◌&&◌, not, nat_le, cond, slice_get, IsSome, is_some}
 use Rattle.std.specs.List.{AllByRecursion}
@@ -26,7 +26,7 @@ get_inside [] pc l = absurd (omega arith)
 get_inside (u ∷ us) zero l = (u, refl)
 get_inside (u ∷ us) (suc pc) l = get_inside us pc (omega arith)
 
--- a unit at which an instruction begins
+-- a unit at which an instruction begins is decoded as the first unit of an instruction
 begins_first : (bytes : List ℕ) (us : List ProgramUnit) (pc : ℕ) → units bytes ≡ Some us → begins bytes pc ≡ true → pc < length us
     → (i : Inst) × (slice_get us pc ≡ Some (First i))
 begins_first bytes us pc reads b l =
@@ -65,7 +65,7 @@ module _ (bytes : List ℕ) (us : List ProgramUnit) (reads : units bytes ≡ Som
   distance_is : (form : Form) (z : ℤ) → form_of i.opcode ≡ Some form → distance_by (Some form) i ≡ Some z → distance_at us pc ≡ Some z
   distance_is form z is h = ap (λ o. and_then o distance_of) at ∙ ap (λ o. distance_by o i) is ∙ h
 
-  -- where each form leads
+  -- an instruction that can't run past the last unit leads only to later units at which instructions begin
   pub leads_ahead : GoesForward us → (form : Form) → form_of i.opcode ≡ Some form → falls_off (length us) pc form ≡ false
       → (tos : List ℕ) × (leads pc i form ≡ Some tos) × AllByRecursion (IsAhead us pc) tos
   leads_ahead f Exit is more = ([], refl, tt)
@@ -86,7 +86,8 @@ module _ (bytes : List ℕ) (us : List ProgramUnit) (reads : units bytes ≡ Som
   leads_ahead f (StoreRegister size) is more = ((pc + 1) ∷ [], refl, (goes_next (StoreRegister size) is refl more, tt))
   leads_ahead f Call is more = ((pc + 1) ∷ [], refl, (goes_next Call is refl more, tt))
 
--- what holds of an instruction of a program
+-- The instruction is one of a program. Its unit is below 512 and inside the program, its registers are 0 to 10, and its
+-- opcode has a form.
 pub record IsThere (us : List ProgramUnit) (pc : ℕ) (i : Inst) : Type 0 where
   pub small : pc < 512
   pub inside : pc < length us

@@ -1,4 +1,4 @@
--- Which refusal it is, and what it shows.
+-- Which refusal `verify` returns, and that what it states of the program is true.
 use Rattle.std.proofs.Common.{◌≡◌, ◌≢◌, ℕ, zero, suc, ◌⊎◌, List, Option, Some, None, Bool, true, false, refl, sym, ap, ◌∙◌, inl, inr, length}
 use Rattle.std.specs.Prelude.{Result, Ok, Err, ◌/◌, ◌&&◌, cond, is_none, slice_get}
 use Rattle.bpf_model.specs.declared.instruction.Inst.{Inst}
@@ -87,7 +87,7 @@ module _ (bytes : List ℕ) (us : List ProgramUnit) (terms : LoadOptions) (reads
   type_shown : (fault : TypeFault) → first_flaw us terms ≡ Some fault → IsTypeShown bytes fault
   type_shown fault e = let k = flaw_at us terms (length us) fault e in shown_under k.0 (inferred us terms k.0) fault k.1
 
-  -- ---- which refusal it is
+  -- ---- which refusal is returned
 
   decoded : decode_refusal bytes ≡ None
   decoded = decoded_by us (has_right_length bytes) (fault_below bytes (length bytes / 8)) (units_below bytes (length bytes / 8)) reads
@@ -162,7 +162,7 @@ module _ (bytes : List ℕ) (terms : LoadOptions) where
   flow_exact us (JumpIntoWide pc) reads h = flow_is us _ reads h
   flow_exact us NoMemoryForFlow reads h = absurd h
 
-  -- ---- plain programs are refused only where memory runs out
+  -- ---- plain programs are refused only if memory runs out
 
   plain_accepted : IsPlain (loaded_on bytes terms) → refusal_of (loaded_on bytes terms) ≡ None
   plain_accepted p =

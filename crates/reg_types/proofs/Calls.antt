@@ -37,7 +37,7 @@ ok_of e = Ok e
 pub Changes-refl : (declared : ℕ) (counters : Counters) → Changes declared counters counters
 Changes-refl declared counters = record { right = λ a. a; undeclared = λ c h. refl; bounds = λ c. refl }
 
--- one declared counter changes, within its bound
+-- setting a declared counter to a value of at most its bound changes only declared counters, within their bounds
 changes_set : (declared : ℕ) (counters : Counters) (c v : ℕ) → declared / 2 ^ c % 2 ≡ 1 → (AreCounters counters → v ≤ (counter counters c).1)
     → Changes declared counters (slice_set counters c (v, (counter counters c).1))
 changes_set declared counters c v bit l =
@@ -81,7 +81,8 @@ changes_set declared counters c v bit l =
 le_from : (m n : ℕ) → nat_le m n ≡ true → m ≤ n
 le_from m n e = grind (arith, nat_tests)
 
--- the answer of a well typed call, and its effect
+-- A call is answered. It changes only declared counters, and writes `bytes` to the stack from `at` on, as its effect e
+-- states.
 pub record Answered (declared : ℕ) (types : List RegType) (view : View) (counters : Counters) (stack : List Cell) (given : Option Answer)
     (e : Effect) : Type 0 where
   pub reply : Answer
@@ -134,7 +135,8 @@ some_of : (o : Option ℕ) → is_some o ≡ true → (n : ℕ) × (o ≡ Some n
 some_of None e = absurd (cc)
 some_of (Some n) e = (n, refl)
 
--- a well typed place argument is the place that its type says
+-- an argument that the typing rules accept as a record's place is a stack pointer to that place, with the 16 bytes
+-- inside the stack
 place_of : (t : RegType) (v : Value) → FitsType t v → is_some (place_by t) ≡ true → (at : ℕ) × (place_by t ≡ Some at) × (record_place v ≡ Some at) × (at ≤ 496)
 place_of (Stk k) (Stack n) h e =
     let x = some_of (shifted (lowest k) (pos 0) 496) e in
@@ -172,13 +174,13 @@ module _ (declared : ℕ) (types : List RegType) (view : View) (va vb : Value) (
   abbrev second_of_two : Helper → Kind
   second_of_two h = kind_at (kinds h) 1
 
-  -- an answer that leaves the stack as it was
+  -- a call is answered as its effect states if the call leaves the stack as it was
   plainly : (given : Option Answer) (e : Effect) (reply : Answer) → given ≡ Some reply → Changes declared counters reply.counters → reply.stack ≡ stack
       → unmarked (after_call types) ≡ e → Answered declared types view counters stack given e
   plainly given e reply there changes same marks =
       record { reply = reply; there = there; changes = changes; at = 0; bytes = []; marks = marks; stack_is = same; inside = omega arith }
 
-  -- either the counter's value changes, or nothing
+  -- adding to a declared counter changes that counter alone if the sum is within its bound, and else changes nothing
   added_if : (t : Bool) (n c : ℕ) → nat_le ((counter counters c).0 + n) (counter counters c).1 ≡ t → declared / 2 ^ c % 2 ≡ 1
       → Changes declared counters (cond {A = Answer} t (record {
         value = 1;
@@ -257,7 +259,7 @@ module _ (declared : ℕ) (types : List RegType) (view : View) (va vb : Value) (
         inside = omega (arith, at.3, long);
       }
 
-  -- a call of each helper
+  -- each helper answers a well typed call
   pub answered : (h : Helper) (e : Effect) → call_with declared types (first_of_two h) (second_of_two h) a b ≡ ok_of e
       → Answered declared types view counters stack (answer h declared view va vb counters stack) e
   answered CounterGet e g =
@@ -290,7 +292,7 @@ module _ (declared : ℕ) (types : List RegType) (view : View) (va vb : Value) (
       let x = call_test (is_numeric a) true true (unmarked (after_call types)) e g in
       number_there e (λ p. record { value = price view p; counters = counters; stack = stack }) x.0 (λ n. (Changes-refl declared counters, refl)) x.3
 
-  -- a call by its number
+  -- a well typed call of a helper by its number is answered
   pub called : (o : Option Helper) (e : Effect) → type_at types 1 ≡ a → type_at types 2 ≡ b → call_type declared types (map_option kinds o) ≡ ok_of e
       → Answered declared types view counters stack (and_then o (λ h. answer h declared view va vb counters stack)) e
   called None e p q g = absurd (cc)

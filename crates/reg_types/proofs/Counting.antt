@@ -54,7 +54,7 @@ nothing_counted : (n : ℕ) → count_below n (λ q. false) ≡ 0
 nothing_counted zero = none_counted (λ q. false)
 nothing_counted (suc n) = passed_by n (λ q. false) refl ∙ nothing_counted n
 
--- where one number more passes the test, the count is one more
+-- if r accepts a number a below n that p rejects, and both agree on all others, then r accepts one number more than p
 one_more : (n a : ℕ) (p r : ℕ → Bool) → a < n → p a ≡ false → r a ≡ true → ((q : ℕ) → q ≢ a → r q ≡ p q) → count_below n r ≡ suc (count_below n p)
 one_more zero a p r l not now others = absurd (omega (arith, l))
 one_more (suc n) a p r l not now others =
@@ -72,7 +72,7 @@ one_more (suc n) a p r l not now others =
           ]
     ]
 
--- where each number that passes p is 0 or passes r, the count of p is at most one more than that of r
+-- if each number that p accepts is 0 or is accepted by r, then below n p accepts at most one number more than r
 one_less : (n : ℕ) (p r : ℕ → Bool) → ((q : ℕ) → p q ≡ true → (q ≡ 0) ⊎ (r q ≡ true)) → count_below n p ≤ 1 + count_below n r
 one_less zero p r h = let e = none_counted p in omega (arith, e)
 one_less (suc n) p r h =
@@ -110,7 +110,7 @@ count_of_stored n (s ∷ rest) d inside =
     ap suc (count_of_stored n rest d.1 also)
     ∙ sym (one_more n s.at (λ q. is_some (stored rest q)) (λ q. is_some (stored (s ∷ rest) q)) (inside s.at here) (ap is_some d.0) here elsewhere)
 
--- ---- units that are entered
+-- ---- units for which a fact is stored
 
 either_true : (a b : Bool) → (a || b) ≡ true → (a ≡ true) ⊎ (b ≡ true)
 either_true true b e = inl refl
@@ -141,7 +141,7 @@ module _ (us : List ProgramUnit) (terms : LoadOptions) where
   unfolding is_target
   target_here n q e = or_right (is_target us n q) (goes (target us n) q) e
 
-  -- a unit that is entered is the first, or the target of a jump
+  -- a unit for which a fact is stored is the first one, or the target of a jump
   entered_target : (n q : ℕ) → is_entered us terms n q ≡ true → (q ≡ 0) ⊎ (is_target us n q ≡ true)
   unfolding is_entered
   entered_target zero q e = inl (eqb-true q 0 e)

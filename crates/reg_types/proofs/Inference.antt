@@ -1,4 +1,4 @@
--- Facts that say the same are treated alike.
+-- Two facts that say the same have the same flaws, effects and joins.
 use Rattle.std.proofs.Common.{◌≡◌, ℕ, zero, suc, ◌-◌, ◌⊎◌, ◌↔◌, List, [], ◌∷◌, Option, Some, None, Bool, true, false, refl, sym, ap, ◌∙◌, subst, inl, inr}
 use Rattle.std.proofs.Common.{arith, length}
 use Rattle.std.specs.Prelude.{Result, Ok, Err, ℤ, ◌==◌, ◌&&◌, cond, drop, slice_index_or}
@@ -35,7 +35,7 @@ common_has (x ∷ a) [] p = (λ h. absurd (cc), λ h. h.1)
 common_has (x ∷ a) (y ∷ b) zero = (λ h. and_parts x y h, λ h. and_from x y h.0 h.1)
 common_has (x ∷ a) (y ∷ b) (suc p) = common_has a b p
 
--- a set without its lowest byte
+-- byte p of the set without its lowest byte is byte p + 1 of the set
 dropped : (set : List Bool) (p : ℕ) → slice_index_or (drop 1 set) p false ≡ slice_index_or set (suc p) false
 dropped [] zero = refl
 dropped [] (suc p) = refl
@@ -86,7 +86,7 @@ cleared_has zero (suc len) set (suc p) = apart_none (cleared zero len (drop 1 se
 cleared_has (suc at) len set zero = (λ has. (has, λ w. omega (arith, w.0)), λ e. e.0)
 cleared_has (suc at) len set (suc p) = apart_one (slice_index_or set 0 false) (cleared at len (drop 1 set)) set at len p (cleared_has at len (drop 1 set) p)
 
--- the set after an instruction
+-- which places are in the set after `len` bytes from `at` on were added to it (true) or removed from it (false)
 after_if : (b : Bool) (at len : ℕ) (set : List Bool) (p : ℕ) → Has (cond b (marked at len set) (cleared at len set)) p ↔ HasAfter b set at len p
 after_if true at len set p = marked_has at len set p
 after_if false at len set p = cleared_has at len set p
@@ -124,7 +124,7 @@ pub joined_types : (a b j : List RegType) → length a ≡ length b → length j
 joined_types a b j la lj e =
     ext_get_or Unset j (join_types a b) (lj ∙ sym (length-joined a b la)) (λ r l. e r ∙ sym (type_at-joined a b r))
 
--- ---- the relation
+-- ---- facts that say the same
 
 pub IsSame-refl : (a : Fact) → IsSame a a
 IsSame-refl a = record { types = refl; places = λ p. (λ h. h, λ h. h); spills = refl }
@@ -192,7 +192,7 @@ after_same a b e f =
       spills = ap (respilled (spill_of e.kept) e.at e.len 0) f.spills;
     }
 
--- a fact that the code's own functions leave says the same as fact_after
+-- a fact that fulfils `IsAfter`, such as the one that the code computes, says the same as `fact_after`
 pub same_after : (fact : Fact) (e : Effect) (after : Fact) → IsAfter fact e after → IsSame after (fact_after fact e)
 same_after fact e after is =
     record {
@@ -220,7 +220,7 @@ same_join a b j la lj e h n =
       spills = n;
     }
 
--- ---- one instruction
+-- ---- typing one instruction
 
 same_bit : (a b : Bool) → ((a ≡ true) ↔ (b ≡ true)) → a ≡ b
 same_bit true true h = refl
@@ -267,7 +267,7 @@ pub judged_same : (count pc : ℕ) (terms : LoadOptions) (a b : Fact) → IsSame
     → judged count pc terms a i upper form ≡ judged count pc terms b i upper form
 judged_same count pc terms a b f i upper form = ap (λ r. cond (falls_off count pc form) (Err FallsOff) r) (effect_same terms a b f i upper form)
 
--- ---- one unit
+-- ---- passing one unit
 
 passed_by_same : (q : ℕ) (a b : Fact) (r : Result Effect Flaw) (tos : Option (List ℕ)) (x y : Option Fact) → IsSame a b → AreSame x y
     → AreSame (passed_by q a r tos x) (passed_by q b r tos y)

@@ -20,7 +20,7 @@ use Rattle.reg_types.specs.Effects.{Effect}
 use Rattle.reg_types.specs.Facts.{FitsType, IsKept, HasAfter, IsAfter}
 use Rattle.reg_types.specs.Inference.{no_spills, touches, respilled, join_spills}
 
--- ---- cells that a store leaves alone
+-- ---- cells that a store doesn't change
 
 apart : (at n p : ℕ) → (p < at) ⊎ (at + suc n ≤ p) → ((p < suc at) ⊎ (suc at + n ≤ p)) × (p ≢ at)
 apart at n p (inl l) = (inl (omega (arith, l)), omega (arith, l))
@@ -94,7 +94,7 @@ kept_there stack at v p l =
     let all = pieces_written stack at v 0 8 in
     ap (λ c. kept_from c all at) (first_piece stack at v 0 7 (omega (arith, l))) ∙ ap (λ t. value_if t v) (pieces_there stack at v 0 8 p l)
 
--- where a pointer is kept there is no number
+-- if cells keep a pointer, then a load of them gives no number
 pub no_number : (c : Cell) (stack : List Cell) (at : ℕ) (v : Value) (o : Option ℕ) → kept_from c stack at ≡ Some v → low_byte c o ≡ None
 no_number (Piece w i) stack at v o e = refl
 no_number Empty stack at v o e = refl
@@ -178,7 +178,7 @@ spill_fits (Stk k) Unset h u = absurd h
 spill_fits (Stk k) (Number n) h u = absurd h
 spill_fits (Stk k) (Context n) h u = absurd h
 
--- a spill of 0 says nothing
+-- a spill of 0 stands for no pointer, so it is right for every stack
 pub nothing_kept : (spill : ℕ) (stack : List Cell) (at : ℕ) → spill ≡ 0 → IsKept (spilled_type spill) stack at
 nothing_kept spill stack at z = subst (λ n. IsKept (spilled_type n) stack at) (sym z) (λ u. absurd (cc))
 
@@ -192,7 +192,7 @@ none_spilled k =
       | inr l ↦ get_or_past no_spills k 0 (let n = length-replicate {A = ℕ} 64 0 in omega (arith, n, l))
     ]
 
--- a spill of the join is that of both facts, or none
+-- a joined spill is the spill of both facts, or 0 if they differ
 join_if : (a b : ℕ) (t : Bool) → (t ≡ true → a ≡ b) → ((cond t a 0 ≡ a) × (cond t a 0 ≡ b)) ⊎ (cond t a 0 ≡ 0)
 join_if a b true e = inl (refl, e refl)
 join_if a b false e = inr refl
@@ -204,7 +204,7 @@ joined_spill (x ∷ a) [] k = inr refl
 joined_spill (x ∷ a) (y ∷ b) zero = join_if x y (x == y) (eqb-true x y)
 joined_spill (x ∷ a) (y ∷ b) (suc k) = joined_spill a b k
 
--- a spill after a store: none, the old one of a place that isn't touched, or the new one
+-- a spill after a store: 0, or the old one if the store didn't touch its place, or n if it did
 abbrev IsRespilled : Bool → ℕ → ℕ → ℕ → Type 0
 IsRespilled touched n old new = (new ≡ 0) ⊎ (((touched ≡ false) × (new ≡ old)) ⊎ ((touched ≡ true) × (new ≡ n)))
 
@@ -241,7 +241,7 @@ touched at k z e =
 abbrev AllKept : List ℕ → List Cell → Type 0
 AllKept spills stack = (k : ℕ) → IsKept (spilled_type (slice_index spills k)) stack (8 * k)
 
--- the spills hold after a store of bytes
+-- if the stack keeps a pointer for each spill, then after a store of bytes it keeps one for each spill that is left
 pub kept_after_bytes : (spills after : List ℕ) (stack : List Cell) (at : ℕ) (bytes : List ℕ) → after ≡ respilled 0 at (length bytes) 0 spills → AllKept spills stack
     → AllKept after (written stack at bytes)
 kept_after_bytes spills after stack at bytes e all k =
@@ -258,7 +258,7 @@ kept_after_bytes spills after stack at bytes e all k =
       ]
     ])
 
--- the spills hold after a store of a pointer
+-- if the stack keeps a pointer for each spill, then after a store of a pointer it keeps one for each of the new spills
 pub kept_after_pointer : (spills after : List ℕ) (stack : List Cell) (at : ℕ) (t : RegType) (v : Value) → after ≡ respilled (spill_of t) at 8 0 spills → at % 8 ≡ 0
     → at + 8 ≤ length stack → IsPointer v → FitsType t v → AllKept spills stack → AllKept after (pieces_written stack at v 0 8)
 kept_after_pointer spills after stack at t v e z inside p f all k =
@@ -284,7 +284,7 @@ outside at len p out = elim (cases_lt p at) [
   | inr l ↦ elim (cases_lt p (at + len)) [ inl m ↦ absurd (out (l, m)) | inr m ↦ inr m ]
 ]
 
--- ---- the spills that the code's own functions leave
+-- ---- spills as the code computes them
 
 abbrev pub both_spill : ℕ → ℕ → ℕ
 both_spill a b = cond (a == b) a 0
@@ -302,7 +302,7 @@ length-joined_spills [] (y ∷ b) e = absurd (omega (arith, e))
 length-joined_spills (x ∷ a) [] e = absurd (omega (arith, e))
 length-joined_spills (x ∷ a) (y ∷ b) e = ap suc (length-joined_spills a b (omega (arith, e)))
 
--- one more spill is joined
+-- if all spills below r are joined, and spill r is set to its join, then all spills below r + 1 are joined
 pub spill_step : (ts a b : List ℕ) (r v : ℕ) → r < length ts → v ≡ both_spill (slice_index ts r) (slice_index b r) → slice_index ts r ≡ slice_index a r
     → ((k : ℕ) → k < r → slice_index ts k ≡ both_spill (slice_index a k) (slice_index b k)) → (k : ℕ) → k < r + 1
     → slice_index (slice_set ts r v) k ≡ both_spill (slice_index a k) (slice_index b k)
@@ -333,7 +333,7 @@ length-respilled : (n at len j : ℕ) (spills : List ℕ) → length (respilled 
 length-respilled n at len j [] = refl
 length-respilled n at len j (m ∷ rest) = ap suc (length-respilled n at len (suc j) rest)
 
--- the spills of the places from the first touched one up to k have been written
+-- of the spills that a store touches, those of the places below k are n by now; all other spills are the old ones
 pub record ArePut (n at k : ℕ) (old new : List ℕ) : Type 0 where
   pub long : length new ≡ 64
   pub inside : (j : ℕ) → at / 8 ≤ j → j < k → slice_index new j ≡ n

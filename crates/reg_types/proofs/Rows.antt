@@ -1,4 +1,4 @@
--- Closed examples: the answers of `verify` for whole programs, each unit written as its sixteen digits.
+-- Closed examples: the answers of `verify` for whole programs, each unit written as its sixteen hexadecimal digits.
 use Rattle.std.proofs.Common.{◌≡◌, ℕ, ◌+◌, ◌≤◌, List, [], ◌∷◌, ◌++◌, Some, None, true, refl, sym, ap, ◌∙◌, arith}
 use Rattle.std.specs.Prelude.{pos, negsuc, ◌+ℤ◌, cond, nat_le}
 use Rattle.std.proofs.lemmas.Bool.Decides.{nat_tests}
@@ -13,7 +13,7 @@ use Rattle.reg_types.proofs.Keeping.{spilled_context, spilled_stack, back_again}
 use Rattle.reg_types.specs.Inference.{known, first_flaw_below}
 use Rattle.reg_types.specs.Shown.{refusal_of}
 
--- the bytes of units
+-- the bytes of a program whose units are given as 64-bit numbers
 abbrev bytes : List ℕ → List ℕ
 bytes [] = []
 bytes (u ∷ us) = big_bytes 8 u ++ bytes us
@@ -37,13 +37,13 @@ constant : refusal_of (on_one (0xb700000001000000 ∷ 0x9500000000000000 ∷ [])
 unfolding refusal_of known first_flaw_below
 constant = refl
 
--- R0 is set on one edge only
+-- a program is refused if R0 is set on only one of the two edges to its exit
 half_an_answer : refusal_of (on_one (0x61120c0000000000 ∷ 0x1502010004000000 ∷ 0xb700000001000000 ∷ 0x9500000000000000 ∷ []))
     ≡ Some (TypeRefusal (NotANumber 3 0))
 unfolding refusal_of known first_flaw_below
 half_an_answer = refl
 
--- bytes that both edges set, and bytes that one sets
+-- a load from the stack is accepted if its bytes are set on both edges to it, and refused if only on one
 stored_before : refusal_of (on_one (0xb700000000000000 ∷ 0x620af8ff07000000 ∷ 0x1500010001000000 ∷ 0xb700000005000000 ∷ 0x61a0f8ff00000000
     ∷ 0x9500000000000000 ∷ [])) ≡ None
 unfolding refusal_of known first_flaw_below
@@ -54,17 +54,17 @@ stored_on_one_edge : refusal_of (on_one (0xb700000000000000 ∷ 0x15000100010000
 unfolding refusal_of known first_flaw_below
 stored_on_one_edge = refl
 
--- a unit that isn't reached
+-- a program is accepted although units that no run reaches have flaws
 unreached : refusal_of (on_one (0xb700000001000000 ∷ 0x9500000000000000 ∷ 0xbf12000000000000 ∷ 0xbf23000000000000 ∷ [])) ≡ None
 unfolding refusal_of known first_flaw_below
 unreached = refl
 
--- both edges lead to one unit
+-- a branch whose two edges lead to the same unit is accepted
 one_unit_twice : refusal_of (on_one (0xb700000001000000 ∷ 0x1500000001000000 ∷ 0x9500000000000000 ∷ [])) ≡ None
 unfolding refusal_of known first_flaw_below
 one_unit_twice = refl
 
--- pointers kept on the stack
+-- ---- pointers kept on the stack
 pointer_found_again : refusal_of (on_one (0x7b1af8ff00000000 ∷ 0x79a2f8ff00000000 ∷ 0x7920180000000000 ∷ 0x9500000000000000 ∷ [])) ≡ None
 unfolding refusal_of known first_flaw_below
 pointer_found_again = refl
@@ -104,7 +104,7 @@ pointer_stored_and_no_answer : refusal_of (on_one (0x7b1af8ff00000000 ∷ 0x9500
 unfolding refusal_of known first_flaw_below
 pointer_stored_and_no_answer = refl
 
--- loads up to the end of a context of the first layout, and beyond it
+-- a load inside a context is accepted, and a load beyond its end is refused, for both layouts
 context_end : refusal_of (on_one (0x7910380000000000 ∷ 0x9500000000000000 ∷ [])) ≡ None
 unfolding refusal_of known first_flaw_below
 context_end = refl

@@ -1,4 +1,4 @@
--- What holds of an instruction in which the rules find a flaw.
+-- If the typing rules find a flaw in an instruction, then the instruction is one that can have this flaw.
 use Rattle.std.proofs.Common.{◌≡◌, ℕ, ◌+◌, ◌-◌, ◌≤◌, List, Option, Some, None, Bool, true, false, refl, ap, subst, inl, inr, arith}
 use Rattle.std.specs.Prelude.{Result, Ok, Err, ℤ, pos, negsuc, neg_ℤ, ◌+ℤ◌, int_le, nat_le, ◌==◌, ◌&&◌, ◌||◌, cond}
 use Rattle.std.proofs.lemmas.Bool.{eqb-true}
@@ -187,7 +187,7 @@ ten dst e = eqb-true dst 10 e
 le_from : (m n : ℕ) → nat_le m n ≡ true → m ≤ n
 le_from m n e = grind (arith, nat_tests)
 
--- a second operand of which nothing is known is a register
+-- a second operand whose type is unset is the source register
 second_by : (s : Source) (w : Width) (i : Inst) (types : List RegType) → is_unset (operand_type s w i types) ≡ true → IsOperand i s i.src
 second_by Register w i types e = inr refl
 second_by Immediate w i types e = absurd (cc)
@@ -208,7 +208,7 @@ module _ (count pc : ℕ) (i : Inst) (types : List RegType) (flaw : Flaw) where
       two_shown (MayHave count pc i form) flaw i.dst i.src (is_unset a) (is_unset (operand_type s w i types))
       (is_pointer a || is_pointer (operand_type s w i types)) p (λ u. q (second_by s w i types u)) r e
 
-  -- ADD and SUB
+  -- a flaw of a 64-bit ADD or SUB with an immediate is one that this instruction can have
   moved_shows : (layout : Layout) (op : Operator) → MayHave count pc i (Arithmetic op Bits64 Immediate) OutOfRange
       → MayHave count pc i (Arithmetic op Bits64 Immediate) (NotANumber i.dst) → (z : ℤ) (a : RegType)
       → sum_type layout Bits64 Immediate i z a (operand_type Immediate Bits64 i types) ≡ bad flaw → MayHave count pc i (Arithmetic op Bits64 Immediate) flaw
@@ -331,7 +331,7 @@ judged_shown : (P : Flaw → Type 0) (b : Bool) (r : Effects) (flaw : Flaw) → 
 judged_shown P true r flaw p q e = is_wrong P FallsOff flaw e (p refl)
 judged_shown P false r flaw p q e = q e
 
--- where the rules find a flaw, the form can have it
+-- a flaw that the typing rules find in an instruction is one that this instruction can have
 pub judged_shows : (count pc : ℕ) (terms : LoadOptions) (fact : Fact) (i : Inst) (upper : ℤ) (form : Form) (flaw : Flaw)
     → judged count pc terms fact i upper form ≡ wrong flaw → MayHave count pc i form flaw
 judged_shows count pc terms fact i upper form flaw e =

@@ -1,4 +1,4 @@
--- Stack bytes: what a set of places says of cells, before and after a store.
+-- Which cells of the stack hold bytes, by a fact's set of places, before and after a store.
 use Rattle.std.proofs.Common.{◌≡◌, ℕ, zero, suc, ◌+◌, ◌-◌, ◌*◌, ◌<◌, ◌≤◌, List, [], ◌∷◌, Option, Some, None, Bool, true, false, refl, sym, ap, ◌∙◌, subst, inl}
 use Rattle.std.proofs.Common.{inr, arith, length}
 use Rattle.std.specs.Prelude.{ℤ, pos, negsuc, ◌&&◌, cond, nat_le, nat_lt, slice_set, slice_index_or}
@@ -26,7 +26,7 @@ both false b e = absurd (cc)
 low_some : (c : Cell) (o : Option ℕ) → HasByte c → ((n : ℕ) × (o ≡ Some n)) → (n : ℕ) × (low_byte c o ≡ Some n)
 low_some c o b r = (b.0 + 256 * r.0, ap (λ x. low_byte x o) b.1 ∙ ap (low_byte (Byte b.0)) r.1)
 
--- a load of set places gives a number
+-- a load of stack bytes that are all in the set gives a number
 pub covered_load : (set : List Bool) (stack : List Cell) (at n : ℕ) → Covered set stack → all_in set at n ≡ true → (v : ℕ) × (number_in stack at n ≡ Some v)
 covered_load set stack at zero c h = (0, refl)
 covered_load set stack at (suc n) c h =
@@ -44,7 +44,7 @@ keeps_one stack at b p l h =
       | inr other ↦ subst HasByte (sym (get_or-set_other stack at p (Byte b) Empty other)) h
     ]
 
--- a store keeps the bytes that are set
+-- a cell that holds a byte still holds one after a store of bytes
 pub keeps_bytes : (stack : List Cell) (at : ℕ) (bytes : List ℕ) (p : ℕ) → at + length bytes ≤ length stack → HasByte (cell_at stack p)
     → HasByte (cell_at (written stack at bytes) p)
 keeps_bytes stack at [] p l h = h
@@ -52,7 +52,7 @@ keeps_bytes stack at (b ∷ bytes) p l h =
     let e = length-set stack at (Byte b) in
     keeps_bytes (slice_set stack at (Byte b)) (suc at) bytes p (omega (arith, e)) (keeps_one stack at b p (omega arith) h)
 
--- a store sets its own bytes
+-- after a store of bytes, each cell that it wrote holds a byte
 pub sets_bytes : (stack : List Cell) (at : ℕ) (bytes : List ℕ) (p : ℕ) → at + length bytes ≤ length stack → Within at (length bytes) p
     → HasByte (cell_at (written stack at bytes) p)
 sets_bytes stack at [] p l w = absurd (omega (arith, w.0, w.1))

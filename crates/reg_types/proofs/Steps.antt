@@ -1,4 +1,4 @@
--- A well typed instruction isn't stuck, and leads to a state that fits its result.
+-- A well typed instruction doesn't lead to a stuck machine, and the state after it fits the fact after it.
 use Rattle.std.proofs.Common.{◌≡◌, ◌≢◌, ℕ, zero, suc, ◌+◌, ◌-◌, ◌*◌, ◌<◌, ◌≤◌, ◌⊎◌, List, [], ◌∷◌, Option, Some, None, Bool, true, false, refl, sym, ap, ◌∙◌}
 use Rattle.std.proofs.Common.{subst, inl, inr, arith, length}
 use Rattle.std.specs.Prelude.{Result, Ok, Err, ℤ, ◌^◌, ◌==◌, ◌/◌, ◌%◌, cond, drop, slice_set, slice_index}
@@ -45,7 +45,8 @@ abbrev pub IsIn : ℕ → List ℕ → Type 0
 IsIn x [] = ⊥
 IsIn x (y ∷ ys) = (x ≡ y) ⊎ IsIn x ys
 
--- the step goes on at one of these units, in a state that fits, or it ends
+-- The step leads to one of the units `tos`, in a state that fits the fact `after`, or it ends the run. Only declared
+-- counters change.
 abbrev pub Follows : ℕ → Fact → List ℕ → State → Next → Type 0
 Follows declared after tos s (Goes t) = IsIn t.pc tos × Fits after t × Changes declared s.counters t.counters
 Follows declared after tos s (Exits r counters) = counters ≡ s.counters
@@ -136,7 +137,7 @@ mark_is : (types : List RegType) (size : ℕ) (o : Option ℕ) (e : Effect) → 
 mark_is types size None e h = absurd (cc)
 mark_is types size (Some at) e h = (at, refl, same_effect h)
 
--- what is stored is no pointer, or is one that can be kept
+-- the stored value isn't a pointer, or it is one and its place can keep it: eight bytes at a multiple of eight
 abbrev KeepsOrNot : RegType → Bool → Effect → Effect → Type 0
 KeepsOrNot value pointer x e = ((pointer ≡ false) × (x ≡ e)) ⊎ ((pointer ≡ true) × (is_aligned x.len x.at ≡ true) × (record x { kept = value } ≡ e))
 
@@ -153,7 +154,7 @@ pointer_is : (value : RegType) (r : Effects) (e : Effect) → keeps_pointer valu
 pointer_is value (Err f) e h = absurd (cc)
 pointer_is value (Ok x) e h = (x, refl, by_pointer (is_pointer value) value x e h)
 
--- a load gives a number, or the pointer that is spilled
+-- a load gives either the type that `load_type` gives, or the type of the spilled pointer
 kept_cases : (k : RegType) (b : Bool) (r : Result RegType Flaw) (t : RegType) → is_unset k ≡ b → cond b r (typed_as k) ≡ typed_as t
     → ((b ≡ true) × (r ≡ typed_as t)) ⊎ ((is_unset k ≡ false) × (typed_as k ≡ typed_as t))
 kept_cases k true r t u h = inl (refl, h)
@@ -188,7 +189,7 @@ store_is types (Stk k) (Context n) i size e h g = absurd h
 abbrev marked_by : List RegType → ℕ → ℕ → Effect
 marked_by types at len = record { types = types; at = at; len = len; kept = Anything }
 
--- R6 to R10 keep their types and values over a call
+-- after a call the registers fit their types: R0 is a number, R1 to R5 are unset, and R6 to R10 are as before
 called_fits : (types : List RegType) (values : List Value) (n r : ℕ) → ((q : ℕ) → FitsType (type_at types q) (register values q))
     → FitsType (type_at (after_call types) r) (register (Number n ∷ Unset ∷ Unset ∷ Unset ∷ Unset ∷ Unset ∷ drop 6 values) r)
 called_fits types values n zero h = tt
@@ -324,7 +325,7 @@ module _ (terms : LoadOptions) (fact after : Fact) (s : State) (fits : Fits fact
       (subst (λ o. Follows terms.mask after ((s.pc + 1) ∷ []) s (where_some o (λ n. sets s i.dst (Number (f n))))) (sym g.3)
       (sets_follow e i.dst r (Some (Number (f g.0))) is small h (λ t k. subst (λ u. FitsType u (Number (f g.0))) (g.4 ∙ same_type x.0 t (sym x.1 ∙ k)) tt)))
 
-  -- a pointer that is spilled at a place is kept there
+  -- if a fact has a spill for an aligned place, then the stack keeps a pointer of that type there
   spill_test : (size at : ℕ) (b : Bool) → is_aligned size at ≡ b → is_unset (cond b (spilled_type (slice_index fact.spills (at / 8))) Anything) ≡ false
       → (w : Value) × (is_aligned size at ≡ true) × (kept_at s.stack at ≡ Some w) × FitsType (cond b (spilled_type (slice_index fact.spills (at / 8))) Anything) w
   spill_test size at true a u =
@@ -443,7 +444,7 @@ module _ (terms : LoadOptions) (fact after : Fact) (s : State) (fits : Fits fact
   stored_pointer i size Unset p = absurd p
   stored_pointer i size (Number n) p = absurd p
 
-  -- a stored pointer that can be kept is kept
+  -- a store of a pointer to an aligned place of eight bytes keeps the pointer, and the state after it fits the fact after it
   keeps_follow : (i : Inst) (size : ℕ) (x e : Effect) (t : RegType) (v : Value) → IsAfter fact e after → size ≤ 8
       → store_type fact.types (type_at fact.types i.dst) i size ≡ ok_of x → is_aligned x.len x.at ≡ true → record x { kept = t } ≡ e → is_pointer t ≡ true
       → FitsType t v → Follows terms.mask after ((s.pc + 1) ∷ []) s (stores_value s i size v)
@@ -528,7 +529,7 @@ module _ (terms : LoadOptions) (fact after : Fact) (s : State) (fits : Fits fact
             (kept_after_bytes fact.spills after.spills s.stack at bytes now.spills fits.spills k);
       }
 
-  -- one instruction
+  -- a well typed instruction leads to one of its units, in a state that fits the fact after it, or it ends the run
   pub step_follows : (context : List ℕ) → length context ≡ context_len terms.layout
       → (view : View) (i : Inst) (upper : ℤ) (form : Form) (e : Effect) (tos : List ℕ) → i.dst ≤ 10 → IsAfter fact e after
       → effect terms fact i upper form ≡ ok_of e → leads s.pc i form ≡ Some tos → Follows terms.mask after tos s (act terms.mask context view s i upper form)

@@ -101,7 +101,7 @@ stored_pushed (s ∷ rest) at f none q =
 pub stored_here : (facts : List StoredFact) (at k : ℕ) (f : Fact) → IsPlace facts at k → stored (slice_set facts k (stored_fact at f)) at ≡ Some f
 stored_here facts at k f p = stored_set facts at k f p at ∙ cond-true (at == at) (Some f) (stored facts at) (eq-eqb at at refl)
 
--- the first stored fact of a unit is joined with another one
+-- the stored fact of unit `at`, with index k in the list, is replaced by its join with another fact
 module _ (facts : List StoredFact) (at k : ℕ) (d : StoredFact) (f fact : Fact) (p : IsPlace facts at k)
     (same : IsSame f (join_fact (slice_index_or facts k d).fact fact)) where
   set_here : (q : ℕ) → q ≡ at → stored (slice_set facts k (stored_fact at f)) q ≡ Some f
@@ -132,7 +132,7 @@ module _ (facts : List StoredFact) (at k : ℕ) (d : StoredFact) (f fact : Fact)
         kept = λ q. elim (cases_eq q at) [ inl e ↦ ap is_some (set_here q e) ∙ sym (ap is_some (held_here q e)) | inr n ↦ ap is_some (set_elsewhere q n) ];
       }
 
--- where a unit has a stored fact, a fact that enters there is taken in
+-- a fact that a jump brings to a unit with a stored fact is joined with that one
 pub entered_at : (facts new : List StoredFact) (at : ℕ) (fact : Fact) (o : Option ℕ) (b : Bool) → is_some o ≡ true → IfSome o (λ k. IsPlace facts at k)
     → (IsTrue b → IsJoined at fact (stored facts) (stored new)) → (b ≡ false → stored facts at ≡ None) → (q : ℕ)
     → AreSame (stored new q) (arrived q fact at (stored facts q))
@@ -141,7 +141,7 @@ entered_at facts new at fact (Some k) true some place joined none q = (joined re
 entered_at facts new at fact (Some k) false some place joined none q =
     absurd (no_some (ap is_some (sym (stored_at facts at k (stored_fact at fact) place) ∙ none refl)))
 
--- ---- where each is found
+-- ---- the index of each stored fact
 
 none_stored : (facts : List StoredFact) (at : ℕ) → stored facts at ≡ None → (j : ℕ) (d : StoredFact) → j < length facts → (slice_index_or facts j d).at ≢ at
 none_stored [] at none j d l = absurd (omega (arith, l))
@@ -149,7 +149,7 @@ none_stored (s ∷ rest) at none zero d l =
     λ e. no_some (ap is_some (sym (cond-true (at == s.at) (Some s.fact) (stored rest at) (eq-eqb at s.at (sym e))) ∙ none))
 none_stored (s ∷ rest) at none (suc j) d l = none_stored rest at (none_of (at == s.at) s.fact (stored rest at) none).1 j d (omega (arith, l))
 
--- a changed fact is at the place of the old one
+-- changing the fact at index k doesn't change which unit each index of the list belongs to
 at_kept : (facts : List StoredFact) (at k : ℕ) (f : Fact) → IsPlace facts at k → (j : ℕ) (d : StoredFact)
     → (slice_index_or (slice_set facts k (stored_fact at f)) j d).at ≡ (slice_index_or facts j d).at
 at_kept facts at k f p j d =

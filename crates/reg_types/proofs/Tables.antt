@@ -69,7 +69,7 @@ join_right (Ctx k) (Ctx m) v h = kept_right (k == m) (Ctx k) (Ctx m) v (λ e. ap
 join_right (Stk k) (Stk m) v h = kept_right (int_eq k m) (Stk k) (Stk m) v (λ e. ap Stk ((Decides-int_eq k m).0 e)) h
 join_right a b v h = tt
 
--- where the stack keeps what a fact's spills say, it keeps what the join's spills say
+-- if the stack keeps the pointer of a fact's spill k, then it also keeps that of spill k of a join with this fact
 spills_left : (a b j : List ℕ) (stack : List Cell) (k : ℕ) → j ≡ join_spills a b → IsKept (spilled_type (slice_index a k)) stack (8 * k)
     → IsKept (spilled_type (slice_index j k)) stack (8 * k)
 spills_left a b j stack k e h =
@@ -86,7 +86,7 @@ spills_right a b j stack k e h =
       | inr none ↦ nothing_kept (slice_index (join_spills a b) k) stack (8 * k) none
     ])
 
--- a join, register by register and place by place, is above both facts
+-- each state that fits one of two facts fits their join; the join is given register by register and place by place
 pub below_left : (a b j : Fact) → ((r : ℕ) → type_at j.types r ≡ join_type (type_at a.types r) (type_at b.types r)) → ((p : ℕ) → Has j.stack p → Has a.stack p)
     → j.spills ≡ join_spills a.spills b.spills → IsBelow a j
 below_left a b j e h n =
@@ -119,7 +119,7 @@ below_right a b j e h n =
           };
     }
 
--- one more register is joined
+-- if all registers below r are joined, and register r is set to its join, then all registers below r + 1 are joined
 pub join_step : (ts a b : List RegType) (r : ℕ) (v : RegType) → r < length ts → v ≡ join_type (type_at a r) (type_at b r)
     → ((k : ℕ) → k < r → type_at ts k ≡ join_type (type_at a k) (type_at b k)) → (k : ℕ) → k < r + 1
     → type_at (slice_set ts r v) k ≡ join_type (type_at a k) (type_at b k)

@@ -1,4 +1,4 @@
--- Values fit the types that the rules give.
+-- The result of arithmetic fits the type that the verifier's typing rules give it.
 use Rattle.std.proofs.Common.{◌≡◌, ℕ, zero, suc, ◌+◌, ◌-◌, ◌<◌, List, Option, Some, None, Bool, true, false, refl, sym, ap, ◌∙◌, subst, arith}
 use Rattle.std.specs.Prelude.{Result, Ok, Err, ℤ, pos, negsuc, ◌+ℤ◌, neg_ℤ, int_le, ◌&&◌, ◌||◌, cond, nat_le, nat_lt}
 use Rattle.std.proofs.lemmas.Bool.Decides.{nat_tests}
@@ -24,7 +24,7 @@ use Rattle.reg_types.specs.declared.types.Flaw.TheVariants.{NotANumber, OutOfRan
 use Rattle.reg_types.specs.Rules.{is_unset, is_pointer, one_number, two_numbers, ctx_at, stk_at, sum_type, copied_type, is_plain, alu_type}
 use Rattle.reg_types.specs.Facts.{FitsType}
 
--- there is a value, and it fits
+-- the result is a value that fits the type, and not None
 abbrev pub Gives : Option Value → RegType → Type 0
 Gives None t = ⊥
 Gives (Some v) t = FitsType t v
@@ -41,7 +41,7 @@ ok_of t = Ok t
 ok_inj : {x y : RegType} → ok_of x ≡ ok_of y → x ≡ y
 ok_inj e = cc
 
--- a type that is neither unset nor a pointer is a number's
+-- a value that fits a type which is neither unset nor a pointer's is a number
 is_number : (t : RegType) (v : Value) → FitsType t v → is_unset t ≡ false → is_pointer t ≡ false → HasNumber v
 is_number Anything v h a b = absurd (cc)
 is_number Num (Number n) h a b = (n, refl)
@@ -125,7 +125,7 @@ down_fits n m k h a b = (grind (arith, ints, nat_tests), grind (arith, ints, nat
 down_is : (n m : ℕ) (k : ℤ) → m < n → pos n ≡ (k +ℤ pos 512) → pos (n - suc m) ≡ ((k +ℤ negsuc m) +ℤ pos 512)
 down_is n m k l h = omega (arith, ints)
 
--- a stack pointer n bytes above the lowest byte fits the moved type once it has moved
+-- a stack pointer that is moved by z fits the type of its register moved by z
 stk_moved : (n : ℕ) (k z : ℤ) (t : RegType) → pos n ≡ (k +ℤ pos 512) → stk_at (k +ℤ z) ≡ ok_of t → Gives (map_option Stack (shifted n z 512)) t
 stk_moved n k (pos m) t h e =
     let x = stk_test (int_le (negsuc 511) (k +ℤ pos m) && int_le (k +ℤ pos m) (pos 0)) (k +ℤ pos m) t e in
@@ -195,7 +195,7 @@ moved (pos zero) src b vb t g e = copied src b vb t g e
 moved (pos (suc n)) src b vb t g e = on_one (alu Mov Bits64 (pos (suc n)) 0) src b vb t g e
 moved (negsuc n) src b vb t g e = on_one (alu Mov Bits64 (negsuc n) 0) src b vb t g e
 
--- what arithmetic gives fits the type that the rules give
+-- the result of an arithmetic instruction fits the type that the typing rules give for it
 pub arithmetic : (layout : Layout) (room : ℕ) → room ≡ context_len layout
     → (op : Operator) (w : Width) (s : Source) (i : Inst) (registers : List Value) (a b : RegType) (va : Value) (t : RegType) → FitsType a va
     → FitsType b (operand s w i registers) → alu_type layout op w s i a b ≡ Ok t → Gives (alu_value room op w s i va (operand s w i registers)) t

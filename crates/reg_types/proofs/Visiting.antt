@@ -1,4 +1,4 @@
--- One unit of the pass, and the whole of it.
+-- The verifier's pass over the units: one unit of it, and the whole pass.
 use Rattle.std.proofs.Common.{◌≡◌, ◌≢◌, ℕ, suc, ◌+◌, ◌<◌, ◌≤◌, List, [], ◌∷◌, Option, Some, None, Bool, true, false, refl, sym, ap, ◌∙◌, subst, inl, inr, arith}
 use Rattle.std.proofs.Common.{add-one, length}
 use Rattle.std.specs.Prelude.{Result, Ok, Err, OnOk, IfErr, IfSome, IsSome, is_some, ◌&&◌, ◌||◌, ℤ, slice_get, ◌==◌, cond}
@@ -56,7 +56,7 @@ same_tos o x y a b = cc
 abbrev err_of : Flaw → Result Effect Flaw
 err_of flaw = Err flaw
 
--- ---- where something is stored
+-- ---- units that have a stored fact
 
 same_some : (a b : Option Fact) → AreSame a b → is_some a ≡ is_some b
 same_some None None h = refl
@@ -88,7 +88,8 @@ jumped_some q fact (Next to) old = or_no (is_some old)
 jumped_some q fact (Jump to) old = entered_if (q == to) (taken_in old fact) old
 jumped_some q fact (Either to next) old = entered_if (q == to) (taken_in old fact) old
 
--- what the jumps bring and what is carried on lead where the instruction does
+-- joining a fact into the jump's target, and carrying it to the next instruction, takes it along all edges of the
+-- instruction
 seen_led : (q : ℕ) (fact : Fact) (next : Successors) (old new : Option Fact) → AreSame new (arrived_all q fact (jumps_of next) old)
     → AreSame (brought q (carried_of fact next) new) (arrived_all q fact (list_of next) old)
 seen_led q fact End old new h = h
@@ -106,7 +107,7 @@ module _ (us : List ProgramUnit) (terms : LoadOptions) (pc : ℕ) (i : Inst) (fa
       × AllByRecursion (IsAhead us pc) tos
   ahead_of e j = leads_ahead sound.bytes us sound.reads pc i at sound.forward form is (judged_is (length us) pc terms fact i upper form e (sym j)).0
 
-  -- the instruction leads somewhere
+  -- an accepted instruction has defined successors: `leads` isn't None
   pub leads_somewhere : (e : Effect) → ok_of e ≡ judged (length us) pc terms fact i upper form → None ≡ leads pc i form → ⊥
   leads_somewhere e j none = let a = ahead_of e j in never_none (leads pc i form) a.0 none a.1
 
@@ -122,7 +123,7 @@ module _ (us : List ProgramUnit) (terms : LoadOptions) (pc : ℕ) (i : Inst) (fa
       ∙ ap (λ r. passed_by q fact r (leads pc i form) old) (sym (j ∙ ap (λ u. judged (length us) pc terms fact i u form) up))
       ∙ ap (λ o. passed_by q fact (Ok e) o old) (sym to)
 
-  -- what an accepted instruction does to what is known of each unit
+  -- joining the fact after an accepted instruction into each unit that it leads to is what `passed` defines
   passed_to : (e : Effect) (after : Fact) (next : Successors) → upper ≡ upper_of us pc → ok_of e ≡ judged (length us) pc terms fact i upper form
       → IsAfter fact e after → some_of (list_of next) ≡ leads pc i form → (q : ℕ) (old new : Option Fact) → AreSame new (arrived_all q after (list_of next) old)
       → AreSame new (passed us terms pc (Some fact) q old)
@@ -142,7 +143,7 @@ module _ (us : List ProgramUnit) (terms : LoadOptions) (pc : ℕ) (i : Inst) (fa
   jumps_ahead (Jump to) h = h
   jumps_ahead (Either to next) h = (h.0, tt)
 
-  -- an instruction begins where the fact is carried to
+  -- an instruction begins at the unit that the fact is carried to
   goes_to : (after : Fact) (next : Successors) → IsNext pc form next → AllByRecursion (IsAhead us pc) (list_of next)
       → IsCarriedTo us (pc + 1) (carried_of after next)
   goes_to after End n h = tt
@@ -156,12 +157,12 @@ module _ (us : List ProgramUnit) (terms : LoadOptions) (pc : ℕ) (i : Inst) (fa
     ],
   )
 
-  -- the unit's jump goes where its instruction's does
+  -- the target of the jump at unit pc is the target of the instruction that begins there
   target_is : target us pc ≡ target_by pc form i
   target_is =
       ap (λ o. and_then (and_then o distance_of) (λ z. shifted (pc + 1) z 512)) at ∙ ap (λ o. and_then (distance_by o i) (λ z. shifted (pc + 1) z 512)) is
 
-  -- the jump goes to a unit of a program
+  -- the target of the jump is at most 512
   small_jump : (next : Successors) → AllByRecursion (IsAhead us pc) (jumps_of next) → IfSome (jump_of next) (λ to. to ≤ 512)
   small_jump End h = tt
   small_jump (Next to) h = tt
@@ -172,7 +173,8 @@ module _ (us : List ProgramUnit) (terms : LoadOptions) (pc : ℕ) (i : Inst) (fa
       → IfSome (jump_of next) (λ to. to ≤ 512)
   jump_small e next j to = small_jump next (jumps_ahead next (next_ahead e next j to))
 
-  -- the stored facts after an instruction, and the one that is carried on
+  -- an instruction is visited if it is accepted, the fact after it is joined into its jump's target, and carried to the
+  -- next instruction
   pub visited : (e : Effect) (after : Fact) (next : Successors) (carried : Option StoredFact) (old new : Facts) → upper ≡ upper_of us pc
       → ok_of e ≡ judged (length us) pc terms fact i upper form → IsAfter fact e after → some_of (list_of next) ≡ leads pc i form → IsNext pc form next
       → jump_of next ≡ target_by pc form i → carried ≡ carried_of after next → ((q : ℕ) → AreSame (new q) (arrived_all q after (jumps_of next) (old q)))
@@ -216,7 +218,7 @@ AreStored-refl (Some a) = AreSame-refl (Some a)
 no_two : (i : Inst) (v : ℤ) (o : Option ProgramUnit) → o ≡ Some (First i) → o ≡ Some (Second v) → ⊥
 no_two i v o a b = cc
 
--- where an instruction begins at unit pc, the fact is carried to pc itself
+-- if an instruction begins at unit pc, then a fact that is carried on is for unit pc, not for the one after it
 pub at_first : (us : List ProgramUnit) (pc : ℕ) (i : Inst) (c : Option StoredFact) → slice_get us pc ≡ Some (First i) → IsCarriedTo us pc c → IsCarriedAt pc c
 at_first us pc i None first c = tt
 at_first us pc i (Some s) first c = elim c.1 [ inl e ↦ e | inr w ↦ absurd (no_two i w.1.0 (slice_get us pc) first w.1.1) ]
@@ -294,7 +296,7 @@ module _ (us : List ProgramUnit) (terms : LoadOptions) (pc : ℕ) (carried : Opt
       | inr w ↦ ((c.0, inl w.0), λ x. not_arrived pc s.at s.fact x (let e = w.0 in omega (arith, e)))
     ]
 
-    -- nothing happens at the second unit of a wide load
+    -- at the second unit of a wide load the pass changes nothing
     pub stays : IsCarriedTo us pc carried → IsPassed us terms pc carried carried old old
     stays c =
         let f = further carried c in
@@ -311,7 +313,7 @@ module _ (us : List ProgramUnit) (terms : LoadOptions) (pc : ℕ) (carried : Opt
               ∙ ap (λ o. is_some (old q) || (is_some (seen carried old pc) && goes o q)) (sym no_jump);
         }
 
--- ---- settling
+-- ---- the fact before a unit: the stored and the carried one joined
 
 pub settled_by : (pc : ℕ) (s : StoredFact) (joined : Fact) (old new : Facts) → s.at ≡ pc → new pc ≡ Some joined → IsJoined pc s.fact old new
     → IsSettled pc (Some s) (Some joined) old new
@@ -350,8 +352,9 @@ pub start_same : (us : List ProgramUnit) (terms : LoadOptions) (f : Fact) → Is
 unfolding known
 start_same us terms f entry q = entry_by (q == 0) f (same_entry f entry)
 
--- after the units below pc: their stored facts are what is inferred of them, none of them has a flaw, and of each unit from pc
--- on, what the edges from below bring is known
+-- The invariant of the pass before unit pc. No unit below pc has a flaw, and a fact that is stored for one says the
+-- same as the inferred fact. For each unit from pc on, the stored and the carried fact say what the edges from the
+-- units below pc bring to it.
 pub record IsReached (us : List ProgramUnit) (terms : LoadOptions) (carried : Option StoredFact) (facts : Facts) (pc : ℕ) : Type 0 where
   pub behind : (q : ℕ) → q < pc → AreStored (facts q) (inferred us terms q)
   pub ahead : (q : ℕ) → pc ≤ q → AreSame (seen carried facts q) (known us terms pc q)

@@ -26,7 +26,7 @@ use Rattle.reg_types.proofs.Accepted.{instruction_is}
 no_two_truths : true ≡ false → ⊥
 no_two_truths e = absurd (cc)
 
--- neither the jump's target nor the next instruction
+-- unit q is neither the target of the instruction's jump nor the unit of the next instruction
 record IsElsewhere (pc q : ℕ) (i : Inst) (form : Form) : Type 0 where
   pub jump : target_by pc form i ≢ Some q
   pub next : q ≢ following pc form
@@ -35,7 +35,7 @@ abbrev led : ℕ → Fact → Option (List ℕ) → Option Fact → Option Fact
 led q fact None o = o
 led q fact (Some tos) o = arrived_all q fact tos o
 
--- a jump that goes elsewhere brings nothing to unit q, if the other edges bring nothing
+-- a jump to another unit than q doesn't change what is known of q
 jump_elsewhere : (q : ℕ) (fact : Fact) (to : Option ℕ) (tos : List ℕ) (o : Option Fact) → to ≢ Some q → ((p : Option Fact) → arrived_all q fact tos p ≡ p)
     → led q fact (option_cons to tos) o ≡ o
 jump_elsewhere q fact None tos o n rest = refl
@@ -69,7 +69,7 @@ module _ (us : List ProgramUnit) (terms : LoadOptions) (pc q : ℕ) (no_jump : t
       let is = instruction_is (slice_get us pc) x at in
       ap (λ o. and_then (and_then o distance_of) (λ z. shifted (pc + 1) z 512)) is.0 ∙ ap (λ o. and_then (distance_by o x.0) (λ z. shifted (pc + 1) z 512)) is.1
 
-  -- a unit brings nothing to one that its jump doesn't go to and that isn't next
+  -- an instruction doesn't change what is known of unit q if q is neither its jump's target nor the next instruction
   from_elsewhere : (fact : Fact) (o : Option (Inst × Form)) (old : Option Fact) → instruction_at us pc ≡ o
       → ((x : Inst × Form) → o ≡ Some x → q ≢ following pc x.1) → passed_from us terms pc fact o q old ≡ old
   from_elsewhere fact None old at n = refl
@@ -105,7 +105,7 @@ one_instruction : (x y : Inst × Form) (o : Option (Inst × Form)) → o ≡ Som
 one_instruction x y o a b = cc
 
 module _ (us : List ProgramUnit) (terms : LoadOptions) (q : ℕ) where
-  -- the instruction before unit q has been passed, and what is known of q is what it leaves
+  -- the instruction before unit q is one of the first n units, and all that is known of q is the fact after that instruction
   record IsLast (n : ℕ) : Type 0 where
     before : ℕ
     below : before < n
@@ -180,7 +180,8 @@ module _ (us : List ProgramUnit) (terms : LoadOptions) (q : ℕ) where
               h
         ]
 
-    -- if no reached jump below n goes to unit q, then nothing is known of q, or what the instruction before it leaves
+    -- If no reached jump below n goes to unit q, and q isn't 0, then q isn't reached, or has only the fact after the
+    -- instruction before it.
     lasts : (n : ℕ) → is_entered us terms n q ≡ false → (known us terms n q ≡ None) ⊎ IsLast n
     unfolding known is_entered
     lasts zero e = inl (cond-false (q == 0) (Some entry_fact) None e)
@@ -205,6 +206,6 @@ module _ (us : List ProgramUnit) (terms : LoadOptions) (q : ℕ) where
           | inr is ↦ inr (record { before = is.before; instruction = is.instruction; stands = is.stands; next = is.next; is = is.is })
         ]
 
--- a fact that isn't stored is what the instruction before its unit leaves
+-- a unit without a stored fact isn't reached, or its fact is the one after the instruction before it
 pub walked : (bytes : List ℕ) (us : List ProgramUnit) (terms : LoadOptions) → units bytes ≡ Some us → AreWalked us terms
 walked bytes us terms reads q e l = walks us terms q bytes reads e l

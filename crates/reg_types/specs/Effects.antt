@@ -4,8 +4,8 @@ use Rattle.reg_types.specs.declared.types.RegType.{RegType}
 use Rattle.reg_types.specs.declared.types.StackWrite.{StackWrite}
 use Rattle.reg_types.specs.declared.types.Flaw.{Flaw}
 
--- The types after the instruction, and the bytes of the stack that it writes: `len` of them from `at` on. `kept` is the type of
--- the pointer that it spills there, or `Unset` where it sets the bytes.
+-- The types after an instruction, and the bytes of the stack that it writes: `len` of them from `at` on. `kept` is the
+-- type of the pointer that it spills there, or `Unset` if it writes a number's bytes.
 pub record Effect : Type 0 where
   pub types : List RegType
   pub at : ℕ

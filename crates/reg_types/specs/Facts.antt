@@ -32,8 +32,8 @@ use Rattle.operations.specs.Operations.{upper_of}
 
 -- ---- states that fit
 
--- the value is as the type says; a stack type counts from the stack's end, and a value from its lowest byte, 512 bytes
--- below
+-- The value is one that the type allows. A stack pointer's type counts from the stack's end, and its value from the
+-- stack's lowest byte, which is 512 bytes below.
 abbrev pub FitsType : RegType → Value → Type 0
 FitsType Anything v = ⊤
 FitsType Num (Number n) = ⊤
@@ -45,11 +45,11 @@ FitsType t v = ⊥
 abbrev pub HasByte : Cell → Type 0
 HasByte c = (b : ℕ) × (c ≡ Byte b)
 
--- each byte of the stack whose place is in the set is set
+-- each cell of the stack whose place is in the set holds a byte
 pub record Covered (set : List Bool) (stack : List Cell) : Type 0 where
   pub bytes : (p : ℕ) → Has set p → HasByte (cell_at stack p)
 
--- if the type isn't Unset, a value that fits it is stored at the place
+-- if the type isn't Unset, the stack keeps a pointer that fits the type in the eight cells from `at` on
 abbrev pub IsKept : RegType → List Cell → ℕ → Type 0
 IsKept t stack at = is_unset t ≡ false → (v : Value) × FitsType t v × (kept_at stack at ≡ Some v)
 
@@ -60,7 +60,7 @@ pub record Fits (fact : Fact) (s : State) : Type 0 where
   pub long : length s.stack ≡ 512
   pub spills : (k : ℕ) → IsKept (spilled_type (slice_index fact.spills k)) s.stack (8 * k)
 
--- every state that fits the first fits the second
+-- every state that fits `fact` also fits `wider`, which says less
 pub record IsBelow (fact wider : Fact) : Type 0 where
   pub weakens : (s : State) → Fits fact s → Fits wider s
 
@@ -93,14 +93,14 @@ jump_of (Next to) = None
 jump_of (Jump to) = Some to
 jump_of (Either to next) = Some to
 
--- the next instruction, if this one can go on to it
+-- the unit of the next instruction, if a run can go on there
 abbrev pub next_of : Successors → Option ℕ
 next_of End = None
 next_of (Next to) = Some to
 next_of (Jump to) = None
 next_of (Either to next) = Some next
 
--- the fact as it is carried on to the next instruction, if this one can go on to it
+-- the fact after an instruction, with the unit of the next one that it is carried to; None if a run can't go on there
 abbrev pub carried_of : Fact → Successors → Option StoredFact
 carried_of fact End = None
 carried_of fact (Next to) = Some (record { at = to; fact = fact })
@@ -120,7 +120,7 @@ IsNext pc form (Either to next) = next ≡ pc + 1
 abbrev pub Facts : Type 0
 Facts = ℕ → Option Fact
 
--- the facts of a list, each found by its unit
+-- the facts of a list as a table: each is found by its unit
 abbrev pub stored : List StoredFact → Facts
 stored [] q = None
 stored (s ∷ rest) q = if q == s.at then Some s.fact else stored rest q
@@ -143,7 +143,7 @@ pub record IsIndexed (facts : List StoredFact) (places : List ℕ) : Type 0 wher
   pub some : (q k : ℕ) → slice_index places q ≡ suc k → IsPlace facts q k
   pub distinct : AreDistinct facts
 
--- a carried fact with the unit that it is carried to, if there is one
+-- the fact with the unit that it is carried to; None if it isn't carried on
 abbrev pub carried_to : Option ℕ → Fact → Option StoredFact
 carried_to None fact = None
 carried_to (Some at) fact = Some (record { at = at; fact = fact })
@@ -151,8 +151,8 @@ carried_to (Some at) fact = Some (record { at = at; fact = fact })
 abbrev pub carried_in : CarriedFact → Option StoredFact
 carried_in running = carried_to running.at running.fact
 
--- place p is in the set after a write of `len` bytes from `at` on: a number's bytes (true) are added, a pointer's (false) are
--- removed
+-- Place p is in the set after a write of `len` bytes from `at` on. The bytes of a number (true) are added to the set,
+-- and those of a pointer (false) are removed.
 abbrev pub HasAfter : Bool → List Bool → ℕ → ℕ → ℕ → Type 0
 HasAfter true set at len p = Has set p ⊎ Within at len p
 HasAfter false set at len p = Has set p × ¬ (Within at len p)
@@ -164,7 +164,7 @@ pub record IsAfter (fact : Fact) (effect : Effect) (after : Fact) : Type 0 where
   pub places : (p : ℕ) → Has after.stack p ↔ HasAfter (is_unset effect.kept) fact.stack effect.at effect.len p
   pub spills : after.spills ≡ respilled (spill_of effect.kept) effect.at effect.len 0 fact.spills
 
--- the unit has a fact, and every state that fits `fact` fits that one too
+-- unit `to` has a fact, and every state that fits `fact` fits that fact too
 pub record Enters (facts : Facts) (fact : Fact) (to : ℕ) : Type 0 where
   pub wider : Fact
   pub is : facts to ≡ Some wider
@@ -200,7 +200,7 @@ pub record Covers (us : List ProgramUnit) (terms : LoadOptions) (facts : Facts) 
   pub entered : Enters facts start 0
   pub each : (pc : ℕ) (i : Inst) (fact : Fact) → slice_get us pc ≡ Some (First i) → facts pc ≡ Some fact → IsTyped us terms facts pc i fact
 
--- a state before a reached instruction, which fits its fact
+-- the state is before an instruction whose unit has a fact, and it fits this fact
 pub record IsAt (us : List ProgramUnit) (facts : Facts) (s : State) : Type 0 where
   pub unit : Inst
   pub begins : slice_get us s.pc ≡ Some (First unit)
@@ -208,13 +208,13 @@ pub record IsAt (us : List ProgramUnit) (facts : Facts) (s : State) : Type 0 whe
   pub is : facts s.pc ≡ Some fact
   pub fits : Fits fact s
 
--- the bytes are these units, and some facts cover them
+-- the bytes are decoded as the units `us`, and some facts cover these units
 pub record IsCovered (bytes : List ℕ) (terms : LoadOptions) (us : List ProgramUnit) : Type 0 where
   pub reads : units bytes ≡ Some us
   pub facts : Facts
   pub covers : Covers us terms facts
 
--- units of a program whose jumps all go forward to instructions
+-- the units are those of a program whose jumps all go forward to instructions
 pub record IsSound (us : List ProgramUnit) : Type 0 where
   pub bytes : List ℕ
   pub reads : units bytes ≡ Some us

@@ -1,5 +1,5 @@
--- Definitions: what is known before each unit of a program, and the first unit that the rules refuse (this profile,
--- type rules).
+-- Definitions: what is known before each unit of a program, and the first unit that the typing rules refuse (this
+-- profile, type rules).
 use Rattle.std.specs.Prelude.{ℕ, zero, suc, ◌+◌, pos, ◌==◌, ◌&&◌, ◌||◌, is_some, if◌then◌else◌, Bool, true, false, List, [], ◌∷◌, length, drop, replicate}
 use Rattle.std.specs.Prelude.{slice_get, slice_index_or, nat_lt, ◌*◌, Option, Some, None, Result, Ok, Err}
 use Rattle.bpf_model.specs.declared.instruction.Inst.{Inst}
@@ -43,7 +43,7 @@ cleared (suc at) len set = slice_index_or set 0 false ∷ cleared at len (drop 1
 
 -- ---- spills of the 64 aligned places, from the lowest on
 
--- the join of spills: a spill that both have stays, and where they differ there is none
+-- the join of spills: a spill that is the same in both stays, and all others become 0 (no pointer)
 abbrev pub join_spills : List ℕ → List ℕ → List ℕ
 join_spills [] bs = []
 join_spills (a ∷ rest) [] = []
@@ -53,7 +53,8 @@ join_spills (a ∷ rest) (b ∷ bs) = (if a == b then a else 0) ∷ join_spills 
 abbrev pub touches : ℕ → ℕ → ℕ → Bool
 touches at len k = nat_lt at (8 * k + 8) && nat_lt (8 * k) (at + len)
 
--- the spills of place k and the places above it, after those of the touched places have become n
+-- A list of the spills from place k on, after a store of `len` bytes from `at` on. The spills of the places that it
+-- touches become n.
 abbrev pub respilled : ℕ → ℕ → ℕ → ℕ → List ℕ → List ℕ
 respilled n at len k [] = []
 respilled n at len k (m ∷ rest) = (if touches at len k then n else m) ∷ respilled n at len (suc k) rest
@@ -65,7 +66,7 @@ join_types [] bs = []
 join_types (a ∷ rest) [] = []
 join_types (a ∷ rest) (b ∷ bs) = join_type a b ∷ join_types rest bs
 
--- the join of two facts: what both say
+-- the join of two facts: what is true by both of them
 abbrev pub join_fact : Fact → Fact → Fact
 join_fact a b =
     record { types = join_types a.types b.types; stack = common a.stack b.stack; spills = join_spills a.spills b.spills }
@@ -123,11 +124,11 @@ instruction_of (Some (First i)) = form_with i (form_of i.opcode)
 abbrev pub instruction_at : List ProgramUnit → ℕ → Option (Inst × Form)
 instruction_at us pc = instruction_of (slice_get us pc)
 
--- what the rules say of the instruction at a unit under a fact
+-- the effect of the instruction at unit pc by the typing rules, if `fact` is known before it; or its flaw
 abbrev pub ruled : List ProgramUnit → LoadOptions → ℕ → Fact → Inst × Form → Result Effect Flaw
 ruled us terms pc fact x = judged (length us) pc terms fact x.0 (upper_of us pc) x.1
 
--- the fault that the rules found in a unit's instruction, if any; a unit that no run reaches has no fact, and no fault
+-- the flaw of the instruction at unit pc, as a fault that names the unit; None if the instruction has an effect
 abbrev pub flaw_in : ℕ → Result Effect Flaw → Option TypeFault
 flaw_in pc (Ok effect) = None
 flaw_in pc (Err flaw) = Some (located pc flaw)
@@ -147,7 +148,7 @@ abbrev pub taken_in : Option Fact → Fact → Fact
 taken_in None fact = fact
 taken_in (Some old) fact = join_fact old fact
 
--- what is known of unit q after a fact has come to unit `to`
+-- what is known of unit q after an edge has brought `fact` to unit `to`; before the edge, it was `old`
 abbrev pub arrived : ℕ → Fact → ℕ → Option Fact → Option Fact
 arrived q fact to old = if q == to then Some (taken_in old fact) else old
 
@@ -155,7 +156,8 @@ abbrev pub arrived_all : ℕ → Fact → List ℕ → Option Fact → Option Fa
 arrived_all q fact [] old = old
 arrived_all q fact (to ∷ tos) old = arrived_all q fact tos (arrived q fact to old)
 
--- what is known of unit q after the edges of an instruction; a refused instruction has no edges
+-- what is known of unit q after all edges of an instruction have brought the fact after it; a refused instruction has
+-- no edges
 abbrev pub passed_by : ℕ → Fact → Result Effect Flaw → Option (List ℕ) → Option Fact → Option Fact
 passed_by q fact (Err flaw) tos old = old
 passed_by q fact (Ok effect) None old = old
@@ -185,8 +187,8 @@ abbrev pub or_else : Option TypeFault → Option TypeFault → Option TypeFault
 or_else None b = b
 or_else (Some fault) b = Some fault
 
--- the first fault among the first n units: that of the lowest unit that is reached and refused, with its flaw of the lowest V
--- number
+-- The first fault among the first n units. It is that of the lowest unit that is reached and refused, and there the one
+-- with the lowest V number.
 unfoldable pub first_flaw_below : List ProgramUnit → LoadOptions → ℕ → Option TypeFault
 first_flaw_below us terms zero = None
 first_flaw_below us terms (suc n) = or_else (first_flaw_below us terms n) (flaw_under us terms n (inferred us terms n))
@@ -196,7 +198,7 @@ first_flaw us terms = first_flaw_below us terms (length us)
 
 -- ---- where facts are stored: at the first unit, and where the jumps of reached units go
 
--- whether the target of a jump is unit q; None is no jump
+-- whether a jump goes to unit q; None stands for an instruction that isn't a jump
 abbrev pub goes : Option ℕ → ℕ → Bool
 goes None q = false
 goes (Some to) q = q == to

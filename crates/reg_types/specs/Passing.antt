@@ -1,4 +1,4 @@
--- Promises: what the pass over the units does, what it leaves, and which refusal it returns.
+-- Promises: what the verifier's pass over the units does, which facts it stores, and which refusal it returns.
 use Rattle.std.specs.Prelude.{◌≡◌, ◌≢◌, ℕ, ◌+◌, ◌<◌, ◌≤◌, ◌⊎◌, ◌↔◌, Bool, true, false, ◌&&◌, ◌||◌, is_some, ℤ, List, length, Option, Some, None, slice_get, ⊤}
 use Rattle.bpf_model.specs.declared.instruction.Unit.{Unit as ProgramUnit}
 use Rattle.bpf_model.specs.declared.instruction.Inst.{Inst}
@@ -25,7 +25,7 @@ use Rattle.reg_types.specs.Inference.{flaw_under, arrived, passed, inferred, fir
 
 -- ---- facts that say the same
 
--- they have the same types, the same bytes of the stack that are set, and the same spills
+-- the two facts have the same types, the same set of stack bytes and the same spills
 pub record IsSame (a b : Fact) : Type 0 where
   pub types : a.types ≡ b.types
   pub places : (p : ℕ) → Has a.stack p ↔ Has b.stack p
@@ -37,14 +37,14 @@ AreSame (Some a) (Some b) = IsSame a b
 AreSame None (Some b) = ⊥
 AreSame (Some a) None = ⊥
 
--- the unit's stored fact, if one is stored, says the same as this one
+-- if a fact is stored for the unit, it says the same as `fact`
 abbrev pub AreStored : Option Fact → Option Fact → Type 0
 AreStored None fact = ⊤
 AreStored (Some a) fact = AreSame (Some a) fact
 
 -- ---- the facts stored, and the one that is carried along
 
--- what is known of unit q after the carried fact, if there is one, has come to its unit
+-- what is known of unit q after the carried fact, if there is one, was joined into its unit
 abbrev pub brought : ℕ → Option StoredFact → Option Fact → Option Fact
 brought q None old = old
 brought q (Some s) old = arrived q s.fact s.at old
@@ -53,7 +53,7 @@ brought q (Some s) old = arrived q s.fact s.at old
 abbrev pub seen : Option StoredFact → Facts → Facts
 seen carried facts q = brought q carried (facts q)
 
--- the fact is carried to unit pc, or to the unit after it where pc is the second unit of a wide load
+-- a fact that is carried on is for unit pc, or for unit pc + 1 if pc is the second unit of a wide load
 abbrev pub IsCarriedTo : List ProgramUnit → ℕ → Option StoredFact → Type 0
 IsCarriedTo us pc None = ⊤
 IsCarriedTo us pc (Some s) =
@@ -63,12 +63,12 @@ abbrev pub IsCarriedAt : ℕ → Option StoredFact → Type 0
 IsCarriedAt pc None = ⊤
 IsCarriedAt pc (Some s) = s.at ≡ pc
 
--- the fact, if the unit is reached
+-- the fact as an Option: None if the Bool is false, since no run reaches the unit
 abbrev pub fact_if : Bool → Fact → Option Fact
 fact_if false fact = None
 fact_if true fact = Some fact
 
--- a fact comes to a unit that has a stored one, and is joined with it there
+-- `fact` was joined into the stored fact of unit `at`; no other fact changed
 pub record IsJoined (at : ℕ) (fact : Fact) (old new : Facts) : Type 0 where
   pub each : (q : ℕ) → AreSame (new q) (arrived q fact at (old q))
   pub kept : (q : ℕ) → is_some (new q) ≡ is_some (old q)
@@ -80,8 +80,8 @@ pub record IsSettled (pc : ℕ) (carried : Option StoredFact) (fact : Option Fac
   pub here : AreStored (new pc) fact
   pub kept : (q : ℕ) → is_some (new q) ≡ is_some (old q)
 
--- The instruction at pc has no flaw under the fact. The fact after it was joined with that of its jump's target, if it
--- has a jump, and is carried to the next instruction, if a run can go on there.
+-- If `fact` is known before it, the instruction at pc has no flaw. The fact after it was joined with that of its jump's
+-- target, if it has a jump. The fact after it is also carried to the next instruction, if a run can go on there.
 pub record IsVisited (us : List ProgramUnit) (terms : LoadOptions) (pc : ℕ) (fact : Fact) (next : Option StoredFact) (old new : Facts) : Type 0 where
   pub flawless : flaw_under us terms pc (Some fact) ≡ None
   pub ahead : (q : ℕ) → pc < q → AreSame (seen next new q) (passed us terms pc (Some fact) q (old q))
@@ -109,7 +109,7 @@ abbrev pub following : ℕ → Form → ℕ
 following pc Wide = pc + 2
 following pc form = pc + 1
 
--- what is known of unit q is what the instruction before it leaves
+-- all that is known of unit q is the fact after the instruction before it
 pub record IsBrought (us : List ProgramUnit) (terms : LoadOptions) (q : ℕ) : Type 0 where
   pub before : ℕ
   pub instruction : Inst × Form
@@ -117,12 +117,13 @@ pub record IsBrought (us : List ProgramUnit) (terms : LoadOptions) (q : ℕ) : T
   pub next : q ≡ following before instruction.1
   pub is : inferred us terms q ≡ passed us terms before (inferred us terms before) q None
 
--- if no fact of a unit is stored, then nothing is known of it, or what the instruction before it leaves
+-- a unit without a stored fact isn't reached, or its fact is the one after the instruction before it
 abbrev pub AreWalked : List ProgramUnit → LoadOptions → Type 0
 AreWalked us terms =
     (q : ℕ) → is_entered us terms (length us) q ≡ false → q < length us → (inferred us terms q ≡ None) ⊎ IsBrought us terms q
 
--- the bytes are these units, no jump is at fault, there is no flaw, these facts are stored, and the other facts follow from them
+-- The bytes are decoded as the units `us`, no jump of which has a fault, and no reached unit a flaw. `facts` are the
+-- stored facts, and the facts of all other units follow from them.
 pub record IsAccepted (bytes : List ℕ) (terms : LoadOptions) (us : List ProgramUnit) (facts : List StoredFact) : Type 0 where
   pub reads : units bytes ≡ Some us
   pub forward : GoesForward us
@@ -132,19 +133,20 @@ pub record IsAccepted (bytes : List ℕ) (terms : LoadOptions) (us : List Progra
   pub distinct : AreDistinct facts
   pub walked : AreWalked us terms
 
--- the bytes are accepted, these facts are stored, and these are the operations of their units
+-- the bytes are accepted, `facts` are the facts stored for them, and `ops` are the operations that their units are
+-- decoded to
 pub record IsKept (bytes : List ℕ) (terms : LoadOptions) (facts : List StoredFact) (ops : List Operation) : Type 0 where
   pub us : List ProgramUnit
   pub accepted : IsAccepted bytes terms us facts
   pub decoded : AreOperations us ops
 
--- facts cover the program's units, and these are the operations of these units
+-- some facts cover the program's units, and `ops` are the operations that these units are decoded to
 pub record IsDecoded (p : ProgramText) (ops : List Operation) : Type 0 where
   pub us : List ProgramUnit
   pub covered : IsCovered p.bytes (terms_of p) us
   pub operations : AreOperations us ops
 
--- the number of stored facts: one for the first unit, and one for each unit that a reached jump goes to
+-- n is the number of stored facts: one for the first unit, and one for each unit that a reached jump goes to
 abbrev pub IsFactCount : ProgramText → ℕ → Type 0
 IsFactCount p n = (us : List ProgramUnit) → units p.bytes ≡ Some us → n ≡ facts_in us (terms_of p)
 
@@ -154,25 +156,25 @@ IsFew bytes n = (us : List ProgramUnit) → units bytes ≡ Some us → n ≤ 1 
 
 -- ---- refusals
 
--- the refusal for a fault of decoding; out of memory is a refusal of its own
+-- the refusal for a fault of decoding; that memory ran out becomes the refusal `OutOfMemory`
 abbrev pub decode_told : DecodeFault → Refusal
 decode_told NoMemoryToDecode = OutOfMemory
 decode_told fault = Decode fault
 
--- the refusals that a unit can get where `fact` is known before it: its flaw, or out of memory
+-- the refusals that a unit can get if `fact` is known before it: its flaw, or that memory ran out
 abbrev pub IsUnitRefused : List ProgramUnit → LoadOptions → ℕ → Option Fact → Refusal → Type 0
 IsUnitRefused us terms pc fact (Decode fault) = ⊥
 IsUnitRefused us terms pc fact (Flow fault) = ⊥
 IsUnitRefused us terms pc fact (TypeRefusal fault) = flaw_under us terms pc fact ≡ Some fault
 IsUnitRefused us terms pc fact OutOfMemory = ⊤
 
--- the refusals that the pass over the units can return: the first flaw, or out of memory
+-- the refusals that the pass over the units can return: the program's first flaw, or that memory ran out
 abbrev pub IsPassRefused : List ProgramUnit → LoadOptions → Refusal → Type 0
 IsPassRefused us terms (Decode fault) = ⊥
 IsPassRefused us terms (Flow fault) = ⊥
 IsPassRefused us terms (TypeRefusal fault) = first_flaw us terms ≡ Some fault
 IsPassRefused us terms OutOfMemory = ⊤
 
--- the refusal isn't out of memory inside a fault of decoding or of a jump: out of memory is a refusal of its own
+-- if memory ran out, the refusal is `OutOfMemory`: never a fault of decoding or of a jump that says so
 abbrev pub IsToldAlone : Refusal → Type 0
 IsToldAlone refusal = (refusal ≢ Decode NoMemoryToDecode) × (refusal ≢ Flow NoMemoryForFlow)

@@ -15,7 +15,7 @@ use Rattle.bpf_model.specs.Program.{ProgramText}
 use Rattle.bpf_model.specs.declared.context.Layout.{Layout}
 use Rattle.bpf_model.specs.Layouts.{context_len}
 
--- it loads into R0, through R1, from a place of the context that R1 points to on entry
+-- the instruction loads into R0, through R1, which points to the context; and all bytes that it loads are inside the context
 abbrev pub LoadsArgument : Layout → Inst → Size → Type 0
 LoadsArgument layout i size = (i.dst ≡ 0) × (i.src ≡ 1) × IsSome (shifted 0 i.offset (context_len layout - bytes_in size))
 
@@ -34,7 +34,7 @@ IsPlainForm layout i (Load size) = LoadsArgument layout i size
 IsPlainForm layout i (LoadSigned size) = LoadsArgument layout i size
 IsPlainForm layout i form = ⊥
 
--- a MOV of an immediate, a wide load, or a load
+-- the form gives its register a new value, whatever that held before: a MOV of an immediate, a wide load or a load
 abbrev pub SetsFirst : Form → Type 0
 SetsFirst Wide = ⊤
 SetsFirst (Load size) = ⊤
@@ -50,7 +50,7 @@ pub record ArePlainUnits (layout : Layout) (us : List ProgramUnit) : Type 0 wher
   pub each : (pc : ℕ) (i : Inst) (form : Form) → slice_get us pc ≡ Some (First i) → form_of i.opcode ≡ Some form → IsPlainForm layout i form
   pub sets : (i : Inst) (form : Form) → slice_get us 0 ≡ Some (First i) → form_of i.opcode ≡ Some form → SetsFirst form
 
--- the bytes are units, no jump is at fault, and the units are plain
+-- the bytes can be decoded as units, no jump has a fault, and the units are plain
 pub record IsPlain (p : ProgramText) : Type 0 where
   pub code : List ProgramUnit
   pub reads : units p.bytes ≡ Some code

@@ -54,7 +54,7 @@ is_numeric Unset = false
 is_numeric (Ctx k) = false
 is_numeric (Stk k) = false
 
--- the join of two types: the least type above both
+-- the join of two types: the most exact type that includes both
 abbrev pub join_type : RegType → RegType → RegType
 join_type Num Num = Num
 join_type Num (Const d) = Num
@@ -83,7 +83,8 @@ ctx_at (Some k) = Ok (Ctx k)
 abbrev pub stk_at : ℤ → Result RegType Flaw
 stk_at k = if int_le (negsuc 511) k && int_le k (pos 0) then Ok (Stk k) else Err OutOfRange
 
--- the type after ADD or SUB: with an immediate and 64 bits, a pointer moves by z; all else takes numbers
+-- the type after ADD or SUB: with 64 bits and an immediate, a pointer moves by z bytes; otherwise both operands must be
+-- numbers
 abbrev pub sum_type : Layout → Width → Source → Inst → ℤ → RegType → RegType → Result RegType Flaw
 sum_type layout Bits64 Immediate i z (Ctx k) b = ctx_at (shifted k z (context_len layout))
 sum_type layout Bits64 Immediate i z (Stk k) b = stk_at (k +ℤ z)
@@ -114,7 +115,7 @@ abbrev pub operand_type : Source → Width → Inst → List RegType → RegType
 operand_type Immediate w i types = Const (immediate w i.imm)
 operand_type Register w i types = type_at types i.src
 
--- ---- what an instruction leaves
+-- ---- the effect of writing a register
 
 abbrev pub unmarked : List RegType → Effect
 unmarked types = record { types = types; at = 0; len = 0; kept = Unset }
@@ -123,7 +124,7 @@ abbrev pub put_type : List RegType → ℕ → Result RegType Flaw → Result Ef
 put_type types dst (Err e) = Err e
 put_type types dst (Ok t) = Ok (unmarked (slice_set types dst t))
 
--- the effect of writing a register's type; R10 can't be written
+-- the effect of an instruction that writes register dst, by the type of the result; R10 can't be written
 abbrev pub set_type : List RegType → ℕ → Result RegType Flaw → Result Effect Flaw
 set_type types dst r = if dst == 10 then Err WriteR10 else put_type types dst r
 
@@ -137,7 +138,7 @@ natural (negsuc n) = 0
 abbrev pub lowest : ℤ → ℕ
 lowest k = natural (k +ℤ pos 512)
 
--- all of the given number of places, from `at` on, are in the set
+-- whether the n places from `at` on are all in the set
 abbrev pub all_in : List Bool → ℕ → ℕ → Bool
 all_in set at zero = true
 all_in set at (suc n) = slice_index_or set at false && all_in set (suc at) n
@@ -157,8 +158,8 @@ load_type layout set (Const c) i size = Err NotAPointer
 load_type layout set (Ctx k) i size = number_at (shifted k i.offset (context_len layout - size))
 load_type layout set (Stk k) i size = number_set set size (shifted (lowest k) i.offset (512 - size))
 
--- a spill is the type of a pointer that is kept in the stack, as a number: 0 for none, 1 to 81 for Ctx 0 to 80, and 82 to 594 for
--- Stk -512 to 0; these are all the types that pointers have
+-- A spill is the type of a pointer that is kept in the stack, as a number. 0 stands for none, 1 to 81 for Ctx 0 to 80,
+-- and 82 to 594 for Stk -512 to 0. These are all the types that pointers have.
 abbrev pub spill_of : RegType → ℕ
 spill_of (Ctx k) = if nat_le k 80 then k + 1 else 0
 spill_of (Stk k) = if nat_le (lowest k) 512 then 82 + lowest k else 0
@@ -184,7 +185,7 @@ kept_type spills Unset i size = Unset
 abbrev pub kept_or : RegType → Result RegType Flaw → Result RegType Flaw
 kept_or t r = if is_unset t then r else Ok t
 
--- the type that a load gives: the spilled pointer's where there is one, else as load_type says
+-- the type that a load gives: that of the pointer spilled there, or without one a number's, or a flaw
 abbrev pub loaded_type : Layout → List Bool → List ℕ → RegType → Inst → ℕ → Result RegType Flaw
 loaded_type layout set spills base i size = kept_or (kept_type spills base i size) (load_type layout set base i size)
 
@@ -199,11 +200,11 @@ store_type types (Const c) i size = Err NotAPointer
 store_type types (Ctx k) i size = Err StoreToContext
 store_type types (Stk k) i size = marks types size (shifted (lowest k) i.offset (512 - size))
 
--- a pointer can be kept only where its bytes are an aligned place
+-- a pointer can be stored only in eight bytes at a multiple of eight
 abbrev pub keeps : RegType → Effect → Result Effect Flaw
 keeps value e = if is_aligned e.len e.at then Ok (record e { kept = value }) else Err StorePointer
 
--- the flaws of a store's place come before the flaw of a pointer that can't be kept
+-- the effect of a store: if its place has a flaw, that one; else, for a pointer, the flaw that it can't be kept there
 abbrev pub keeps_pointer : RegType → Result Effect Flaw → Result Effect Flaw
 keeps_pointer value (Err e) = Err e
 keeps_pointer value (Ok e) = if is_pointer value then keeps value e else Ok e
@@ -244,7 +245,7 @@ fits_kind Number t = is_numeric t
 fits_kind Counter t = fits_counter t
 fits_kind Place t = is_some (place_by t)
 
--- the bit of a constant counter is set in the mask
+-- whether the program declares the counter with the number of a constant; true for all other types
 abbrev pub declares : ℕ → RegType → Bool
 declares declared (Const c) = declared / 2 ^ c % 2 == 1
 declares declared Unset = true
@@ -306,7 +307,7 @@ effect terms f i upper (Branch c w s) =
 effect terms f i upper Call = call_type terms.mask f.types (signature i.imm)
 effect terms f i upper Exit = exited f.types (type_at f.types 0)
 
--- the instruction goes on to the next one, and no unit follows
+-- a run would go on behind this instruction, but the program ends there
 abbrev pub falls_off : ℕ → ℕ → Form → Bool
 falls_off count pc Exit = false
 falls_off count pc Ja = false

@@ -1,4 +1,4 @@
--- Definitions: what a refusal says of the bytes (this profile, V faults).
+-- Definitions: what is true of a program that is refused (this profile, V faults).
 use Rattle.std.specs.Prelude.{◌≡◌, ◌≢◌, ℕ, ◌+◌, ◌/◌, ◌≤◌, ◌⊎◌, if◌then◌else◌, pos, List, length, Option, Some, None, slice_get, ⊤, Result, Ok, Err}
 use Rattle.bpf_model.specs.declared.instruction.Inst.{Inst}
 use Rattle.bpf_model.specs.declared.instruction.Width.TheVariants.{Bits64}
@@ -34,7 +34,7 @@ use Rattle.reg_types.specs.Refusals.{located}
 use Rattle.reg_types.specs.LoadOptions.{terms_of}
 use Rattle.reg_types.specs.Inference.{first_flaw}
 
--- the instruction goes on to the next one, and no unit follows
+-- a run would go on behind this instruction, but the program ends there
 abbrev pub FallsOffEnd : ℕ → ℕ → Form → Type 0
 FallsOffEnd count pc Exit = ⊥
 FallsOffEnd count pc Ja = ⊥
@@ -42,7 +42,7 @@ FallsOffEnd count pc Ja32 = ⊥
 FallsOffEnd count pc Wide = count ≤ pc + 2
 FallsOffEnd count pc form = count ≤ pc + 1
 
--- arithmetic, a load or a wide load into R10
+-- the instruction writes R10: it is arithmetic, a load or a wide load with R10 as its destination
 abbrev pub WritesR10 : Inst → Form → Type 0
 WritesR10 i (Arithmetic op w s) = i.dst ≡ 10
 WritesR10 i Wide = i.dst ≡ 10
@@ -84,14 +84,14 @@ abbrev pub StoresRegister : Form → Type 0
 StoresRegister (StoreRegister size) = ⊤
 StoresRegister form = ⊥
 
--- ADD and SUB of 64 bits with an immediate
+-- the form can move a pointer: it is ADD or SUB of 64 bits with an immediate
 abbrev pub MovesPointer : Form → Type 0
 MovesPointer (Arithmetic Add Bits64 Immediate) = ⊤
 MovesPointer (Arithmetic Sub Bits64 Immediate) = ⊤
 MovesPointer form = ⊥
 
--- arithmetic that takes numbers only: all but a MOV of an immediate, a plain MOV of 64 bits, and ADD and SUB of 64 bits with an
--- immediate
+-- The instruction is arithmetic that takes only numbers: any but a MOV of an immediate, a plain MOV of 64 bits, and ADD
+-- and SUB of 64 bits with an immediate.
 abbrev pub TakesNumbers : Inst → Form → Type 0
 TakesNumbers i (Arithmetic Add Bits64 Immediate) = ⊥
 TakesNumbers i (Arithmetic Sub Bits64 Immediate) = ⊥
@@ -100,7 +100,7 @@ TakesNumbers i (Arithmetic Mov Bits64 Register) = ¬ (i.offset ≡ pos 0)
 TakesNumbers i (Arithmetic op w s) = ⊤
 TakesNumbers i form = ⊥
 
--- a call, and P holds of its helper, if there is one
+-- the instruction is a call, and P holds of the helper that it calls, or of None if no helper has its number
 abbrev pub CallsBy : Inst → Form → (Option Helper → Type 0) → Type 0
 CallsBy i Call P = P (helper_of i.imm)
 CallsBy i form P = ⊥
@@ -109,7 +109,7 @@ abbrev pub NoHelper : Option Helper → Type 0
 NoHelper None = ⊤
 NoHelper (Some h) = ⊥
 
--- the helper has an argument of this number
+-- the helper takes an argument in R1 (n is 1) or in R2 (n is 2)
 abbrev pub HasArgument : ℕ → Option Helper → Type 0
 HasArgument n None = ⊥
 HasArgument n (Some CounterGet) = n ≡ 1
@@ -128,7 +128,7 @@ UsesCounter (Some PointRecord) = ⊥
 UsesCounter (Some PriceOf) = ⊥
 UsesCounter None = ⊥
 
--- the instruction can have the flaw
+-- the instruction at unit pc, which has this form, can have this flaw
 abbrev pub MayHave : ℕ → ℕ → Inst → Form → Flaw → Type 0
 MayHave count pc i form FallsOff = FallsOffEnd count pc form
 MayHave count pc i form WriteR10 = WritesR10 i form
@@ -143,7 +143,8 @@ MayHave count pc i form NoSuchHelper = CallsBy i form NoHelper
 MayHave count pc i form (BadArgument n) = CallsBy i form (HasArgument n)
 MayHave count pc i form UndeclaredCounter = CallsBy i form UsesCounter
 
--- the bytes are units, no jump is at fault, and the fault names a unit where an instruction begins that can have it
+-- The bytes can be decoded as units, and no jump has a fault. The type fault names a unit at which an instruction
+-- begins, and this instruction can have it.
 pub record IsTypeShown (bytes : List ℕ) (fault : TypeFault) : Type 0 where
   pub code : List ProgramUnit
   pub reads : units bytes ≡ Some code
@@ -157,23 +158,23 @@ pub record IsTypeShown (bytes : List ℕ) (fault : TypeFault) : Type 0 where
   pub shows : MayHave (length code) pc unit form flaw
   pub fault_is : fault ≡ located pc flaw
 
--- what a fault of decoding says of the bytes; out of memory is a refusal of its own, never such a fault
+-- what is true of bytes that are refused for this fault of decoding; it is never that memory ran out, which is `OutOfMemory`
 abbrev pub IsDecodeRefused : List ℕ → DecodeFault → Type 0
 IsDecodeRefused bytes NoMemoryToDecode = ⊥
 IsDecodeRefused bytes fault = IsRefusedFor bytes fault
 
--- the bytes are units, and the fault is the first of their jumps
+-- the bytes can be decoded as units, and `fault` is that of their first wrong jump
 abbrev pub IsFlowRefused : List ℕ → FlowFault → Type 0
 IsFlowRefused bytes fault = (code : List ProgramUnit) × (units bytes ≡ Some code) × IsFlowShown code fault
 
--- what a refusal says of the program; out of memory says nothing
+-- what is true of a program that is refused for this reason; nothing, if the reason is that memory ran out
 abbrev pub IsRefused : ProgramText → Refusal → Type 0
 IsRefused p (Decode fault) = IsDecodeRefused p.bytes fault
 IsRefused p (Flow fault) = IsFlowRefused p.bytes fault
 IsRefused p (TypeRefusal fault) = IsTypeShown p.bytes fault
 IsRefused p OutOfMemory = ⊤
 
--- ---- which refusal it is
+-- ---- which refusal is returned
 
 -- the first of two refusals, if there is one, else the second
 abbrev pub or_refused : Option Refusal → Option Refusal → Option Refusal
@@ -199,22 +200,23 @@ abbrev pub code_refusal : LoadOptions → Option (List ProgramUnit) → Option R
 code_refusal terms None = None
 code_refusal terms (Some us) = or_refused (flow_refusal (flow_fault us)) (type_refusal (first_flaw us terms))
 
--- the first fault: of decoding, else of the jumps, else of the types; None where the bytes are a program
+-- a program's refusal: its first fault of decoding, else of a jump, else of a type; None if the program is accepted
 unfoldable pub refusal_of : ProgramText → Option Refusal
 refusal_of p = or_refused (decode_refusal p.bytes) (code_refusal (terms_of p) (units p.bytes))
 
--- the refusal is the expected one, or out of memory
+-- the refusal is `wanted`, or that memory ran out
 abbrev pub IsRefusal : Option Refusal → Refusal → Type 0
 IsRefusal wanted OutOfMemory = ⊤
 IsRefusal wanted (Decode fault) = wanted ≡ Some (Decode fault)
 IsRefusal wanted (Flow fault) = wanted ≡ Some (Flow fault)
 IsRefusal wanted (TypeRefusal fault) = wanted ≡ Some (TypeRefusal fault)
 
--- the answer for bytes, a mask and a layout: the program where nothing is wrong, else its refusal; or out of memory
+-- the answer to bytes, a mask and a layout: the program if nothing is wrong with it, else its refusal; or that memory
+-- ran out
 abbrev pub IsVerdict : ProgramText → Result ProgramText Refusal → Type 0
 IsVerdict asked (Ok p) = (p ≡ asked) × (refusal_of asked ≡ None)
 IsVerdict asked (Err refusal) = IsRefusal (refusal_of asked) refusal
 
--- two answers to the same bytes, mask and layout are the same, unless one of them is out of memory
+-- two answers to the same bytes, mask and layout are equal, unless memory ran out for one of them
 abbrev pub OneAnswer : Type 0
 OneAnswer = (asked : ProgramText) (a b : Result ProgramText Refusal) → IsVerdict asked a → IsVerdict asked b → a ≢ Err OutOfMemory → b ≢ Err OutOfMemory → a ≡ b

@@ -8,9 +8,9 @@ use bpf_decode::DecodeFault;
 use flow_check::FlowFault;
 use thiserror::Error;
 
-/// What is wrong with an instruction, given the fact (the abstract state) before it. The first number in a case is the
-/// unit where the instruction begins; a second number is the register at fault, or the argument (1 or 2). The messages
-/// don't show the unit.
+/// What is wrong with an instruction, given the fact (the abstract state) before it. The first number in a variant is
+/// the unit where the instruction begins. A second number is the register at fault, or the argument (1 or 2). The
+/// messages don't show the unit.
 #[derive(Clone, Copy, Debug, PartialEq, Eq, Error)]
 pub enum TypeFault {
     #[error("the program runs past its last unit")]
@@ -96,8 +96,8 @@ fn show_type(fault: TypeFault) -> (u32, Option<u32>, Option<u32>)
 }
 
 impl Refusal {
-    /// Returns the number of the fault (1 to 20, which are V1 to V20), then its unit and its register or argument,
-    /// where it has them. Returns `None` for `OutOfMemory`.
+    /// Returns the number of the fault (1 for V1, to 20 for V20), then its unit and its register or argument, where it
+    /// has them. Returns `None` for `OutOfMemory`.
     pub fn shown(self) -> Option<(u32, Option<u32>, Option<u32>)>
         ensures { result ≡ shown_by self }
     {

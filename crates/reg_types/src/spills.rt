@@ -22,7 +22,8 @@ pub fn spill_of(value: RegType) -> u16
     }
 }
 
-/// Returns the type of the pointer that a number in `Fact::spills` means; `Unset` for 0, which is no pointer.
+/// Returns the type of the pointer that a number in `Fact::spills` stands for; `Unset` for 0, which stands for no
+/// pointer.
 pub fn spilled_type(spill: u16) -> RegType
     ensures { result ≡ spilled_by spill }
 {

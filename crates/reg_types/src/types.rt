@@ -33,8 +33,8 @@ pub struct LoadOptions {
 }
 
 /// The abstract state before an instruction: the types of registers 0 to 10, which bytes of the stack are set, and the
-/// pointers spilled there. `spills` has a number for each of the 64 aligned places of eight bytes, the lowest first: 0
-/// is no pointer, 1 to 81 are `Ctx(0)` to `Ctx(80)`, and 82 to 594 are `Stk(-512)` to `Stk(0)`.
+/// pointers spilled there. `spills` has a number for each of the 64 aligned places of eight bytes, the lowest first. 0
+/// stands for no pointer, 1 to 81 stand for `Ctx(0)` to `Ctx(80)`, and 82 to 594 for `Stk(-512)` to `Stk(0)`.
 #[derive(Clone, Copy)]
 pub struct Fact {
     pub types: [RegType; 11],
@@ -84,7 +84,7 @@ pub enum Flaw {
 }
 
 /// The units at which a run can continue after an instruction: none, the next instruction's, a jump's target, or either
-/// of these two, with the target first.
+/// of these two. `Either` has the jump's target first.
 #[derive(Clone, Copy)]
 pub enum Successors {
     End,

@@ -1,4 +1,4 @@
--- Where one step of reading fails, reading fails as a whole; where one is read, the rest is left.
+-- If one step of reading fails, then reading fails as a whole. If one item is read, then the rest is left to be read.
 use Rattle.std.proofs.Common.{◌≡◌, ℕ, ℤ, List, [], ◌∷◌, ◌++◌, Result, Ok, Err, refl, sym, ap, append_assoc, ◌∙◌}
 use Rattle.site_config.specs.declared.fault.ConfigFault.{ConfigFault}
 use Rattle.site_config.specs.declared.fault.ConfigFault.TheVariants.{K1, K2, K3, OutOfMemory}
@@ -13,7 +13,7 @@ fails_on K2 r g e = rw e
 fails_on K3 r g e = rw e
 fails_on OutOfMemory r g e = tt
 
--- Where the first number of the rest is out of range, reading the whole list fails.
+-- If the first number of the rest is out of range, then reading the whole list fails.
 pub fails_front : (f : ConfigFault) (front : List ℕ) (low high : ℕ) (zs : List ℤ) (z : ℤ) (rest : List ℤ) (whole : Result (List ℕ) ConfigFault)
     → with_front front (all_ranged low high zs) ≡ whole → zs ≡ z ∷ rest → Fails f (ranged low high z) → Fails f whole
 fails_front f front low high zs z rest whole read split e =
@@ -25,7 +25,7 @@ pushed : (front : List ℕ) (n : ℕ) (rest : Result (List ℕ) ConfigFault)
 pushed front n (Ok ns) = ap Ok (append_assoc front (n ∷ []) ns)
 pushed front n (Err e) = refl
 
--- Where the first number of the rest is read, it moves to those that were read.
+-- If the first number of the rest is read, then it is added to those that were read before.
 pub read_front : (front : List ℕ) (low high : ℕ) (zs : List ℤ) (z : ℤ) (rest : List ℤ) (n : ℕ) (whole : Result (List ℕ) ConfigFault)
     → with_front front (all_ranged low high zs) ≡ whole → zs ≡ z ∷ rest → ranged low high z ≡ Ok n
     → with_front (front ++ n ∷ []) (all_ranged low high rest) ≡ whole
@@ -35,7 +35,7 @@ read_front front low high zs z rest n whole read split e =
     ∙ ap (λ xs. with_front front (all_ranged low high xs)) (sym split)
     ∙ read
 
--- Where a point can't be added to those so far, reading all points fails.
+-- If a point can't be added to those so far, then reading all points fails.
 pub fails_points : (f : ConfigFault) (points bits : ℕ) (zs : List ℤ) (z : ℤ) (rest : List ℤ) (whole : Result ℕ ConfigFault)
     → with_points points bits zs ≡ whole → zs ≡ z ∷ rest → Fails f (with_point points bits z) → Fails f whole
 fails_points f points bits zs z rest whole read split e =

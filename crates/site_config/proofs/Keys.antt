@@ -1,4 +1,4 @@
--- The keys of a table, as the code and as the definitions go through them.
+-- The code and the definitions find the same of a table: whether each of its keys passes a test.
 use Rattle.std.proofs.Common.{◌≡◌, ℕ, List, [], ◌∷◌, Bool, ◌&&◌, String, Global, BTreeMap, string_bytes, refl, ap}
 use Rattle.std.specs.List.{list_all}
 use Rattle.std.specs.BTreeMap.{keys}

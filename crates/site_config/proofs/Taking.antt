@@ -1,4 +1,4 @@
--- Where a number has a door that takes its lines, the numbers below it are left.
+-- If number n has a door that takes its lines, then all numbers up to n have one if all numbers below n have one.
 use Rattle.std.proofs.Common.{◌≡◌, ℕ, zero, suc, ◌<◌, ◌-◌, List, Bool, true, sym, ◌∙◌, arith}
 use Rattle.std.specs.List.{list_any}
 use Rattle.site_config.specs.declared.flaw.Side.{Side}

@@ -35,13 +35,14 @@ pub record DoorValue : Type 0 where
   pub role : Role
   pub workers : ℕ
 
--- Where and how to serve: the doors in their order, how many connections, and after how many silent seconds one of them ends (0 for never).
+-- Where and how to serve: the doors in their order, how many connections, and after how many seconds without a byte a
+-- connection ends (0 for never).
 pub record ServeValue : Type 0 where
   pub doors : List DoorValue
   pub connections : ℕ
   pub idle_seconds : ℕ
 
--- A port is 1 to 65,535. A path isn't empty.
+-- Checks an address. A port must be 1 to 65,535, and a path must not be empty.
 unfoldable pub address_of : RawAddress → Result AddressValue ConfigFault
 address_of (Port z) = do
   n ← ranged 1 65535 z
@@ -50,7 +51,8 @@ address_of (Socket path) = do
   some ← demand (not (length path == 0))
   Ok (socket path)
 
--- The points so far, and one more, as bits: point p is bit p - 1. It isn't among them.
+-- Adds a point to points that are given as bits: point p is bit p - 1. It must be one of the site's points, and not be
+-- among them already.
 unfoldable pub with_point : ℕ → ℕ → ℤ → Result ℕ ConfigFault
 with_point points bits z = do
   p ← ranged 1 points z
@@ -63,7 +65,8 @@ with_points points bits (z ∷ zs) = do
   more ← with_point points bits z
   with_points points more zs
 
--- Some points of a site that has points 1 to `points`: at least one of them, and none twice.
+-- The points in a list, as bits, at a site that has points 1 to `points`. The list must have at least one point, and
+-- none twice.
 unfoldable pub bits_of : ℕ → List ℤ → Result ℕ ConfigFault
 bits_of points zs = do
   some ← demand (not (length zs == 0))
@@ -94,7 +97,7 @@ doors_fit tills points (d ∷ ds) = do
   fits ← door_fits tills points d
   doors_fit tills points ds
 
--- Two doors have the same port, or the same text as a path.
+-- The two addresses are the same port, or the same text as a path.
 abbrev pub same_address : RawAddress → RawAddress → Bool
 same_address (Port y) (Port z) = int_eq y z
 same_address (Socket p) (Socket q) = bytes_eq p q
@@ -113,29 +116,30 @@ abbrev pub is_apart : RawDoor → List RawDoor → Bool
 is_apart d [] = true
 is_apart d (e ∷ es) = are_apart d e && is_apart d es
 
--- Each address is that of one door, and each till has one door of its own at most.
+-- All doors have different addresses, and each till has at most one door of its own.
 abbrev pub each_apart : List RawDoor → Bool
 each_apart [] = true
 each_apart (d ∷ ds) = is_apart d ds && each_apart ds
 
--- How many workers a shared door has: none where there is no such door.
+-- How many workers a shared door has; 0 if there is no such door.
 abbrev pub shared_workers : ℕ → Option ℤ → Result ℕ ConfigFault
 shared_workers most None = Ok 0
 shared_workers most (Some z) = ranged 1 most z
 
--- A door of one till, or of some points, has one worker, and so has the owner's.
+-- How many workers a door of this role has. The owner's door, a door of one till and a door of some points have one
+-- each.
 abbrev pub workers_of : ℕ → ℕ → RawRole → ℕ
 workers_of till_workers dispenser_workers Tills = till_workers
 workers_of till_workers dispenser_workers Dispensers = dispenser_workers
 workers_of till_workers dispenser_workers role = 1
 
--- The door is that of one till, or that of some points.
+-- The door is one till's, if the side is tills, or some points', if the side is dispensers.
 abbrev pub is_single : Side → RawRole → Bool
 is_single sides.Tills (OneTill z) = true
 is_single sides.Dispensers (SomePoints zs) = true
 is_single side role = false
 
--- How many doors are for one till, or for some points, as `side` says.
+-- How many doors are one till's each, if the side is tills, or some points' each, if the side is dispensers.
 abbrev pub count_single : Side → List RawDoor → ℕ
 count_single side [] = 0
 count_single side (d ∷ ds) = (if is_single side d.role then 1 else 0) + count_single side ds
@@ -185,7 +189,7 @@ serve_of tills points s = do
   doors ← each_door (door_of tills points t w) s.doors
   Ok (record { doors = doors; connections = n; idle_seconds = i })
 
--- The values, as the code holds them.
+-- Converts a value of the code to the value that these definitions have for it.
 abbrev pub address_seen : Address → AddressValue
 address_seen (addresses.Port n) = port n
 address_seen (addresses.Socket path) = socket (string_bytes path)

@@ -39,24 +39,25 @@ position_of (NotUtf8 line column) = Some (line, column)
 position_of (NotToml line column message) = Some (line, column)
 position_of flaw = None
 
--- The position of a flaw in a text: where the text stops being UTF-8; where it is no TOML, that of some place in it, or behind it.
+-- A flaw's position in a text is right. For `NotUtf8` it is where the text stops being UTF-8. For `NotToml` it is some
+-- place in the text, or its end.
 abbrev pub StandsAt : List ℕ → ConfigFlaw → Type 0
 StandsAt bytes (NotUtf8 line column) = (line, column) ≡ position_at bytes (utf8_valid_len bytes)
 StandsAt bytes (NotToml line column message) = (index : ℕ) × (index ≤ length bytes) × ((line, column) ≡ position_at bytes index)
 StandsAt bytes flaw = Unit {0}
 
--- What a function returned, seen through `view`, is what reading gives, unless memory ran out. A flaw that was returned has the number of the
--- fault that reading gives.
+-- What a function returned, once `view` is applied to it, is what reading gives, unless memory ran out. A flaw that was
+-- returned has the number of the fault that reading gives.
 abbrev pub Finds : {X Y : Type 0} → (X → Y) → Result X ConfigFlaw → Result Y ConfigFault → Type 0
 Finds view (Ok x) read = read ≡ Ok (view x)
 Finds view (Err flaw) read = Fails (fault_of flaw) read
 
--- What a check found: nothing exactly where its condition holds, and else a flaw that is a K3.
+-- The result of a check: None exactly if its condition holds, or else a flaw with the number K3.
 abbrev pub Checks : Bool → Option ConfigFlaw → Type 0
 Checks holds None = holds ≡ true
 Checks holds (Some flaw) = (holds ≡ false) × (fault_of flaw ≡ fault.K3)
 
--- The section has a key of this name.
+-- A table of this section may have a key of this name.
 abbrev pub is_key_of : Section → List ℕ → Bool
 is_key_of Top name = is_top_key name
 is_key_of (Point place) name = is_point_key name

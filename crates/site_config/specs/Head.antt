@@ -8,11 +8,11 @@ abbrev pub ends_head : List ℕ → Bool
 ends_head bytes =
     bytes_eq bytes (45 ∷ 45 ∷ 45 ∷ 10 ∷ []) || bytes_eq (drop (length bytes - 5) bytes) (10 ∷ 45 ∷ 45 ∷ 45 ∷ 10 ∷ [])
 
--- The bytes before that line, or all bytes where they don't end with one.
+-- The bytes before the line `---` at their end, or all bytes if they don't end with such a line.
 abbrev pub before_end : List ℕ → List ℕ
 before_end bytes = if ends_head bytes then take (length bytes - 4) bytes else bytes
 
--- The configuration in the bytes. None where it has over 65,536 bytes.
+-- The configuration in the bytes. None if it has over 65,536 bytes.
 abbrev pub head_part : List ℕ → Option (List ℕ)
 head_part bytes = if nat_le (length (before_end bytes)) 65536 then Some (before_end bytes) else None
 

@@ -1,8 +1,8 @@
--- Definitions: the line and the column of a place in a text, both counted from 1 (this profile). A line ends with its LF. The column counts
--- characters: the bytes 128 to 191 go on with one, every other byte begins one.
+-- Definitions: the line and the column of a place in a text, both counted from 1 (this profile). A line ends with its
+-- LF. The column counts characters: the bytes 128 to 191 continue a character, and every other byte begins one.
 use Rattle.std.specs.Prelude.{ℕ, ◌+◌, ◌==◌, ◌&&◌, nat_le, if◌then◌else◌, List, [], ◌∷◌, take}
 
--- the position behind a byte at this one
+-- the position after a byte that is at the position `at`
 abbrev pub past : ℕ × ℕ → ℕ → ℕ × ℕ
 past at byte =
     if byte == 10 then (at.0 + 1, 1)

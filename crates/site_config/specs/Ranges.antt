@@ -64,7 +64,7 @@ serve_from tills points (Some s) = do
   r ← serve_of tills points s
   Ok (Some r)
 
--- The values that a configuration says.
+-- The values in a configuration.
 pub record Told : Type 0 where
   pub config : ConfigValue
   pub serve : Option ServeValue
@@ -82,7 +82,7 @@ told_of d = do
 abbrev pub told : Settings → Told
 told s = record { config = s.config; serve = option_map serve_seen s.serve }
 
--- What the text of a configuration says, or its fault: K1 comes before K2, and K2 before K3.
+-- The values in the text of a configuration, or its fault: K1 comes before K2, and K2 before K3.
 unfoldable pub config_of : List ℕ → Result Told ConfigFault
 config_of bytes = do
   doc ← document_of bytes

@@ -22,7 +22,7 @@ use Rattle.site_config.specs.declared.raw.RawRole.TheVariants.{Tills, OneTill, D
 use Rattle.site_config.specs.Document.{or_fault, ◌>>=◌, with_front}
 use Rattle.site_config.specs.Keys.{name_of}
 
--- These are the keys that each kind of table has.
+-- The keys that a table may have, for each kind of table.
 unfoldable pub is_top_key : List ℕ → Bool
 is_top_key k =
     bytes_eq k (codes "tills")
@@ -92,7 +92,7 @@ point_in d = pair_in is_point_key (codes "release") (codes "preset") d
 unfoldable pub counter_in : Data → Result (ℤ × ℤ) ConfigFault
 counter_in d = pair_in is_counter_key (codes "value") (codes "bound") d
 
--- What each item reads as.
+-- Reads each item of an array with `one`. If an item can't be read, the result is its fault.
 abbrev pub each_in : (Data → Result (ℤ × ℤ) ConfigFault) → Items → Result (List (ℤ × ℤ)) ConfigFault
 each_in one no_items = Ok []
 each_in one (item d ds) = do
@@ -117,7 +117,8 @@ counters_at ms = counters_from (get_member (codes "counter") ms)
 abbrev pub has_key : Key → Members → Bool
 has_key key ms = is_some (get_member (name_of key) ms)
 
--- A door whose port is the value of one key, or whose socket is the value of another one. Exactly one of the two is there. The door's place is its key.
+-- A door whose port is the value of one key, or whose socket is the value of another one. Exactly one of these keys
+-- must be given. The door's place is the key that is given.
 abbrev pub door_by : Place → Place → RawRole → Option Data → Option Data → Result RawDoor ConfigFault
 door_by port socket role (Some d) None = do
   z ← or_fault K2 (as_integer d)
@@ -131,11 +132,11 @@ unfoldable pub door_at : Section → Key × Key → RawRole → Members → Resu
 door_at section keys role ms =
     door_by (At section keys.0) (At section keys.1) role (get_member (name_of keys.0) ms) (get_member (name_of keys.1) ms)
 
--- There is a shared door: the key of its port or that of its socket is there.
+-- The key of a shared door's port, or that of its socket, is given.
 abbrev pub has_shared : Key × Key → Members → Bool
 has_shared keys ms = has_key keys.0 ms || has_key keys.1 ms
 
--- The shared door, if there is one. There may be none only where there are tables of doors, at the key `tables`.
+-- The shared door, if one of its keys is given. If none is given, there must be tables of doors at the key `tables`.
 abbrev pub shared_if : Bool → Key × Key → Key → RawRole → Members → Result (List RawDoor) ConfigFault
 shared_if true keys tables role ms = do
   door ← door_at Serve keys role ms
@@ -147,7 +148,7 @@ shared_if false keys tables role ms = do
 unfoldable pub shared_at : Key × Key → Key → RawRole → Members → Result (List RawDoor) ConfigFault
 shared_at keys tables role ms = shared_if (has_shared keys ms) keys tables role ms
 
--- How many workers a shared door has. The key is there exactly if the door is.
+-- How many workers a shared door has. This key must be given exactly if there is such a door.
 abbrev pub workers_if : Bool → Key → Members → Result (Option ℤ) ConfigFault
 workers_if true key ms = do
   z ← integer_at (name_of key) ms
@@ -174,12 +175,12 @@ dispenser_in place d = do
   zs ← integers_at (codes "points") ms
   door_at (Dispenser place) (key.Port, key.Socket) (SomePoints zs) ms
 
--- The door of one till, or that of some points.
+-- The door of one till, if the side is tills, or that of some points, if the side is dispensers.
 abbrev pub single_in : Side → ℕ → Data → Result RawDoor ConfigFault
 single_in sides.Tills = till_in
 single_in sides.Dispensers = dispenser_in
 
--- What the tables of an array read as, the first of which has this place.
+-- Reads each table of an array as a door. The first table has the place `place`, and each later one the next place.
 abbrev pub each_table : (ℕ → Data → Result RawDoor ConfigFault) → ℕ → Items → Result (List RawDoor) ConfigFault
 each_table one place no_items = Ok []
 each_table one place (item d ds) = do
@@ -211,12 +212,12 @@ doors_at ms = do
   dispensers ← with_front both (dispensers_at ms)
   with_front dispensers (owner_at ms)
 
--- After how many seconds without a byte a connection ends. Left out: 0, for never.
+-- After how many seconds without a byte a connection ends. If the key is left out it is 0, for never.
 abbrev pub idle_from : Option Data → Result ℤ ConfigFault
 idle_from None = Ok (pos 0)
 idle_from (Some d) = or_fault K2 (as_integer d)
 
--- The values of the keys of `[serve]`. A shared door that isn't there has no number of workers.
+-- The values of the keys of `[serve]`. If a shared door isn't given, its number of workers is None.
 pub record TypedServe : Type 0 where
   pub doors : List RawDoor
   pub till_workers : Option ℤ
@@ -265,7 +266,7 @@ typed_of ms = do
   serve ← served_at ms
   Ok (record { tills = tills; price_slot = slot; prices = prices; points = points; counters = counters; serve = serve })
 
--- The values of the keys, as the code holds them.
+-- Converts a value of the code to the value that these definitions have for it.
 abbrev pub seen_serve : Served → TypedServe
 seen_serve s = record {
   doors = s.doors.items;

@@ -11,14 +11,14 @@ use crate::flaw::ConfigFlaw;
 use std::alloc::Global;
 use toml::Table;
 
-/// Returns the position behind a byte at this one.
+/// Returns the position after a byte that is at the position `at`.
 fn past(at: (usize, usize), byte: u8) -> (usize, usize)
     requires { (at.0 < usize.MAX) × (at.1 < usize.MAX) }
     ensures { result ≡ past at byte }
 {
     match byte {
         b'\n' => (at.0 + 1, 1),
-        // The byte goes on with a character.
+        // The byte continues a character.
         0x80..=0xbf => at,
         _ => (at.0, at.1 + 1),
     }

@@ -101,8 +101,8 @@ fn make_bits(list: Place, points: u32, values: &[i64]) -> Result<u32, ConfigFlaw
     add_points(list, points, values)
 }
 
-/// Makes the role of a door, whose address is at this place. The error is that a number isn't one of a till or a point
-/// of the site, or that a point is there twice or none at all.
+/// Makes the role of a door. `place` is where the configuration has the door's address. The error is that a number
+/// names no till or point of the site, that a point is listed twice, or that no point is listed.
 #[tactic(auto, unfolding(crate::specs::Doors::role_of))]
 fn make_role(tills: u32, points: u32, place: Place, role: &RawRole) -> Result<Role, ConfigFlaw>
     requires { points ≤ POINTS }

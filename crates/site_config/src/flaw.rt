@@ -89,8 +89,8 @@ fn write_item<W: fmt::Write>(
     write!(f, "{list}[{number}]{end}")
 }
 
-/// A table of a configuration: the whole document, one of its points or counters, by its place counted from 0,
-/// `[serve]`, or one of `[[serve.till]]` or `[[serve.dispenser]]`, by its place counted from 0.
+/// A table of a configuration. `Top` is the whole document, and `Serve` is `[serve]`. The others are one table of
+/// `[[point]]`, `[[counter]]`, `[[serve.till]]` or `[[serve.dispenser]]`, with its place there, counted from 0.
 #[derive(Clone, Copy)]
 pub enum Section {
     Top,
@@ -218,9 +218,9 @@ pub enum ConfigFlaw {
     Missing(Place),
     /// K2: a value isn't of the type that it must have.
     WrongType(Place, Type),
-    /// K2: two keys are there, of which there must be one.
+    /// K2: two keys are given, and only one of them is allowed.
     BothThere(Place, Place),
-    /// K2: a number of workers is there, but neither of the keys that name the address of their door.
+    /// K2: a number of workers is given, but neither of the keys that name the address of their door.
     Needless(Place, Place, Place),
     /// K3: a value, and the least and the most that it may be.
     OutOfRange(Place, i64, u64, u64),

@@ -79,9 +79,9 @@ fn is_shared(table: &Table, keys: (Key, Key)) -> bool
     has_key(table, keys.0) || has_key(table, keys.1)
 }
 
-/// Reads the shared door of tills or of dispensers, and returns it behind the doors so far. There may be none only where
-/// there are tables of doors, at the key `tables`. The error is `Missing`, `BothThere` or `WrongType`, or that memory
-/// ran out.
+/// Reads the shared door of tills or of dispensers, and appends it to the doors so far. If its keys aren't given, there
+/// must be tables of doors at the key `tables`. The error is `Missing`, `BothThere` or `WrongType`, or that memory ran
+/// out.
 #[tactic(auto, unfolding(crate::specs::Typed::shared_at))]
 fn add_shared(
     alloc: Global,

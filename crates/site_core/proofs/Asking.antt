@@ -35,9 +35,9 @@ none-some q h = cc
 some-same : (p q : Question) → ◌≡◌ {A = Option Question} (Some p) (Some q) → p ≡ q
 some-same p q h = cc
 
--- ---- what was asked
+-- ---- presets and prices that a program is asked about
 
--- A preset that is asked is asked at a point that is ready, for an amount in range.
+-- The question `q` is a preset of `amount` at point `n`. The point is ready, and the amount is in its range.
 record AsksPreset (config : ConfigValue) (s : SiteState) (n amount : ℕ) (q : Question) : Type 0 where
   point : PointState
   is_point : at_number s.points n ≡ Some point
@@ -59,7 +59,7 @@ asks-preset config s n amount q (Some p) at h =
     in
     record { point = p; is_point = at; question = all.2; within = all.0; ready = all.1 }
 
--- A price that is asked is in its range, and no point is busy.
+-- The question `q` is a price change. The product and the price are in their ranges, and no point is busy.
 record AsksPrice (config : ConfigValue) (s : SiteState) (product price : ℕ) (q : Question) : Type 0 where
   question : q ≡ record { kind = kind.Price; point = 0; product = product; asked = price; slot = config.price_slot }
   within : (is_within 1 product 8 && is_within 1 price 9999999) ≡ true
@@ -88,7 +88,7 @@ at-some : (s : SiteState) (n : ℕ) (q : Question) (p : PointState) → at_numbe
 unfolding at_point
 at-some s n q p some = rw (some, at_point)
 
--- A question that is routed to a point is the question at that point.
+-- The question `q` is `asked`, and point `n` exists.
 record Routes (s : SiteState) (n : ℕ) (asked q : Question) : Type 0 where
   point : PointState
   is_point : at_number s.points n ≡ Some point
@@ -98,7 +98,7 @@ routes : (s : SiteState) (n : ℕ) (asked q : Question) (o : Option PointState) 
 routes s n asked q None at h = absurd (none-some q (sym (at-none s n asked at) ∙ h))
 routes s n asked q (Some p) at h = record { point = p; is_point = at; question = sym (some-same asked q (sym (at-some s n asked p at) ∙ h)) }
 
--- The question that is asked is the one that the request is routed to.
+-- If a program is asked a question for a request, then it is the question that the request is routed to.
 asked-routed-request : (config : ConfigValue) (s : SiteState) (r : Request) (q : Question) → question_of config s r ≡ Some q
     → routed_request config s r ≡ Some q
 asked-routed-request config s (request.Release n amount) q h =
@@ -122,7 +122,7 @@ pub asked-routed : (config : ConfigValue) (s : SiteState) (till : ℕ) (r : Requ
     → routed config s till r ≡ Some q
 asked-routed config s till r q h = asked-routed-till config s r q (is_till config till) h
 
--- ---- the same context
+-- ---- questions that are given the same context
 
 release-again : (config : ConfigValue) (s : SiteState) (n amount : ℕ) (p : PointState) → at_number s.points n ≡ Some p → is_within 1 amount 999999999 ≡ true
     → is_ready p.state ≡ true → nat_lt (length p.unpaid) 2 ≡ true → release_question config s n amount ≡ Ok (record {
@@ -219,7 +219,7 @@ well-till config s r q false h = absurd (none-some q h)
 pub well-asked : (config : ConfigValue) (s : SiteState) (till : ℕ) (r : Request) (q : Question) → asked_question config s till r ≡ Some q → WellAsked s q
 well-asked config s till r q h = well-till config s r q (is_till config till) h
 
--- The number of a till that exists isn't 0.
+-- A number that is a till's isn't 0.
 first-till : (till tills : ℕ) → is_within 1 till tills ≡ true → 0 < till
 first-till till tills h = grind (arith, nat_tests, h)
 

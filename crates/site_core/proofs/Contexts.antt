@@ -1,4 +1,5 @@
--- What two equal contexts say about the states in which they were made.
+-- If two states give equal contexts, then they agree on whether the question's point is ready, on how many transactions
+-- are unpaid there, and on whether a point is busy.
 use Rattle.std.proofs.Common.{◌≡◌, ℕ, ◌+◌, ◌%◌, ◌<◌, Bool, true, false, List, [], ◌∷◌, ◌++◌, length, take, map, replicate, Option, Some, None, refl, ap, ◌∙◌}
 use Rattle.std.proofs.Common.{sym, arith, get_or, zero, suc, cond}
 use Rattle.std.specs.Prelude.{◌==◌, ◌||◌, ◌-◌, count_by, find, option_map}
@@ -35,8 +36,8 @@ four-same x y fits small h =
     let theirs : little_number 4 (little_bytes 4 y ++ []) ≡ y = little_number-reads_back 4 y [] (omega (arith, small)) in
     sym mine ∙ ap (λ bytes. little_number 4 (bytes ++ [])) h ∙ theirs
 
--- In a context the state of the question's point is at byte 12, the number of busy points at byte 44, and the number of the point's unpaid
--- transactions at byte 48.
+-- In a context the state of the question's point is at byte 12, the number of busy points at byte 44, and the number of
+-- the point's unpaid transactions at byte 48.
 laid-state : (a b c x : ℕ) (rest : List Field) → get_or (laid (Four a ∷ Four b ∷ Four c ∷ Four x ∷ rest)) 12 0 ≡ x % 256
 unfolding laid
 laid-state a b c x rest = refl
@@ -117,7 +118,7 @@ of-point : (s : SiteState) (q : Question) (n : ℕ) (p : PointState) (field : Po
     → of_point s q field ≡ field p
 of-point s q n p field is at = ap (λ m. told (at_number s.points m) field) is ∙ ap (λ o. told o field) at
 
--- Where the contexts are the same, both points are ready or neither is.
+-- If two contexts are the same, then the points of their questions are both ready, or neither is.
 pub same-ready : (layout : Layout) (s t : SiteState) (till moment n m : ℕ) (q r : Question) (p o : PointState) → q.point ≡ n → at_number s.points n ≡ Some p
     → r.point ≡ m → at_number t.points m ≡ Some o → bytes_of (context layout s till moment q) ≡ bytes_of (context layout t till moment r)
     → is_ready p.state ≡ is_ready o.state
@@ -128,7 +129,7 @@ same-ready layout s t till moment n m q r p o at here there_at there same =
     context-state layout t till moment r ∙ ap (λ x. x % 256) (of-point t r m o (λ x. state_number x.state) there_at there) in
     by-byte p.state ∙ ap ready-byte (sym mine ∙ ap (λ bytes. get_or bytes 12 0) same ∙ theirs) ∙ sym (by-byte o.state)
 
--- Where the contexts are the same, both points have the same number of unpaid transactions.
+-- If two contexts are the same, then the points of their questions have the same number of unpaid transactions.
 pub same-unpaid : (layout : Layout) (s t : SiteState) (till moment n m : ℕ) (q r : Question) (p o : PointState) → q.point ≡ n → at_number s.points n ≡ Some p
     → r.point ≡ m → at_number t.points m ≡ Some o → of_point s q (λ x. length x.unpaid) < 4294967296 → length o.unpaid < 2
     → bytes_of (context layout s till moment q) ≡ bytes_of (context layout t till moment r) → length p.unpaid ≡ length o.unpaid
@@ -179,7 +180,7 @@ first-none : (s : SiteState) → busy_points s ≡ 0 → first_busy s ≡ None
 unfolding first_busy busy_points
 first-none s h = ap (option_map (λ (p : PointState). p.state)) (none-counted s.points (counted s.points ∙ h))
 
--- Where the contexts are the same and no point is busy in one state, none is busy in the other.
+-- If two contexts are the same and no point is busy in one of the states, then no point is busy in the other.
 pub same-busy : (layout : Layout) (s t : SiteState) (till moment : ℕ) (q r : Question) → busy_points s < 4294967296 → first_busy t ≡ None
     → bytes_of (context layout s till moment q) ≡ bytes_of (context layout t till moment r) → first_busy s ≡ None
 same-busy layout s t till moment q r fits none same =

@@ -1,4 +1,4 @@
--- Counters of which the declared ones are the same, and the values that are noted of them.
+-- When the declared counters of two lists are the same, and for which counters an entry has values.
 use Rattle.std.proofs.Common.{◌≡◌, ℕ, ◌/◌, ◌%◌, ◌^◌, ◌*◌, ◌<◌, ◌≤◌, ◌⊎◌, length, ◌∙◌, sym, ap, inl, inr, arith, eq-eqb, refl, replicate, Some, None}
 use Rattle.std.specs.Prelude.{IsTrue}
 use Rattle.std.proofs.lemmas.List.{get_or_past}
@@ -18,7 +18,7 @@ pub all-agree : (declared : ℕ) (a b : Counters) → length a ≡ 32 → length
     → ((k : ℕ) → k < 32 → IsTrue (is_declared declared k) → counter a k ≡ counter b k) → Agrees declared b a
 all-agree declared a b la lb same = λ k bit. at-place a b k la lb (λ lt. same k lt (eq-eqb (declared / 2 ^ k % 2) 1 bit)) (cases_lt k 32)
 
--- No values are noted above the last declared counter.
+-- An entry has no values of counters above the last declared one.
 pub none_above : (mask : ℕ) (before after : Counters) (c k : ℕ) → mask / 2 ^ c ≡ 0 → c ≤ k → count_of mask before after k ≡ None
 none_above mask before after c k e l =
     let some : 1 ≤ 2 ^ c = one-le-pow c 2 (omega arith) in
@@ -26,7 +26,7 @@ none_above mask before after c k e l =
     let none : mask / 2 ^ k ≡ 0 = div-eq_of_lt (omega (arith, below, pow_mono {i = c} {j = k} l)) in
     ap (λ q. if q % 2 == 1 then Some ((counter before k).0, (counter after k).0) else None) none
 
--- No values are noted where no counter is declared.
+-- If no counter is declared, an entry has no values of counters.
 pub none-counted : (before after : Counters) → counts 0 before after ≡ replicate 32 None
 unfolding counts
 none-counted before after = refl

@@ -1,4 +1,5 @@
--- Lists of fixed length that are filled from the front, and the view that a station keeps.
+-- Lists of fixed length that are filled from the front, and the copy of points and prices that a station keeps for
+-- helpers.
 use Rattle.std.proofs.Common.{◌≡◌, ℕ, zero, suc, ◌-◌, ◌<◌, ◌≤◌, List, [], ◌∷◌, ◌++◌, length, map, take, replicate, set, get_or, refl, ap, arith, ◌∙◌, sym}
 use Rattle.std.proofs.lemmas.List.{length-set}
 use Rattle.bpf_model.specs.declared.machine.View.{View}
@@ -19,7 +20,7 @@ set-map f z [] i n x lt = absurd (omega arith)
 set-map f z (y ∷ ys) zero n x lt = refl
 set-map f z (y ∷ ys) (suc i) n x lt = ap (λ r. f y ∷ r) (set-map f z ys i n x (omega arith))
 
--- What is seen of the points after one of them changed.
+-- If one point changes, then only its own place changes in what programs see of all points.
 pub seen-set : (points : List PointState) (i : ℕ) (p : PointState) → i < length points → set (seen_points points) i (seen p) ≡ seen_points (set points i p)
 unfolding seen_points
 seen-set points i p lt =
@@ -45,7 +46,7 @@ pub cut-last : {T : Type 0} → (xs : List T) (x y : T) → take (length xs) (se
 cut-last [] x y = refl
 cut-last (z ∷ zs) x y = ap (λ r. z ∷ r) (cut-last zs x y)
 
--- The place of a point's number is one of the places.
+-- A number from 1 to m has a place, which is one less, below m.
 pub place-below : (n m : ℕ) → 1 ≤ n → n ≤ m → n - 1 < m
 place-below n m one le = omega arith
 

@@ -1,4 +1,4 @@
--- What a grant does to the site.
+-- The effect of a grant: what is granted, and the point or the price after it.
 use Rattle.std.proofs.Common.{◌≡◌, ℕ, ◌+◌, ◌-◌, ◌*◌, ◌≤◌, true, false, length, Option, Some, None, Result, Ok, Err, slice_set, arith, ap, ◌∙◌, sym, subst}
 use Rattle.std.proofs.Common.{get_or, refl, Bool}
 use Rattle.decision_journal.specs.declared.entries.Run.{Run}
@@ -19,7 +19,7 @@ use Rattle.site_core.specs.Context.{context}
 use Rattle.site_core.specs.Decide.{Effect, denied, grant, granted_point, command_of, after_command, verdict, counts}
 use Rattle.site_core.proofs.Points.{at_number-read}
 
--- The point after its answer.
+-- A point that follows its table is in the state that the table gives, or in its old state if it refused.
 after-is : (a : Answer (Option ℕ)) (p new : PointState) (outcome : Result (Option ℕ) PointFault) → FollowsTable a p outcome new
     → (elim a as (λ _. PointState) [ Ok o ↦ o.0 | Err f ↦ p ]) ≡ new
 after-is (Ok (q, given)) p new outcome h = sym h.1
@@ -113,10 +113,10 @@ module _ (s : SiteState) (till moment r : ℕ) (q : Question) (v : Version) (c :
       verdict-grant s till moment r g.0 q v c g.1 some refl
       ∙ ap effect-of (sym (settled-grant (with_counters s c) till v.number r q some) ∙ is)
 
-  -- The effect of the decision, from the reply and the state that settling gives.
+  -- The effect of the decision has the reply and the state that `settled` gives.
   pub verdict-is : verdict s till moment q v r c ≡ record { reply = given; run = Some made-run; after = new }
   verdict-is = verdict-by (r == 0) refl
 
--- A run changes none of the numbers that are bounded.
+-- A run doesn't change the numbers for which there are bounds.
 pub bounded-counted : (k : ℕ) (s : SiteState) (c : Counters) → Bounded k s → Bounded k (with_counters s c)
 bounded-counted k s c b = record { last = b.last; cleared = b.cleared; clears = b.clears }

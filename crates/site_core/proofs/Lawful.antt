@@ -29,13 +29,14 @@ use Rattle.site_core.proofs.Points.{release-none, release-some}
 use Rattle.site_core.proofs.Undecided.{refuses, release-no}
 use Rattle.site_core.proofs.Decisions.{decided-refused, decided-none, decided-some}
 
--- A legal history leaves only one state.
+-- A legal history leads to only one state.
 pub legal-unique : (config : ConfigValue) (h : List Entry) (s t : SiteState) → Legal config h s → Legal config h t → s ≡ t
 legal-unique config [] s t l m = l ∙ sym m
 legal-unique config (e ∷ past) s t l m =
     l.3.leaves ∙ ap (λ b. (effect config past b e.moment e.act).after) (legal-unique config past l.0 m.0 l.1 m.1) ∙ sym m.3.leaves
 
--- A release that is asked is asked at a point that is ready and has room for a transaction, for an amount in range.
+-- The question `q` is a release of `amount` at point `n`. The point is ready and has room for a transaction, and the
+-- amount is in its range.
 pub record Asks (config : ConfigValue) (s : SiteState) (n amount : ℕ) (q : Question) : Type 0 where
   pub point : PointState
   pub is_point : at_number s.points n ≡ Some point
@@ -68,7 +69,7 @@ asks config s n amount q (Some p) at h =
     (sym (release-some config s n amount p at) ∙ h) in
     record { point = p; is_point = at; question = all.3; within = all.0; ready = all.1; room = ltb-true (length p.unpaid) 2 all.2 }
 
--- Where the program's answer is 0 the reply is a denial; so a grant means that the answer isn't 0.
+-- If the program's answer is 0, the reply is a denial; so a grant means that the answer isn't 0.
 verdict-denied : (s : SiteState) (till moment : ℕ) (q : Question) (v : Version) (r : ℕ) (c : Counters) → (r == 0) ≡ true
     → (verdict s till moment q v r c).reply ≡ denied v.number
 unfolding verdict
@@ -79,7 +80,7 @@ verdict-granted : (s : SiteState) (till moment : ℕ) (q : Question) (v : Versio
 unfolding verdict
 verdict-granted s till moment q v r c some = rw (some, verdict)
 
--- What is granted for a release at a point.
+-- The amount that is granted for a release at a point is the one that `granted_point` gives.
 grant-release : (s : SiteState) (till n amount r slot : ℕ) (p : PointState) → at_number s.points n ≡ Some p
     → (grant s till (record { kind = kind.Release; point = n; product = 0; asked = amount; slot = slot }) r).0 ≡ granted_point kind.Release amount r p.preset
 unfolding grant

@@ -1,4 +1,4 @@
--- Fields that are laid one after another.
+-- Writing fields one after another into bytes gives the bytes of all fields.
 use Rattle.std.proofs.Common.{◌≡◌, ℕ, ◌+◌, ◌-◌, ◌<◌, ◌≤◌, List, [], ◌∷◌, ◌++◌, length, take, refl, sym, ap, ◌∙◌, arith, get_or}
 use Rattle.std.specs.Prelude.{drop}
 use Rattle.std.proofs.lemmas.List.{take_more, take-append-drop, length-append, append_assoc, length-take-le, length-drop}
@@ -30,7 +30,7 @@ pub laid-more : (fs : List Field) (i : ℕ) (d : Field) → i < length fs → la
 laid-more fs i d lt =
     ap laid (take_more fs i d lt) ∙ laid-append (take i fs) (get_or fs i d ∷ []) ∙ ap (λ bytes. laid (take i fs) ++ bytes) (laid-one (get_or fs i d))
 
--- There is room for a field after those before it.
+-- Bytes that are as long as all fields have room for the next field after the bytes of the fields before it.
 pub laid-room : (fs : List Field) (i : ℕ) (d : Field) → i < length fs → length (laid (take i fs)) + size_of (get_or fs i d) ≤ length (laid fs)
 laid-room fs i d lt =
     let whole : length (laid fs) ≡ length (laid (take (i + 1) fs) ++ laid (drop (i + 1) fs)) =
@@ -41,7 +41,7 @@ laid-room fs i d lt =
     let size = length-field (get_or fs i d) in
     omega (arith, whole, two, more, one, size)
 
--- Writing a field after those before it lays one more field.
+-- If the first i fields are written, then writing the next field after them gives the first i + 1 fields.
 pub laid-put : (fs : List Field) (i at size : ℕ) (d : Field) (bytes ys : List ℕ) → i < length fs → at ≡ length (laid (take i fs))
     → length bytes ≡ length (laid fs) → take at bytes ≡ laid (take i fs) → size ≡ size_of (get_or fs i d) → ys ≡ field_bytes (get_or fs i d)
     → (at + size ≡ length (laid (take (i + 1) fs))) × (length (put_mid at (at + size - at) bytes ys) ≡ length (laid fs))

@@ -1,4 +1,5 @@
--- What a run outside the site says about the site's own step.
+-- A run that was made outside the site gives what the site's own step gives, if nothing that the run depends on
+-- differs.
 use Rattle.std.proofs.Common.{◌≡◌, ℕ, List, ◌∷◌, length, Bool, true, false, Option, Some, None, Ok, Err, refl, ap, ◌∙◌, sym, subst}
 use Rattle.std.specs.Prelude.{◌⊎◌, reverse, ◌==◌, if◌then◌else◌, IsSome, is_some, ◌<◌, Result, IfOk}
 use Rattle.std.specs.declared.alloc.AllocError.{AllocError}
@@ -72,7 +73,7 @@ agrees-till slots past entry till r a is =
       versions = rw (none, versions) a.versions;
     }
 
--- A run that is settled does what the step does.
+-- If the state still asks what the draft asked, then settling the draft's run performs the step for its request.
 pub performs-settled : (config : ConfigValue) (past : List Entry) (s new : SiteState) (slots : SlotsValue) (draft : DraftValue) (q : Question) (r0 : ℕ)
     (after : Counters) (entry : Entry) → entry.moment ≡ draft.moment → entry.act ≡ act.Till draft.till draft.request → StillAsked config s slots draft q
     → Agrees slots past → outcome draft.version.program draft.context draft.view s.counters ≡ Ended r0 after
@@ -132,7 +133,7 @@ till-run : (config : ConfigValue) (past : List Entry) (s : SiteState) (till mome
 till-run config past s till moment r true h = request-run config past s till moment r h
 till-run config past s till moment r false h = refl
 
--- No program is run where no question is asked, or where no program is installed in its slot.
+-- If a request asks no question, or its slot has no program, then the step runs no program.
 pub runs-none : (config : ConfigValue) (past : List Entry) (s : SiteState) (till moment : ℕ) (r : Request)
     → (asked_question config s till r ≡ None) ⊎ ((q : Question) × (asked_question config s till r ≡ Some q) × (in_force q.slot past ≡ None))
     → (effect config past s moment (act.Till till r)).run ≡ None
@@ -147,7 +148,7 @@ verdict-run s till moment q v r c false some =
     let g = grant (record s { counters = c }) till q r in
     subst (λ (e : Effect). IsSome e.run) (sym (verdict-grant s till moment r g.0 q v c g.1 some refl)) refl
 
--- Where a question is asked and its slot has a version in force, a program is run.
+-- If a request asks a question, and its slot has a version in force, then the step runs a program.
 pub runs-some : (config : ConfigValue) (past : List Entry) (s : SiteState) (till moment : ℕ) (r : Request) (q : Question) (v : Version)
     → asked_question config s till r ≡ Some q → in_force q.slot past ≡ Some v → IsSome (effect config past s moment (act.Till till r)).run
 runs-some config past s till moment r q v h some =
@@ -157,7 +158,7 @@ runs-some config past s till moment r q v h some =
 
 -- ---- what `begin` returns
 
--- Where no program is run, the reply is neither a grant nor S24.
+-- If the step runs no program, then its reply is neither a grant nor S24.
 undecided : (site : SiteValue) (till moment : ℕ) (r : Request) → run_now site till moment r ≡ None → is_decided (reply_now site till moment r) ≡ false
 undecided site till moment r none =
     effect-tells site.config (reverse site.history) site.state moment (act.Till till r) ∙ ap (λ (run : Option Run). is_some run) none
@@ -206,14 +207,15 @@ begun config history s slots till moment r draft agrees d =
       counters_are = d.counters_are;
     }
 
--- Where the history isn't full, what is shown for a draft or for none is what `begin` promises.
+-- If the history isn't full and `Drafts` holds for what `begin` returns, then `Begins` holds for it too.
 pub begins : (config : ConfigValue) (history : List Entry) (s : SiteState) (slots : SlotsValue) (till moment : ℕ) (r : Request) (b : Begin)
     → Agrees slots (reverse history) → length history < 1048576 → Drafts config s slots till moment r (drafted b)
     → Begins (record { config = config; history = history; state = s }) till moment r b
 begins config history s slots till moment r begin.Direct agrees less d = inr (begins-none config history s slots till moment r agrees d)
 begins config history s slots till moment r (begin.Run draft) agrees less d = (less, begun config history s slots till moment r draft agrees d)
 
--- As `begins`, of a call that may also run out of memory.
+-- If the history isn't full and `Drafts` holds for the result of a call, then `Begins` holds for it too. Nothing is
+-- claimed if memory ran out.
 pub begins-ok : (config : ConfigValue) (history : List Entry) (s : SiteState) (slots : SlotsValue) (till moment : ℕ) (r : Request)
     (result : Result Begin AllocError) → Agrees slots (reverse history) → length history < 1048576
     → IfOk result (λ b. Drafts config s slots till moment r (drafted b))
@@ -221,13 +223,13 @@ pub begins-ok : (config : ConfigValue) (history : List Entry) (s : SiteState) (s
 begins-ok config history s slots till moment r (Ok b) agrees less d = begins config history s slots till moment r b agrees less d
 begins-ok config history s slots till moment r (Err e) agrees less d = d
 
--- The run's basis by the slots is its basis by the history.
+-- What a run would be made on is the same, whether versions are looked up in the slots or in the history.
 pub basis-is : (config : ConfigValue) (history : List Entry) (s : SiteState) (slots : SlotsValue) (draft : DraftValue) → Agrees slots (reverse history)
     → basis_in config s slots draft ≡ basis (record { config = config; history = history; state = s }) draft
 basis-is config history s slots draft agrees =
     λ i. basis_of (λ slot. sym (agrees.in_force slot) i) s draft.till draft.moment (routed config s draft.till draft.request)
 
--- the run of what was performed is that of the entry
+-- if the run of the performed event is the draft's, then so is the run of the entry that the site makes
 pub entered-run : (site : SiteValue) (pass moment : ℕ) (asked : Act) (ready : ReadyValue) (p : Entry) (new : SiteState) (slots : SlotsValue)
     → Performs site.config (reverse site.history) site.state moment asked p new slots → IsRunOf ready p.run → IsRunOf ready (entered site pass moment asked).run
 unfolding entered

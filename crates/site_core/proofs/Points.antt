@@ -1,4 +1,4 @@
--- The effect of a point's answer on the site.
+-- The effect of a command or an event on the site, by what the point returned for it.
 use Rattle.std.proofs.Common.{◌≡◌, ℕ, ◌+◌, ◌-◌, ◌<◌, ◌≤◌, List, length, Option, Some, None, Result, Ok, Err, slice_set, refl, arith, ap, ◌∙◌, sym, get_or}
 use Rattle.std.specs.Prelude.{unwrap_or}
 use Rattle.std.proofs.lemmas.Bool.Decides.{nat_tests}
@@ -23,12 +23,12 @@ at_number-within items n d one le =
     let got = slice_get-get_or items (n - 1) d lt in
     grind (arith, nat_tests, got)
 
--- A command where there is no such point.
+-- A command to a point that doesn't exist is answered with `no_such_point`, and the site stays as it was.
 pub commanded-none : (s : SiteState) (till n : ℕ) (command : Command) → at_number s.points n ≡ None → commanded s till n command ≡ replied no_such_point s
 unfolding commanded
 commanded-none s till n command none = rw (none, commanded)
 
--- A command where there is such a point.
+-- A command to a point that exists has the effect of what the point returns for it.
 pub commanded-some : (s : SiteState) (till n : ℕ) (command : Command) (p : PointState) → at_number s.points n ≡ Some p
     → commanded s till n command ≡ command_effect s n (command_step p till command)
 unfolding commanded
@@ -48,7 +48,7 @@ ok_effect s n (Ok (q, given)) p new cleared h =
     rw (same, h.1) refl
 ok_effect s n (Err f) p new cleared h = absurd (let e : Ok cleared ≡ Err f = h.0 in cc)
 
--- The point of a number is the one that is read at its place.
+-- If `n` is from 1 to the length of a list, then the item of number `n` is the one at place n - 1.
 pub at_number-read : {T : Type 0} → (items : List T) (n : ℕ) (x : T) → 1 ≤ n → n ≤ length items → x ≡ get_or items (n - 1) x → at_number items n ≡ Some x
 at_number-read items n x one le is = at_number-within items n x one le ∙ ap Some (sym is)
 
@@ -58,7 +58,7 @@ same_points s n p is =
     let back : slice_set s.points (n - 1) p ≡ s.points = ap (λ x. slice_set s.points (n - 1) x) is ∙ set-get_or s.points (n - 1) p in
     ap (λ (x : List PointState). record s { points = x }) (sym back)
 
--- The effect of a command that the point refused.
+-- A command that the point refuses is answered with the point's refusal.
 pub commanded-err : (s : SiteState) (till n : ℕ) (command : Command) (p new : PointState) (fault : PointFault) → 1 ≤ n → n ≤ length s.points
     → p ≡ get_or s.points (n - 1) p → FollowsTable (command_step p till command) p (Err fault) new
     → commanded s till n command ≡ replied (fault_reply fault) (with_point s n new)
@@ -67,14 +67,14 @@ commanded-err s till n command p new fault one le is answers =
     commanded-some s till n command p (at_number-read s.points n p one le is) ∙ e.0 ∙ ap
     (λ x. replied (fault_reply fault) x) (same_points s n p is ∙ ap (λ x. with_point s n x) (sym e.1))
 
--- The effect of a command that the point took.
+-- A command that the point takes is answered with Done. An amount that it cleared is added to the total and counted.
 pub commanded-ok : (s : SiteState) (till n : ℕ) (command : Command) (p new : PointState) (cleared : Option ℕ) → 1 ≤ n → n ≤ length s.points
     → p ≡ get_or s.points (n - 1) p → FollowsTable (command_step p till command) p (Ok cleared) new → commanded s till n command ≡ replied reply.Done
     (record (with_point s n new) { cleared = s.cleared + unwrap_or cleared 0; clears = s.clears + clears_by cleared })
 commanded-ok s till n command p new cleared one le is answers =
     commanded-some s till n command p (at_number-read s.points n p one le is) ∙ ok_effect s n (command_step p till command) p new cleared answers
 
--- An event where there is no such point.
+-- An event of a point that doesn't exist is answered with `no_such_point`, and the site stays as it was.
 pub reported-none : (s : SiteState) (n : ℕ) (event : DispenserEvent) → at_number s.points n ≡ None → reported s n event ≡ replied no_such_point s
 unfolding reported
 reported-none s n event none = rw (none, reported)
@@ -118,14 +118,15 @@ pub show-some : (s : SiteState) (n : ℕ) (p : PointState) → 1 ≤ n → n ≤
 unfolding show_reply
 show-some s n p one le is = let some = at_number-read s.points n p one le is in rw (some, show_reply)
 
--- The effect of an event, refused or not.
+-- An event is answered with what the point returns for it, which may be a refusal.
 pub reported-is : (s : SiteState) (n : ℕ) (event : DispenserEvent) (p new : PointState) (outcome : Result (Option Order) PointFault) → 1 ≤ n
     → n ≤ length s.points → p ≡ get_or s.points (n - 1) p → FollowsTable (event_step p event) p outcome new
     → reported s n event ≡ replied (event_reply outcome) (with_point s n new)
 reported-is s n event p new (Ok order) one le is answers = reported-ok s n event p new order one le is answers
 reported-is s n event p new (Err fault) one le is answers = reported-err s n event p new fault one le is answers
 
--- The questions at a point that exists, and at one that doesn't.
+-- A question at a point that doesn't exist is refused with `no_such_point`. At a point that exists the point is
+-- checked.
 pub asked-none : (s : SiteState) (q : Question) → at_number s.points q.point ≡ None → asked_at_point s q ≡ Err no_such_point
 unfolding asked_at_point
 asked-none s q none = rw (none, asked_at_point)

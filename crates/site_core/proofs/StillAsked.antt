@@ -1,4 +1,5 @@
--- From what a comparison found to what the definitions say.
+-- If a comparison finds no difference between a draft and a state, then `StillAsked` holds; if a counter differs,
+-- `Differs` does.
 use Rattle.std.proofs.Common.{◌≡◌, ℕ, Some, ap, ◌∙◌}
 use Rattle.bpf_model.specs.Machine.{counter}
 use Rattle.program_slots.specs.Value.{SlotsValue}
@@ -16,7 +17,7 @@ use Rattle.site_core.specs.Asked.{WasAsked, FitsContext, StillAsked, basis_in}
 use Rattle.site_core.proofs.Contexts.{same-view}
 use Rattle.site_core.proofs.Asking.{asked-again, well-asked, till-there}
 
--- The version, the context, the points and the prices are the draft's.
+-- In this state the version, the context, the points and the prices are those of the draft.
 pub record SameBasis (config : ConfigValue) (s : SiteState) (slots : SlotsValue) (draft : DraftValue) (q : Question) : Type 0 where
   pub routed_is : routed config s draft.till draft.request ≡ Some q
   pub version : version_in slots q.slot ≡ Some draft.version
@@ -30,7 +31,7 @@ view-is : (config : ConfigValue) (s : SiteState) (slots : SlotsValue) (draft : D
 view-is config s slots draft q same =
     same-view s same.was.state (view_of s) draft.view (λ _. view_of s) same.was.view_is same.points same.prices
 
--- The context that the current version would be given is the draft's.
+-- The context that the slot's version would be given in this state is the draft's context.
 pub given : (config : ConfigValue) (s : SiteState) (slots : SlotsValue) (draft : DraftValue) (q : Question) → SameBasis config s slots draft q
     → context_for (version_in slots q.slot) s draft.till draft.moment q ≡ draft.context
 given config s slots draft q same = ap (λ o. context_for o s draft.till draft.moment q) same.version ∙ same.context_is

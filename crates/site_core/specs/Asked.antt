@@ -1,5 +1,5 @@
--- Representation: what a draft keeps of the state in which it was made, and what the contracts of the steps inside `begin` and `commit` say.
--- No reader has to believe it.
+-- Representation: what a draft keeps of the state in which it was made, and what the contracts of the steps inside
+-- `begin` and `commit` say. A reader doesn't have to believe it.
 use Rattle.std.specs.Prelude.{◌≡◌, ℕ, ◌<◌, ◌⊎◌, if◌then◌else◌, length, Option, Some, None, Result, Ok, Err}
 use Rattle.std.specs.Result.{result_ok}
 use Rattle.fuelling_point.specs.Table.{PointState}
@@ -27,8 +27,8 @@ question_in s _ = None
 abbrev pub question_of : ConfigValue → SiteState → Request → Option Question
 question_of config s request = question_in s (asks_of config request)
 
--- The question that a program is asked in this state for a request by this till. None also if the site has no such
--- till.
+-- The question that a program is asked in this state for a request by this till. None if the request is refused before
+-- that, if no program decides it, or if the site has no such till.
 abbrev pub asked_question : ConfigValue → SiteState → ℕ → Request → Option Question
 asked_question config s till request = if is_till config till then question_of config s request else None
 
@@ -68,7 +68,7 @@ Drafts config s slots till moment request None =
     ⊎ ((q : Question) × (asked_question config s till request ≡ Some q) × (version_in slots q.slot ≡ None))
 Drafts config s slots till moment request (Some draft) = IsDraft config s slots till moment request draft
 
--- What the draft's run would be made on if it were made in this state.
+-- What the draft's run would be made on in this state.
 abbrev pub basis_in : ConfigValue → SiteState → SlotsValue → DraftValue → Basis
 basis_in config s slots draft = basis_of (version_in slots) s draft.till draft.moment (routed config s draft.till draft.request)
 

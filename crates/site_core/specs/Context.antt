@@ -19,12 +19,12 @@ kind_number Release = 1
 kind_number Preset = 2
 kind_number Price = 3
 
--- A field of the point, or 0 where there is no point.
+-- A field of the point, or 0 if there is no point.
 abbrev pub told : Option PointState → (PointState → ℕ) → ℕ
 told None field = 0
 told (Some p) field = field p
 
--- A field of the point that the question is about, or 0 where there is no such point, as for a price.
+-- A field of the point that the question is about, or 0 if there is no such point, as for a price.
 abbrev pub of_point : SiteState → Question → (PointState → ℕ) → ℕ
 of_point s q field = told (at_number s.points q.point) field
 

@@ -34,7 +34,7 @@ pub record Effect : Type 0 where
   pub run : Option Run
   pub after : SiteState
 
--- The effect that is this reply, with no run and with this state after it.
+-- The effect that has this reply, no run, and this state after it.
 abbrev pub replied : Reply → SiteState → Effect
 replied r s = record { reply = r; run = None; after = s }
 
@@ -72,7 +72,7 @@ is_decided (reply.Granted amount version) = true
 is_decided (reply.Refused number value) = number == 24
 is_decided _ = false
 
--- The third argument if the test is true, or else the refusal.
+-- If the test is true, the third argument, or else the refusal.
 abbrev pub need : {T : Type 0} → Bool → Reply → Result T Reply → Result T Reply
 need test refusal rest = if test then rest else Err refusal
 
@@ -111,7 +111,7 @@ asks_of config (request.Unlock n number) = asks.Command n (command.Unlock number
 asks_of config (request.Clear n number) = asks.Command n (command.Clear number)
 asks_of config (request.Show n) = asks.Show n
 
--- A point has room for the transaction that a release makes.
+-- The point has room for the transaction that a release makes. True for other kinds.
 abbrev pub has_room : Kind → PointState → Bool
 has_room Release p = nat_lt (length p.unpaid) 2
 has_room _ p = true
@@ -127,8 +127,8 @@ asked_at p q =
 unfoldable pub asked_at_point : SiteState → Question → Result Question Reply
 asked_at_point s q = elim (at_number s.points q.point) [ None ↦ Err no_such_point | Some p ↦ asked_at p q ]
 
--- The question of a price change, or its refusal. A price isn't changed while any point is in one of states 5 to 9: `busy` is the state of the
--- first such point.
+-- The question of a price change, or its refusal. A price isn't changed while any point is in one of states 5 to 9:
+-- `busy` is the state of the first such point.
 abbrev pub price_at : Option State → Question → Result Question Reply
 price_at busy q =
     need (is_within 1 q.product 8 && is_within 1 q.asked 9999999) bad_amount (elim busy [ Some state ↦ Err (wrong_state state) | None ↦ Ok q ])
@@ -146,14 +146,14 @@ preset_question config s n amount = admitted s (preset_of config n amount)
 abbrev pub price_question : ConfigValue → SiteState → ℕ → ℕ → Result Question Reply
 price_question config s product price = admitted s (price_of_product config product price)
 
--- What is granted where the program answered r: the least of the amount that is asked, of r, and, for a release, of the point's preset where there
--- is one (0 is none). A price is granted as it is asked.
+-- The amount that is granted if the program answered r: the amount that is asked, but at most r. For a release it is
+-- also at most the point's preset, unless that is 0, which means none. A price is granted as it is asked.
 abbrev pub granted_point : Kind → ℕ → ℕ → ℕ → ℕ
 granted_point Release asked r preset = if preset == 0 then min asked r else min (min asked r) preset
 granted_point Preset asked r preset = min asked r
 granted_point Price asked r preset = asked
 
--- The point after a command. It is unchanged where it refuses the command.
+-- The point after a command. A point that refuses the command is unchanged.
 abbrev pub after_command : PointState → ℕ → Command → PointState
 after_command p till command = elim (command_step p till command) [ Ok o ↦ o.0 | Err _ ↦ p ]
 
@@ -161,7 +161,8 @@ abbrev pub command_of : Kind → ℕ → Command
 command_of Release granted = command.Release granted
 command_of _ granted = command.Preset granted
 
--- The amount that is granted where the program answered r, and the state after the grant. A question with no point is a price.
+-- The amount that is granted if the program answered r, and the state after the grant. If the question has no point, it
+-- is a price.
 unfoldable pub grant : SiteState → ℕ → Question → ℕ → ℕ × SiteState
 grant s till q r =
     elim (at_number s.points q.point) [
@@ -171,7 +172,7 @@ grant s till q r =
       | None ↦ (q.asked, record s { prices = slice_set s.prices (q.product - 1) q.asked })
     ]
 
--- A question at no point of this site names a product from 1 to 8, and asks a price of at most 9,999,999.
+-- If the question's point doesn't exist, it names a product from 1 to 8, and asks a price of at most 9,999,999.
 abbrev pub WellAsked : SiteState → Question → Type 0
 WellAsked s q = at_number s.points q.point ≡ None → (1 ≤ q.product) × (q.product ≤ 8) × (q.asked ≤ 9999999)
 
@@ -184,7 +185,7 @@ abbrev pub count_of : ℕ → Counters → Counters → ℕ → Option (ℕ × �
 count_of mask before after c =
     if is_declared mask c then Some ((counter before c).0, (counter after c).0) else None
 
--- The values before and after, if declared, of each of the 32 counters.
+-- For each of the 32 counters its values before and after a run, if it is declared.
 unfoldable pub counts : ℕ → Counters → Counters → List (Option (ℕ × ℕ))
 counts mask before after = map (λ c. count_of mask before after c) (range_with_len 0 32)
 
@@ -204,14 +205,14 @@ verdict s till moment q v r counters =
     (let g : ℕ × SiteState = grant counted till q r in
     record { reply = reply.Granted g.0 v.number; run = Some run; after = g.1 })
 
--- The answer and the counters after a run. A run that doesn't end counts as a denial, so that the step is a function. Every
--- program that is loaded is good, and a good program has no such run.
+-- The answer and the counters after a run. A run that doesn't end counts as a denial, so that the step is a function.
+-- This never occurs: every program that is loaded is good, and the run of a good program ends.
 abbrev pub ran : Outcome → Counters → ℕ × Counters
 ran (Ended r counters) before = (r, counters)
 ran _ before = (0, before)
 
--- The effect of a question: its refusal, if it was refused before a program is looked for; or else S23 where the question's slot has no program,
--- and where it has one the decision of that program, run on the current state.
+-- The effect of a question. If it was refused before a program is looked for, the reply is this refusal. If its slot
+-- has no program, the reply is S23. Otherwise it is the decision of the slot's program, run on the current state.
 unfoldable pub decided : List Entry → SiteState → ℕ → ℕ → Result Question Reply → Effect
 decided past s till moment (Err refusal) = replied refusal s
 decided past s till moment (Ok q) =

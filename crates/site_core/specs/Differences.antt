@@ -14,7 +14,7 @@ pub record FirstDiffers {T : Type 0} (a b : List T) (at : ℕ) : Type 0 where
   pub differs : slice_get a at ≢ slice_get b at
   pub same_before : (k : ℕ) → k < at → slice_get a k ≡ slice_get b k
 
--- The declared counter of the least number whose value or bound differs.
+-- The declared counter with the least number whose value or bound differs.
 pub record CounterDiffers (declared : ℕ) (a b : Counters) (c : ℕ) : Type 0 where
   pub within : c < 32
   pub declares : IsTrue (is_declared declared c)
@@ -28,8 +28,9 @@ pub record IsFresh (now : Basis) (draft : DraftValue) : Type 0 where
   pub view : now.view ≡ draft.view
   pub counters : Agrees draft.version.program.declared draft.counters now.counters
 
--- The first difference, in this order: the version, the first byte of the context, the first point, the first price, the first declared
--- counter. Points and products are numbered from 1. The version's number and the counter's value are those of now, not of the draft.
+-- The first difference, in this order: the version, the first byte of the context, the first point, the first price,
+-- the first declared counter. Points and products are numbered from 1. The version's number and the counter's value are
+-- the current ones, not the draft's.
 abbrev pub Differs : Basis → DraftValue → Why → Type 0
 Differs now draft (why.Version number) =
     (now.version ≢ Some draft.version) × (number ≡ option_map (λ (v : Version). v.number) now.version)

@@ -36,11 +36,12 @@ pub record ReadyValue : Type 0 where
 abbrev pub Ran : DraftValue → ℕ → Counters → Type 0
 Ran draft r0 after = outcome draft.version.program draft.context draft.view draft.counters ≡ Ended r0 after
 
--- The question, where the site has a point of number n.
+-- The question, if the site has a point of number n, or else None.
 unfoldable pub at_point : SiteState → ℕ → Question → Option Question
 at_point s n q = elim (at_number s.points n) [ None ↦ None | Some _ ↦ Some q ]
 
--- The question that a program is asked, even where this state refuses it. None where there is no such point, and none where no program decides.
+-- The question that a program is asked, even if this state refuses it. None if the question's point doesn't exist, or
+-- if the request is of a kind that no program decides.
 abbrev pub routed_to : SiteState → Asks → Option Question
 routed_to s (asks.Decision q) = elim q.kind [ Price ↦ Some q | _ ↦ at_point s q.point q ]
 routed_to s _ = None
@@ -48,19 +49,20 @@ routed_to s _ = None
 abbrev pub routed_request : ConfigValue → SiteState → Request → Option Question
 routed_request config s request = routed_to s (asks_of config request)
 
--- The same as `routed_request`, for a request by this till. None also if the site has no such till.
+-- The question that this till's request is routed to, even if this state refuses it. None also if the site has no such
+-- till.
 abbrev pub routed : ConfigValue → SiteState → ℕ → Request → Option Question
 routed config s till request = if is_till config till then routed_request config s request else None
 
--- What a run would be made on now. The context has the layout of the version in the slot. There is no version where
--- the till or the point doesn't exist.
+-- What a run would be made on in the current state. The context has the layout of the version in the slot. If the till
+-- or the point doesn't exist, there is no version.
 pub record Basis : Type 0 where
   pub version : Option Version
   pub context : List ℕ
   pub view : View
   pub counters : Counters
 
--- The bytes of the context that this version would be given. Without a version there are none.
+-- The bytes of the context that this version would be given. Without a version there are no bytes.
 abbrev pub context_for : Option Version → SiteState → ℕ → ℕ → Question → List ℕ
 context_for None s till moment q = []
 context_for (Some v) s till moment q = bytes_of (context v.program.layout s till moment q)

@@ -1,4 +1,5 @@
--- Representation: how the fields of a site relate to each other, and what the contracts of the steps inside a call say. No reader has to believe it.
+-- Representation: how the fields of a site relate to each other, and what the contracts of the steps inside a call say.
+-- A reader doesn't have to believe it.
 use Rattle.std.specs.Prelude.{◌≡◌, ℕ, ◌+◌, ◌≤◌, ◌==◌, if◌then◌else◌, List, ◌∷◌, length, reverse, None, All}
 use Rattle.decision_journal.specs.declared.entries.Entry.{Entry}
 use Rattle.till_request.specs.declared.act.Act.{Act}
@@ -21,13 +22,14 @@ use Rattle.site_core.specs.Legal.{Legal, GoodLoad, GoodLoads}
 use Rattle.site_core.specs.Histories.{load_refusal, AcceptedLoads}
 use Rattle.decision_journal.specs.Journal.{IsWritten}
 
--- The slots hold what the history has loaded. The history has its newest entry first.
+-- The slots have the versions that the history has loaded. The history has its newest entry first.
 pub record Agrees (slots : SlotsValue) (past : List Entry) : Type 0 where
   pub in_force : (slot : ℕ) → in_force slot past ≡ version_in slots slot
   pub versions : versions past ≡ length slots.programs
 
--- The invariant of a site. The history, oldest entry first, is legal, its loads are accepted and good, and its entries can be written; the state
--- is the one that it leaves, within its bounds, and the slots hold the versions that it has loaded.
+-- The invariant of a site. The history, oldest entry first, is legal, its loads are accepted and good, and its entries
+-- can be written. The state is the one that the history leads to, within its bounds, and the slots have the versions
+-- that the history has loaded.
 pub record Keeps (config : ConfigValue) (history : List Entry) (state : SiteState) (slots : SlotsValue) : Type 0 where
   pub legal : Legal config (reverse history) state
   pub agrees : Agrees slots (reverse history)
@@ -38,8 +40,8 @@ pub record Keeps (config : ConfigValue) (history : List Entry) (state : SiteStat
   pub points : length state.points ≡ length config.points
   pub bounded : Bounded (length history) state
 
--- An event was performed as the step says and was written into the entry p, and the slots agree with the history once an entry with its act and
--- its reply is added.
+-- An event was performed as the step defines, and was written into the entry p. The slots agree with the history once
+-- an entry with the act and the reply of p is added.
 pub record Performs (config : ConfigValue) (past : List Entry) (old : SiteState) (moment : ℕ) (act : Act) (p : Entry) (new : SiteState)
     (slots : SlotsValue) : Type 0 where
   pub act_is : p.act ≡ act
@@ -49,7 +51,7 @@ pub record Performs (config : ConfigValue) (past : List Entry) (old : SiteState)
   pub accepted : load_refusal p.act ≡ None
   pub good : GoodLoad p.act
 
--- A load was answered as the step says, and the slots agree with the history once its entry is added.
+-- A load was answered as the step defines, and the slots agree with the history once its entry is added.
 pub record Loads (old : SlotsValue) (slot : ℕ) (program : ProgramText) (past : List Entry) (reply : Reply) (new : SlotsValue) : Type 0 where
   pub reply_is : load_reply slot past ≡ reply
   pub agrees : (entry : Entry) → entry.act ≡ act.Load slot program.declared program.layout program.bytes → entry.reply ≡ reply → Agrees new (entry ∷ past)
@@ -65,7 +67,7 @@ made history pass p = record { number = length history + 1; pass = pass; moment 
 abbrev pub with_counters : SiteState → Counters → SiteState
 with_counters s counters = record s { counters = counters }
 
--- The reply where a version answered r, and the state after it. A denial changes nothing.
+-- The reply if a version answered r, and the state after it. A denial changes nothing.
 unfoldable pub settled : SiteState → ℕ → Question → ℕ → ℕ → Reply × SiteState
 settled s till q version r =
     if r == 0 then (denied version, s)

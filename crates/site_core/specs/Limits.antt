@@ -13,8 +13,8 @@ pub record ConfigValue : Type 0 where
 abbrev pub IsCounter : ℕ × ℕ → Type 0
 IsCounter p = (p.0 ≤ p.1) × (p.1 ≤ 9223372036854775807)
 
--- Each value is in its range: 1 to 64 tills, 1 to 32 points, slots 0 to 15, prices in thousandths up to 9,999,999, and each counter as `IsCounter`
--- says.
+-- Each value is in its range: 1 to 64 tills, 1 to 32 points, slots 0 to 15, and prices in thousandths up to 9,999,999.
+-- `IsCounter` holds for each counter.
 pub record IsConfig (c : ConfigValue) : Type 0 where
   pub some_till : 1 ≤ c.tills
   pub tills : c.tills ≤ 64

@@ -1,10 +1,11 @@
 -- Promises: what the contracts of `begin` and `commit` say.
 --
--- For a caller: `run_now` is the run that the site's step would make now for a till's request, and `reply_now` is its reply. `begin` returns Direct
--- exactly where there is no such run or the history is full; where no program is run, the reply is neither a grant nor S24. Otherwise `begin`
--- returns a draft, which `Begun` relates to the site. `commit` returns Done exactly where `IsFresh` holds: nothing that the draft's run depends on
--- differs. It is then one step of the site at the draft's moment, and the entry's run is the draft's. Otherwise `commit` returns Stale with the
--- first difference, and nothing has changed.
+-- For a caller: `run_now` is the run that the site's step would make now for a till's request, and `reply_now` is its
+-- reply. `begin` returns Direct exactly if there is no such run or the history is full. If no program is run, the reply
+-- is neither a grant nor S24. Otherwise `begin` returns a draft, and `Begun` holds for it. `commit` returns Done
+-- exactly if `IsFresh` holds: nothing that the draft's run depends on differs. The commit is then one step of the site
+-- at the draft's moment, and the entry's run is the draft's. Otherwise `commit` returns Stale with the first
+-- difference, and nothing has changed.
 use Rattle.std.specs.Prelude.{◌≡◌, ℕ, ◌<◌, ◌⊎◌, false, IsSome, length, reverse, Option, Some, None}
 use Rattle.decision_journal.specs.declared.entries.Run.{Run}
 use Rattle.till_request.specs.declared.act.Request.{Request}
@@ -21,7 +22,7 @@ use Rattle.site_core.specs.Draft.{DraftValue, ReadyValue, Basis, basis_of, route
 use Rattle.site_core.specs.Differences.{IsFresh, Differs}
 use Rattle.site_core.specs.Site.{SiteValue, Enters, entered}
 
--- What the draft's run would be made on now.
+-- What the draft's run would be made on in the current state.
 abbrev pub basis : SiteValue → DraftValue → Basis
 basis site draft =
     basis_of (λ slot. in_force slot (reverse site.history)) site.state draft.till draft.moment (routed site.config site.state draft.till draft.request)
@@ -43,20 +44,20 @@ pub record Begun (site : SiteValue) (till moment : ℕ) (request : Request) (dra
   pub fresh : IsFresh (basis site draft) draft
   pub counters_are : draft.counters ≡ site.state.counters
 
--- The draft that `begin` returned, if it returned one.
+-- The draft that `begin` returned, if any.
 abbrev pub drafted : Begin → Option DraftValue
 drafted begin.Direct = None
 drafted (begin.Run draft) = Some draft
 
--- What the result of `begin` says. Direct: the history is full, or the step would run no program now and its reply is neither a grant nor S24.
--- Run: the history has room, and the draft is as `Begun` says.
+-- What the result of `begin` means. Direct: the history is full, or the step would run no program now and its reply is
+-- neither a grant nor S24. Run: the history has room, and `Begun` holds for the draft.
 abbrev pub Begins : SiteValue → ℕ → ℕ → Request → Begin → Type 0
 Begins site till moment request begin.Direct =
     (length site.history ≡ 1048576)
     ⊎ ((run_now site till moment request ≡ None) × (is_decided (reply_now site till moment request) ≡ false))
 Begins site till moment request (begin.Run draft) = (length site.history < 1048576) × Begun site till moment request draft
 
--- An entry's run is the draft's: it has its version and its program's answer.
+-- The run has the version of the draft, and the answer that the draft's program gave.
 abbrev pub IsRunOf : ReadyValue → Option Run → Type 0
 IsRunOf ready None = ⊥
 IsRunOf ready (Some run) = (run.version ≡ ready.draft.version.number) × (run.r0 ≡ ready.r0)

@@ -2,11 +2,11 @@
 --
 -- For a caller: a site is a `SiteValue`. An event is an act, by a pass, at a moment; `act_of` is the act of an event.
 -- `entered site pass moment act` is the entry that the event makes, with its number, reply and run, and
--- `site_after site pass moment act` is the site with that entry added; both depend on these values alone. Where `apply` returns Ok,
--- `Enters old pass moment act number reply new` holds: it returned the entry's number and reply, and the new site is
--- `site_after`. It returns JournalFull exactly where the history has 1,048,576 entries, and after any error the site is unchanged.
--- `Answers` says this for each result, and `Runs` for a list of events with their results. A site starts as
--- `new_site config`. `Upholds` holds for every site.
+-- `site_after site pass moment act` is the site with that entry added. Both depend on these values alone. If `apply`
+-- returns Ok, `Enters old pass moment act number reply new` holds: the entry's number and reply were returned, and the
+-- new site is `site_after`. `apply` returns JournalFull exactly if the history has 1,048,576 entries. After any error
+-- the site is unchanged. `Answers` states this for each result, and `Runs` for a list of events with their results. A
+-- site starts as `new_site config`. `Upholds` holds for every site.
 use Rattle.std.specs.Prelude.{◌≡◌, ◌≢◌, ℕ, ◌+◌, List, [], ◌∷◌, ◌++◌, length, reverse, Result, Ok, Err}
 use Rattle.std.specs.Arc.{arc_value}
 use Rattle.decision_journal.specs.declared.entries.Entry.{Entry}
@@ -25,7 +25,7 @@ use Rattle.site_core.specs.Step.{effect, entry_of}
 use Rattle.site_core.specs.Legal.{LegalHistory, GoodLoads, LawfulReleases}
 use Rattle.site_core.specs.Histories.{AcceptedLoads}
 
--- The value of a site: its configuration, its history, oldest entry first, and the state that the history leaves.
+-- The value of a site: its configuration, its history, oldest entry first, and the state that the history leads to.
 pub record SiteValue : Type 0 where
   pub config : ConfigValue
   pub history : List Entry
@@ -56,26 +56,28 @@ pub record Enters (old : SiteValue) (pass moment : ℕ) (act : Act) (number : �
   pub number_is : number ≡ (entered old pass moment act).number
   pub reply_is : reply ≡ (entered old pass moment act).reply
   pub site_is : new ≡ site_after old pass moment act
-  -- the next three follow from those before
+  -- the next three fields follow from the three above
   pub place_is : number ≡ length old.history + 1
   pub config_is : new.config ≡ old.config
   pub history_is : new.history ≡ old.history ++ entered old pass moment act ∷ []
 
--- What the result of one event says about the old and the new site.
+-- What the result of one event means for the old and the new site.
 abbrev pub Answers : SiteValue → Event → Result Answered CallFault → SiteValue → Type 0
 Answers old event (Ok answered) new = Enters old event.pass event.moment (act_of event.what) answered.number answered.reply new
 Answers old event (Err JournalFull) new = (length old.history ≡ 1048576) × (new ≡ old)
 Answers old event (Err OutOfMemory) new = (length old.history ≢ 1048576) × (new ≡ old)
 
--- What the results of a list of events say: the events with result Ok were entered one after another, and the others changed nothing.
+-- What the results of a list of events mean: the events with result Ok were entered one after another, and the others
+-- changed nothing.
 abbrev pub Runs : SiteValue → List Event → List (Result Answered CallFault) → SiteValue → Type 0
 Runs old [] [] new = new ≡ old
 Runs old (event ∷ events) (result ∷ results) new = (mid : SiteValue) × Answers old event result mid × Runs mid events results new
 Runs old [] (result ∷ results) new = ⊥
 Runs old (event ∷ events) [] new = ⊥
 
--- What holds for every site: its history is legal for its configuration and leaves its state, the verifier accepts each program loaded in it, each
--- of these programs is good, whatever the reply to its load was, and each release in it is lawful.
+-- What holds for every site: its history is legal for its configuration and leads to its state. The verifier accepts
+-- each program loaded in it, and each of these programs is good, whatever the reply to its load was. Each release in it
+-- is lawful.
 pub record Upholds (site : SiteValue) : Type 0 where
   pub legal : LegalHistory site.config site.history site.state
   pub accepted : AcceptedLoads site.history

@@ -29,7 +29,7 @@ at_number items n = if nat_le 1 n then slice_get items (n - 1) else None
 abbrev pub with_point : SiteState → ℕ → PointState → SiteState
 with_point s n point = record s { points = slice_set s.points (n - 1) point }
 
--- The price of a product, or 0 where it has none.
+-- The price of a product, or 0 if it has none.
 abbrev pub price_of : SiteState → ℕ → ℕ
 price_of s product = if nat_le 1 product then slice_index s.prices (product - 1) else 0
 

@@ -20,7 +20,7 @@ use Rattle.site_core.specs.declared.question.Asks.{Asks}
 use Rattle.site_core.specs.declared.question.Asks.TheVariants as asks
 use Rattle.site_core.specs.Decide.{Effect, replied, refused, wrong_state, no_such_point, no_such_till, is_till, decided, admitted, asks_of}
 
--- The reply for a refusal by a point.
+-- The reply to a command or an event that the point refused for this fault.
 abbrev pub fault_reply : PointFault → Reply
 fault_reply (WrongState state) = wrong_state state
 fault_reply TransactionsFull = refused 26
@@ -36,12 +36,13 @@ shown p = reply.Point (state_number p.state) p.nozzle p.amount p.volume p.limit 
 unfoldable pub show_reply : SiteState → ℕ → Reply
 show_reply s n = elim (at_number s.points n) [ None ↦ no_such_point | Some p ↦ shown p ]
 
--- How many transactions a command cleared: 1 where it cleared an amount, or else 0.
+-- How many transactions a command cleared: 1 if it cleared an amount, or else 0.
 abbrev pub clears_by : Option ℕ → ℕ
 clears_by None = 0
 clears_by (Some amount) = 1
 
--- The effect of a till's command to which the point answered this. The amount that a Clear cleared is added to the total, and is counted.
+-- The effect of a till's command, by what the point answered. The amount that a Clear cleared is added to the total,
+-- and is counted.
 abbrev pub command_effect : SiteState → ℕ → Answer (Option ℕ) → Effect
 command_effect s n (Err fault) = replied (fault_reply fault) s
 command_effect s n (Ok (point, cleared)) =
@@ -60,7 +61,7 @@ abbrev pub event_reply : Result (Option Order) PointFault → Reply
 event_reply (Ok order) = order_reply order
 event_reply (Err fault) = fault_reply fault
 
--- The effect of a dispenser's event to which the point answered this.
+-- The effect of a dispenser's event, by what the point answered.
 abbrev pub event_effect : SiteState → ℕ → Answer (Option Order) → Effect
 event_effect s n (Err fault) = replied (fault_reply fault) s
 event_effect s n (Ok (point, order)) = replied (order_reply order) (with_point s n point)
@@ -70,7 +71,7 @@ unfoldable pub reported : SiteState → ℕ → DispenserEvent → Effect
 reported s n event =
     elim (at_number s.points n) [ None ↦ replied no_such_point s | Some p ↦ event_effect s n (event_step p event) ]
 
--- The effect of what a till asks.
+-- The effect of a till's request, by what it leads to.
 abbrev pub effect_of : List Entry → SiteState → ℕ → ℕ → Asks → Effect
 effect_of past s till moment (asks.Decision q) = decided past s till moment (admitted s q)
 effect_of past s till moment (asks.Command n command) = commanded s till n command
@@ -80,7 +81,7 @@ effect_of past s till moment (asks.Show n) = replied (show_reply s n) s
 abbrev pub asked : ConfigValue → List Entry → SiteState → ℕ → ℕ → Request → Effect
 asked config past s till moment request = effect_of past s till moment (asks_of config request)
 
--- The reply to a load: S32 where there is no such slot, S30 where there are 4,096 versions already, or else the next version.
+-- The reply to a load: S32 if there is no such slot, S30 if there are 4,096 versions already, or else the next version.
 abbrev pub load_reply : ℕ → List Entry → Reply
 load_reply slot past =
     if nat_le slot 15 then if nat_lt (versions past) 4096 then reply.Version (versions past + 1) else refused 30 else refused 32
@@ -101,8 +102,8 @@ entered_moment _ moment = 0
 abbrev pub entry_of : List Entry → ℕ → ℕ → Act → Effect → Entry
 entry_of past pass moment act e = record { number = length past + 1; pass = pass; moment = entered_moment act moment; act = act; reply = e.reply; run = e.run }
 
--- The site's step: with this configuration, after these entries, in state s, an act of this pass at this moment makes this entry and leaves the
--- state `after`.
+-- The site's step: with this configuration, after these entries, in state s, an act of this pass at this moment makes
+-- this entry and leads to the state `after`.
 pub record Step (config : ConfigValue) (past : List Entry) (s : SiteState) (pass moment : ℕ) (act : Act) (entry : Entry) (after : SiteState) : Type 0 where
   pub enters : entry ≡ entry_of past pass moment act (effect config past s moment act)
   pub leaves : after ≡ (effect config past s moment act).after

@@ -12,8 +12,8 @@ ghost use Rattle.site_core.specs.Differences.{IsFresh, Differs};
 ghost use Rattle.site_core.specs.Audit.{OwnAudit};
 ghost use Rattle.site_core.specs.declared.why.Why.{Why};
 
-/// A law: a draft that differs from the site in nothing has no first difference. So a commit is done exactly if it
-/// isn't stale.
+/// A law: if nothing that a draft's run depends on differs, there is no first difference. So a commit is done exactly
+/// if it isn't stale.
 pub fn fresh_differs_nowhere()
     ensures { (now : Basis) (draft : DraftValue) (why : Why) → IsFresh now draft → Differs now draft why → ⊥ }
 {}

@@ -1,4 +1,4 @@
--- One pass more.
+-- If passes 1 to n are new and pass n + 1 is added, then passes 1 to n + 1 are new.
 use Rattle.std.proofs.Common.{◌≡◌, ℕ, ◌+◌, ◌<◌, List, [], ◌∷◌, ◌++◌, length, refl, sym, ap, ◌∙◌, subst, arith, length-append, Some, zero, suc, below_more}
 use Rattle.std.specs.List.{slice_get}
 use Rattle.site_lock.specs.Passes.{PassView, new_pass}

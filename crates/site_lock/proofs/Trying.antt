@@ -3,7 +3,7 @@ use Rattle.std.proofs.Common.{ℕ, ◌+◌, ◌≤◌, Result, Ok, Err, IfOk, If
 use Rattle.till_request.proofs.Counts.{rose_more}
 use Rattle.site_lock.specs.Calls.{RoseWithin}
 
--- a count that rose in two turns
+-- if a count rose by a to b, and then by c to d, then it rose by a + c to b + d in all
 pub rose_both : (a b c d x y z : ℕ) → RoseWithin a b x y → RoseWithin c d y z → RoseWithin (a + c) (b + d) x z
 rose_both a b c d x y z h k = (h.0 + k.0, omega (arith, h.1, k.1), omega (arith, h.2, k.2), rose_more h.3 k.3)
 

@@ -73,7 +73,7 @@ RefusesSince h passes (NotInHistory id number) =
     × IsWrong h.locked_site.stopped (length h.opened.base) h.locked_site.site.history passes id number
 RefusesSince h passes OtherConfig = ⊥
 
--- the same as `RefusesSince`, where the history at the start was empty and no journal can fail
+-- why a close was refused, if the history at the start was empty and no journal can fail
 abbrev pub Refuses : HaltedValue → List PassView → CloseRefusal → Type 0
 Refuses h passes PassMissing = ¬ AreAll h.opened.passes passes
 Refuses h passes (NotInHistory id number) =

@@ -17,7 +17,8 @@ abbrev pub StandsFrom : List Entry → ℕ → ℕ → List Receipt → Type 0
 StandsFrom history id last [] = Unit {0}
 StandsFrom history id last (r ∷ rs) = (last < r.number) × IsEntryOf history id r × StandsFrom history id r.number rs
 
--- the first receipt that disagrees with its entry, or has no greater number than the one before it, has this number
+-- the first receipt that disagrees with its entry, or whose number isn't above that of the receipt before it, has this
+-- number
 abbrev pub FailsFrom : List Entry → ℕ → ℕ → List Receipt → ℕ → Type 0
 FailsFrom history id last [] n = ⊥
 FailsFrom history id last (r ∷ rs) n =
@@ -41,19 +42,19 @@ Covered passes e = Any (Covers e) passes
 abbrev pub IsMerge : List Entry → List PassView → Type 0
 IsMerge history passes = All (λ p. StandsFrom history p.id 0 p.receipts) passes × All (Covered passes) history
 
--- The first wrong receipt of this pass has this number, or the entry of this number has no receipt in this pass, which
--- is the entry's.
+-- Either the first wrong receipt of this pass has this number. Or the entry of this number is one of this pass, and the
+-- pass has no receipt of it.
 abbrev pub IsFault : List Entry → List PassView → ℕ → ℕ → Type 0
 IsFault history passes id n =
     Any (λ p. (p.id ≡ id) × FailsFrom history p.id 0 p.receipts n) passes
     ⊎ Any (λ e. (e.pass ≡ id) × (e.number ≡ n) × ¬ Covered passes e) history
 
--- The same as `IsMerge`, for a history whose first `base` entries are older than the passes: the receipts' numbers are
--- above `base`, and each later entry has a receipt in its pass.
+-- The history agrees with the receipts, if its first `base` entries are older than the passes: the receipts' numbers
+-- are above `base`, and each later entry has a receipt in its pass.
 abbrev pub IsMergeSince : ℕ → List Entry → List PassView → Type 0
 IsMergeSince base history passes = All (λ p. StandsFrom history p.id base p.receipts) passes × All (Covered passes) (drop base history)
 
--- the same as `IsFault`, for a history whose first `base` entries are older than the passes
+-- the fault of this pass and number in a history whose first `base` entries are older than the passes
 abbrev pub IsFaultSince : ℕ → List Entry → List PassView → ℕ → ℕ → Type 0
 IsFaultSince base history passes id n =
     Any (λ p. (p.id ≡ id) × FailsFrom history p.id base p.receipts n) passes

@@ -66,8 +66,7 @@ fn has_number(receipts: &[Receipt], number: u32) -> bool
     receipts.iter().any(|receipt| receipt.number == number)
 }
 
-// Does what `has_number` does, faster, for receipts whose numbers rise. For others it may return false where it
-// shouldn't.
+// Does what `has_number` does, faster, for receipts whose numbers rise. For other receipts it may wrongly return false.
 fn has_rising_number(receipts: &[Receipt], number: u32) -> bool
     ensures { IsTrue result → HasNumber receipts.now number }
 {
@@ -94,8 +93,8 @@ fn is_covered<L: SiteLedger>(passes: &[Pass<L>], entry: &Entry) -> bool
     false
 }
 
-// Does what `is_covered` does, faster, for passes whose receipts' numbers rise. For others it may return false where it
-// shouldn't.
+// Does what `is_covered` does, faster, for passes whose receipts' numbers rise. For other passes it may wrongly return
+// false.
 fn is_covered_soon<L: SiteLedger>(passes: &[Pass<L>], entry: &Entry) -> bool
     ensures { IsTrue result → Covered passes.now entry.now }
 {
@@ -147,10 +146,10 @@ fn uncovered_since<L: SiteLedger>(
     uncovered(behind(base, history), passes)
 }
 
-/// Compares a history with the receipts of the passes, and returns a fault, if there is one, as the number of a pass
-/// and of an entry. Either the first wrong receipt of this pass has this number: pass, moment, act and reply aren't
-/// those of the entry, or the number isn't above that of the receipt before. Or the entry of this number has no receipt
-/// in this pass, which is the entry's.
+/// Compares a history with the receipts of the passes. Returns a fault, if there is one, as the number of a pass and of
+/// an entry. Either the first wrong receipt of this pass has this number: pass, moment, act and reply aren't those of
+/// the entry, or the number isn't above that of the receipt before. Or the entry of this number is one of this pass,
+/// and the pass has no receipt of it.
 pub fn fault<L: SiteLedger>(history: &[Entry], passes: &[Pass<L>]) -> Option<(u32, u32)>
     ensures none { IfNone result (IsMerge history.now passes.now) }
     ensures some { IfSome result (λ x. IsFault history.now passes.now x.0 x.1) }

@@ -1,4 +1,5 @@
--- What a close answers, after the work that all passes came back from.
+-- If all workers have returned their passes, then what a close of the forecourt returns is what serving the site
+-- promises.
 use Rattle.std.proofs.Common.{◌≡◌, ℕ, List, Option, Result, Ok, Err, IfOk, IfErr, subst, sym}
 use Rattle.site_core.specs.Site.{SiteValue}
 use Rattle.site_lock.specs.Closing.{ClosesSince}
@@ -17,7 +18,7 @@ pub if_err_more : {T E : Type 0} (P Q : E → Type 0) (r : Result T E) → ((e :
 if_err_more P Q (Ok x) more h = h
 if_err_more P Q (Err e) more h = more e h
 
--- what a close of the forecourt of a plan says after the plan's work
+-- a close of a forecourt with the plan's opening, with the passes that the plan's workers returned
 module _ (plan : Plan) (from : Opened) (same : from ≡ plan.from) (passes : List PassView) (clean : ℕ) (worked : HaveWorked plan passes clean) where
   pub leaves_so : (counted : ℕ) (site : SiteValue) (written : Option (List ℕ)) → counted ≡ clean → ClosesSince from passes site written
       → Leaves plan counted site written

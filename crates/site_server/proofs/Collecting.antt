@@ -1,4 +1,4 @@
--- What is collected from the tasks is what all workers handed back.
+-- The passes and the numbers of connections that are collected from the tasks are those that all workers returned.
 use Rattle.std.proofs.Common.{◌≡◌, ℕ, ◌+◌, ◌<◌, List, [], ◌∷◌, ◌++◌, length, map, slice_index_or, Option, Some, None, slice_get, refl, sym, ◌∙◌, ap, subst}
 use Rattle.std.proofs.Common.{◌*◌, ◌≤◌, Ok, Err, arith, zero, suc}
 use Rattle.std.proofs.lemmas.List.{length-map}
@@ -17,7 +17,7 @@ use Rattle.site_server.specs.Collecting.{AreWaiting, RunsWorker, collected, clea
 use Rattle.site_server.specs.Tasks.{Worked}
 use Rattle.site_server.proofs.Numbering.{all_worked}
 
--- what stands in those tasks that handed something back
+-- the results of the tasks that have one, in the order of the tasks
 abbrev pub results : List (Option (PassView × ℕ)) → List (PassView × ℕ)
 results [] = []
 results (None ∷ tasks) = results tasks
@@ -33,7 +33,7 @@ clean_first [] = refl
 clean_first (None ∷ tasks) = omega (arith, clean_first tasks)
 clean_first (Some r ∷ tasks) = ap (λ (n : ℕ). r.1 + n) (clean_first tasks)
 
--- no more are good than there are
+-- the number of sessions without fault is at most the number of all sessions
 good_few : (outcomes : List Outcome) → good outcomes ≤ length outcomes
 good_few [] = omega arith
 good_few (None ∷ outcomes) = omega (arith, good_few outcomes)
@@ -53,11 +53,11 @@ role_at (first ∷ workers) zero worker is = ap (λ (o : Option Worker). option_
 role_at (first ∷ workers) (suc k) worker is = role_at workers k worker is
 
 module _ (may_fail : Type 0) (workers : List Worker) (connections : ℕ) (from : Opened) (own : ConfigValue) (same : from.config ≡ own) where
-  -- what is served
+  -- the plan by which the site is served
   abbrev pub plan : Plan
   plan = record { from = from; may_fail = may_fail; roles = roles_of workers; connections = connections }
 
-  -- all workers from the number b + 1 on have handed their pass back
+  -- each of the tasks has the result of its worker; the first of them is the worker with pass b + 1
   abbrev pub AllBack : ℕ → List (Option (PassView × ℕ)) → Type 0
   AllBack b [] = Unit {0}
   AllBack b (None ∷ tasks) = ⊥
@@ -76,7 +76,7 @@ module _ (may_fail : Type 0) (workers : List Worker) (connections : ℕ) (from :
     more,
   )
 
-  -- in the task at place k of these the pass with the number n + 1 waits, with the worker at place n
+  -- the task at place k holds the new pass with the number n + 1 and the worker at place n
   abbrev WaitsAt : List (Option (PassView × Worker)) → ℕ → ℕ → Option (PassView × Worker) → Type 0
   WaitsAt tasks k n e = (worker : Worker) × (slice_get workers n ≡ Some worker) × (slice_index_or tasks k e ≡ Some (new_pass (n + 1), worker))
 
@@ -93,7 +93,7 @@ module _ (may_fail : Type 0) (workers : List Worker) (connections : ℕ) (from :
       (subst (λ (z : Option (PassView × Worker)). RunsWorker own may_fail connections z (d y)) first.2 (manned 0 x (omega arith)))
       (all_back w d (b + 1) xs ys (omega arith) (λ k n e num lt. waiting (suc k) n e (omega arith) (omega arith)) (λ k e lt. manned (suc k) e (omega arith)))
 
-  -- the same of the tasks that waited, with their number
+  -- If each task held a new pass and its worker, and each worker has run, then each task has the result of its worker.
   pub all_done : {P : Type 0} (w : P → Option (PassView × Worker)) (d : P → Option (PassView × ℕ)) (tasks xs ys : List P)
       → tasks ≡ xs → length ys ≡ length xs → AreWaiting workers (map w tasks)
       → ((k : ℕ) (e : P) → k < length xs → RunsWorker own may_fail connections (w (slice_index_or xs k e)) (d (slice_index_or ys k e)))
@@ -110,7 +110,7 @@ module _ (may_fail : Type 0) (workers : List Worker) (connections : ℕ) (from :
   one_few : (b : ℕ) (r : PassView × ℕ) → HandedBack plan b r → r.1 ≤ connections
   one_few b r h = omega (arith, h.3.counted, h.3.all_asked, good_few h.3.outcomes)
 
-  -- so few end without fault that they can be counted
+  -- at most 2^32 connections a task end without fault, so a number of 64 bits can count them
   pub well_few : (b : ℕ) (tasks : List (Option (PassView × ℕ))) → AllBack b tasks → connections < 4294967296 → clean_in tasks ≤ 4294967296 * length tasks
   well_few b [] h few = omega arith
   well_few b (None ∷ tasks) h few = absurd h
@@ -131,7 +131,7 @@ module _ (may_fail : Type 0) (workers : List Worker) (connections : ℕ) (from :
   handed_length b (None ∷ tasks) h = absurd h
   handed_length b (Some r ∷ tasks) h = (let more = handed_length (b + 1) tasks h.1 in omega arith)
 
-  -- the passes that were collected into an empty list are all passes, after the work of all workers
+  -- the passes that were collected into an empty list are all passes of the plan, after their workers' work
   pub have_worked : (tasks : List (Option (PassView × ℕ))) (room passes : List PassView) (clean : ℕ) → AllBack 0 tasks → room ≡ []
       → passes ≡ room ++ collected tasks → clean ≡ clean_in tasks → HaveWorked plan passes clean
   have_worked tasks room passes clean back none are counted = record {
@@ -167,7 +167,7 @@ waits_at k e p (q ∷ ps) [] is lt = absurd (omega arith)
 waits_at zero e p (q ∷ ps) (worker ∷ workers) is lt = (worker, refl, ap (λ (o : Option PassView). option_map (λ (x : PassView). (x, worker)) o) is)
 waits_at (suc k) e p (q ∷ ps) (worker ∷ workers) is lt = waits_at k e p ps workers is (omega arith)
 
--- new passes that wait in tasks, each beside the worker at its place
+-- the tasks that are made of new passes and workers: each holds a new pass and the worker at the same place
 module _ {P : Type 0} (w : P → Option (PassView × Worker)) (tasks : List P) (ps : List PassView) (workers : List Worker)
     (are : map w tasks ≡ map here (zip ps workers)) (new : AreNew (length workers) ps) where
   pub are_waiting : AreWaiting workers (map w tasks)

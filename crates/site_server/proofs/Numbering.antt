@@ -1,4 +1,4 @@
--- Passes with the numbers 1, 2, 3 and so on are all passes, each once.
+-- If n passes have the numbers 1, 2, 3 and so on, then each number from 1 to n is the number of exactly one of them.
 use Rattle.std.proofs.Common.{◌≡◌, ℕ, ◌+◌, ◌<◌, ◌≤◌, List, [], ◌∷◌, length, map, slice_index_or, Bool, true, false, refl, sym, ◌∙◌, ap, subst, arith, rules}
 use Rattle.std.proofs.Common.{zero, suc}
 use Rattle.std.specs.Prelude.{count_by, cond, ◌==◌}
@@ -10,12 +10,12 @@ use Rattle.site_lock.specs.Merge.{AreAll}
 use Rattle.site_server.specs.Plans.{Plan}
 use Rattle.site_server.specs.Ending.{HaveWorked}
 
--- the numbers from `before` + 1 on
+-- the list is `before` + 1, `before` + 2 and so on
 abbrev Numbers : ℕ → List ℕ → Type 0
 Numbers before [] = Unit {0}
 Numbers before (n ∷ ns) = (n ≡ before + 1) × Numbers (before + 1) ns
 
--- how many of them are j
+-- how many numbers in the list are j
 abbrev count : ℕ → List ℕ → ℕ
 count j [] = 0
 count j (n ∷ ns) = cond (n == j) (1 + count j ns) (count j ns)

@@ -1,4 +1,5 @@
--- What a worker does at a desk and a clock, as its pass and the moment told last show it.
+-- What a worker did with a desk and a clock is also true of what a caller sees. A caller sees the desk's pass, and the
+-- moment that the clock gave last.
 use Rattle.std.proofs.Common.{◌≡◌, ℕ, List, Option}
 use Rattle.till_request.specs.declared.act.Act.{Act}
 use Rattle.till_request.specs.declared.act.Role.{Role}

@@ -1,4 +1,4 @@
--- The posts at doors, with one door more.
+-- With one more door at the end of a list of doors, the posts at this door come after the posts at all others.
 use Rattle.std.proofs.Common.{◌≡◌, ◌++◌, List, [], ◌∷◌, sym, ◌∙◌, ap}
 use Rattle.std.proofs.lemmas.List.{append_assoc, append-nil}
 use Rattle.till_request.specs.declared.act.Role.{Role}

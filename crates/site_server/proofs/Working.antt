@@ -1,4 +1,4 @@
--- What a worker did at doors is also what its pass did.
+-- If a worker served connections at its doors, then its pass served as many, and as many of them ended without fault.
 use Rattle.std.proofs.Common.{ℕ, List, [], ◌∷◌, Option, Some, None, Ok, Err, refl, inl, inr}
 use Rattle.till_request.specs.declared.act.Role.{Role}
 use Rattle.line_session.specs.Session.{desk_drops}

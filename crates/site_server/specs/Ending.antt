@@ -11,8 +11,8 @@ use Rattle.site_server.specs.Tasks.{Worked}
 use Rattle.site_server.specs.declared.serving.ServeFault.{ServeFault}
 use Rattle.site_server.specs.declared.serving.ServeFault.TheVariants.{OutOfMemory, Journal, NotClosed}
 
--- What the worker with pass k + 1 returns: that pass, after it served its connections in the role at place k, and the
--- number of these connections that ended without fault.
+-- What the worker with pass k + 1 returns after it served its connections in the role at place k. It is that pass, and
+-- the number of these connections that ended without fault.
 abbrev pub HandedBack : Plan → ℕ → PassView × ℕ → Type 0
 HandedBack plan k done =
     (done.0.id ≡ k + 1) × (role : Role) × (slice_get plan.roles k ≡ Some role)
@@ -27,22 +27,22 @@ abbrev pub all_clean : List (PassView × ℕ) → ℕ
 all_clean [] = 0
 all_clean (d ∷ done) = d.1 + all_clean done
 
--- Each pass served its connections in its role, and of all these together this number ended without fault.
+-- Each pass served its connections in its role. All of them together had `clean` connections that ended without fault.
 pub record HaveWorked (plan : Plan) (passes : List PassView) (clean : ℕ) : Type 0 where
   pub done : List (PassView × ℕ)
   pub passes_are : passes ≡ map (λ (d : PassView × ℕ). d.0) done
   pub each : HandsBack plan done
   pub counted : clean ≡ all_clean done
 
--- What is left after serving. The site's history is the one at the start, followed by the entries that the passes were
--- answered. The journal took exactly the text of these entries.
+-- What is left after serving. The site's history is the one at the start, followed by the entries that the passes got
+-- as answers. The journal took exactly the text of these entries.
 pub record Leaves (plan : Plan) (clean : ℕ) (site : SiteValue) (written : Option (List ℕ)) : Type 0 where
   pub passes : List PassView
   pub closes : ClosesSince plan.from passes site written
   pub worked : HaveWorked plan passes clean
 
--- The forecourt, which was opened as `from` says, refused a close with these passes, for the reason `why`.
--- `has_stopped` says whether its journal had failed.
+-- A forecourt with this opening (`from`) refused a close with these passes, for the reason `why`. `has_stopped` is true
+-- if its journal had failed.
 pub record Halts (from : Opened) (may_fail : Type 0) (passes : List PassView) (has_stopped : Bool) (why : CloseRefusal) : Type 0 where
   pub forecourt : HaltedValue
   pub opened_is : forecourt.opened ≡ from
@@ -60,8 +60,8 @@ Refuses from may_fail passes OutOfMemory = ⊥
 Refuses from may_fail passes Journal = (why : CloseRefusal) × Halts from may_fail passes true why
 Refuses from may_fail passes (NotClosed why) = Halts from may_fail passes false why
 
--- All passes were returned after their work, but the close with them was refused with this fault. So the reason is
--- neither a missing pass nor another configuration: the receipts aren't the history.
+-- All passes were returned after their work, but the close with them was refused with this fault. The reason is not a
+-- missing pass or another configuration, but that the receipts differ from the history.
 pub record Stays (plan : Plan) (fault : ServeFault) : Type 0 where
   pub passes : List PassView
   pub clean : ℕ
@@ -69,8 +69,8 @@ pub record Stays (plan : Plan) (fault : ServeFault) : Type 0 where
   pub worked : HaveWorked plan passes clean
   pub refused : Refuses plan.from plan.may_fail passes fault
 
--- What a fault of serving says. `OutOfMemory` comes before anything is served, and every other fault is a refused
--- close.
+-- What a fault of serving means. `OutOfMemory` comes before anything is served. Every other fault means that all passes
+-- were returned, and that the close was refused.
 abbrev pub Spoils : Plan → ServeFault → Type 0
 Spoils plan OutOfMemory = Unit {0}
 Spoils plan Journal = Stays plan Journal

@@ -1,5 +1,5 @@
--- Definitions: how many lines an operator gets in a second (this profile): at most ten. The others are counted, and
--- their number comes with the first line of a later second.
+-- Definitions: how many lines an operator gets in a second (this profile). At most ten lines are printed. The others
+-- are counted, and their number is printed with the first line of a later second.
 use Rattle.std.specs.Prelude.{ℕ, ◌+◌, ◌==◌, nat_lt, if◌then◌else◌, Option, Some, None}
 
 -- The last second in which a line was let through, how many lines were let through in it, and how many were held back
@@ -13,7 +13,7 @@ pub record LimiterValue : Type 0 where
 abbrev pub admitted : LimiterValue → ℕ → Option ℕ
 admitted l second = if second == l.second then (if nat_lt l.told 10 then Some 0 else None) else Some l.held
 
--- the limiter after a line that comes in this second
+-- the state of the limiter after a line that comes in this second
 abbrev pub after_line : LimiterValue → ℕ → LimiterValue
 after_line l second =
     if second == l.second then

@@ -1,4 +1,5 @@
--- Definitions: what a worker's desk and clock do, as a caller sees them (this profile): the pass that answers, and the moment given last.
+-- Definitions: what a worker's desk and clock do, as a caller sees them (this profile). A caller sees the pass that is
+-- answered, and the moment that the clock gave last.
 use Rattle.std.specs.Prelude.{◌≡◌, ◌⊎◌, ℕ, List, [], ◌∷◌, length, Some, None, Err}
 use Rattle.std.specs.List.{AllByRecursion}
 use Rattle.till_request.specs.Line.{IsLine}
@@ -13,7 +14,7 @@ use Rattle.site_core.specs.Limits.{ConfigValue}
 use Rattle.site_lock.specs.Passes.{PassView}
 use Rattle.site_lock.specs.Desks.{DeskAnswers}
 
--- what a pass of a forecourt of this configuration may be answered to an act, and the pass after that
+-- a call with an act at a moment may have this answer, and leave this pass, in a forecourt of this configuration
 abbrev pub pass_answers : ConfigValue → Type 0 → PassView → Act → ℕ → Answer → PassView → Type 0
 pass_answers config may_fail before act moment answer now = DeskAnswers config may_fail before now act moment answer
 
@@ -21,12 +22,14 @@ pass_answers config may_fail before act moment answer now = DeskAnswers config m
 abbrev pub tells : ℕ → ℕ → ℕ → Type 0
 tells before moment now = now ≡ moment
 
--- No further line was handled, or one was that has no answer, as memory ran out or the journal failed.
+-- Either no further line was handled, or one more line was, but got no answer since memory ran out or the journal
+-- failed.
 abbrev pub DropsOne : ConfigValue → Type 0 → Role → ℕ × PassView → ℕ × PassView → Type 0
 DropsOne config may_fail role s s' = (s' ≡ s) ⊎ ((line : List ℕ) × IsLine line × desk_drops (pass_answers config may_fail) tells role s line s')
 
--- One connection: it couldn't be opened; or lines of this role were answered one after another, and then at most one
--- line had no answer. The fault of its session is the journal's only if the journal may fail.
+-- One connection. Either it couldn't be opened, or lines of this role were answered one after another. In the second
+-- case at most one more line was handled, without an answer. The session's fault is that the journal failed only if it
+-- may.
 abbrev pub Talked : ConfigValue → Type 0 → Role → Outcome → ℕ × PassView → ℕ × PassView → Type 0
 Talked config may_fail role None s s' = s' ≡ s
 Talked config may_fail role (Some result) s s' =
@@ -34,13 +37,13 @@ Talked config may_fail role (Some result) s s' =
     × SaysAll (desk_says (pass_answers config may_fail) tells role) lines s texts m × DropsOne config may_fail role m s'
     × (result ≡ Err Journal → may_fail)
 
--- the same as `Talked`, for these connections one after another
+-- `Talked` for several connections: they were served one after another, with these outcomes
 abbrev pub TalkedAll : ConfigValue → Type 0 → Role → List Outcome → ℕ × PassView → ℕ × PassView → Type 0
 TalkedAll config may_fail role [] s s' = s' ≡ s
 TalkedAll config may_fail role (outcome ∷ outcomes) s s' =
     (m : ℕ × PassView) × Talked config may_fail role outcome s m × TalkedAll config may_fail role outcomes m s'
 
--- The pass served this many connections in this role, and this is how many of them ended without fault.
+-- The pass served `connections` connections in this role, and `clean` of them ended without fault.
 pub record Worked (config : ConfigValue) (may_fail : Type 0) (role : Role) (connections clean : ℕ) (before now : PassView) : Type 0 where
   pub moment : ℕ
   pub outcomes : List Outcome

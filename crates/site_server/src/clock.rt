@@ -1,12 +1,12 @@
-//! The machine's clock, as a session asks for it.
+//! The machine's clock, which gives the sessions their moments.
 ghost use Rattle.std.specs.Prelude.{◌≡◌};
 
 use line_session::Clock;
 use std::time;
 use std::time::{SystemTime, UNIX_EPOCH};
 
-/// Gives whole seconds since the start of 1970. Where the machine's clock can't be read, or is before 1970, the
-/// moment given last is given again; at first that is 0.
+/// Gives whole seconds since the start of 1970. If the machine's clock can't be read, or is before 1970, the last
+/// moment is given again; before the first one that is 0.
 #[derive(Drop)]
 pub struct MachineClock<'a, R: time::Clock> {
     rt: &'a R,
@@ -14,7 +14,7 @@ pub struct MachineClock<'a, R: time::Clock> {
 }
 
 impl<'a, R: time::Clock> MachineClock<'a, R> {
-    /// Makes a clock, which hasn't been asked for a moment yet.
+    /// Makes a clock that has given no moment yet.
     pub fn new(rt: &'a R) -> MachineClock<'a, R>
         ensures { result.last ≡ 0 }
     {

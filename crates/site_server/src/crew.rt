@@ -69,8 +69,9 @@ fn workers_of(alloc: Global, doors: Vec<OpenDoor>) -> Result<Vec<Worker>, AllocE
 }
 
 impl Crew {
-    /// Makes the workers of these doors, in their order: as many for each as it says, each with the door's role and a
-    /// share of its listener. `None` exactly where they aren't 1 to 96 in all. The error is that memory ran out.
+    /// Makes the workers of these doors, in their order. Each door gets as many workers as it asks for, each with its
+    /// role and a share of its listener. The result is `None` if they aren't 1 to 96 in all. The error is that memory
+    /// ran out.
     pub fn new(alloc: Global, doors: Vec<OpenDoor>) -> Result<Option<Crew>, AllocError>
         ensures there { IfOk result (λ made. IsSome made ↔ IsCrew (length (all_posts doors.items))) }
         ensures workers { IfOk result (λ made. IfSome made (λ crew. posts_of crew.workers.items ≡ all_posts doors.items)) }

@@ -1,4 +1,4 @@
-//! The connections of a listener, as a worker takes them: one after another.
+//! The connections of a listener, which a worker opens one after another.
 ghost use Rattle.std.specs.Prelude.{◌≡◌};
 ghost use Rattle.till_request.specs.Count.{RoseBy};
 ghost use Rattle.site_server.specs.Pauses.{longer_pause, told_of};
@@ -17,15 +17,15 @@ type Connection<'a, N> = (Ahead<StreamIn<Hearing<'a, N>>>, StreamOut<Stream>);
 
 /// The connections of a listener, which other workers may share.
 ///
-/// Input is read ahead, in blocks of 4,096 bytes. Answers are sent at once (`TCP_NODELAY` where it is a port).
+/// Input is read ahead, in blocks of 4,096 bytes. Answers are sent at once (a port has `TCP_NODELAY`).
 ///
 /// If a connection can't be opened, for example because no file descriptor is free, the worker waits before it tries
-/// again: 10 milliseconds at first, then twice as long each time, at most 1 second. Only the first failure since a
-/// connection was opened is reported to an operator.
+/// again. It waits 10 milliseconds at first, then twice as long each time, and at most 1 second. Only the first failure
+/// since a connection was opened is reported to an operator.
 ///
 /// If `idle_seconds` isn't 0, it limits how long a peer may send nothing, and how long it may take no bytes of an
-/// answer. A peer that sends nothing for longer is reported to an operator, and its connection ends. A peer that takes
-/// nothing for longer makes the write fail.
+/// answer. A peer that sends nothing for longer is reported to an operator, and its connection ends. If a peer takes no
+/// bytes for longer, the write fails.
 #[derive(Drop)]
 pub struct SocketDoors<'a, R: Clock, N: Notices> {
     rt: &'a R,
@@ -38,7 +38,7 @@ pub struct SocketDoors<'a, R: Clock, N: Notices> {
     pause: u64,
 }
 
-/// How long to wait, in milliseconds, after a wait of `pause`.
+/// Returns how long to wait next, in milliseconds, after a wait of `pause` milliseconds.
 fn longer(pause: u64) -> u64
     ensures { result ≡ longer_pause pause }
 {
@@ -51,7 +51,7 @@ fn longer(pause: u64) -> u64
     }
 }
 
-/// Returns the failure to report to an operator; `None` where the peer ended the session after a whole line.
+/// Returns the failure to report to an operator, or `None` if the peer ended the session after a whole line.
 fn failure_of(outcome: &Result<Ended, SessionFault>) -> Option<SessionFailure>
     ensures { result ≡ told_of outcome.now }
 {
@@ -62,8 +62,8 @@ fn failure_of(outcome: &Result<Ended, SessionFault>) -> Option<SessionFailure>
 }
 
 impl<'a, R: Clock, N: Notices> SocketDoors<'a, R, N> {
-    /// Makes the doors of a listener for the worker that takes the lines of a role and has this pass. No connection was
-    /// asked for yet. A peer may send nothing for `idle_seconds`; 0 is no limit.
+    /// Makes the doors of a listener, for the worker that has this pass and takes the lines of this role. No connection
+    /// has been asked for yet. A peer may send nothing for `idle_seconds`; 0 is no limit.
     pub fn new(
         rt: &'a R,
         listener: &'a Listener,
@@ -152,7 +152,7 @@ impl<'a, R: Clock, N: Notices> Doors for SocketDoors<'a, R, N> {
         }
     }
 
-    // A whole line that came in one block with the line before is in memory already.
+    // The block that was read last may hold the next line too: then that line is in memory already.
     fn has_buffered_line(&self, input: &Self::In) -> bool {
         input.holds_line()
     }

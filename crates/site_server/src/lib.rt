@@ -1,5 +1,5 @@
-//! Serving a site over sockets: connections of tills, dispensers and the owner, a worker for each pass, and the journal
-//! of all of them.
+//! Serving a site over sockets: the connections of tills, dispensers and the owner, a worker for each pass, and one
+//! journal for all of them.
 #![tactic(auto)]
 
 mod clock;

@@ -24,7 +24,7 @@ impl Model for Limiter {
 }
 
 impl Limiter {
-    /// Makes a limiter to which no line came yet.
+    /// Makes a limiter that has seen no line yet.
     pub fn new() -> Limiter
         ensures second { result.second ≡ 0 }
         ensures told { result.told ≡ 0 }
@@ -37,8 +37,8 @@ impl Limiter {
         }
     }
 
-    /// Returns how many lines were held back since the last one that passed, at most 2^64 - 1; `None` where this one is
-    /// held back itself.
+    /// Returns how many lines were held back since the last one that was let through, at most 2^64 - 1. The result is
+    /// `None` if this line is held back itself.
     pub fn admit(&mut self, second: u64) -> Option<u64>
         ensures admitted { result ≡ admitted self.old second }
         ensures after { self.old.held + 1 < 2 ^ 64 → self.new ≡ after_line self.old second }

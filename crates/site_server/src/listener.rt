@@ -1,4 +1,4 @@
-//! Where connections come in.
+//! The listeners of a site: ports and local sockets where connections come in.
 ghost use Rattle.std.specs.Prelude.{◌≡◌, ◌<◌, IsErrAnd};
 ghost use Rattle.std.specs.IoError.{error_kind};
 
@@ -7,12 +7,12 @@ use std::io::{self, ErrorKind};
 use std::net::{Net, SocketAddr, TcpListener, TcpStream};
 use std::os::unix::net::UnixListener;
 
-/// Where connections come in. It is closed where it is dropped.
+/// A port or a local socket where connections come in. It is closed when it is dropped.
 #[derive(Drop)]
 pub enum Listener {
     /// A port.
     Port(TcpListener),
-    /// A local socket. Who made it removes its file.
+    /// A local socket. Whoever made it has to remove its file.
     Socket(UnixListener),
 }
 
@@ -31,7 +31,7 @@ impl Listener {
         Ok(Listener::Port(TcpListener::bind(rt, address)?))
     }
 
-    /// Waits for the next connection. What is written to it leaves at once, without a delay that gathers bytes.
+    /// Waits for the next connection. What is written to it is sent at once, without a delay to gather more bytes.
     pub(crate) fn accept(&self) -> io::Result<Stream> {
         match self {
             Listener::Port(listener) => {

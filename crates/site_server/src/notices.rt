@@ -6,7 +6,7 @@ use till_request::{LineFault, Role};
 /// Why a session ended with a fault.
 #[derive(Clone, Copy, Drop)]
 pub enum SessionFailure {
-    /// The line that ended it: too long (L1), or cut off by the end of the input (L4).
+    /// The line that ended the session: it was too long (L1), or the input ended before its LF (L4).
     Line(LineFault),
     /// The fault of the session: a device failed, too many reads were needed, memory ran out, or the journal failed.
     Session(SessionFault),
@@ -18,21 +18,22 @@ impl fmt::Display for SessionFailure {
             SessionFailure::Line(LineFault::TooLong) => {
                 f.write_str("ended by a line of more than 8,400 bytes")
             }
-            // The only other line that ends a session is one without its LF.
+            // Besides a line that is too long, only a line without its LF ends a session.
             SessionFailure::Line(_) => f.write_str("ended in mid-line"),
             SessionFailure::Session(fault) => write!(f, "{fault}"),
         }
     }
 }
 
-/// Reports to an operator what went wrong. All workers share it, and none of them waits for a report to be read.
+/// Reports to an operator what went wrong. All workers share one reporter, and none waits until a report is read.
 pub trait Notices {
-    /// A connection can't be opened for the worker of this role with this pass.
+    /// Reports that a connection couldn't be opened for the worker with this role and this pass.
     fn accept_failed(&self, role: Role, pass: u32, error: &io::Error);
 
-    /// A session of the worker of this role with this pass ended with this failure.
+    /// Reports that a session of the worker with this role and this pass ended with this failure.
     fn session_failed(&self, role: Role, pass: u32, failure: SessionFailure);
 
-    /// The peer of the worker of this role with this pass sent nothing for this many seconds, so its input ended.
+    /// Reports that a peer of the worker with this role and this pass sent nothing for this many seconds, so its input
+    /// ended.
     fn fell_silent(&self, role: Role, pass: u32, seconds: u32);
 }

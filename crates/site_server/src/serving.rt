@@ -21,7 +21,7 @@ use std::thread::Threads;
 use std::time::Clock;
 use thiserror::Error;
 
-/// A site that is served: where its entries are kept, by whom it is served, and for how long.
+/// A site to be served: its journal, its crew, and how many connections are served.
 #[derive(Drop)]
 pub struct Serving<J: Journal = NoJournal> {
     pub site: Site,
@@ -29,12 +29,11 @@ pub struct Serving<J: Journal = NoJournal> {
     pub crew: Crew,
     /// The number of connections that each worker serves, one after another.
     pub connections: u32,
-    /// For how many seconds the peer of a connection may be silent, and an answer may wait until its peer takes it; 0
-    /// is no limit.
+    /// The most seconds that a peer may send nothing, or take no bytes of an answer; 0 is no limit.
     pub idle_seconds: u32,
 }
 
-/// What is left when a site has been served to its end.
+/// The result of serving a site to its end.
 #[derive(Drop)]
 pub struct Served<J: Journal = NoJournal> {
     /// The site, closed.
@@ -45,15 +44,15 @@ pub struct Served<J: Journal = NoJournal> {
     pub clean: u64,
 }
 
-/// Why serving left no closed site.
+/// Why a site that was served couldn't be closed.
 #[derive(Clone, Copy, Debug, PartialEq, Eq, Drop, Error)]
 pub enum ServeFault {
     #[error("out of memory")]
     OutOfMemory,
-    /// The journal failed, so the act of the last entry has no answer.
+    /// The journal failed, so the act of the last entry was never answered.
     #[error("a write to the journal failed: the site took no further event")]
     Journal,
-    /// What the workers were answered isn't the site's history: a pass is missing (C1), an answer isn't in the history
+    /// The receipts of the workers aren't the site's history. A pass is missing (C1), an answer isn't in the history
     /// (C2), or a pass is of another configuration (C3).
     #[error("{0}")]
     NotClosed(CloseRefusal),
@@ -69,15 +68,15 @@ impl From<AllocError> for ServeFault {
     }
 }
 
-/// What is left when serving ends without a closed site.
+/// The result of serving that ended without a closed site.
 #[derive(Drop)]
 pub struct Unclosed<J: Journal = NoJournal> {
     pub why: ServeFault,
-    /// After `OutOfMemory` the site and the journal, unchanged: nothing was served.
+    /// The site and the journal, unchanged, if `why` is `OutOfMemory`: then nothing was served.
     pub back: Option<(Site, J)>,
 }
 
-/// What serving needs memory for, allocated before anything is served.
+/// The memory that serving needs, allocated before anything is served.
 #[derive(Drop)]
 struct Prepared<L: SiteLedger> {
     builder: ForecourtBuilder<L>,
@@ -124,7 +123,7 @@ fn why_not_closed(why: CloseRefusal, has_stopped: bool) -> ServeFault
     }
 }
 
-/// Closes the site of a forecourt. That is refused unless its history is what the passes were answered.
+/// Closes the site of a forecourt. The close is refused unless the site's history is made up of the passes' receipts.
 fn close<L: SiteLedger, J: Journal, R: Wait>(
     rt: &R,
     forecourt: Forecourt<L, J>,
@@ -158,7 +157,7 @@ impl<J: Journal + Send> Serving<J> {
     /// Each entry's line is passed to the journal before the entry is answered, and the answer is sent once `release`
     /// allows it. A listener is closed when the last worker with a share of it ends.
     ///
-    /// `OutOfMemory` comes only before anything is served, and returns the site and the journal.
+    /// The fault `OutOfMemory` comes only before anything is served, and gives the site and the journal back.
     pub fn run<N: Notices + Sync, A: Release + Sync, R: Threads + Wait + Clock + Sync>(
         self,
         rt: &R,
@@ -176,7 +175,8 @@ impl<J: Journal + Send> Serving<J> {
         self.run_on::<Brand, N, A, R>(rt, alloc, blank, notices, release)
     }
 
-    /// Does what `run` does, with the ledger of this blank. Once all is prepared, nothing here allocates memory.
+    /// Serves the site like `run`, with a ledger made from `blank`. Once everything is prepared, this allocates no
+    /// memory.
     fn run_on<
         L: SiteLedger + Send + Sync,
         N: Notices + Sync,

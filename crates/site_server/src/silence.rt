@@ -1,4 +1,4 @@
-//! The reading half of a connection, which ends where its peer is silent for too long.
+//! The reading half of a connection, which ends if its peer is silent for too long.
 ghost use Rattle.std.specs.Prelude.{◌≡◌, ◌<◌, ◌↔◌, IsErrAnd, IsFalse, IsTrue, Ok};
 ghost use Rattle.std.specs.IoError.{error_kind};
 
@@ -8,7 +8,7 @@ use std::io::{self, ErrorKind, Read};
 use till_request::Role;
 
 /// The reading half of a connection. If its peer sends nothing for `idle_seconds`, that is reported to an operator, and
-/// the input ends as if the peer had closed it. If `idle_seconds` is 0, there is no such limit.
+/// the input ends as if the peer had closed it. If `idle_seconds` is 0, the peer may be silent for any time.
 #[derive(Drop)]
 pub struct Hearing<'a, N: Notices> {
     pub(crate) stream: Stream,
@@ -18,7 +18,8 @@ pub struct Hearing<'a, N: Notices> {
     pub(crate) idle_seconds: u32,
 }
 
-/// Returns whether a read failed because nothing came for `idle_seconds`. If that is 0, there is no such limit.
+/// Returns whether a read failed because nothing came for `idle_seconds`. If `idle_seconds` is 0, there is no limit,
+/// and the result is false.
 fn is_silence(error: &io::Error, idle_seconds: u32) -> bool
     ensures { IsTrue result ↔ (0 < idle_seconds) × (error_kind error.now ≡ ErrorKind.WouldBlock) }
 {

@@ -4,12 +4,12 @@ use std::net::TcpStream;
 use std::os::unix::net::UnixStream;
 use std::time::Duration;
 
-/// A connection. It is closed where its last handle is dropped.
+/// A connection. It is closed when its last handle is dropped.
 #[derive(Drop)]
 pub enum Stream {
-    /// One that came in at a port.
+    /// A connection that came in at a port.
     Port(TcpStream),
-    /// One that came in at a local socket.
+    /// A connection that came in at a local socket.
     Socket(UnixStream),
 }
 
@@ -22,7 +22,8 @@ impl Stream {
         }
     }
 
-    /// Limits how long a read or a write of any of its handles waits: one that waits for longer gives `WouldBlock`.
+    /// Limits how long a read or a write may wait, through any handle of the connection. After that it fails with
+    /// `WouldBlock`.
     pub(crate) fn limit_waits(&self, limit: Duration) -> io::Result<()> {
         match self {
             Stream::Port(stream) => {

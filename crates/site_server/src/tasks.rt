@@ -1,4 +1,4 @@
-//! The tasks of the workers' threads: with what each worker starts, and what it gives back.
+//! The tasks of the workers' threads: what each worker starts with, and what it returns.
 ghost use Rattle.std.specs.Prelude.{◌≡◌, ◌++◌, ◌∷◌, ◌+◌, ◌^◌, ◌<◌, ◌≤◌, [], IfOk, Some, length, map};
 ghost use Rattle.std.specs.Prelude.{vec_capacity, vec_len};
 ghost use Rattle.std.specs.List.{zip};
@@ -8,8 +8,8 @@ use crate::crew::Worker;
 use site_lock::{Pass, SiteLedger};
 use std::alloc::{AllocError, Global};
 
-/// A worker's task: the pass and the worker that it starts with, and then the pass that it returns, with the number of
-/// connections that ended without fault.
+/// A worker's task. It starts with the pass and the worker in `waiting`. At its end `done` has the pass, and the number
+/// of connections that ended without fault.
 #[derive(Drop)]
 pub struct WorkerTask<L: SiteLedger> {
     pub waiting: Option<(Pass<L>, Worker)>,
@@ -35,8 +35,8 @@ pub(crate) fn tasks_of<L: SiteLedger>(
     Ok(tasks)
 }
 
-/// Moves the pass that a finished task holds into `passes`, where there is room for it, and returns the number of the
-/// task's connections that ended without fault.
+/// Moves the pass of a finished task into `passes`, which has room for it. Returns the number of the task's connections
+/// that ended without fault.
 fn collect_pass<L: SiteLedger>(task: &mut WorkerTask<L>, passes: &mut Vec<Pass<L>>) -> u64
     requires { vec_len passes.old + 1 ≤ vec_capacity passes.old }
     ensures items { passes.new.items ≡ passes.old.items ++ collected (task.old.done ∷ []) }
@@ -53,8 +53,8 @@ fn collect_pass<L: SiteLedger>(task: &mut WorkerTask<L>, passes: &mut Vec<Pass<L
     }
 }
 
-/// Moves the passes that finished tasks hold into `passes`, where there is room for them, and returns the number of
-/// connections that ended without fault.
+/// Moves the passes of finished tasks into `passes`, which has room for them. Returns the number of connections that
+/// ended without fault.
 pub fn collect_passes<L: SiteLedger>(tasks: &mut [WorkerTask<L>], passes: &mut Vec<Pass<L>>) -> u64
     requires room { vec_len passes.old + length tasks.old ≤ vec_capacity passes.old }
     requires few { clean_in (map (λ p. p.done) tasks.old) < 2 ^ 64 }

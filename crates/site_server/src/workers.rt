@@ -39,8 +39,8 @@ impl<L: SiteLedger, J: Journal, N: Notices, A: Release, R: Wait + Clock> Workers
     A,
     R,
 > {
-    /// Serves with the pass and the listener of a worker's task, and leaves the pass in the task. The workers of a door
-    /// share its listener, which is closed when the last of them ends.
+    /// Serves connections with the pass and at the listener of a worker's task, and puts the pass back into the task.
+    /// The workers of a door share its listener, which is closed when the last of them ends.
     pub fn work(&self, task: &mut WorkerTask<L>)
         ensures { RunsWorker L.config J.may_fail self.now.connections task.old.waiting task.new.done }
     {
@@ -71,8 +71,8 @@ impl<L: SiteLedger, J: Journal, N: Notices, A: Release, R: Wait + Clock> Workers
         self.serve(pass, role, &mut doors)
     }
 
-    /// Serves the connections of a role with one pass, whose programs run while nobody holds the site's lock. Returns
-    /// the pass, with the receipts that it gained, and the number of connections that ended without fault.
+    /// Serves the connections of a role with one pass. Rules run while nobody holds the site's lock. Returns the pass,
+    /// with the receipts that it gained, and the number of connections that ended without fault.
     fn serve<S: Doors>(&self, pass: Pass<L>, role: Role, doors: &mut S) -> (Pass<L>, u64)
         ensures served { (moment : ℕ)
             × Serves (Visits S.opens S.fails

@@ -58,8 +58,8 @@ const OPENED: &[Does] = &[Does::Load(0, ASKED), OPEN];
 
 const RELEASE: Request = Request::Release(1, 8000);
 
-/// A case: the events before a decision, the request of till 1, the events between its draft and its commit, and the
-/// expected result: the entry's number and reply, or why the decision is stale.
+/// A case: the events before a decision, the request of till 1, and the events between its draft and its commit. `told`
+/// is the expected result: the entry's number and reply, or why the decision is stale.
 struct Row {
     before: &'static [Does],
     asked: Request,
@@ -68,7 +68,7 @@ struct Row {
 }
 
 const ROWS: [Row; 8] = [
-    // A run doesn't depend on what is changed here, so the decision is entered.
+    // The run doesn't depend on what changes in between here, so the decision is entered.
     Row {
         before: OPENED,
         asked: RELEASE,

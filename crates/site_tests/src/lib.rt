@@ -1,6 +1,6 @@
-//! Tests of the site and the crates below it that the commands of the program can't make: drafts, the reading of a
-//! single line, and the words of faults. They are in a crate of their own, so that `./check` proves the tested crates
-//! only once.
+//! Tests of the site and the crates below it that the commands of the program can't make. They try drafts, the reading
+//! of a single line, and the texts of faults. They are in a crate of their own, so that `./check` proves the tested
+//! crates only once.
 #![tactic(auto)]
 
 #[cfg(test)]

@@ -1,4 +1,5 @@
-//! A test that a single line is read. The forms of lines are tested by the table `cases/play/line_forms.table`.
+//! A test of the call that reads a single line. The forms of lines are tested by the table
+//! `cases/play/line_forms.table`.
 use std::alloc::Global;
 use till_request::devices::MemoryIn;
 use till_request::{Act, Request, Role, read_line};

@@ -1,4 +1,4 @@
-//! A test of the words of faults, which no answer contains.
+//! A test of the texts of faults. No answer has these texts, so the commands can't test them.
 use fuelling_point::{PointFault, State};
 use program_slots::SlotFault;
 use reg_types::{Refusal, TypeFault};

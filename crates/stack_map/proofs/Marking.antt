@@ -1,4 +1,4 @@
--- Which places the words of a set mean, and what masks do to them.
+-- Which places the words of a set stand for, and how masks add, remove and test places.
 use Rattle.std.proofs.Common.{◌≡◌, ◌≢◌, ℕ, zero, suc, ◌+◌, ◌-◌, ◌*◌, ◌/◌, ◌%◌, ◌^◌, ◌<◌, ◌≤◌, ◌⊎◌, ◌↔◌, List, [], ◌∷◌, ◌++◌, Bool, true, false, refl, sym, ap}
 use Rattle.std.proofs.Common.{◌∙◌, subst, inl, inr, arith, length, replicate, bit_and, bit_or, min, max}
 use Rattle.std.specs.Prelude.{◌==◌, slice_index_or, slice_set}
@@ -28,7 +28,7 @@ bits_high zero word p rest l = ap (λ k. slice_index_or rest k false) (omega ari
 bits_high (suc n) word zero rest l = absurd (omega (arith, l))
 bits_high (suc n) word (suc p) rest l = bits_high n (word / 2) p rest (omega (arith, l)) ∙ ap (λ k. slice_index_or rest k false) (omega arith)
 
--- a place is in the set exactly where its bit is set
+-- place p is in the set that the words stand for exactly if its bit is 1
 pub marked_is : (words : List ℕ) (p : ℕ) → Has (places_of words) p ↔ IsMarked words p
 unfolding places_of
 marked_is [] p = (λ h. absurd (cc), λ e. absurd (let z = bit_at-zero (p % 64) in cc))
@@ -73,14 +73,14 @@ mask_low lo hi i l below =
 mask_high : (lo hi i : ℕ) → lo ≤ hi → hi ≤ i → bit_at (2 ^ hi - 2 ^ lo) i ≡ 0
 mask_high lo hi i l above = let some = pow_pos lo in let most = power_le lo hi l in bit_at_above (2 ^ hi - 2 ^ lo) hi i (omega (arith, some, most)) above
 
--- the bits from lo up to hi are the lowest hi bits without the lowest lo
+-- the mask of the lowest hi bits minus that of the lowest lo bits is 2 ^ hi - 2 ^ lo
 pub mask_of_low : (lo hi low high : ℕ) → lo ≤ hi → high ≡ 2 ^ hi - 1 → low ≡ 2 ^ lo - 1 → (low ≤ high) × (high - low ≡ 2 ^ hi - 2 ^ lo)
 mask_of_low lo hi low high l h e = let some = pow_pos lo in let most = power_le lo hi l in (omega (arith, h, e, some, most), omega (arith, h, e, some, most))
 
 never_one : (n : ℕ) → n ≡ 0 → n ≡ 1 → ⊥
 never_one n z e = cc
 
--- exactly the bits from lo up to hi are 1
+-- in 2 ^ hi - 2 ^ lo the bits lo to hi - 1 are 1, and all others are 0
 pub mask_is : (lo hi i : ℕ) → lo ≤ hi → (bit_at (2 ^ hi - 2 ^ lo) i ≡ 1) ↔ ((lo ≤ i) × (i < hi))
 mask_is lo hi i l =
     let low : bit_at (2 ^ hi - 2 ^ lo) i ≡ 1 → lo ≤ i = λ e. elim (cases_lt i lo) [ inl b ↦ absurd (never_one _ (mask_low lo hi i l b) e) | inr b ↦ b ] in
@@ -102,7 +102,7 @@ zero_word zero k = refl
 zero_word (suc n) zero = refl
 zero_word (suc n) (suc k) = zero_word n k
 
--- words whose bits are all 0 have no place
+-- the set that words of 0 stand for is empty
 pub no_place : (n p : ℕ) → Has (places_of (no_words n)) p → ⊥
 no_place n p h = never_one _ (ap (λ word. bit_at word (p % 64)) (zero_word n (p / 64)) ∙ bit_at-zero (p % 64)) ((marked_is (no_words n) p).0 h)
 
@@ -160,7 +160,7 @@ at_word words p k here =
     ap (λ j. bit_at (slice_index_or words j 0) (p % 64)) here in
     (λ e. sym same ∙ e, λ e. same ∙ e)
 
--- the mask has the bits of word k whose places are among `len` places from `at` on
+-- bit i of the mask is 1 exactly if bit i of word k is one of the `len` places from `at` on
 abbrev pub IsMask : ℕ → ℕ → ℕ → ℕ → Type 0
 IsMask mask k at len = (i : ℕ) → i < 64 → (bit_at mask i ≡ 1) ↔ Within at len (64 * k + i)
 
@@ -170,7 +170,7 @@ mask_at mask k at len p is here =
     let from : 64 * k + p % 64 ≡ p = omega (arith, here) in
     (λ e. subst (Within at len) from (it.0 e), λ w. it.1 (subst (Within at len) (sym from) w))
 
--- the places are added word by word: those in the words before k are in the set
+-- the words stand for the set `old` and, of `len` places from `at` on, those that are in the first k words
 abbrev pub IsTaken : List ℕ → List Bool → ℕ → ℕ → ℕ → Type 0
 IsTaken words old at len k = (p : ℕ) → IsMarked words p ↔ (Has old p ⊎ (Within at len p × (p < 64 * k)))
 
@@ -222,7 +222,7 @@ without_is a mask i small l =
     let none = none_left (bit_at mask i) (bit_at-lt mask i) in
     (λ e. let h = both.0 e in (h.0, none.0 (sym other ∙ h.1)), λ h. both.1 (h.0, other ∙ none.1 h.1))
 
--- the places are removed word by word: those in the words before k are no longer in the set
+-- the words stand for the set `old` without those of `len` places from `at` on that are in the first k words
 abbrev pub IsFreed : List ℕ → List Bool → ℕ → ℕ → ℕ → Type 0
 IsFreed words old at len k = (p : ℕ) → IsMarked words p ↔ (Has old p × (Within at len p → 64 * k ≤ p))
 
@@ -309,7 +309,7 @@ met_all words old other others k many l e met p =
 
 -- ---- whether `len` places from `at` on are in the set
 
--- the places from `at` on that are in the words before k are in the set
+-- of `len` places from `at` on, all that are in the first k words are in the set
 abbrev pub IsHeld : List ℕ → ℕ → ℕ → ℕ → Type 0
 IsHeld words at len k = (p : ℕ) → Within at len p → p < 64 * k → IsMarked words p
 
@@ -321,7 +321,7 @@ held_more words at len k mask is all held p w l = elim (cases_eq (p / 64) k) [
   | inr other ↦ held p w (omega (arith, l, other))
 ]
 
--- if all places are in the set, so are those of a word's mask
+-- if all of `len` places from `at` on are in the set, then word k has all bits of its mask
 pub not_held : (words : List ℕ) (at len k mask : ℕ) → k < 8 → mask < 2 ^ 64 → IsMask mask k at len → ((p : ℕ) → Within at len p → Has (places_of words) p)
     → bit_and (slice_index_or words k 0) mask ≡ mask
 not_held words at len k mask small below is all =

@@ -1,4 +1,4 @@
--- A line that stands for no act is a bad line or has a bad number.
+-- A line of at most 8,400 bytes that can't be read as an act is a bad line or has a bad number.
 use Rattle.std.proofs.Common.{◌≡◌, ℕ, List, [], ◌∷◌, ◌++◌, Bool, true, false, cond, Option, Some, None, Result, Ok, Err, subst, sym, ap, ◌∙◌, ◌≤◌, length, find}
 use Rattle.std.proofs.Common.{nat_lt, ◌&&◌, ◌^◌, inr}
 use Rattle.std.proofs.lemmas.Bool.{le-ltb}
@@ -24,7 +24,7 @@ use Rattle.till_request.specs.Line.{IsLine, TakesFault}
 use Rattle.till_request.specs.Grammar.{number, is_decimal, bytes_from, ◌>>=◌, amount_of, point_of, transaction_of, report_of, up_of, flow_of, load_of, act_in}
 use Rattle.till_request.specs.Grammar.{act_by, act_of_line, act_said, own_act, names_point, names_till, line_read, suits, all_forms, words}
 
--- no fault but these two
+-- the result is Ok, or its fault is BadLine or BadNumber
 abbrev pub IsBad : {A : Type 0} → Result A LineFault → Type 0
 IsBad (Ok x) = Unit {0}
 IsBad (Err TooLong) = ⊥
@@ -116,11 +116,11 @@ IsBad-act_of_line role line = IsBad-own_act role (act_said role (words line)) (I
 bad_along : {r s : Result Act LineFault} → r ≡ s → IsBad r → IsBad s
 bad_along e h = subst IsBad e h
 
--- a line that isn't too long is read by its words
+-- a line of at most 8,400 bytes isn't too long, so it is read by its words
 pub short_read : (role : Role) (line : List ℕ) → length line ≤ 8400 → line_read role line ≡ act_of_line role line
 short_read role line l = ap (λ b. cond b (Err TooLong) (act_of_line role line)) (le-ltb 8400 (length line) l)
 
--- a line that was taken, with the fault that reading it gave
+-- if a line was read with its LF, and parsing it gave a fault, then `TakesFault` holds for this fault
 pub fault_taken : (fault : LineFault) (old new : Option (List ℕ)) (role : Role) (line : List ℕ) → Consumes old new (line ++ 10 ∷ []) → IsLine line
     → Fails fault (line_read role line)
     → TakesFault old new role (reading.Line fault)

@@ -1,4 +1,4 @@
--- Words that have a form.
+-- The words of a line can only have a form with as many parts as there are words.
 use Rattle.std.proofs.Common.{◌≡◌, ◌≢◌, ◌≤◌, Bool, false, ◌&&◌, cond, eqb, ℕ, List, [], ◌∷◌, length, true, refl, ◌∙◌, sym, ap, arith, map, Bor, get_or}
 use Rattle.std.proofs.Common.{Some, None, find, lit≤}
 use Rattle.std.proofs.lemmas.Bool.{eq-eqb}
@@ -14,7 +14,7 @@ use Rattle.till_request.specs.declared.form.Keyword.TheVariants.{Load}
 use Rattle.till_request.specs.Grammar.{text, template, part_fits, fits, suits, allows, sender, all_forms}
 use Rattle.till_request.specs.Spelling.{load_word}
 
--- words that fit are as many as the parts
+-- words that fit a form's parts are as many as the parts
 pub fits_count : (ps : List Part) (ws : List (List ℕ)) → fits ps ws ≡ true → length ps ≡ length ws
 fits_count [] [] h = refl
 fits_count [] (w ∷ ws) h = absurd (cc)
@@ -31,7 +31,7 @@ pub not_true : (b : Bool) → (b ≡ true → ⊥) → b ≡ false
 not_true true h = absurd (h refl)
 not_true false h = refl
 
--- what is found is found among those that may pass the test
+-- the elements of a list for which `may` is true
 abbrev pub only : {X : Type 0} → (X → Bool) → List X → List X
 only may [] = []
 only may (x ∷ xs) = cond (may x) (x ∷ only may xs) (only may xs)
@@ -48,7 +48,7 @@ find_only p may (x ∷ xs) h = find_by p may x xs (may x) refl h (find_only p ma
 true_false : (b : Bool) → b ≡ true → b ≡ false → ⊥
 true_false b h k = cc
 
--- a form that the words have is one of as many words
+-- searching all forms gives the same as searching only the forms with as many parts as there are words
 pub by_count : (role : Role) (ws : List (Bor (List ℕ))) (n : ℕ) → length ws ≡ n
     → find (suits role (map (λ w. w.now) ws)) all_forms
     ≡ find (suits role (map (λ w. w.now) ws)) (only (λ form. eqb (length (template form)) n) all_forms)
@@ -77,7 +77,7 @@ other_count role ws a b c =
     let count : length ws ≡ length (template form) = suited_count role form ws h in
     omega (arith, count, between form, a, b, c)))
 
--- the words of a slice, one by one
+-- a slice of three words is the list of its words at the indices 0, 1 and 2
 pub in_three : (ws : List (Bor (List ℕ))) (d : Bor (List ℕ)) → length ws ≡ 3
     → map (λ w. w.now) ws ≡ (get_or ws 0 d).now ∷ (get_or ws 1 d).now ∷ (get_or ws 2 d).now ∷ []
 in_three (a ∷ b ∷ c ∷ []) d e = refl
@@ -93,7 +93,7 @@ pub in_five : (ws : List (Bor (List ℕ))) (d : Bor (List ℕ)) → length ws �
 in_five (a ∷ b ∷ c ∷ v ∷ w ∷ []) d e = refl
 in_five ws d e = absurd (omega (arith, e))
 
--- whether all tests hold, whichever comes first
+-- four tests all hold or not, whether the first or the third is made first
 pub third_first : (a b c d : Bool) → (a && (b && (c && d))) ≡ (c && (a && (b && d)))
 third_first true true c d = refl
 third_first true false true d = refl

@@ -1,4 +1,4 @@
--- Words that spell numbers.
+-- Reading the digits of a word one by one gives the number that the word spells.
 use Rattle.std.proofs.Common.{◌≡◌, ◌⊎◌, inl, inr, ℕ, ◌+◌, ◌*◌, ◌<◌, ◌≤◌, ◌^◌, List, length, take, get_or, Bool, true, false, ◌&&◌}
 use Rattle.std.proofs.Common.{rules, refl, sym, ◌∙◌, ap, arith, nat_lt, lit≤}
 use Rattle.std.specs.List.{list_all}
@@ -22,7 +22,8 @@ and_false false c h = refl
 not_below : (m n : ℕ) → ¬ (m < n) → nat_lt m n ≡ false
 not_below m n h = search (rules, common_steps)
 
--- a digit more
+-- if the first i bytes are digits, and the next byte is one, then the first i + 1 bytes are digits, and `m` is their
+-- number
 pub digits_more : (w : List ℕ) (i v m : ℕ) → i < length w → list_all is_ascii_digit (take i w) ≡ true → v ≡ digits_value 10 (take i w)
     → is_ascii_digit (get_or w i 0) ≡ true → m ≡ v * 10 + digit_value (get_or w i 0)
     → (list_all is_ascii_digit (take (i + 1) w) ≡ true) × (m ≡ digits_value 10 (take (i + 1) w))
@@ -31,7 +32,7 @@ digits_more w i v m lt digits value digit more = (
   more ∙ ap (λ n. n * 10 + digit_value (get_or w i 0)) value ∙ sym (digits_value_more 10 w i lt),
 )
 
--- no digit there, or a number that is too large so far
+-- a word isn't a number below 2^64 if one of its bytes isn't a digit, or if its digits up to one byte are 2^64 or more
 pub no_value : (w : List ℕ) (i v : ℕ) → i < length w → v ≡ digits_value 10 (take i w)
     → (is_ascii_digit (get_or w i 0) ≡ false) ⊎ (2 ^ 64 ≤ v * 10 + digit_value (get_or w i 0))
     → (list_all is_ascii_digit w && nat_lt (digits_value 10 w) (2 ^ 64)) ≡ false

@@ -1,4 +1,4 @@
--- A text cut at its first separator.
+-- Cutting a text at its first separator, again and again, gives the same parts as splitting it at each separator.
 use Rattle.std.proofs.Common.{◌≡◌, ℕ, ◌+◌, ◌<◌, ◌≤◌, List, [], ◌∷◌, length, take, drop, Bool, true, false, cond, ltb}
 use Rattle.std.proofs.Common.{Some, None, refl, sym, ap, subst, arith, ◌-◌, ◌∙◌, ◌≢◌, ◌⊎◌, inl, inr, get_or, length-drop, append_assoc}
 use Rattle.std.proofs.lemmas.Grind.{common_steps}
@@ -41,11 +41,11 @@ by_no_place false t e = ltb-false _ _ t
 pub cut_nowhere : (p : ℕ → Bool) (xs : List ℕ) → position p xs ≡ None → slice_split p xs ≡ xs ∷ []
 cut_nowhere p xs e = none_before p xs (by_no_place (ltb (position_or_len p xs) (length xs)) refl e)
 
--- what stands behind a place
+-- a text has `length xs - n` bytes after its first n, so taking as many of them takes all of them
 pub rest_behind : (xs : List ℕ) (n : ℕ) → take (length xs - n) (drop n xs) ≡ drop n xs
 rest_behind xs n = grind (arith, common_steps)
 
--- behind so many parts there is one more
+-- if a text has n parts and then those of a rest, it has more than n parts
 pub parts_and_more : (p : ℕ → Bool) (xs rest : List ℕ) (parts : List (Bor (List ℕ))) (n : ℕ) → map (λ w. w.now) parts ++ slice_split p rest ≡ slice_split p xs
     → eqb (length parts) n ≡ true → n < length (slice_split p xs)
 parts_and_more p xs rest parts n all full =
@@ -54,7 +54,7 @@ parts_and_more p xs rest parts n all full =
     let mapped : length (map (λ w. w.now) parts) ≡ length parts = grind (arith, common_steps) in
     omega (arith, length-append (map (λ w. w.now) parts) (slice_split p rest), length-slice_split p rest)
 
--- no separator stands from one place up to another
+-- none of the bytes from place `start` up to but not including place `at` is the separator
 abbrev pub NoneFrom : ℕ → List ℕ → ℕ → ℕ → Type 0
 NoneFrom sep xs start at = (k : ℕ) → start ≤ k → k < at → get_or xs k 0 ≢ sep
 
@@ -63,7 +63,8 @@ none_ahead : (sep : ℕ) (xs : List ℕ) (start at : ℕ) → start ≤ at → N
 none_ahead sep xs start at l none k h =
     ne_eqb _ _ (λ e. none (start + k) (omega arith) (omega (arith, l, h)) (sym (get_or-drop start xs k 0) ∙ e))
 
--- the part that ends at a separator, and what stands behind it
+-- If the first separator from `start` on is at place `at`, the first part is the bytes before it. The other parts are
+-- those of the bytes after it.
 part_up_to : (sep : ℕ) (xs : List ℕ) (start at : ℕ) → start ≤ at → at < length xs → NoneFrom sep xs start at → get_or xs at 0 ≡ sep
     → slice_split (λ b. eqb b sep) (drop start xs) ≡ take (at - start) (drop start xs) ∷ slice_split (λ b. eqb b sep) (drop (at + 1) xs)
 part_up_to sep xs start at l h none found =
@@ -79,7 +80,7 @@ part_up_to sep xs start at l h none found =
     subst P place (slice_split_first p (drop start xs) 0 (omega (arith, place, many, h, l)))
     ∙ ap (λ t. take (at - start) (drop start xs) ∷ slice_split p t) behind
 
--- the part that no separator ends
+-- if there is no separator from `start` to the end, these bytes are a single part
 part_to_the_end : (sep : ℕ) (xs : List ℕ) (start at : ℕ) → start ≤ at → at ≡ length xs → NoneFrom sep xs start at
     → slice_split (λ b. eqb b sep) (drop start xs) ≡ drop start xs ∷ []
 part_to_the_end sep xs start at l e none =
@@ -94,7 +95,8 @@ pushed : (parts more : List (Bor (List ℕ))) (part : Bor (List ℕ)) → more �
     → map (λ w. w.now) more ≡ map (λ w. w.now) parts ++ part.now ∷ []
 pushed parts more part e = ap (λ t. map (λ w. w.now) t) e ∙ map-append (λ w. w.now) parts (part ∷ [])
 
--- a part more, which ends at a separator
+-- after a part that ends at a separator, all parts are the parts so far, this part, and those of the bytes after the
+-- separator
 pub part_more : (sep : ℕ) (all : List (List ℕ)) (xs : List ℕ) (start at : ℕ) (parts more : List (Bor (List ℕ))) (part : Bor (List ℕ))
     → map (λ w. w.now) parts ++ slice_split (λ b. eqb b sep) (drop start xs) ≡ all → more ≡ parts ++ part ∷ []
     → part.now ≡ take (at - start) (drop start xs) → start ≤ at → at < length xs → NoneFrom sep xs start at → get_or xs at 0 ≡ sep
@@ -105,7 +107,7 @@ part_more sep all xs start at parts more part so e is l h none found =
     ∙ append_assoc (map (λ w. w.now) parts) (part.now ∷ []) (slice_split p (drop (at + 1) xs))
     ∙ ap (λ t. map (λ w. w.now) parts ++ t) (ap (λ t. t ∷ slice_split p (drop (at + 1) xs)) is ∙ sym (part_up_to sep xs start at l h none found)) ∙ so
 
--- the last part
+-- if no separator follows, all parts are the parts so far and the rest of the text
 pub part_last : (sep : ℕ) (all : List (List ℕ)) (xs : List ℕ) (start at : ℕ) (parts more : List (Bor (List ℕ))) (part : Bor (List ℕ))
     → map (λ w. w.now) parts ++ slice_split (λ b. eqb b sep) (drop start xs) ≡ all → more ≡ parts ++ part ∷ []
     → part.now ≡ drop start xs → start ≤ at → at ≡ length xs → NoneFrom sep xs start at
@@ -114,7 +116,7 @@ part_last sep all xs start at parts more part so e is l h none =
     pushed parts more part e
     ∙ ap (λ t. map (λ w. w.now) parts ++ t) (ap (λ t. t ∷ []) is ∙ sym (part_to_the_end sep xs start at l h none)) ∙ so
 
--- one place further on
+-- if the byte at place `at` isn't the separator either, then no byte before place `at + 1` is
 pub none_further : (sep : ℕ) (xs : List ℕ) (start at : ℕ) → NoneFrom sep xs start at → get_or xs at 0 ≢ sep → NoneFrom sep xs start (at + 1)
 none_further sep xs start at none f k low high = by_last (eqb_tells k at) where
   by_last : ((eqb k at ≡ true) × (k ≡ at)) ⊎ ((eqb k at ≡ false) × (k ≢ at)) → get_or xs k 0 ≢ sep

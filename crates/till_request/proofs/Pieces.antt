@@ -1,4 +1,4 @@
--- Lines that are taken out of a block piece by piece.
+-- The pieces that are removed from a block add up to a line.
 use Rattle.std.proofs.Common.{◌≡◌, ◌≤◌, ◌<◌, ◌+◌, ◌-◌, ℕ, zero, suc, List, [], ◌∷◌, ◌++◌, Option, Some, None, MatchOption}
 use Rattle.std.proofs.Common.{false, refl, sym, ap, subst, ◌∙◌, arith, append_assoc, append-nil, length, length-append, length-take}
 use Rattle.std.proofs.Common.{length-take-le, take, take-append-drop, drop, drop-drop, slice_range, slice_set}
@@ -14,7 +14,7 @@ use Rattle.till_request.specs.declared.block.Piece.TheVariants.{Ended, TooLong}
 use Rattle.till_request.specs.declared.line.NextLine.{NextLine}
 use Rattle.till_request.specs.declared.line.NextLine.TheVariants.{Cut, End}
 
--- no LF stands before place n
+-- if no place before n has an LF, the first n bytes have no LF
 no_lf_before : (bytes : List ℕ) (n : ℕ) → n ≤ length bytes → Nowhere (Passes (is_byte 10) bytes) 0 n → HasNoLf (take n bytes)
 no_lf_before bytes zero l h = tt
 no_lf_before [] (suc n) l h = tt
@@ -33,7 +33,7 @@ ends_behind bytes (Some k) h = (
       ∙ ap (λ l. take k bytes ++ l) (drop_more bytes k 0 h.0.high ∙ ap (λ b. b ∷ drop (k + 1) bytes) (eqb-true _ 10 h.1)),
 )
 
--- what is there once so many bytes of it were passed over
+-- a range that begins `count` bytes later is the range without its first `count` bytes
 pub moved_on : (bytes : List ℕ) (at end count : ℕ) → count ≤ length (slice_range bytes at end)
     → slice_range bytes (at + count) end ≡ drop count (slice_range bytes at end)
 moved_on bytes at end count l =
@@ -41,7 +41,7 @@ moved_on bytes at end count l =
     sym (ap (λ n. drop count (take n (drop at bytes))) e ∙ drop-take count (end - (at + count)) (drop at bytes)
     ∙ ap (λ l. take (end - (at + count)) l) (drop-drop count at bytes))
 
--- a byte alone, put where there is room for one
+-- a byte that is written to the beginning of a buffer is the buffer's first byte
 pub put_alone : (byte : ℕ) (buffer rest : List ℕ) → 1 ≤ length buffer → byte ∷ rest ≡ take 1 (slice_set buffer 0 byte) ++ rest
 put_alone byte [] rest l = absurd (omega (arith, l))
 put_alone byte (b ∷ bs) rest l = refl
@@ -65,20 +65,20 @@ beyond there line room l e o h = (
   omega (arith, e, l.1, length-append line (take (room + 1) there), length-take-le (room + 1) there o),
 )
 
--- a line whose LF stands too far behind
+-- a line is too long if more bytes come before its LF in the block than the line has room for
 pub ends_too_late : (there line : List ℕ) (room count : ℕ) → IsLine line → room ≡ 8400 - length line → EndsBehind count there → room < count
     → LineGrows there line (drop (room + 1) there) [] TooLong
 ends_too_late there line room count l e h o =
     beyond there line room l e (omega (arith, o, h.0)) (no_lf_less count (room + 1) there (omega (arith, o)) h.1)
 
--- a line without an LF in more bytes than it may have
+-- a line is too long if the block has no LF, and has more bytes than the line has room for
 pub ends_nowhere : (there line : List ℕ) (room : ℕ) → IsLine line → room ≡ 8400 - length line → HasNoLf there → room < length there
     → LineGrows there line (drop (room + 1) there) [] TooLong
 ends_nowhere there line room l e h o =
     beyond there line room l e (omega (arith, o))
     (no_lf_less (length there) (room + 1) there (omega (arith, o)) (subst (λ l. HasNoLf l) (sym (take_all (length there) there (omega arith))) h))
 
--- a front without LF, for which there is room, was taken and lost
+-- if bytes without an LF were removed from the block, and the line has room for them but wasn't kept, `LosesPart` holds
 pub part_lost : (there line left : List ℕ) (count : ℕ) → IsLine line → HasNoLf (take count there) → count ≤ length there
     → count ≤ 8400 - length line → 0 < count → left ≡ drop count there → LosesPart there line left
 part_lost there line left count l h long room some rest = (
@@ -88,7 +88,8 @@ part_lost there line left count l h long room some rest = (
   omega (arith, length-take-le count there long, some),
 )
 
--- the front up to the LF, for which there is room, was taken with the LF
+-- if the bytes before the LF were appended to the line, which has room for them, and the LF was removed, the line has
+-- ended
 pub line_ended : (there line left grown : List ℕ) (count : ℕ) → IsLine line → EndsBehind count there → count ≤ 8400 - length line
     → grown ≡ line ++ take count there → left ≡ drop 1 (drop count there) → LineGrows there line left grown Ended
 line_ended there line left grown count l h room is rest =
@@ -101,7 +102,7 @@ line_ended there line left grown count l h room is rest =
       subst (λ w. IsLine w) (sym is) whole,
     )
 
--- what was taken of a line once a piece of what is there was taken too
+-- if the block's first bytes are taken after the line so far, then what was taken is the line and these bytes
 pub piece_taken : (a b ahead : Option (List ℕ)) (line there left piece : List ℕ) → Consumes a b line → Keeps b (prepend_known there ahead)
     → there ≡ piece ++ left → Consumes a (prepend_known left ahead) (line ++ piece)
 piece_taken None b ahead line there left piece h k e = tt
@@ -110,20 +111,20 @@ piece_taken (Some ps) (Some qs) None line there left piece h k e = absurd k
 piece_taken (Some ps) (Some qs) (Some rs) line there left piece h k e =
     h ∙ ap (λ t. line ++ t) (sym k ∙ ap (λ t. t ++ rs) e ∙ append_assoc piece left rs) ∙ sym (append_assoc line piece (left ++ rs))
 
--- the same, where all that is there was taken
+-- if all bytes of the block are taken after the line so far, then what was taken is the line and these bytes
 pub all_taken : (a b ahead : Option (List ℕ)) (line there left : List ℕ) → Consumes a b line → Keeps b (prepend_known there ahead)
     → left ≡ [] → Consumes a (prepend_known left ahead) (line ++ there)
 all_taken a b ahead line there left h k e =
     piece_taken a b ahead line there left there h k (sym (append-nil there) ∙ ap (λ l. there ++ l) (sym e))
 
--- what was taken of a line, where what is ahead was only moved
+-- what was taken of a line stays the same while bytes are only moved from the device into the block
 pub still_taken : (a b c : Option (List ℕ)) (line : List ℕ) → Consumes a b line → Keeps b c → Consumes a c line
 still_taken None b c line h k = tt
 still_taken (Some ps) None c line h k = absurd h
 still_taken (Some ps) (Some qs) None line h k = absurd k
 still_taken (Some ps) (Some qs) (Some rs) line h k = h ∙ ap (λ t. line ++ t) (sym k)
 
--- the last piece of a line was taken, with its LF
+-- if a line ended with bytes of the block, then the whole line and its LF were taken
 pub line_taken : (a b ahead : Option (List ℕ)) (line there left grown : List ℕ) → Consumes a b line → Keeps b (prepend_known there ahead)
     → LineGrows there line left grown Ended → Consumes a (prepend_known left ahead) (grown ++ 10 ∷ []) × IsLine grown
 line_taken a b ahead line there left grown h k g =
@@ -133,7 +134,7 @@ line_taken a b ahead line there left grown h k g =
       g.3,
     )
 
--- more than a line may have was taken
+-- if a line became too long with bytes of the block, then the first 8,401 bytes of a line were taken
 pub too_long_taken : (a b ahead : Option (List ℕ)) (line there left grown : List ℕ) → Consumes a b line → Keeps b (prepend_known there ahead)
     → LineGrows there line left grown TooLong → TakesTooLong a (prepend_known left ahead)
 too_long_taken a b ahead line there left grown h k g = (line ++ g.0, piece_taken a b ahead line there left g.0 h k g.1, g.2, g.3)
@@ -150,7 +151,7 @@ end_by a b ahead (x ∷ xs) h l k z =
     subst (λ e. Takes a (prepend_known [] ahead) (if e then End else Cut)) (sym some)
     (x ∷ xs, still_taken a b (prepend_known [] ahead) (x ∷ xs) h k, l, omega arith, at_end_too ahead z)
 
--- the input ended behind what was taken of a line
+-- if the input ends after a line's bytes, then what was found is `End` if there are none, or else `Cut`
 pub end_taken : (a b ahead : Option (List ℕ)) (line there : List ℕ) (found : NextLine) → Consumes a b line → IsLine line
     → Keeps b (prepend_known there ahead) → there ≡ [] → IsAtEnd ahead → found ≡ (if length line == 0 then End else Cut)
     → Takes a (prepend_known there ahead) found
@@ -158,7 +159,7 @@ end_taken a b ahead line there found h l k none z is =
     subst (λ t. Takes a (prepend_known t ahead) found) (sym none)
     (subst (λ f. Takes a (prepend_known [] ahead) f) (sym is) (end_by a b ahead line h l (subst (λ t. Keeps b (prepend_known t ahead)) none k) z))
 
--- so many bytes at the front go into a line
+-- if `count` bytes, of those that belong to the line, were moved to its end, then `GivesHeld` holds
 pub held_taken : (there line grown left : List ℕ) (room n count : ℕ) → IsLine line → room ≡ 8400 - length line → Belongs there room n → count ≤ n
     → grown ≡ line ++ take count there → left ≡ drop count there → GivesHeld there line left grown count
 held_taken there line grown left room n count l e belongs few is rest =
@@ -170,13 +171,13 @@ held_taken there line grown left room n count l e belongs few is rest =
     ) in
     (bytes, sym (ap (λ r. bytes ++ r) rest ∙ take-append-drop count there), is, subst (λ w. IsLine w) (sym is) whole, long)
 
--- what was moved from a block to a line was taken from what is ahead
+-- bytes that were moved from a block to a line were taken from the bytes of the block and the device together
 pub held_ahead : (ahead : Option (List ℕ)) (there line left grown : List ℕ) (count : ℕ) → GivesHeld there line left grown count
     → TakesHeld (prepend_known there ahead) (prepend_known left ahead) line grown
 held_ahead None there line left grown count h = (h.0, tt, h.2, h.3)
 held_ahead (Some rest) there line left grown count h = (h.0, ap (λ t. t ++ rest) h.1 ∙ append_assoc h.0 left rest, h.2, h.3)
 
--- fewer bytes are there once a line has ended, or had too many
+-- if a line has ended, the block has fewer bytes than before
 pub ended_shorter : (there line left grown : List ℕ) → LineGrows there line left grown Ended → length left < length there
 ended_shorter there line left grown g = omega (arith, ap length g.1, length-append g.0 (10 ∷ left))
 

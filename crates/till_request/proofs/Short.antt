@@ -1,4 +1,4 @@
--- Words behind a text are joined by spaces.
+-- Words that are appended to a text with a space before each are the words joined by spaces.
 use Rattle.std.proofs.Common.{◌≡◌, ◌≢◌, ℕ, List, [], ◌∷◌, ◌++◌, codes, Option, Some, None, MatchOption, Bor, refl, sym, ◌∙◌, append_assoc, map}
 use Rattle.std.specs.Fmt.{decimal}
 use Rattle.std.specs.List.{join_with_byte}
@@ -33,7 +33,7 @@ refused number None (Some part) = words_joined (codes "V" ++ decimal number) (de
 refused number (Some unit) None = words_joined (codes "V" ++ decimal number) (decimal unit) []
 refused number (Some unit) (Some part) = words_joined (codes "V" ++ decimal number) (decimal unit) (decimal part ∷ [])
 
--- a reply's words, a space before each
+-- a reply's words, with a space before each, are a space and the reply's text
 replied : (reply : Reply) → with_words [] (reply_words reply) ≡ 32 ∷ reply_text reply
 replied replies.Done = words_joined [] (codes "done") []
 replied (replies.Granted amount version) = words_joined [] (codes "granted") (decimal amount ∷ codes "by" ∷ decimal version ∷ [])
@@ -45,7 +45,7 @@ replied (replies.Point state nozzle amount volume limit preset unpaid) =
 replied (replies.Refused number None) = words_joined [] (codes "S" ++ decimal number) []
 replied (replies.Refused number (Some value)) = words_joined [] (codes "S" ++ decimal number) (decimal value ∷ [])
 
--- what stands behind the first space of these words is the reply's text
+-- if a text is a reply's words, with a space before each, then what follows its first space is the reply's text
 pub behind_space : (reply : Reply) (text : List ℕ) (found : Option (Bor (List ℕ))) → text ≡ with_words [] (reply_words reply)
     → MatchOption found ((rest : List ℕ) → text ≢ 32 ∷ rest) (λ x. text ≡ 32 ∷ x.now) → MatchOption found ⊥ (λ x. x.now ≡ reply_text reply)
 behind_space reply text None e h = h (reply_text reply) (e ∙ replied reply)

@@ -1,4 +1,4 @@
--- What is taken piece by piece.
+-- Bytes that are read or written piece by piece add up.
 use Rattle.std.proofs.Common.{◌≡◌, ◌≢◌, ℕ, List, [], ◌∷◌, ◌++◌, Some, None, Option, Result, Ok, Err, OnErr, sym, ◌∙◌, ap, subst, append_assoc, append-nil, MatchOption, IfOk}
 use Rattle.std.specs.Io.KnownBytes.{Consumes, Appends, IsAtEnd}
 use Rattle.till_request.specs.Line.{GoesOn, GoesPart, HasNoLf, IsLine, TakesHeld, TakesPart}
@@ -31,7 +31,8 @@ pub part_given : {T E : Type 0} (r : Result T E) (a c : Option (List ℕ)) (xs :
 part_given (Ok x) a c xs h l = tt
 part_given (Err e) a c xs h l = (xs, h, l)
 
--- a line grows by what was held of it, and then comes a byte
+-- if a line was read, and then bytes that were appended to it and one more byte, then the grown line and that byte were
+-- read
 pub byte_behind : (a b c : Option (List ℕ)) (line grown : List ℕ) (byte : ℕ) → Consumes a b line → GoesOn b c line grown (Some byte)
     → Consumes a c (grown ++ byte ∷ [])
 byte_behind a b c line grown byte h on =
@@ -41,14 +42,14 @@ byte_behind a b c line grown byte h on =
 nothing_more : (a b c : Option (List ℕ)) (xs : List ℕ) → Consumes a b xs → Consumes b c [] → Consumes a c xs
 nothing_more a b c xs h k = subst (Consumes a c) (append-nil xs) (consumes_more a b c xs [] h k)
 
--- what was held of a line was taken, and then a byte was asked for
+-- if bytes were appended to a line, and then one more byte was read or the input had ended, then `GoesOn` holds
 pub goes_on : {E : Type 0} (a b c : Option (List ℕ)) (line grown : List ℕ) (r : Result (Option ℕ) E) → TakesHeld a b line grown
     → IfOk r (λ found. MatchOption found (Consumes b c [] × IsAtEnd c) (λ byte. Consumes b c (byte ∷ []))) → IfOk r (GoesOn a c line grown)
 goes_on a b c line grown (Err e) h k = tt
 goes_on a b c line grown (Ok None) h k = ((h.0, nothing_more a b c h.0 h.1 k.0, h.2, h.3), k.1)
 goes_on a b c line grown (Ok (Some byte)) h k = (h.0, consumes_more a b c h.0 (byte ∷ []) h.1 k, h.2, h.3)
 
--- the same, where the device failed
+-- if bytes were appended to a line, and then the read of one more byte failed, then `GoesPart` holds
 pub goes_part : {T E : Type 0} (a b c : Option (List ℕ)) (line grown : List ℕ) (r : Result T E) → TakesHeld a b line grown
     → OnErr r (Consumes b c []) → OnErr r (GoesPart a c line)
 goes_part a b c line grown (Ok x) h k = tt

@@ -1,5 +1,6 @@
--- Definitions: the texts of answers (this profile). An entry's number comes before the reply. A refusal or a fault is
--- a letter (S for the site's, L for a line's, V for a program's) with its number, and then the numbers that it names.
+-- Definitions: the texts of answers (this profile). An entry's number comes before the reply. A refusal or a fault is a
+-- letter and a number: S for the site's, L for a line's, V for a program's. The numbers that it names, such as a
+-- slot's, come after that.
 use Rattle.std.specs.Prelude.{ℕ, List, [], ◌∷◌, ◌++◌, codes, Option, Some, None}
 use Rattle.std.specs.Fmt.{decimal}
 use Rattle.std.specs.List.{join_with_byte}
@@ -42,7 +43,8 @@ fault_text faults.BadNumber = codes "L3"
 fault_text faults.CutLine = codes "L4"
 fault_text faults.OutOfMemory = codes "S31"
 
--- the words of a program's refusal: V with its number, and then the unit, and the register or argument, that it names
+-- the words of a program's refusal: V with the refusal's number, the unit that it names, and the register or argument
+-- that it names
 abbrev pub program_words : ℕ → Option ℕ → Option ℕ → List (List ℕ)
 program_words number None None = (codes "V" ++ decimal number) ∷ []
 program_words number None (Some part) = (codes "V" ++ decimal number) ∷ decimal part ∷ []

@@ -7,7 +7,7 @@ use Rattle.till_request.specs.declared.block.Piece.TheVariants.{Ended, TooLong, 
 use Rattle.till_request.specs.declared.line.InputFault.{InputFault}
 use Rattle.till_request.specs.declared.line.InputFault.TheVariants.{Read, ReadsSpent, OutOfMemory}
 
--- no more bytes than these can still be removed: those of the block, and 4,096 for each read that is left
+-- the most bytes that can still be removed: those of the block, and 4,096 for each read that is left
 abbrev pub most_ahead : ℕ → List ℕ → ℕ
 most_ahead left unread = 4096 * left + length unread
 
@@ -21,8 +21,9 @@ EmptyAfter OutOfMemory unread = Unit {0}
 abbrev pub EndsBehind : ℕ → List ℕ → Type 0
 EndsBehind count bytes = (count < length bytes) × HasNoLf (take count bytes) × (bytes ≡ take count bytes ++ 10 ∷ drop (count + 1) bytes)
 
--- the block had the bytes `there` and now has `left`; `line` has grown to `grown` by the bytes before the LF (Ended) or
--- by all of them (More), or the first 8,401 bytes of the line were removed (TooLong)
+-- The block had the bytes `there` and now has `left`. Ended: the bytes before the LF were appended to `line`, which
+-- gives `grown`, and the LF was removed. More: all bytes were appended. TooLong: bytes were removed up to the 8,401st
+-- byte of the line.
 abbrev pub LineGrows : List ℕ → List ℕ → List ℕ → List ℕ → Piece → Type 0
 LineGrows there line left grown Ended = (bytes : List ℕ) × (there ≡ bytes ++ 10 ∷ left) × (grown ≡ line ++ bytes) × IsLine grown
 LineGrows there line left grown TooLong = (bytes : List ℕ) × (there ≡ bytes ++ left) × HasNoLf (line ++ bytes) × (length (line ++ bytes) ≡ 8401)
@@ -32,8 +33,8 @@ LineGrows there line left grown More = (left ≡ []) × (grown ≡ line ++ there
 abbrev pub LosesPart : List ℕ → List ℕ → List ℕ → Type 0
 LosesPart there line left = (bytes : List ℕ) × (there ≡ bytes ++ left) × IsLine (line ++ bytes) × (0 < length bytes)
 
--- the first `count` bytes have no LF, and `count` is at most `room`; there can't be one more: `count` is `room`, or
--- there are no more bytes, or an LF comes next
+-- `count` is how many of the bytes belong to the line: those before the first LF, or all if there is no LF, but at most
+-- `room`
 abbrev pub Belongs : List ℕ → ℕ → ℕ → Type 0
 Belongs bytes room count =
     (count ≤ length bytes) × HasNoLf (take count bytes) × (count ≤ room)

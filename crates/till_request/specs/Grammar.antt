@@ -130,11 +130,11 @@ suits role ws form = allows role (sender form) && fits (template form) ws
 abbrev pub IsLoad : Role → List (List ℕ) → Type 0
 IsLoad role ws = (layout : Layout) × (suits role ws (forms.Load layout) ≡ true)
 
--- the word isn't empty, and doesn't begin with a zero unless it is that zero alone
+-- the word isn't empty, and begins with a zero only if it is one byte long
 abbrev pub has_no_leading_zero : List ℕ → Bool
 has_no_leading_zero word = if length word == 1 then true else nat_lt 0 (length word) && not (slice_index word 0 == 48)
 
--- decimal digits without leading zeros
+-- the word is decimal digits without leading zeros
 abbrev pub is_decimal : List ℕ → Bool
 is_decimal word = list_all is_ascii_digit word && has_no_leading_zero word
 
@@ -142,18 +142,18 @@ is_decimal word = list_all is_ascii_digit word && has_no_leading_zero word
 abbrev pub number : ℕ → List ℕ → Result ℕ LineFault
 number k word = if is_decimal word && nat_lt (digits_value 10 word) (2 ^ k) then Ok (digits_value 10 word) else Err BadNumber
 
--- the bytes that were decoded from hexadecimal digits of either case; a bad number if that wasn't possible
+-- the bytes that hexadecimal digits were decoded to; a bad number if they couldn't be decoded
 abbrev pub bytes_from : Result (List ℕ) FromHexError → Result (List ℕ) LineFault
 bytes_from (Ok bytes) = Ok bytes
 bytes_from (Err e) = Err BadNumber
 
--- the second step with the first one's result, or the first one's fault
+-- does the second step with the first one's result; if the first step failed, the result is its fault
 infixl 10 ◌>>=◌
 abbrev pub ◌>>=◌ : {A B : Type 0} → Result A LineFault → (A → Result B LineFault) → Result B LineFault
 (Ok x) >>= f = f x
 (Err e) >>= f = Err e
 
--- the request or the event of a verb with its numbers
+-- the request or the event that a verb and its numbers stand for
 abbrev pub amount_request : AmountVerb → ℕ → ℕ → Request
 amount_request amounts.Release point amount = requests.Release point amount
 amount_request amounts.Preset point amount = requests.Preset point amount
@@ -179,7 +179,7 @@ report_event reports.Fault = events.Fault
 report_event reports.Repaired = events.Repaired
 report_event reports.Order = events.TakeOrder
 
--- the act of each form, by its values: amounts, prices and volumes are below 2^64, other numbers below 2^32
+-- Reads the values of each form as its act. Amounts, prices and volumes must be below 2^64, other numbers below 2^32.
 unfoldable pub amount_of : AmountVerb → List ℕ → List ℕ → List ℕ → Result Act LineFault
 amount_of verb till point amount = do
   till' ← number 32 till
@@ -225,7 +225,7 @@ load_of layout slot mask hex = do
   bytes' ← bytes_from (decode_of hex)
   Ok (acts.Load slot' mask' layout bytes')
 
--- the act of words that have this form
+-- Reads the words of a line as the act that this form stands for. Words that don't have the form are a bad line.
 abbrev pub act_in : Form → List (List ℕ) → Result Act LineFault
 act_in (forms.Amount verb) (k0 ∷ till ∷ k1 ∷ point ∷ amount ∷ []) = amount_of verb till point amount
 act_in (forms.Point verb) (k0 ∷ till ∷ k1 ∷ point ∷ []) = point_of verb till point
@@ -236,12 +236,12 @@ act_in forms.Flow (k0 ∷ point ∷ k1 ∷ amount ∷ volume ∷ []) = flow_of p
 act_in (forms.Load layout) (k0 ∷ slot ∷ mask ∷ hex ∷ []) = load_of layout slot mask hex
 act_in form ws = Err BadLine
 
--- the act of words that have this form; a bad line for none
+-- reads words by the form that was found for them; without a form they are a bad line
 abbrev pub act_by : Option Form → List (List ℕ) → Result Act LineFault
 act_by None ws = Err BadLine
 act_by (Some form) ws = act_in form ws
 
--- the act of words, by a form that they have and that the role may send
+-- reads words by the first form that they have and that the role may send
 abbrev pub act_said : Role → List (List ℕ) → Result Act LineFault
 act_said role ws = act_by (find (suits role ws) all_forms) ws
 
@@ -261,20 +261,21 @@ is_own (roles.OneTill number) act = names_till number act
 is_own (roles.SomePoints points) act = names_point points act
 is_own role act = true
 
--- the act, or a bad line if the role is limited to one till or to some points, and the act is of another
+-- The act, if the role may send it. If the role is limited to one till or to some points, the act of another till or
+-- point is a bad line.
 abbrev pub own_act : Role → Result Act LineFault → Result Act LineFault
 own_act (roles.OneTill number) said = said >>= (λ act. if names_till number act then Ok act else Err BadLine)
 own_act (roles.SomePoints points) said = said >>= (λ act. if names_point points act then Ok act else Err BadLine)
 own_act role said = said
 
--- the act of a line's words, from a sender of this role
+-- reads the words of a line that a sender of this role has sent
 abbrev pub act_of_words : Role → List (List ℕ) → Result Act LineFault
 act_of_words role ws = own_act role (act_said role ws)
 
--- the act of a line from a sender of this role, however long the line is
+-- reads a line that a sender of this role has sent, however long it is
 abbrev pub act_of_line : Role → List ℕ → Result Act LineFault
 act_of_line role line = act_of_words role (words line)
 
--- the act of a line from a sender of this role; a line of more than 8,400 bytes is too long, whatever its bytes are
+-- reads a line that a sender of this role has sent; a line of more than 8,400 bytes is too long, whatever its bytes are
 abbrev pub line_read : Role → List ℕ → Result Act LineFault
 line_read role line = if nat_lt 8400 (length line) then Err TooLong else act_of_line role line

@@ -1,6 +1,6 @@
 -- Promises: which bytes are read from an input that is read line by line: it had the bytes `old`, and then has `new`.
--- IsLine and Takes are also definitions: a line has no LF and at most 8,400 bytes; with one byte more it is too long;
--- if the input ends after at least one byte and without an LF, the line is cut.
+-- IsLine and Takes are also definitions. A line has no LF and at most 8,400 bytes. With one byte more it is too long.
+-- If the input ends after at least one byte and without an LF, the line is cut.
 use Rattle.std.specs.Prelude.{◌≡◌, ◌≢◌, ◌⊎◌, ℕ, ◌<◌, ◌≤◌, List, [], ◌∷◌, ◌++◌, length, Option, Some, None, Result, Ok, Err, Bool, true, false}
 use Rattle.std.specs.List.{AllByRecursion}
 use Rattle.std.specs.Io.KnownBytes.{Consumes, IsAtEnd}
@@ -22,7 +22,7 @@ use Rattle.till_request.specs.declared.line.LineReadFault.TheVariants as reading
 abbrev pub HasNoLf : List ℕ → Type 0
 HasNoLf bytes = AllByRecursion (λ b. b ≢ 10) bytes
 
--- the bytes can be a line's before its LF, or the first of them
+-- at most 8,400 bytes, and no LF: a line without its LF, or the beginning of one
 abbrev pub IsLine : List ℕ → Type 0
 IsLine bytes = HasNoLf bytes × (length bytes ≤ 8400)
 
@@ -30,43 +30,43 @@ IsLine bytes = HasNoLf bytes × (length bytes ≤ 8400)
 abbrev pub TakesTooLong : Option (List ℕ) → Option (List ℕ) → Type 0
 TakesTooLong old new = (bytes : List ℕ) × Consumes old new bytes × HasNoLf bytes × (length bytes ≡ 8401)
 
--- at least one byte of a line was read, no LF, and the input has ended
+-- at least one byte of a line was read, but not its LF, and the input has ended
 abbrev pub TakesCut : Option (List ℕ) → Option (List ℕ) → Type 0
 TakesCut old new = (bytes : List ℕ) × Consumes old new bytes × IsLine bytes × (0 < length bytes) × IsAtEnd new
 
--- the first bytes of a line were read, or none
+-- zero or more bytes of a line were read, and not its LF
 abbrev pub TakesPart : Option (List ℕ) → Option (List ℕ) → Type 0
 TakesPart old new = (bytes : List ℕ) × Consumes old new bytes × IsLine bytes
 
--- the first bytes of a line were read, or none, or a line with its LF
+-- zero or more bytes of a line were read, or a whole line with its LF
 abbrev pub TakesUpTo : Option (List ℕ) → Option (List ℕ) → Type 0
 TakesUpTo old new = TakesPart old new ⊎ ((line : List ℕ) × Consumes old new (line ++ 10 ∷ []) × IsLine line)
 
--- bytes were read, or none, and appended to the line, which has at most 8,400 bytes and no LF
+-- zero or more bytes were read and appended to the line, which then has at most 8,400 bytes and no LF
 abbrev pub TakesHeld : Option (List ℕ) → Option (List ℕ) → List ℕ → List ℕ → Type 0
 TakesHeld old new line grown = (bytes : List ℕ) × Consumes old new bytes × (grown ≡ line ++ bytes) × IsLine grown
 
--- bytes were read and appended to the line, and then one byte more was read, which isn't appended; or the input ended
+-- zero or more bytes were read and appended to the line, and then one more byte was read, or the input has ended
 abbrev pub GoesOn : Option (List ℕ) → Option (List ℕ) → List ℕ → List ℕ → Option ℕ → Type 0
 GoesOn old new line grown None = TakesHeld old new line grown × IsAtEnd new
 GoesOn old new line grown (Some byte) = (bytes : List ℕ) × Consumes old new (bytes ++ byte ∷ []) × (grown ≡ line ++ bytes) × IsLine grown
 
--- bytes were read that belong to the line; nothing is said of what the line has then
+-- zero or more bytes were read that belong to the line; whether the line has them isn't stated
 abbrev pub GoesPart : Option (List ℕ) → Option (List ℕ) → List ℕ → Type 0
 GoesPart old new line = (bytes : List ℕ) × Consumes old new bytes × IsLine (line ++ bytes)
 
--- some bytes were read, or none
+-- zero or more bytes were read
 abbrev pub TakesSome : Option (List ℕ) → Option (List ℕ) → Type 0
 TakesSome old new = (bytes : List ℕ) × Consumes old new bytes
 
--- what was read, for each thing that can be found in the input
+-- what was read, for each result of reading a line
 abbrev pub Takes : Option (List ℕ) → Option (List ℕ) → NextLine → Type 0
 Takes old new (Line line) = Consumes old new (line.items ++ 10 ∷ []) × IsLine line.items
 Takes old new TooLong = TakesTooLong old new
 Takes old new Cut = TakesCut old new
 Takes old new End = Consumes old new [] × IsAtEnd new
 
--- what was read, for each thing that can be found in the input; `line` is the line that was found
+-- what was read, for each result of reading a line into the buffer `line`
 abbrev pub Finds : Option (List ℕ) → Option (List ℕ) → List ℕ → Found → Type 0
 Finds old new line found.Line = Consumes old new (line ++ 10 ∷ []) × IsLine line
 Finds old new line found.TooLong = TakesTooLong old new
@@ -77,8 +77,8 @@ Finds old new line found.End = Consumes old new [] × IsAtEnd new
 abbrev pub TakesLine : Option (List ℕ) → Option (List ℕ) → Role → Result Act LineFault → Type 0
 TakesLine old new role given = (line : List ℕ) × Consumes old new (line ++ 10 ∷ []) × IsLine line × (line_read role line ≡ given)
 
--- What was read, for the result. For an act it is a line with its LF, which is this act. For None nothing was read, and
--- the input has ended.
+-- What was read, for each result. For an act it is a line with its LF, and the line is read as this act. For None
+-- nothing was read, and the input has ended.
 abbrev pub TakesAct : Option (List ℕ) → Option (List ℕ) → Role → Option Act → Type 0
 TakesAct old new role (Some act) = TakesLine old new role (Ok act)
 TakesAct old new role None = Consumes old new [] × IsAtEnd new
@@ -107,7 +107,7 @@ is_read_fault (Err reading.ReadsSpent) = false
 is_read_fault (Err (reading.Line fault)) = false
 is_read_fault (Ok x) = false
 
--- a fault of the input, as the fault of reading a line
+-- the fault of reading a line that a fault of its input becomes
 abbrev pub read_fault : InputFault → LineReadFault
 read_fault input.Read = reading.Read
 read_fault input.ReadsSpent = reading.ReadsSpent

@@ -1,4 +1,4 @@
--- Promises: whether a write's fault is the device's.
+-- Promises: whether the result of a write is that the device failed.
 use Rattle.std.specs.Prelude.{Result, Ok, Err, Bool, true, false}
 use Rattle.till_request.specs.declared.write.WriteFault.{WriteFault}
 use Rattle.till_request.specs.declared.write.WriteFault.TheVariants.{Write, OutOfMemory}

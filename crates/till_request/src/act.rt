@@ -103,7 +103,7 @@ pub enum Act {
         event: DispenserEvent,
     },
     /// A program is put into a slot. Bit c of `mask` is set if the program declares counter c, and `layout` is that of
-    /// the context that it is given.
+    /// the program's context.
     Load {
         slot: u32,
         mask: u32,
@@ -156,12 +156,12 @@ pub enum Role {
     SomePoints(u32),
 }
 
-/// Why a line is no act. Each fault is given with its text.
+/// Why a line can't be read as an act. Each fault is given with its text.
 #[derive(Clone, Copy, PartialEq, Eq, Drop)]
 pub enum LineFault {
     /// `L1`: the line has more than 8,400 bytes before its LF, or before the end of the input.
     TooLong,
-    /// `L2`: the words have no form of a line, or the sender may not send this line.
+    /// `L2`: the words don't have the form of a line, or the sender may not send this line.
     BadLine,
     /// `L3`: a number isn't in decimal digits without leading zeros, or is too large for its type; or hexadecimal is
     /// malformed.
@@ -181,10 +181,10 @@ pub enum Answer {
     JournalFull,
     /// `S31`: an allocation failed, and nothing was entered.
     OutOfMemory,
-    /// The line is no act.
+    /// The line can't be read as an act.
     Line(LineFault),
-    /// A program was refused: the refusal's number, such as 11 for `V11`, and the unit, and the register or the
-    /// argument, that it names.
+    /// A program was refused. The numbers are the refusal's, such as 11 for `V11`, then that of the unit that it names,
+    /// and that of the register or argument that it names.
     Program(u32, Option<u32>, Option<u32>),
     /// The journal failed, and the site accepts no further event. Sessions end without writing this answer.
     JournalFailed,

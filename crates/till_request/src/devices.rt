@@ -67,7 +67,7 @@ fn size_at(sizes: &[usize], each: usize, call: u64) -> usize
     }
 }
 
-/// Returns how many calls still succeed after one more, if all don't.
+/// Returns how many calls will succeed after one more call; `None` if no call is made to fail.
 fn after_one(good: Option<u64>) -> Option<u64>
     ensures { result ≡ one_less good }
 {

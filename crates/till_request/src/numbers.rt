@@ -7,7 +7,7 @@ ghost use Rattle.till_request.specs.Grammar.{number, has_no_leading_zero};
 
 use crate::act::LineFault;
 
-/// Returns a number with one more decimal digit at its end; `None` if the byte is no digit, or the result isn't below
+/// Returns a number with one more decimal digit at its end; `None` if the byte isn't a digit, or the result isn't below
 /// 2^64.
 fn with_digit(value: u64, byte: u8) -> Option<u64>
     ensures some { IfSome result (λ more. (is_ascii_digit byte ≡ true) × (more ≡ value * 10 + digit_value byte)) }
@@ -19,8 +19,8 @@ fn with_digit(value: u64, byte: u8) -> Option<u64>
     value.checked_mul(10)?.checked_add(u64::from(byte - b'0'))
 }
 
-/// Returns the number that decimal digits spell; `None` if a byte is no digit, or the number isn't below 2^64. Leading
-/// zeros are allowed, and an empty word is 0.
+/// Returns the number that decimal digits spell; `None` if a byte isn't a digit, or the number isn't below 2^64.
+/// Leading zeros are allowed, and an empty word is 0.
 fn value_of(word: &[u8]) -> Option<u64>
     ensures some { IfSome result (λ n. (list_all is_ascii_digit word.now ≡ true) × (n ≡ digits_value 10 word.now)) }
     ensures none { IfNone result

@@ -10,7 +10,7 @@ use crate::device::{DeviceFault, LineOut};
 use crate::short_text::{ShortText, put_line};
 use std::alloc::Global;
 
-/// Why an answer wasn't written, or not all of it.
+/// Why an answer wasn't written to its end.
 #[derive(Clone, Copy, PartialEq, Eq, Drop)]
 pub enum WriteFault {
     /// The device failed (fault `N2`).

@@ -4,7 +4,7 @@ use Rattle.clap.specs.declared.builder.command.Command.TheViews.{out-Command}
 use Rattle.command_line.specs.Described.{with_rules}
 use Rattle.command_line.proofs.app.subcommand_of.Given as goal
 
--- the command so far, with the arguments that are left, is the whole one
+-- the command so far, with the arguments that are left added to it, is the subcommand with all its arguments
 abbrev pub invariant-loop-argument : goal.invariant-loop-argument
 invariant-loop-argument l =
     record {

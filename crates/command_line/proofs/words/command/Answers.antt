@@ -13,7 +13,6 @@ use Rattle.command_line.specs.declared.job.CommandFault.{CommandFault}
 use Rattle.command_line.specs.declared.job.CommandFault.TheVariants.{Usage, OutOfMemory}
 use Rattle.command_line.proofs.words.command.Goals as goal
 
--- what holds of a result, where more follows from it
 more : (r : Result Job CommandFault) (P Q : Job → Type 0) → ((j : Job) → P j → Q j) → IfOk r P → IfOk r Q
 more (Ok j) P Q f h = f j h
 more (Err e) P Q f h = h
@@ -36,14 +35,14 @@ simple = refl
 simple_and_free : (a : App) → a ≡ fc_app → is_simple_and_free a ≡ true
 simple_and_free a e = subst (λ (b : App). is_simple_and_free b ≡ true) (sym e) refl
 
--- the matches of a command whose words are the program's
+-- the subcommand that `clap` finds in the arguments that were lent to it is the one in the program's own arguments
 found : (a : App) → a ≡ fc_app → (lent words : List (String Global)) → lent ≡ words → (m : ArgMatches) → HasMatchesOf a (map (λ w. string_bytes w) lent) m
     → subcommand_rows_of m ≡ subcommand_of fc_app (map (λ w. string_bytes w) words)
 found a e lent words same m h =
     ((subst (λ (ws : List (String Global)). HasMatchesOf fc_app (map (λ w. string_bytes w) ws) m) same
     (subst (λ (b : App). HasMatchesOf b (map (λ w. string_bytes w) lent) m) e h)) simple).1
 
--- the faults of the words as lent are those of the words
+-- `clap` finds the same faults in the arguments that were lent to it as in the program's own arguments
 faults : (a : App) → a ≡ fc_app → (lent words : List (String Global)) → lent ≡ words
     → fault_of a (map (λ w. string_bytes w) lent) ≡ fault_of fc_app (map (λ w. string_bytes w) words)
 faults a e lent words same =
@@ -56,16 +55,16 @@ refused a e lent words same k h t =
     h (subst (λ (b : App). takes b (map (λ w. string_bytes w) lent) ≡ true) (sym e)
     (subst (λ (ws : List (String Global)). takes fc_app (map (λ w. string_bytes w) ws) ≡ true) (sym same) t))
 
--- what asks for something doesn't ask for nothing
+-- a job can't ask for something and for nothing
 no_job : (j : Job) (P : Type 0) → IsSome (asked j) → asked j ≡ None → P
 no_job j P some none = let bad : false ≡ true = subst (λ (o : Option Asked). IsSome o) none some in absurd (cc)
 
--- help and the version are no want of memory
+-- an error that prints the help or the version isn't the error that memory ran out
 shown_has_memory : (k : ErrorKind) → IsShown k → k ≡ kind.OutOfMemory → ⊥
 shown_has_memory k (inl h) m = let bad : kind.DisplayHelp ≡ kind.OutOfMemory = sym h ∙ m in cc
 shown_has_memory k (inr v) m = let bad : kind.DisplayVersion ≡ kind.OutOfMemory = sym v ∙ m in cc
 
--- the kind of an error is among the faults of the words, or it is want of memory
+-- the kind of an error of `clap` is that memory ran out, or one of the faults that the arguments have
 among_faults : (k seen : ErrorKind) → k ≡ seen → (old kinds : Kinds) → old ≡ kinds → (seen ≡ kind.OutOfMemory) ⊎ IsAmong seen old
     → (k ≡ kind.OutOfMemory) ⊎ IsAmong k kinds
 among_faults k seen e old kinds same h =

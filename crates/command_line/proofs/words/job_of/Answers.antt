@@ -9,7 +9,7 @@ use Rattle.command_line.specs.Refusing.{Finds, FindsIn}
 use Rattle.command_line.specs.declared.job.Job.{Job}
 use Rattle.command_line.proofs.words.job_of.Goals as goal
 
--- what a subcommand's values ask for, where its name and its values are those that were found
+-- what a subcommand's values ask for is also what the found subcommand asks for, since its name and values are the same
 finds_in : (p : Text × List Row) (name : Text) (rows : List Row) → p.0 ≡ name → p.1 ≡ rows → (found : Option Job) → Finds name rows found
     → FindsIn (Some p) found
 finds_in p name rows n r (Some job) h =

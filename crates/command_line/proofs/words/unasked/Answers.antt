@@ -8,7 +8,7 @@ use Rattle.command_line.specs.Asked.{unasked_by, unasked_text}
 use Rattle.command_line.proofs.words.unasked.Goals as goal
 
 module _ {Z : Type 0} where
-  -- what is told of a subcommand's name, where its name is the one that was found
+  -- the message for the name of a subcommand is the message for the found subcommand, since it has this name
   of_name : (o : Option (Box SubCommand Z)) (name : Text) → Some name ≡ option_map (λ b. (out-SubCommand (box_value b)).name.now) o
       → unasked_by name ≡ unasked_text (subcommand_rows o)
   of_name None name n = let bad : Some name ≡ None = n in absurd (cc)

@@ -3,7 +3,7 @@ use Rattle.till_request.specs.Count.{RoseBy}
 use Rattle.line_session.specs.Answering.{AnswersLines}
 use Rattle.line_session.proofs.answering.answer_lines_within.Given as goal
 
--- the lines so far are answered
+-- the lines so far were read and answered, and the answers were written
 abbrev pub invariant-turns : goal.invariant-turns
 invariant-turns g l = record {
   answering : AnswersLines (g.S.LineHandler.says l.handler) (l.initial.clock, l.initial.desk) (l.clock, l.desk) (g.I.LineIn.remaining l.initial.input)

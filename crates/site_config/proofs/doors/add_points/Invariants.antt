@@ -2,7 +2,7 @@ use Rattle.std.proofs.Common.{◌≡◌, drop}
 use Rattle.site_config.specs.Doors.{with_points}
 use Rattle.site_config.proofs.doors.add_points.Given as goal
 
--- The points so far, with the rest, are all points.
+-- Adding the rest of the points to those so far gives the same as adding all of them.
 abbrev pub invariant-loop-value : goal.invariant-loop-value
 invariant-loop-value l = record {
   read : with_points l.points l.bits (drop l.value-index l.values) ≡ with_points l.points 0 l.values;

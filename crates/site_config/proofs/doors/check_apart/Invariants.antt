@@ -2,7 +2,7 @@ use Rattle.std.proofs.Common.{◌≡◌, length}
 use Rattle.site_config.specs.Doors.{each_apart}
 use Rattle.site_config.proofs.doors.check_apart.Given as goal
 
--- Each door is apart from the others if each of the rest is.
+-- Two of all doors have the same address, or are for the same till, exactly if two of the rest have or are.
 abbrev pub invariant-loop-rest : goal.invariant-loop-rest
 invariant-loop-rest l = each_apart l.rest ≡ each_apart l.doors
 

@@ -2,7 +2,7 @@ use Rattle.std.proofs.Common.{◌≡◌}
 use Rattle.site_config.specs.Doors.{each_taken}
 use Rattle.site_config.proofs.doors.is_each_taken.Given as goal
 
--- The numbers above this one have a door.
+-- Each number from `number + 1` to `most` has a door that takes its lines.
 abbrev pub invariant-loop-number : goal.invariant-loop-number
 invariant-loop-number l = each_taken l.side l.doors l.number ≡ each_taken l.side l.doors l.most
 

@@ -4,7 +4,7 @@ use Rattle.site_config.specs.declared.raw.RawDoor.{RawDoor}
 use Rattle.site_config.specs.Doors.{takes}
 use Rattle.site_config.proofs.doors.is_taken.Given as goal
 
--- A door takes the lines if one of the rest does.
+-- One of all doors takes the lines exactly if one of the rest does.
 abbrev pub invariant-loop-door : goal.invariant-loop-door
 invariant-loop-door l =
     list_any (λ (d : RawDoor). takes l.side l.number d.role) (drop l.door-index l.doors)

@@ -4,7 +4,7 @@ use Rattle.till_request.specs.Count.{RoseBy}
 use Rattle.site_config.specs.Head.{ends_head}
 use Rattle.site_config.proofs.head.read_head.Given as goal
 
--- No line `---` ended before the bytes that were read so far.
+-- None of the bytes that were read, except perhaps the last one, ends a line `---`.
 abbrev pub invariant-loop-bytes : goal.invariant-loop-bytes
 invariant-loop-bytes g l = record {
   taken : Consumes (g.I.LineIn.remaining l.initial.input) (g.I.LineIn.remaining l.input) l.bytes.items;

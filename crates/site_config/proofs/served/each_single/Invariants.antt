@@ -4,7 +4,7 @@ use Rattle.site_config.specs.Document.{with_front}
 use Rattle.site_config.specs.Typed.{each_table, single_in}
 use Rattle.site_config.proofs.served.each_single.Given as goal
 
--- The doors so far, followed by what the rest reads as, are the first doors, followed by what the whole list reads as.
+-- The doors so far and those of the tables that are left are, together, the doors at the start and those of all tables.
 abbrev pub invariant-loop-value : goal.invariant-loop-value
 invariant-loop-value l = record {
   read : with_front l.doors.items (each_table (single_in l.side) l.place (items_view (drop l.value-index l.values)))

@@ -4,6 +4,6 @@ use Rattle.site_config.specs.Document.{with_front}
 use Rattle.site_config.specs.Typed.{each_in, counter_in}
 use Rattle.site_config.proofs.typed.read_counters.Given as goal
 
--- What was read so far, followed by what the rest reads as, is what the whole list reads as.
+-- Reading the rest of the list and putting the items so far before it gives the same as reading the whole list.
 abbrev pub invariant-loop-value : goal.invariant-loop-value
 invariant-loop-value l = with_front l.pairs.items (each_in counter_in (items_view (drop l.value-index l.values))) ≡ each_in counter_in (items_view l.values)

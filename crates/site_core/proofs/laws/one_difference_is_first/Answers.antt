@@ -8,7 +8,7 @@ use Rattle.site_core.specs.Draft.{Basis, DraftValue}
 use Rattle.site_core.specs.Differences.{FirstDiffers, CounterDiffers, Differs}
 use Rattle.site_core.proofs.laws.one_difference_is_first.Goals as goal
 
--- There is only one first place at which two lists differ.
+-- Two lists have at most one first place at which they differ.
 one-place : {T : Type 0} → (a b : List T) (i j : ℕ) → FirstDiffers a b i → FirstDiffers a b j → i ≡ j
 one-place a b i j first second =
     let not_below : i < j → ⊥ = λ lt. first.differs (second.same_before i lt) in
@@ -21,7 +21,7 @@ one-counter declared a b i j first second =
     let not_above : j < i → ⊥ = λ lt. second.differs (first.same_before j lt second.declares) in
     omega arith
 
--- Two equal lists have no place at which they differ.
+-- Two equal lists have no first place at which they differ.
 same-nowhere : {T : Type 0} → (a b : List T) (i : ℕ) → a ≡ b → FirstDiffers a b i → ⊥
 same-nowhere a b i same first = first.differs (ap (λ l. slice_get l i) same)
 

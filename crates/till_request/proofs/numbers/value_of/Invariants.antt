@@ -4,7 +4,7 @@ use Rattle.std.specs.List.{list_all}
 use Rattle.std.specs.Str.Parse.{digits_value}
 use Rattle.till_request.proofs.numbers.value_of.Given as goal
 
--- the digits so far, and their number
+-- the bytes so far are digits, and `value` is the number that they spell
 abbrev pub invariant-loop-byte : goal.invariant-loop-byte
 invariant-loop-byte l = record {
   digits : list_all is_ascii_digit (take l.byte-index l.word) ≡ true;

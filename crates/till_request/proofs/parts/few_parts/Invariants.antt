@@ -3,7 +3,7 @@ use Rattle.std.specs.List.{slice_split}
 use Rattle.till_request.proofs.Parted.{NoneFrom}
 use Rattle.till_request.proofs.parts.few_parts.Given as goal
 
--- the parts so far, and then those of what stands behind the last separator
+-- the parts so far, followed by those of the text after the last separator, are all parts of the text
 abbrev pub invariant-bytes : goal.invariant-bytes
 invariant-bytes g l = record {
   within : l.start ≤ l.at;

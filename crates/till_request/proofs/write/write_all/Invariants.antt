@@ -3,7 +3,7 @@ use Rattle.std.specs.Io.KnownBytes.{Appends}
 use Rattle.till_request.specs.Count.{RoseBy}
 use Rattle.till_request.proofs.write.write_all.Given as goal
 
--- a front is out
+-- the bytes before place `at` were written, and no write failed
 abbrev pub invariant-loop-at : goal.invariant-loop-at
 invariant-loop-at g l = record {
   out : Appends (g.O.LineOut.written l.initial.output) (g.O.LineOut.written l.output) (take l.at l.bytes);

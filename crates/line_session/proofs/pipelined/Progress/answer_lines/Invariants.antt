@@ -5,7 +5,7 @@ use Rattle.line_session.specs.Session.{desk_says}
 use Rattle.line_session.proofs.Buffered.{Answers}
 use Rattle.line_session.proofs.pipelined.Progress.answer_lines.Given as goal
 
--- the lines so far are answered, and some answers wait
+-- the lines so far were read and answered, and the answers were written or are buffered
 abbrev pub invariant-turns : goal.invariant-turns
 invariant-turns g l = record {
   answering : Waits (Answers (desk_says g.D.Desk.step g.C.Clock.tick l.role) (l.initial.clock, l.initial.desk) (l.clock, l.desk)
