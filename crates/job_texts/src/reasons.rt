@@ -40,39 +40,18 @@ fn words_of(kind: Kind) -> &'static str {
 impl fmt::Display for RefusedProgram {
     /// Writes the unit, its instruction, and what is wrong with it.
     fn fmt<W: fmt::Write>(&self, f: &mut fmt::Formatter<W>) -> fmt::Result {
-        write_unit(f, self.refusal)?;
-        write_line(f, &self.line)?;
-        write_reason(f, self.refusal, self.wanted)
-    }
-}
-
-/// Writes the unit that a refusal names, if it names one.
-fn write_unit<W: fmt::Write>(f: &mut fmt::Formatter<W>, refusal: Refusal) -> fmt::Result {
-    match unit_of(refusal) {
-        Some(unit) => write!(f, "unit {unit}: "),
-        None => Ok(()),
-    }
-}
-
-/// Writes the line of an instruction, without its LF.
-fn write_line<W: fmt::Write>(f: &mut fmt::Formatter<W>, line: &Option<String>) -> fmt::Result {
-    match line {
-        Some(line) => write!(f, "{}: ", line.trim_end()),
-        None => Ok(()),
-    }
-}
-
-/// Writes what is wrong with a unit. `wanted` says what the argument at fault must be.
-fn write_reason<W: fmt::Write>(
-    f: &mut fmt::Formatter<W>,
-    refusal: Refusal,
-    wanted: Option<Kind>,
-) -> fmt::Result {
-    match (refusal, wanted) {
-        (Refusal::Type(TypeFault::BadArgument(_, argument)), Some(kind)) => {
-            write!(f, "argument {argument} isn't {}", words_of(kind))
+        if let Some((_, Some(unit), _)) = self.refusal.shown() {
+            write!(f, "unit {unit}: ")?;
         }
-        (refusal, _) => write!(f, "{refusal}"),
+        if let Some(line) = &self.line {
+            write!(f, "{}: ", line.trim_end())?;
+        }
+        match (self.refusal, self.wanted) {
+            (Refusal::Type(TypeFault::BadArgument(_, argument)), Some(kind)) => {
+                write!(f, "argument {argument} isn't {}", words_of(kind))
+            }
+            (refusal, _) => write!(f, "{refusal}"),
+        }
     }
 }
 

@@ -163,6 +163,8 @@ fn read_single(
     }
 }
 
+/// Reads the doors of single tills, or those of some points each, from their tables, and returns them behind the doors so
+/// far.
 fn each_single(
     alloc: Global,
     side: Side,
