@@ -1,8 +1,7 @@
 #!/bin/sh
 # Plays and audits by fc and by the same in C (site.c, by gcc -O2), in turns, and prints tables in Markdown: processor
 # time, nanoseconds a line, most memory, and their ratios, over scripts of all kinds of lines and of decisions alone; and
-# what a line costs in a play of 1,000,000 lines against one in a play of 10,000; and what the same C takes where its
-# entries are as large as fc's.
+# what a line costs in a play of 1,000,000 lines against one in a play of 10,000.
 # Usage: bench/site.sh [LINES ..]; without numbers 100000 and 1048576, which is a full journal. TURNS is the number of
 # turns, 7 where it isn't set. Answers, journals and what the audits say have to be the same.
 # The program is out/fc, which ./fc builds, or $FC.
@@ -17,7 +16,6 @@ turns=${TURNS:-7}
 [ $# -gt 0 ] || set -- 100000 1048576
 # A cleared stack by vectors, as in interp.sh.
 gcc -O2 -mmemset-strategy=vector_loop:-1:align -o "$work/site" "$here/site.c"
-gcc -O2 -mmemset-strategy=vector_loop:-1:align -DLARGE -o "$work/large_entries" "$here/site.c"
 gcc -O2 -o "$work/taken" "$here/taken.c"
 
 # make_script KIND LINES: the script, and its journal, in which both agree.
@@ -66,24 +64,14 @@ for kind in all decisions; do
         while [ "$turn" -lt "$turns" ]; do
             measure ours.play "$fc" play "$station" "$work/script"
             measure theirs.play "$work/site" play "$work/script"
-            measure large.play "$work/large_entries" play "$work/script"
             measure ours.audit "$fc" audit "$station" "$work/journal"
             measure theirs.audit "$work/site" audit "$work/journal"
             turn=$((turn + 1))
         done
         row play "$kind" "$lines" ours.play theirs.play
         row audit "$kind" "$lines" ours.audit theirs.audit
-        echo "$(summary large.play) $(summary theirs.play)" | awk -v kind="$kind" -v lines="$lines" '{
-            printf "| %s | %d | %.3f | %.0f | %.2f | %.2f | %.0f |\n", kind, lines, $1 / 1e6, 1e3 * $1 / lines, $1 / $4,
-                $2 / $5, $3 / 1024
-        }' >>"$work/rows"
     done
 done
-
-echo
-echo '| play by C with entries of 992 bytes | lines | s | ns a line | of C as it is | of the least | MB |'
-echo '|---|---|---|---|---|---|---|'
-cat "$work/rows"
 
 # Without the start of the program, which counts for much at 10,000 lines.
 for lines in 0 10000 1000000; do

@@ -17,6 +17,7 @@ import shutil
 import subprocess
 import sys
 import threading
+import time
 from concurrent.futures import FIRST_COMPLETED, ThreadPoolExecutor, wait
 
 MOST_JOBS = 4  # processes that one crate's proof can use well
@@ -24,6 +25,20 @@ MEMORY = 2_500_000_000  # bytes that a process may need
 NEARLY = 0.7  # of the longest chain: a crate with this much behind it goes first too
 LONG = 1_000  # lines of a crate that gets two processes even behind the longest chain
 PATIENT = 10  # the niceness of the others
+
+
+def timed(words, folder):
+    """Runs a command in a folder: whether its status was 0, what it said, and in words the time that it took."""
+    begun = time.monotonic()
+    ran = subprocess.Popen(
+        words, cwd=folder, stdin=subprocess.DEVNULL, stdout=subprocess.PIPE, stderr=subprocess.STDOUT, text=True,
+        errors="replace",
+    )
+    said = ran.stdout.read()
+    _, status, usage = os.wait4(ran.pid, 0)
+    ran.returncode = os.waitstatus_to_exitcode(status)
+    used = usage.ru_utime + usage.ru_stime
+    return ran.returncode == 0, said, f"{time.monotonic() - begun:.0f} s, {used:.0f} processor seconds"
 
 
 class Crate:
@@ -104,13 +119,9 @@ class Build:
         words = ["rt", "lib", "--jobs", str(jobs)]
         if name == self.top:
             words = ["rt", "run", "--jobs", str(jobs), "--", "--version"]
-        ran = subprocess.run(
-            ["nice", "-n", str(niceness), *words], cwd=self.path(name, name), stdin=subprocess.DEVNULL,
-            stdout=subprocess.PIPE, stderr=subprocess.STDOUT, text=True, errors="replace", check=False,
-        )
-        is_proved = ran.returncode == 0
+        is_proved, said, took = timed(["nice", "-n", str(niceness), *words], self.path(name, name))
         with self.printing:
-            print(f"== {name}\n{ran.stdout}rt: {name} {'proved' if is_proved else 'NOT PROVED'}", flush=True)
+            print(f"== {name}: {took}\n{said}rt: {name} {'proved' if is_proved else 'NOT PROVED'}", flush=True)
         if is_proved:
             self.forget(name)
         return is_proved

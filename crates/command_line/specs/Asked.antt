@@ -193,7 +193,7 @@ abbrev pub asked_of : Option (Text × List Row) → Option Asked
 asked_of None = Some nothing
 asked_of (Some p) = asked_by p.0 p.1
 
--- What a job is a request for. The help or the version is a text to show, and counts as a request for nothing.
+-- What a job is a request for. The help or the version is a text to show, and counts as no request.
 abbrev pub asked : Job → Option Asked
 asked job.NoWords = Some nothing
 asked (job.Asm file) = Some (asm (string_bytes file))
@@ -229,7 +229,7 @@ HasNoMask rows =
     (t : Text) × (one_of (codes "counters") rows ≡ Some t)
     × ¬ (IsNumeral 10 (without_leading_plus t) × (digits_value 10 (without_leading_plus t) < 2 ^ 32))
 
--- a parsed command line asks for nothing, or its --counters isn't the text of a number from 0 to 2^32 - 1
+-- a parsed command line asks for no job, or its --counters isn't the text of a number from 0 to 2^32 - 1
 abbrev pub IsNothing : Option (Text × List Row) → Type 0
 IsNothing found = (asked_of found ≡ None) ⊎ ((p : Text × List Row) × (found ≡ Some p) × HasNoMask p.1)
 
@@ -249,7 +249,7 @@ unasked_text None = unasked_by []
 unasked_text (Some p) = unasked_by p.0
 
 -- A usage message is returned only in two cases. Either `clap` may refuse the arguments. Or it accepts them but they
--- ask for nothing, and the message is the one for that.
+-- ask for no job, and the message is the one for this case.
 abbrev pub RefusesBy : Kinds → Option (Text × List Row) → CommandFault → Type 0
 RefusesBy kinds found (refusal.Usage text) = MayRefuse kinds ⊎ (IsNothing found × (string_bytes text ≡ unasked_text found))
 RefusesBy kinds found refusal.OutOfMemory = Unit {0}

@@ -21,7 +21,7 @@ FindsFiles first second rows (Some p) =
     (ask : Text → Text → Asked) → files_in first second ask rows ≡ Some (ask (string_bytes p.0) (string_bytes p.1))
 FindsFiles first second rows None = (ask : Text → Text → Asked) → files_in first second ask rows ≡ None
 
--- the result is the job that a subcommand's values ask for; None only if they ask for nothing or --counters is no mask
+-- the result is the job that a subcommand's values ask for; None only if they ask for no job or --counters is no mask
 abbrev pub Finds : Text → List Row → Option Job → Type 0
 Finds name rows (Some job) = (asked_by name rows ≡ asked job) × IsSome (asked job)
 Finds name rows None = (asked_by name rows ≡ None) ⊎ HasNoMask rows
@@ -30,7 +30,7 @@ abbrev pub FindsIn : Option (Text × List Row) → Option Job → Type 0
 FindsIn found (Some job) = (asked_of found ≡ asked job) × IsSome (asked job)
 FindsIn found None = IsNothing found
 
--- a usage message is returned only if the command line asks for nothing, and is the message for that
+-- a usage message is returned only if the command line asks for no job, and it is the message for this case
 abbrev pub IsUnasked : Option (Text × List Row) → CommandFault → Type 0
 IsUnasked found (refusal.Usage text) = IsNothing found × (string_bytes text ≡ unasked_text found)
 IsUnasked found refusal.OutOfMemory = Unit {0}

@@ -18,7 +18,7 @@ use Rattle.day_report.proofs.Walking.{changed-at, changed-nowhere}
 use Rattle.day_export.specs.Standing.{point_asked, point_named}
 use Rattle.day_export.proofs.Growing.{Grows, command-grows, event-grows}
 
--- only point m differs in the later points: p was replaced by q, and at most one transaction was added
+-- the list `later` is `points` with point m changed from p to q, and this adds at most one transaction
 pub record Became (m : ℕ) (points later : List PointState) : Type 0 where
   pub p : PointState
   pub q : PointState

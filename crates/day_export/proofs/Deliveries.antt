@@ -1,5 +1,4 @@
--- In a legal history the points and the prices that the rows are made of are the site's, and each sale has its
--- delivery.
+-- In a legal history the rows are made from the site's own points and prices, and each sale has its delivery.
 use Rattle.std.proofs.Common.{◌≡◌, ◌⊎◌, ℕ, ◌+◌, ◌-◌, Bool, true, false, List, [], ◌∷◌, ◌++◌, zero, suc, length, map, replicate, reverse, Option, Some}
 use Rattle.std.proofs.Common.{None, slice_get, refl, ap, sym, subst, ◌∙◌, inl, inr, All}
 use Rattle.std.specs.Prelude.{◌==◌, ◌&&◌, not, IsSome, nat_le, if◌then◌else◌, option_to_list}

@@ -53,8 +53,8 @@ fn are_ports(doors: &[Door]) -> bool {
     true
 }
 
-/// Writes the address of a door. If all doors are ports, the address of a port is its number alone, since the list of
-/// the doors then begins with 127.0.0.1.
+/// Writes the address of a door: a port or a socket's path. A port has `127.0.0.1:` before it, unless all doors are
+/// ports: then the list says this once, at its start.
 fn write_address<W: fmt::Write>(
     f: &mut fmt::Formatter<W>,
     address: &Address,
@@ -108,7 +108,7 @@ fn refuse_socket(rt: &HostRuntime, word: &str, door: &Door, error: io::Error) ->
     Stop::Said(FAILED)
 }
 
-/// Prints that something else has the name of the folder in which a socket is bound.
+/// Prints that the folder in which a socket is bound can't be made, since something else has its name.
 fn refuse_folder(rt: &HostRuntime, word: &str, door: &Door, folder: Beside<'_>) -> Stop {
     let (place, key) = (Place::of(word), &door.place);
     let _ = eprintln!(rt; "fc: {place}: {key}: {folder} is in the way");

@@ -1,4 +1,4 @@
--- Definitions: what the program prints of an assembler text, and of a program that is disassembled (this profile).
+-- Definitions: what `fc` prints when it assembles a text or disassembles a program (this profile).
 use Rattle.std.specs.Prelude.{◌≡◌, ◌≢◌, ◌⊎◌, ◌≤◌, ℕ, List, [], ◌++◌, length, codes, Option, Some, Result, Ok, Err}
 use Rattle.std.specs.Fmt.{decimal}
 use Rattle.bpf_model.specs.declared.instruction.Unit.{Unit as ProgramUnit}

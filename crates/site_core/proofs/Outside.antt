@@ -1,5 +1,5 @@
--- A run that was made outside the site gives what the site's own step gives, if nothing that the run depends on
--- differs.
+-- A run that was made outside the site gives what the site's own step gives, if all that the run depends on is still
+-- the same.
 use Rattle.std.proofs.Common.{◌≡◌, ℕ, List, ◌∷◌, length, Bool, true, false, Option, Some, None, Ok, Err, refl, ap, ◌∙◌, sym, subst}
 use Rattle.std.specs.Prelude.{◌⊎◌, reverse, ◌==◌, if◌then◌else◌, IsSome, is_some, ◌<◌, Result, IfOk}
 use Rattle.std.specs.declared.alloc.AllocError.{AllocError}

@@ -54,7 +54,7 @@ IsFault history passes id n =
 abbrev pub IsMergeSince : ℕ → List Entry → List PassView → Type 0
 IsMergeSince base history passes = All (λ p. StandsFrom history p.id base p.receipts) passes × All (Covered passes) (drop base history)
 
--- the fault of this pass and number in a history whose first `base` entries are older than the passes
+-- `IsFault` for a history whose first `base` entries are older than the passes
 abbrev pub IsFaultSince : ℕ → List Entry → List PassView → ℕ → ℕ → Type 0
 IsFaultSince base history passes id n =
     Any (λ p. (p.id ≡ id) × FailsFrom history p.id base p.receipts n) passes
