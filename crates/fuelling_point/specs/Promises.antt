@@ -1,4 +1,4 @@
--- Promises: what a call of a point returns, and in what state it leaves the point.
+-- Promises: what the contract of a call of a point says about its result and about the point after it.
 use Rattle.std.specs.Prelude.{◌≡◌, Result, Ok, Err}
 use Rattle.fuelling_point.specs.declared.kinds.PointFault.{PointFault}
 use Rattle.fuelling_point.specs.Table.{PointState, Answer}

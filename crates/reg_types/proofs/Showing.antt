@@ -208,7 +208,7 @@ module _ (count pc : ℕ) (i : Inst) (types : List RegType) (flaw : Flaw) where
       two_shown (MayHave count pc i form) flaw i.dst i.src (is_unset a) (is_unset (operand_type s w i types))
       (is_pointer a || is_pointer (operand_type s w i types)) p (λ u. q (second_by s w i types u)) r e
 
-  -- `MayHave` allows each flaw that `sum_type` gives for a 64-bit ADD or SUB with an immediate
+  -- a flaw of a 64-bit ADD or SUB with an immediate is one that this instruction can have
   moved_shows : (layout : Layout) (op : Operator) → MayHave count pc i (Arithmetic op Bits64 Immediate) OutOfRange
       → MayHave count pc i (Arithmetic op Bits64 Immediate) (NotANumber i.dst) → (z : ℤ) (a : RegType)
       → sum_type layout Bits64 Immediate i z a (operand_type Immediate Bits64 i types) ≡ bad flaw → MayHave count pc i (Arithmetic op Bits64 Immediate) flaw

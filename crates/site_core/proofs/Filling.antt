@@ -32,20 +32,6 @@ pub view-is : (s : SiteState) (v : View) → v.count ≡ length s.points → v.p
 unfolding view_of
 view-is s v count points prices = λ i. record { count = count i; points = points i; prices = prices i }
 
--- ---- the last element of a list
-
-pub set-last : {T : Type 0} → (xs : List T) (x y : T) → set (xs ++ x ∷ []) (length xs) y ≡ xs ++ y ∷ []
-set-last [] x y = refl
-set-last (z ∷ zs) x y = ap (λ r. z ∷ r) (set-last zs x y)
-
-pub get-last : {T : Type 0} → (xs : List T) (x d : T) → get_or (xs ++ x ∷ []) (length xs) d ≡ x
-get-last [] x d = refl
-get-last (z ∷ zs) x d = get-last zs x d
-
-pub cut-last : {T : Type 0} → (xs : List T) (x y : T) → take (length xs) (set (xs ++ x ∷ []) (length xs) y) ≡ xs
-cut-last [] x y = refl
-cut-last (z ∷ zs) x y = ap (λ r. z ∷ r) (cut-last zs x y)
-
 -- A number from 1 to m has a place, which is one less, below m.
 pub place-below : (n m : ℕ) → 1 ≤ n → n ≤ m → n - 1 < m
 place-below n m one le = omega arith

@@ -11,6 +11,8 @@ use Rattle.site_core.specs.declared.question.Question.{Question}
 use Rattle.site_core.specs.declared.question.Asks.{Asks}
 use Rattle.site_core.specs.declared.question.Asks.TheVariants as asks
 use Rattle.site_core.specs.declared.why.Why.{Why}
+use Rattle.site_core.specs.declared.why.Unsettled.{Unsettled}
+use Rattle.site_core.specs.declared.why.Unsettled.TheVariants as unsettled
 use Rattle.site_core.specs.Limits.{ConfigValue}
 use Rattle.site_core.specs.State.{SiteState, busy_points, view_of}
 use Rattle.site_core.specs.Context.{context, of_point}
@@ -87,3 +89,9 @@ pub record StillAsked (config : ConfigValue) (s : SiteState) (slots : SlotsValue
 abbrev pub Compares : ConfigValue → SiteState → SlotsValue → DraftValue → Result Question Why → Type 0
 Compares config s slots draft (Ok q) = StillAsked config s slots draft q
 Compares config s slots draft (Err why) = Differs (basis_in config s slots draft) draft why
+
+-- Why a draft that was run isn't settled in a state with this basis: it is stale, and this is the first difference; or
+-- memory ran out, which says nothing about the draft.
+abbrev pub DiffersIfStale : Basis → DraftValue → Unsettled → Type 0
+DiffersIfStale now draft (unsettled.Stale why) = Differs now draft why
+DiffersIfStale now draft unsettled.OutOfMemory = Unit {0}

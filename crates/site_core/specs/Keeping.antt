@@ -12,7 +12,6 @@ use Rattle.site_core.specs.Decide.{denied, grant}
 use Rattle.program_slots.specs.Value.{SlotsValue}
 use Rattle.program_slots.specs.Slots.{version_in}
 use Rattle.bpf_model.specs.Program.{ProgramText}
-use Rattle.fuelling_point.specs.declared.kinds.DispenserEvent.TheVariants as event
 use Rattle.site_core.specs.Limits.{ConfigValue}
 use Rattle.site_core.specs.State.{SiteState}
 use Rattle.site_core.specs.Bounds.{Bounded}
@@ -40,8 +39,8 @@ pub record Keeps (config : ConfigValue) (history : List Entry) (state : SiteStat
   pub points : length state.points ≡ length config.points
   pub bounded : Bounded (length history) state
 
--- An event was performed as the step defines, and was written into the entry p. The slots agree with the history once
--- an entry with the act and the reply of p is added.
+-- An event was performed as the step defines, and p is its entry. The slots agree with the history once an entry with
+-- the act and the reply of p is added.
 pub record Performs (config : ConfigValue) (past : List Entry) (old : SiteState) (moment : ℕ) (act : Act) (p : Entry) (new : SiteState)
     (slots : SlotsValue) : Type 0 where
   pub act_is : p.act ≡ act
@@ -55,14 +54,6 @@ pub record Performs (config : ConfigValue) (past : List Entry) (old : SiteState)
 pub record Loads (old : SlotsValue) (slot : ℕ) (program : ProgramText) (past : List Entry) (reply : Reply) (new : SlotsValue) : Type 0 where
   pub reply_is : load_reply slot past ≡ reply
   pub agrees : (entry : Entry) → entry.act ≡ act.Load slot program.declared program.layout program.bytes → entry.reply ≡ reply → Agrees new (entry ∷ past)
-
--- An entry with a number and a pass, in which no event is written yet.
-abbrev pub blank : ℕ → ℕ → Entry
-blank number pass = record { number = number; pass = pass; moment = 0; act = act.Dispenser 0 event.Down; reply = reply.Done; run = None }
-
--- The entry p of a performed event, with the number and the pass that it has after this history.
-abbrev pub made : List Entry → ℕ → Entry → Entry
-made history pass p = record { number = length history + 1; pass = pass; moment = p.moment; act = p.act; reply = p.reply; run = p.run }
 
 abbrev pub with_counters : SiteState → Counters → SiteState
 with_counters s counters = record s { counters = counters }

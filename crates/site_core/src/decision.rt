@@ -1,13 +1,15 @@
 //! The parts of a decision: the checks before a program is run, what is granted, and the counters that the run changed.
 
-ghost use Rattle.std.specs.Prelude.{◌≡◌, ◌<◌, ◌≤◌, IfOk, None, replicate};
+ghost use Rattle.std.specs.Prelude.{◌≡◌, ◌<◌, ◌≤◌, IfOk, IsOk};
 ghost use Rattle.site_core.specs.Decide.{has_room, asked_at, price_at, granted_point, command_of, counts, count_of};
 ghost use Rattle.bpf_model.specs.declared.limits.TheConstants.{COUNTERS};
 
 use crate::question::{Kind, Question};
 use crate::replies::{BAD_AMOUNT, TRANSACTIONS_FULL, wrong_state};
 use counters::Counters;
+use decision_journal::Counts;
 use fuelling_point::{Command, Point, State};
+use std::alloc::{AllocError, Global};
 use till_request::Reply;
 
 /// The greatest amount that a release or a preset may ask for, in cents.
@@ -101,24 +103,33 @@ fn count_of(mask: u32, before: &Counters, after: &Counters, c: u32) -> Option<(u
     }
 }
 
-/// Writes into `noted`, which has no values yet, the values of each declared counter before and after a run, at the
-/// place of the counter's number.
-pub fn note_counts(
-    mask: u32,
-    before: &Counters,
-    after: &Counters,
-    noted: &mut [Option<(u64, u64)>; 32],
-)
-    requires { noted.old ≡ replicate COUNTERS None }
-    ensures { noted.new ≡ counts mask before.now after.now }
+/// Returns the values of each declared counter before and after a run, at the place of the counter's number.
+fn places_of(mask: u32, before: &Counters, after: &Counters) -> [Option<(u64, u64)>; 32]
+    ensures { result ≡ counts mask before.now after.now }
 {
+    let mut places = [None; 32];
     for c in 0..32 {
         // No counter from `c` on is declared.
         if mask >> c == 0 {
-            return;
+            return places;
         }
         if let Some(count) = count_of(mask, before, after, c) {
-            noted[c as usize] = Some(count);
+            places[c as usize] = Some(count);
         }
     }
+    places
+}
+
+/// Notes the values of each declared counter before and after a run. The error is that memory ran out; where no counter
+/// is declared, none is needed.
+pub fn note_counts(
+    alloc: Global,
+    mask: u32,
+    before: &Counters,
+    after: &Counters,
+) -> Result<Counts, AllocError>
+    ensures noted { IfOk result (λ noted. noted ≡ counts mask before.now after.now) }
+    ensures none { mask ≡ 0 → IsOk result }
+{
+    Counts::of(alloc, &places_of(mask, before, after))
 }

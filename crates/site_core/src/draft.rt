@@ -9,7 +9,7 @@ use crate::events::Answered;
 use crate::perform::{asked_question, routed};
 use crate::question::Question;
 use crate::station::Station;
-use crate::why::Why;
+use crate::why::{Unsettled, Why};
 use bpf_model::context::Context;
 use counters::Counters;
 use decision_journal::{Entry, Run};
@@ -17,7 +17,7 @@ use helpers::View;
 use interp::run;
 use program_slots::Slots;
 use reg_types::Program;
-use std::alloc::AllocError;
+use std::alloc::{AllocError, Global};
 use std::marker::Model;
 use std::sync::Arc;
 use till_request::{Act, Request};
@@ -168,38 +168,39 @@ impl Model for Ready {
 }
 
 impl Ready {
-    ghost use Rattle.std.specs.Prelude.{MatchResult, OnOk, OnErr, ◌≡◌, ℕ, ◌+◌, List};
+    ghost use Rattle.std.specs.Prelude.{MatchResult, IfOk, OnErr, ◌≡◌, ℕ, ◌+◌, List};
     ghost use Rattle.decision_journal.specs.declared.entries.Entry.{Entry};
     ghost use Rattle.till_request.specs.declared.act.Act.TheVariants as act;
     ghost use Rattle.site_core.specs.Bounds.{Bounded, HasRoom};
-    ghost use Rattle.site_core.specs.Keeping.{Agrees, Performs, blank};
-    ghost use Rattle.site_core.specs.Differences.{IsFresh, Differs};
-    ghost use Rattle.site_core.specs.Asked.{basis_in};
+    ghost use Rattle.site_core.specs.Keeping.{Agrees, Performs};
+    ghost use Rattle.site_core.specs.Differences.{IsFresh};
+    ghost use Rattle.site_core.specs.Asked.{DiffersIfStale, basis_in};
     ghost use Rattle.site_core.specs.Outside.{IsRunOf};
 
-    /// Carries out what the program answered and fills in the entry, if nothing that the run depends on has changed
-    /// since. Else the error is the first change that was found, and the station is unchanged. Counters that the
-    /// program doesn't declare keep their current values. If the till asked to release fuel, it is granted at most the
-    /// amount that is preset at the point now, if one is.
+    /// Carries out what the program answered and returns its entry, with this number and pass, if nothing that the run
+    /// depends on has changed since. Else the error is the first change that was found, or that memory ran out, and the
+    /// station is unchanged. Counters that the program doesn't declare keep their current values. If the till asked to
+    /// release fuel, it is granted at most the amount that is preset at the point now, if one is.
     pub(crate) fn settle(
         &self,
+        alloc: Global,
         config: &Config,
         station: &mut Station,
         slots: &Slots,
-        entry: &mut Entry,
-    ) -> Result<(), Why>
+        number: u32,
+        pass: u32,
+    ) -> Result<Entry, Unsettled>
         requires points { length station.old.points ≡ length config.now.points }
         requires bounded { HasRoom station.old }
-        requires blank { entry.old ≡ blank entry.old.number entry.old.pass }
-        ensures number { entry.new.number ≡ entry.old.number }
-        ensures pass { entry.new.pass ≡ entry.old.pass }
+        ensures number { IfOk result (λ entry. entry.number ≡ number) }
+        ensures pass { IfOk result (λ entry. entry.pass ≡ pass) }
         ensures performed { MatchResult result
-            (λ _. IsFresh (basis_in config.now station.old slots.now self.now.draft) self.now.draft
+            (λ entry. IsFresh (basis_in config.now station.old slots.now self.now.draft) self.now.draft
             × ((past : List Entry) → Agrees slots.now past →
             Performs config.now past station.old self.now.draft.moment
-            (act.Till self.now.draft.till self.now.draft.request) entry.new station.new slots.now))
-            (Differs (basis_in config.now station.old slots.now self.now.draft) self.now.draft) }
-        ensures run { OnOk result (IsRunOf self.now entry.new.run) }
+            (act.Till self.now.draft.till self.now.draft.request) entry station.new slots.now))
+            (DiffersIfStale (basis_in config.now station.old slots.now self.now.draft) self.now.draft) }
+        ensures run { IfOk result (λ entry. IsRunOf self.now entry.run) }
         ensures unchanged { OnErr result (station.new ≡ station.old) }
         ensures bounded { (k : ℕ) → Bounded k station.old → Bounded (k + 1) station.new }
         ensures points { length station.new.points ≡ length station.old.points }
@@ -207,30 +208,38 @@ impl Ready {
         let draft = &self.draft;
         let question = match draft.compare(config, station, slots) {
             Ok(question) => question,
-            Err(why) => return Err(why),
+            Err(why) => return Err(Unsettled::Stale(why)),
         };
-        let run = entry.run.insert(Run {
-            slot: question.slot,
-            version: draft.version,
-            r0: self.r0,
-            context: draft.context,
-            counts: [None; 32],
-        });
-        station.adopt(
+        let adopted = station.adopt(
+            alloc,
             &draft.program,
             &draft.context,
             &draft.counters,
             self.r0,
             &self.after,
-            &mut run.counts,
         );
-        entry.moment = draft.moment;
-        entry.act = Act::Till {
-            till: draft.till,
-            request: draft.request,
+        let counts = match adopted {
+            Ok(counts) => counts,
+            Err(_) => return Err(Unsettled::OutOfMemory),
         };
-        entry.reply = station.settle(draft.till, &question, draft.version, self.r0);
-        Ok(())
+        let reply = station.settle(draft.till, &question, draft.version, self.r0);
+        Ok(Entry {
+            number,
+            pass,
+            moment: draft.moment,
+            act: Act::Till {
+                till: draft.till,
+                request: draft.request,
+            },
+            reply,
+            run: Some(Run {
+                slot: question.slot,
+                version: draft.version,
+                r0: self.r0,
+                context: draft.context,
+                counts,
+            }),
+        })
     }
 }
 

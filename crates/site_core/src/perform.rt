@@ -1,6 +1,6 @@
 //! The effects of an event: a load makes a version; a dispenser's event and a till's request change the station.
 
-ghost use Rattle.std.specs.Prelude.{◌≡◌, ℕ, ◌+◌, ◌<◌, IfOk, OnOk, OnErr, None, length, List};
+ghost use Rattle.std.specs.Prelude.{◌≡◌, ℕ, ◌+◌, ◌<◌, IfOk, OnErr, length, List, None};
 ghost use Rattle.std.specs.Arc.{arc_value};
 ghost use Rattle.decision_journal.specs.declared.entries.Entry.{Entry};
 ghost use Rattle.till_request.specs.declared.act.Act.TheVariants as act;
@@ -8,13 +8,13 @@ ghost use Rattle.site_core.specs.Bounds.{Bounded, HasRoom};
 ghost use Rattle.site_core.specs.Decide.{admitted, decided};
 ghost use Rattle.site_core.specs.Asked.{asked_question};
 ghost use Rattle.site_core.specs.Draft.{routed};
-ghost use Rattle.site_core.specs.Keeping.{Agrees, Performs, Loads, blank};
+ghost use Rattle.site_core.specs.Keeping.{Agrees, Performs, Loads};
 ghost use Rattle.site_core.specs.Site.{act_of};
 ghost use Rattle.site_core.specs.Step.{effect};
 
 use crate::comparing::look_up;
 use crate::config::Config;
-use crate::events::What;
+use crate::events::{Event, What};
 use crate::question::{Asks, Question, asks_of};
 use crate::replies::{NO_SUCH_SLOT, NO_SUCH_TILL, VERSIONS_FULL, no_program};
 use crate::station::Station;
@@ -25,60 +25,78 @@ use std::alloc::{AllocError, Global};
 use std::sync::Arc;
 use till_request::{Act, Bytes, Reply, Request};
 
-/// Carries out an event, and fills in its entry. The error is that memory ran out; then nothing has changed, as all
-/// memory is allocated before the first change.
+/// Carries out an event, and returns its entry, with this number. The error is that memory ran out; then nothing has
+/// changed, as all memory is allocated before the first change.
 pub fn perform(
     alloc: Global,
     config: &Config,
     station: &mut Station,
     slots: &mut Slots,
-    moment: u64,
-    what: What,
-    entry: &mut Entry,
-) -> Result<(), AllocError>
+    number: u32,
+    event: Event,
+) -> Result<Entry, AllocError>
     requires points { length station.old.points ≡ length config.now.points }
     requires bounded { HasRoom station.old }
-    requires blank { entry.old ≡ blank entry.old.number entry.old.pass }
-    ensures performed { OnOk result ((past : List Entry) → Agrees slots.old past →
-        Performs config.now past station.old moment (act_of what) entry.new station.new slots.new) }
-    ensures number { entry.new.number ≡ entry.old.number }
-    ensures pass { entry.new.pass ≡ entry.old.pass }
+    ensures performed { IfOk result (λ entry. (past : List Entry) → Agrees slots.old past →
+        Performs config.now past station.old event.moment (act_of event.what) entry station.new slots.new) }
+    ensures number { IfOk result (λ entry. entry.number ≡ number) }
+    ensures pass { IfOk result (λ entry. entry.pass ≡ event.pass) }
     ensures bounded { (k : ℕ) → Bounded k station.old → Bounded (k + 1) station.new }
     ensures points { length station.new.points ≡ length station.old.points }
     ensures station { OnErr result (station.new ≡ station.old) }
     ensures slots { OnErr result (slots.new ≡ slots.old) }
 {
+    let Event { pass, moment, what } = event;
     match what {
         What::Till { till, request } => {
-            entry.moment = moment;
-            entry.act = Act::Till { till, request };
-            entry.reply = ask(
-                config,
-                station,
-                slots,
-                till,
+            let (reply, run) = ask(alloc, config, station, slots, till, moment, request)?;
+            Ok(Entry {
+                number,
+                pass,
                 moment,
-                request,
-                &mut entry.run,
-            );
+                act: Act::Till { till, request },
+                reply,
+                run,
+            })
         }
         What::Dispenser { point, event } => {
-            entry.act = Act::Dispenser { point, event };
-            entry.reply = station.report(point, event);
+            let reply = station.report(point, event);
+            Ok(entry_without_run(number, pass, Act::Dispenser { point, event }, reply))
         }
         What::Load { slot, program } => {
             let bytes = Bytes::from_slice(alloc, program.bytes())?;
             let (mask, layout) = (program.declared(), program.layout());
-            entry.reply = load(slots, slot, program)?;
-            entry.act = Act::Load {
+            let reply = load(slots, slot, program)?;
+            let act = Act::Load {
                 slot,
                 mask,
                 layout,
                 bytes,
             };
+            Ok(entry_without_run(number, pass, act, reply))
         }
     }
-    Ok(())
+}
+
+/// Makes the entry of an act that has no moment, and for which no program is run.
+pub fn entry_without_run(number: u32, pass: u32, act: Act, reply: Reply) -> Entry
+    ensures { result ≡ record {
+      number = number;
+      pass = pass;
+      moment = 0;
+      act = act;
+      reply = reply;
+      run = None;
+    } }
+{
+    Entry {
+        number,
+        pass,
+        moment: 0,
+        act,
+        reply,
+        run: None,
+    }
 }
 
 /// Installs a program in a slot as a new version, and returns the reply to the load. The error is that memory ran out.
@@ -95,35 +113,36 @@ fn load(slots: &mut Slots, slot: u32, program: Arc<Program>) -> Result<Reply, Al
     }
 }
 
-/// Carries out a till's request, and returns the reply. If a program is run, writes its run into `ran`.
+/// Carries out a till's request, and returns the reply, and the run if a program is run. The error is that memory ran
+/// out; then the station is unchanged.
 fn ask(
+    alloc: Global,
     config: &Config,
     station: &mut Station,
     slots: &Slots,
     till: u32,
     moment: u64,
     request: Request,
-    ran: &mut Option<Run>,
-) -> Reply
+) -> Result<(Reply, Option<Run>), AllocError>
     requires points { length station.old.points ≡ length config.now.points }
     requires bounded { HasRoom station.old }
-    requires none { ran.old ≡ None }
-    ensures effect { (past : List Entry) → Agrees slots.now past →
+    ensures effect { IfOk result (λ made. (past : List Entry) → Agrees slots.now past →
         effect config.now past station.old moment (act.Till till request) ≡ record {
-          reply = result;
-          run = ran.new;
+          reply = made.0;
+          run = made.1;
           after = station.new;
-        } }
+        }) }
+    ensures unchanged { OnErr result (station.new ≡ station.old) }
     ensures bounded { (k : ℕ) → Bounded k station.old → Bounded (k + 1) station.new }
     ensures points { length station.new.points ≡ length station.old.points }
 {
     if !config.has_till(till) {
-        return NO_SUCH_TILL;
+        return Ok((NO_SUCH_TILL, None));
     }
     match asks_of(config, &request) {
-        Asks::Decision(question) => decide(station, slots, till, moment, question, ran),
-        Asks::Command(n, command) => station.command(till, n, command),
-        Asks::Show(n) => station.show(n),
+        Asks::Decision(question) => decide(alloc, station, slots, till, moment, question),
+        Asks::Command(n, command) => Ok((station.command(till, n, command), None)),
+        Asks::Show(n) => Ok((station.show(n), None)),
     }
 }
 
@@ -161,43 +180,44 @@ pub fn routed(config: &Config, station: &Station, till: u32, request: &Request) 
     }
 }
 
-/// Decides a question: checks it, runs the newest program in its slot, carries out what that answers, and returns the
-/// reply.
+/// Decides a question: checks it, runs the newest program in its slot, and carries out what that answers. Returns the
+/// reply, and the run if there is one. The error is that memory ran out; then the station is unchanged.
 fn decide(
+    alloc: Global,
     station: &mut Station,
     slots: &Slots,
     till: u32,
     moment: u64,
     question: Question,
-    ran: &mut Option<Run>,
-) -> Reply
+) -> Result<(Reply, Option<Run>), AllocError>
     requires bounded { HasRoom station.old }
     requires till { 0 < till }
-    requires none { ran.old ≡ None }
-    ensures effect { (past : List Entry) → Agrees slots.now past →
+    ensures effect { IfOk result (λ made. (past : List Entry) → Agrees slots.now past →
         decided past station.old till moment (admitted station.old question) ≡ record {
-          reply = result;
-          run = ran.new;
+          reply = made.0;
+          run = made.1;
           after = station.new;
-        } }
+        }) }
+    ensures unchanged { OnErr result (station.new ≡ station.old) }
     ensures bounded { (k : ℕ) → Bounded k station.old → Bounded (k + 1) station.new }
     ensures points { length station.new.points ≡ length station.old.points }
 {
     let question = match station.admitted(question) {
         Ok(question) => question,
-        Err(refusal) => return refusal,
+        Err(refusal) => return Ok((refusal, None)),
     };
     let Some((version, program)) = look_up(slots, question.slot) else {
-        return no_program(question.slot);
+        return Ok((no_program(question.slot), None));
     };
     let layout = program.layout();
-    let run = ran.insert(Run {
+    let context = station.context(layout, till, moment, &question);
+    let (r0, counts) = station.run(alloc, program, &context)?;
+    let run = Run {
         slot: question.slot,
         version,
-        r0: 0,
-        context: station.context(layout, till, moment, &question),
-        counts: [None; 32],
-    });
-    run.r0 = station.run(program, &run.context, &mut run.counts);
-    station.settle(till, &question, version, run.r0)
+        r0,
+        context,
+        counts,
+    };
+    Ok((station.settle(till, &question, version, r0), Some(run)))
 }

@@ -1,6 +1,6 @@
 //! The station: the state of a site between two events.
 
-ghost use Rattle.std.specs.Prelude.{option_copied, ◌≡◌, ℕ, ◌+◌, ◌<◌, ◌≤◌, IfOk, length, replicate, Some, None};
+ghost use Rattle.std.specs.Prelude.{option_copied, ◌≡◌, ℕ, ◌+◌, ◌<◌, ◌≤◌, IfOk, IsOk, OnOk, OnErr, length, Some, None};
 ghost use Rattle.std.specs.Bool.{OnTrue, OnFalse};
 ghost use Rattle.site_core.specs.State.{opening_state, at_number, price_of, busy_points, open_points, first_busy};
 ghost use Rattle.site_core.specs.State.{view_of, counter_of};
@@ -17,7 +17,6 @@ ghost use Rattle.site_core.specs.Keeping.{settled, with_counters};
 ghost use Rattle.site_core.specs.Step.{commanded, reported, show_reply};
 ghost use Rattle.interp.specs.Depends.{Agrees};
 ghost use Rattle.fuelling_point.specs.States.{state_number};
-ghost use Rattle.bpf_model.specs.declared.limits.TheConstants.{COUNTERS};
 
 use crate::config::Config;
 use crate::context::{Field, kind_number, lay};
@@ -27,6 +26,7 @@ use crate::replies::{NO_SUCH_POINT, denied, event_reply, fault_reply};
 use crate::seeing::{renew, seen, seen_points};
 use bpf_model::context::{Context, Layout};
 use counters::Counters;
+use decision_journal::Counts;
 use fuelling_point::{Command, DispenserEvent, Point, State};
 use helpers::View;
 use interp::{rebase, run};
@@ -339,63 +339,63 @@ impl Station {
         }
     }
 
-    /// Runs a program on the current state, and returns its answer. Writes into `noted` the values of each declared
-    /// counter before and after the run.
+    /// Runs a program on the current state. Returns its answer, and the values of each declared counter before and
+    /// after the run. The error is that memory for these ran out; then the station is unchanged. A program that
+    /// declares no counter is never refused.
     pub fn run(
         &mut self,
+        alloc: Global,
         program: &Program,
         given: &Context,
-        noted: &mut [Option<(u64, u64)>; 32],
-    ) -> u64
-        requires layout { layout_of given.now ≡ program.now.layout }
-        requires blank { noted.old ≡ replicate COUNTERS None }
-        ensures ran { outcome program.now (bytes_of given.now) (view_of self.old) self.old.counters
-            ≡ Ended result self.new.counters }
-        ensures noted { noted.new ≡ counts program.now.declared self.old.counters self.new.counters }
+    ) -> Result<(u64, Counts), AllocError>
+        requires { layout_of given.now ≡ program.now.layout }
+        ensures ran { IfOk result (λ r. outcome program.now (bytes_of given.now) (view_of self.old) self.old.counters
+            ≡ Ended r.0 self.new.counters) }
+        ensures noted { IfOk result (λ r. r.1 ≡ counts program.now.declared self.old.counters self.new.counters) }
         ensures rest { self.new ≡ with_counters self.old self.new.counters }
+        ensures unchanged { OnErr result (self.new ≡ self.old) }
+        ensures none { program.now.declared ≡ 0 → IsOk result }
     {
         let mask = program.declared();
         if mask == 0 {
-            return run(program, given, &self.view, &mut self.counters);
+            // There are no counts, so nothing can be refused after the run, and it needs no copy.
+            let counts = note_counts(alloc, mask, &self.counters, &self.counters)?;
+            let r0 = run(program, given, &self.view, &mut self.counters);
+            return Ok((r0, counts));
         }
-        let before = self.counters;
-        let r0 = run(program, given, &self.view, &mut self.counters);
-        note_counts(mask, &before, &self.counters, noted);
-        r0
+        let mut after = self.counters;
+        let r0 = run(program, given, &self.view, &mut after);
+        let counts = note_counts(alloc, mask, &self.counters, &after)?;
+        self.counters = after;
+        Ok((r0, counts))
     }
 
-    /// Sets the declared counters to those after a run that was made outside the site, and writes into `noted` their
-    /// values before and after. The run must have been made on the current values of these counters and on the current
-    /// view.
+    /// Sets the declared counters to those after a run that was made outside the site, and returns their values before
+    /// and after. The run must have been made on the current values of these counters and on the current view. The
+    /// error is that memory ran out; then the station is unchanged.
     pub fn adopt(
         &mut self,
+        alloc: Global,
         program: &Program,
         given: &Context,
         before: &Counters,
         r0: u64,
         after: &Counters,
-        noted: &mut [Option<(u64, u64)>; 32],
-    )
+    ) -> Result<Counts, AllocError>
         requires layout { layout_of given.now ≡ program.now.layout }
-        requires blank { noted.old ≡ replicate COUNTERS None }
         requires ran { outcome program.now (bytes_of given.now) (view_of self.old) before.now ≡ Ended r0 after.now }
         requires agree { Agrees program.now.declared before.now self.old.counters }
-        ensures ran { outcome program.now (bytes_of given.now) (view_of self.old) self.old.counters
-            ≡ Ended r0 self.new.counters }
-        ensures noted { noted.new ≡ counts program.now.declared self.old.counters self.new.counters }
+        ensures ran { OnOk result (outcome program.now (bytes_of given.now) (view_of self.old) self.old.counters
+            ≡ Ended r0 self.new.counters) }
+        ensures noted { IfOk result (λ noted. noted ≡ counts program.now.declared self.old.counters self.new.counters) }
         ensures rest { self.new ≡ with_counters self.old self.new.counters }
+        ensures unchanged { OnErr result (self.new ≡ self.old) }
     {
-        let was = self.counters;
-        rebase(
-            program,
-            given,
-            &self.view,
-            before,
-            r0,
-            after,
-            &mut self.counters,
-        );
-        note_counts(program.declared(), &was, &self.counters, noted);
+        let mut adopted = self.counters;
+        rebase(program, given, &self.view, before, r0, after, &mut adopted);
+        let counts = note_counts(alloc, program.declared(), &self.counters, &adopted)?;
+        self.counters = adopted;
+        Ok(counts)
     }
 
     /// Carries out what a program answered (0 is a denial), and returns the reply. `version` is the program's version.

@@ -16,3 +16,10 @@ pub enum Why {
     /// A declared counter differs; the numbers are that of the first such counter, and its current value.
     Counter(u32, u64),
 }
+
+/// Why a run wasn't settled: the site has changed since its draft was made, or memory ran out.
+#[derive(Drop)]
+pub enum Unsettled {
+    Stale(Why),
+    OutOfMemory,
+}

@@ -1,5 +1,4 @@
 use Rattle.std.proofs.Common.{◌≡◌, Some, None, ◌∙◌, sym, ap, subst}
-use Rattle.decision_journal.specs.declared.entries.Run.{Run}
 use Rattle.bpf_model.specs.Machine.{Counters}
 use Rattle.site_core.specs.Bounds.{Bounded}
 use Rattle.std.specs.Arc.{arc_value}
@@ -18,13 +17,13 @@ use Rattle.site_core.proofs.perform.decide.Goals as goal
 
 pub returns-in-Err-clause-effect : goal.returns-in-Err-clause-effect
 returns-in-Err-clause-effect c = λ past agrees.
-    rw (← c.in-Err.ensures.question, c.requires.none) (decided-refused past c.args.station.now c.args.till c.args.moment c.in-Err.refusal)
+    rw (← c.in-Err.ensures.question) (decided-refused past c.args.station.now c.args.till c.args.moment c.in-Err.refusal)
 
 pub returns-in_default-clause-effect : goal.returns-in_default-clause-effect
 returns-in_default-clause-effect c = λ past agrees.
     let q = c.in-Ok.question in
     let none : in_force q.slot past ≡ None = agrees.in_force q.slot ∙ c.in_default.ensures in
-    rw (← c.in-Ok.ensures.question, c.no_program.ensures, c.requires.none) (decided-none past c.args.station.now c.args.till c.args.moment q none)
+    rw (← c.in-Ok.ensures.question, c.no_program.ensures) (decided-none past c.args.station.now c.args.till c.args.moment q none)
 
 pub returns-clause-effect : goal.returns-clause-effect
 returns-clause-effect c = λ past agrees.
@@ -34,24 +33,24 @@ returns-clause-effect c = λ past agrees.
     let v : Version = record { number = c.in-Some.version; program = p } in
     let some : in_force q.slot past ≡ Some v = agrees.in_force q.slot ∙ c.in-Some.ensures in
     let layout_is : c.layout-layout.result ≡ p.layout = c.layout-layout.ensures ∙ ap (λ (t : ProgramText). t.layout) c.deref.ensures in
-    let noted : Run = c.insert-run.result.now in
-    let given : noted.context ≡ context p.layout s c.args.till c.args.moment q =
-    ap (λ (r : Run). r.context) c.insert-run.ensures.value ∙ c.context.ensures.context ∙ ap (λ l. context l s c.args.till c.args.moment q) layout_is in
-    let after : Counters = c.run-run.new.self.counters in
-    let ended : outcome p (bytes_of (context p.layout s c.args.till c.args.moment q)) (view_of s) s.counters ≡ Ended c.run-run.result after =
-    (λ i. outcome (sym c.deref-2.ensures i) (bytes_of (sym given i)) (view_of s) s.counters) ∙ c.run-run.ensures.ran in
-    let counted : c.run-run.new.noted ≡ counts p.declared s.counters after =
-    c.run-run.ensures.noted ∙ ap (λ (t : ProgramText). counts t.declared s.counters after) c.deref-2.ensures in
-    let told : settled (with_counters s after) c.args.till q c.in-Some.version c.run-run.result ≡ (c.settle.result, c.settle.new.self) =
-    (λ i. settled (sym c.run-run.ensures.rest i) c.args.till q c.in-Some.version c.run-run.result) ∙ c.settle.ensures.settled in
-    rw (← c.in-Ok.ensures.question) (decided-ended past s c.args.till c.args.moment q v c.run-run.result after some ended
-    ∙ verdict-is s c.args.till c.args.moment c.run-run.result q v after c.settle.result c.settle.new.self told
+    let given : c.context-context.result ≡ context p.layout s c.args.till c.args.moment q =
+    c.context-context.ensures.context ∙ ap (λ l. context l s c.args.till c.args.moment q) layout_is in
+    let after : Counters = c.run.new.self.counters in
+    let r0 = c.in_ok-r0.r0 in
+    let ended : outcome p (bytes_of (context p.layout s c.args.till c.args.moment q)) (view_of s) s.counters ≡ Ended r0 after =
+    (λ i. outcome (sym c.deref-2.ensures i) (bytes_of (sym given i)) (view_of s) s.counters) ∙ c.in_ok-r0.ensures.ran in
+    let counted : c.in_ok-r0.counts ≡ counts p.declared s.counters after =
+    c.in_ok-r0.ensures.noted ∙ ap (λ (t : ProgramText). counts t.declared s.counters after) c.deref-2.ensures in
+    let told : settled (with_counters s after) c.args.till q c.in-Some.version r0 ≡ (c.settle.result, c.settle.new.self) =
+    (λ i. settled (sym c.run.ensures.rest i) c.args.till q c.in-Some.version r0) ∙ c.settle.ensures.settled in
+    rw (← c.in-Ok.ensures.question) (decided-ended past s c.args.till c.args.moment q v r0 after some ended
+    ∙ verdict-is s c.args.till c.args.moment r0 q v after c.settle.result c.settle.new.self told
     ∙ (λ i. record {
       reply = c.settle.result;
       run = Some (record {
-        slot = sym (ap (λ (r : Run). r.slot) c.insert-run.ensures.value) i;
-        version = sym (ap (λ (r : Run). r.version) c.insert-run.ensures.value) i;
-        r0 = c.run-run.result;
+        slot = q.slot;
+        version = c.in-Some.version;
+        r0 = r0;
         context = sym given i;
         counts = sym counted i;
       });
@@ -60,5 +59,5 @@ returns-clause-effect c = λ past agrees.
 
 pub returns-clause-bounded : goal.returns-clause-bounded
 returns-clause-bounded c = λ k b.
-    let after : Counters = c.run-run.new.self.counters in
-    c.settle.ensures.bounded k (subst (Bounded k) (sym c.run-run.ensures.rest) (bounded-counted k c.args.station.now after b))
+    let after : Counters = c.run.new.self.counters in
+    c.settle.ensures.bounded k (subst (Bounded k) (sym c.run.ensures.rest) (bounded-counted k c.args.station.now after b))

@@ -13,7 +13,6 @@ use Rattle.site_core.specs.Differences.{IsFresh}
 use Rattle.site_core.specs.Asked.{StillAsked, basis_in}
 use Rattle.bpf_model.specs.Machine.{Counters}
 use Rattle.bpf_model.specs.Program.{ProgramText, outcome}
-use Rattle.decision_journal.specs.declared.entries.Run.{Run}
 use Rattle.site_core.specs.Bounds.{Bounded}
 use Rattle.site_core.specs.Decide.{counts}
 use Rattle.site_core.specs.Keeping.{settled, with_counters}
@@ -40,61 +39,45 @@ returns-clause-performed c =
     let given : context (layout draft) s d.till d.moment q ≡ d.context =
     same-context (context (layout draft) s d.till d.moment q) d.context (context-layout (layout draft) s d.till d.moment q ∙ sym c.draft.invariant.0)
     still.context_is in
-    let after : Counters = c.adopt.new.self.counters in
+    let after : Counters = c.adopt-adopted.new.self.counters in
     let r0 = c.self.inside.r0 in
-    let noted : Run = c.insert-run.result.now in
-    let is : noted ≡ record { slot = q.slot; version = d.version; r0 = r0; context = d.context; counts = noted.counts } =
-    λ i. record {
-      slot = (c.insert-run.ensures.value i).slot;
-      version = (c.insert-run.ensures.value i).version;
-      r0 = (c.insert-run.ensures.value i).r0;
-      context = (c.insert-run.ensures.value i).context;
-      counts = noted.counts;
-    } in
     let ran : outcome draft.version.program draft.context draft.view s.counters ≡ Ended r0 after =
-    (λ i. outcome (sym c.deref.ensures i) draft.context (sym still.view_is i) s.counters) ∙ c.adopt.ensures.ran in
-    let counted : c.adopt.new.noted ≡ counts (arc_value d.program).declared s.counters after =
-    c.adopt.ensures.noted ∙ ap (λ (t : ProgramText). counts t.declared s.counters after) c.deref.ensures in
-    let told : settled (with_counters s after) d.till q d.version r0 ≡ (c.settle-entry.result, c.settle-entry.new.self) =
-    (λ i. settled (sym c.adopt.ensures.rest i) d.till q d.version r0) ∙ c.settle-entry.ensures.settled in
+    (λ i. outcome (sym c.deref.ensures i) draft.context (sym still.view_is i) s.counters) ∙ c.in-Ok-adopted.ensures.ran in
+    let counted : c.in-Ok-adopted.counts ≡ counts (arc_value d.program).declared s.counters after =
+    c.in-Ok-adopted.ensures.noted ∙ ap (λ (t : ProgramText). counts t.declared s.counters after) c.deref.ensures in
+    let told : settled (with_counters s after) d.till q d.version r0 ≡ (c.settle-reply.result, c.settle-reply.new.self) =
+    (λ i. settled (sym c.adopt-adopted.ensures.rest i) d.till q d.version r0) ∙ c.settle-reply.ensures.settled in
     let done : Entry = record {
-      number = c.args.entry.now.number;
-      pass = c.args.entry.now.pass;
+      number = c.args.number;
+      pass = c.args.pass;
       moment = d.moment;
       act = act.Till d.till d.request;
-      reply = c.settle-entry.result;
-      run = Some (record { slot = noted.slot; version = noted.version; r0 = noted.r0; context = noted.context; counts = c.adopt.new.noted });
+      reply = c.settle-reply.result;
+      run = Some (record { slot = q.slot; version = d.version; r0 = r0; context = d.context; counts = c.in-Ok-adopted.counts });
     } in
-    let verdict_is = verdict-is s d.till d.moment r0 q draft.version after c.settle-entry.result c.settle-entry.new.self told
+    let verdict_is = verdict-is s d.till d.moment r0 q draft.version after c.settle-reply.result c.settle-reply.new.self told
     ∙ (λ i. record {
-      reply = c.settle-entry.result;
-      run = Some (record {
-        slot = (sym is i).slot;
-        version = (sym is i).version;
-        r0 = (sym is i).r0;
-        context = (given ∙ ap (λ (r : Run). r.context) (sym is)) i;
-        counts = sym counted i;
-      });
-      after = c.settle-entry.new.self;
+      reply = c.settle-reply.result;
+      run = Some (record { slot = q.slot; version = d.version; r0 = r0; context = given i; counts = sym counted i });
+      after = c.settle-reply.new.self;
     }) in
     let Settled : DraftValue → Type 0 = λ x.
     IsFresh (basis_in c.args.config.now s c.args.slots.now x) x
     × ((past : List Entry) → Agrees c.args.slots.now past
-    → Performs c.args.config.now past s x.moment (act.Till x.till x.request) done c.settle-entry.new.self c.args.slots.now) in
+    → Performs c.args.config.now past s x.moment (act.Till x.till x.request) done c.settle-reply.new.self c.args.slots.now) in
     subst Settled (c.draft.view_is ∙ ap (λ (r : ReadyValue). r.draft) c.self.view_is) (
       still.fresh,
-      λ past agrees. performs-settled c.args.config.now past s c.settle-entry.new.self c.args.slots.now draft q r0 after done refl refl still agrees ran
+      λ past agrees. performs-settled c.args.config.now past s c.settle-reply.new.self c.args.slots.now draft q r0 after done refl refl still agrees ran
           verdict_is,
     )
 
 pub returns-clause-run : goal.returns-clause-run
-returns-clause-run c =
-    let noted = c.insert-run.ensures.value in (
-      ap (λ (r : Run). r.version) noted ∙ ap (λ (d : DraftValue). d.version.number) (c.draft.view_is ∙ ap (λ (r : ReadyValue). r.draft) c.self.view_is),
-      ap (λ (r : Run). r.r0) noted ∙ ap (λ (r : ReadyValue). r.r0) c.self.view_is,
-    )
+returns-clause-run c = (
+  ap (λ (d : DraftValue). d.version.number) (c.draft.view_is ∙ ap (λ (r : ReadyValue). r.draft) c.self.view_is),
+  ap (λ (r : ReadyValue). r.r0) c.self.view_is,
+)
 
 pub returns-clause-bounded : goal.returns-clause-bounded
 returns-clause-bounded c = λ k b.
-    let after : Counters = c.adopt.new.self.counters in
-    c.settle-entry.ensures.bounded k (subst (Bounded k) (sym c.adopt.ensures.rest) (bounded-counted k c.args.station.now after b))
+    let after : Counters = c.adopt-adopted.new.self.counters in
+    c.settle-reply.ensures.bounded k (subst (Bounded k) (sym c.adopt-adopted.ensures.rest) (bounded-counted k c.args.station.now after b))

@@ -19,14 +19,16 @@ returns-then-mask-eq0-clause-ran c =
     let shown : c.self.inside.view ≡ view_of c.args.self.now =
     view-is old c.self.inside.view c.self.invariant.2 c.self.invariant.3 refl ∙ ap view_of c.self.view_is in
     let counted : c.self.inside.counters ≡ c.args.self.now.counters = ap (λ (s : SiteState). s.counters) c.self.view_is in
-    (λ i. outcome c.args.program.now (bytes_of c.args.given.now) (sym shown i) (sym counted i)) ∙ c.run.ensures
+    (λ i. outcome c.args.program.now (bytes_of c.args.given.now) (sym shown i) (sym counted i)) ∙ c.run-r0.ensures
 
 pub returns-then-mask-eq0-clause-noted : goal.returns-then-mask-eq0-clause-noted
 returns-then-mask-eq0-clause-noted c =
     let zero : c.args.program.now.declared ≡ 0 = sym c.declared-mask.ensures ∙ c.if-mask-eq0.true in
+    let was = c.self.inside.counters in
     let before = c.args.self.now.counters in
-    let after = c.run.new.counters in
-    c.requires.blank ∙ sym (none-counted before after) ∙ ap (λ mask. counts mask before after) (sym zero)
+    let after = c.run-r0.new.counters in
+    c.in_ok-counts.ensures.noted ∙ ap (λ mask. counts mask was was) c.if-mask-eq0.true ∙ none-counted was was
+    ∙ sym (none-counted before after) ∙ ap (λ mask. counts mask before after) (sym zero)
 
 pub returns-clause-ran : goal.returns-clause-ran
 returns-clause-ran c =
@@ -40,4 +42,4 @@ returns-clause-ran c =
     let shown : c.self.inside.view ≡ view_of c.args.self.now =
     view-is old c.self.inside.view c.self.invariant.2 c.self.invariant.3 refl ∙ ap view_of c.self.view_is in
     let counted : c.self.inside.counters ≡ c.args.self.now.counters = ap (λ (s : SiteState). s.counters) c.self.view_is in
-    (λ i. outcome c.args.program.now (bytes_of c.args.given.now) (sym shown i) (sym counted i)) ∙ c.run-r0.ensures
+    (λ i. outcome c.args.program.now (bytes_of c.args.given.now) (sym shown i) (sym counted i)) ∙ c.run-r0-2.ensures
