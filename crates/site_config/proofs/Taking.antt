@@ -1,14 +1,45 @@
--- If number n has a door that takes its lines, then all numbers up to n have one if all numbers below n have one.
-use Rattle.std.proofs.Common.{◌≡◌, ℕ, zero, suc, ◌<◌, ◌-◌, List, Bool, true, sym, ◌∙◌, arith}
-use Rattle.std.specs.List.{list_any}
+-- The lowest number whose lines no door takes.
+use Rattle.std.proofs.Common.{◌≡◌, ℕ, zero, suc, ◌+◌, ◌-◌, ◌≤◌, List, Option, Some, None, true, false, Bool, cond, sym, subst, arith}
+use Rattle.site_config.specs.declared.flaw.ConfigFlaw.{ConfigFlaw}
+use Rattle.site_config.specs.declared.flaw.ConfigFlaw.TheVariants.{WithoutDoor}
 use Rattle.site_config.specs.declared.flaw.Side.{Side}
 use Rattle.site_config.specs.declared.raw.RawDoor.{RawDoor}
-use Rattle.site_config.specs.Doors.{takes, each_taken}
+use Rattle.site_config.specs.Document.{first_of}
+use Rattle.site_config.specs.Doors.{is_taken, first_left}
 
-pub left_taken : (side : Side) (ds : List RawDoor) (n : ℕ) (taken whole : Bool) → 0 < n → taken ≡ list_any (λ d. takes side n d.role) ds
-    → taken ≡ true → each_taken side ds n ≡ whole → each_taken side ds (n - 1) ≡ whole
-left_taken side ds zero taken whole lt is holds so = absurd (omega (arith, lt))
-left_taken side ds (suc n) taken whole lt is holds so =
-    let e : suc n - 1 ≡ n = omega arith in
-    let t : list_any (λ (d : RawDoor). takes side (suc n) d.role) ds ≡ true = sym is ∙ holds in
-    rw e (rw t at so)
+found_before : (o other : Option ConfigFlaw) (flaw : ConfigFlaw) → o ≡ Some flaw → first_of o other ≡ Some flaw
+found_before o other flaw e = rw e
+
+found_none : (o : Option ConfigFlaw) (taken : Bool) (flaw : ConfigFlaw) → o ≡ None → taken ≡ true → first_of o (cond taken None (Some flaw)) ≡ None
+found_none o taken flaw e t = rw (e, t)
+
+found_here : (o : Option ConfigFlaw) (taken : Bool) (flaw : ConfigFlaw) → o ≡ None → taken ≡ false
+    → first_of o (cond taken None (Some flaw)) ≡ Some flaw
+found_here o taken flaw e t = rw (e, t)
+
+none_and : (n : ℕ) → 0 + n ≡ n
+none_and n = omega arith
+
+one_and : (j n : ℕ) → suc j + n ≡ suc (j + n)
+one_and j n = omega arith
+
+left_above : (side : Side) (ds : List RawDoor) (n : ℕ) (flaw : ConfigFlaw) (j : ℕ) → first_left side ds n ≡ Some flaw → first_left side ds (j + n) ≡ Some flaw
+left_above side ds n flaw zero found = rw (none_and n) found
+left_above side ds n flaw (suc j) found = rw (one_and j n) (found_before (first_left side ds (j + n)) _ flaw (left_above side ds n flaw j found))
+
+-- If each number below m has a door that takes its lines, and m has one too, then each number up to m has one.
+pub none_left : (side : Side) (ds : List RawDoor) (n m : ℕ) → m ≡ n + 1 → None ≡ first_left side ds n → is_taken side ds m ≡ true
+    → None ≡ first_left side ds m
+none_left side ds n m is none taken =
+    let e : m ≡ suc n = omega (arith, is) in
+    rw e (sym (found_none (first_left side ds n) (is_taken side ds (suc n)) (WithoutDoor side (suc n)) (sym none) (rw e at taken)))
+
+-- If each number below m has a door that takes its lines, and m lacks one, then m is the lowest number that lacks one.
+pub one_left : (side : Side) (ds : List RawDoor) (n m most : ℕ) → m ≡ n + 1 → m ≤ most → None ≡ first_left side ds n → is_taken side ds m ≡ false
+    → Some (WithoutDoor side m) ≡ first_left side ds most
+one_left side ds n m most is le none taken =
+    let e : m ≡ suc n = omega (arith, is) in
+    let here : first_left side ds m ≡ Some (WithoutDoor side m) =
+    rw e (found_here (first_left side ds n) (is_taken side ds (suc n)) (WithoutDoor side (suc n)) (sym none) (rw e at taken)) in
+    let k : most - m + m ≡ most = omega (arith, le) in
+    sym (subst (λ q. first_left side ds q ≡ Some (WithoutDoor side m)) k (left_above side ds m (WithoutDoor side m) (most - m) here))

@@ -1,13 +1,18 @@
 -- Definitions: the doors of a served site, and what is demanded of them (K3).
-use Rattle.std.specs.Prelude.{◌==◌, ◌&&◌, not, ◌+◌, ◌-◌, ◌/◌, ◌%◌, ◌^◌, nat_le, bit_or, ℕ, zero, suc, ℤ, pos, List, [], ◌∷◌, length, map, Bool, true, false}
+use Rattle.std.specs.Prelude.{◌==◌, not, ◌+◌, ◌-◌, ◌/◌, ◌%◌, ◌^◌, nat_le, bit_or, ℕ, zero, suc, ℤ, pos, List, [], ◌∷◌, length, map, Bool, true, false}
 use Rattle.std.specs.Prelude.{Option, Some, None, Result, Ok, string_bytes, if◌then◌else◌}
 use Rattle.std.specs.Ordering.{int_eq}
 use Rattle.std.specs.List.{list_any}
 use Rattle.std.specs.Str.{bytes_eq}
 use Rattle.till_request.specs.declared.act.Role.{Role}
 use Rattle.till_request.specs.declared.act.Role.TheVariants as roles
-use Rattle.site_config.specs.declared.fault.ConfigFault.{ConfigFault}
+use Rattle.site_config.specs.declared.flaw.ConfigFlaw.{ConfigFlaw}
+use Rattle.site_config.specs.declared.flaw.ConfigFlaw.TheVariants.{Empty, SamePort, SameSocket, SameTill, WrongCount, PointTwice, TooManyWorkers, WithoutDoor}
+use Rattle.site_config.specs.declared.flaw.Key.{Key}
+use Rattle.site_config.specs.declared.flaw.Key.TheVariants as key
+use Rattle.site_config.specs.declared.flaw.Section.TheVariants.{Serve as OfServe}
 use Rattle.site_config.specs.declared.flaw.Place.{Place}
+use Rattle.site_config.specs.declared.flaw.Place.TheVariants.{At, Item}
 use Rattle.site_config.specs.declared.flaw.Side.{Side}
 use Rattle.site_config.specs.declared.flaw.Side.TheVariants as sides
 use Rattle.site_config.specs.declared.raw.RawDoor.{RawDoor}
@@ -19,8 +24,8 @@ use Rattle.site_config.specs.declared.settings.Address.{Address}
 use Rattle.site_config.specs.declared.settings.Address.TheVariants as addresses
 use Rattle.site_config.specs.declared.settings.Door.{Door}
 use Rattle.site_config.specs.declared.settings.Serve.{Serve}
-use Rattle.site_config.specs.Document.{◌>>=◌}
-use Rattle.site_config.specs.Demands.{ranged, demand}
+use Rattle.site_config.specs.Document.{◌>>=◌, demand, without, first_of}
+use Rattle.site_config.specs.Demands.{ranged}
 use Rattle.site_config.specs.Typed.{TypedServe}
 
 -- Where connections come in: a port of 127.0.0.1, or the text of a local socket's path.
@@ -28,7 +33,8 @@ pub data AddressValue : Type 0 where
   port : ℕ → AddressValue
   socket : List ℕ → AddressValue
 
--- A door: the place of its address in the configuration, the address, whose lines it takes, and how many workers it has.
+-- A door: the place of its address in the configuration, the address, whose lines the door takes, and how many workers
+-- it has.
 pub record DoorValue : Type 0 where
   pub place : Place
   pub address : AddressValue
@@ -42,89 +48,104 @@ pub record ServeValue : Type 0 where
   pub connections : ℕ
   pub idle_seconds : ℕ
 
+-- The place of `key` in the table that has the key at `place`. If `place` isn't a key's, the result is `place` itself.
+abbrev pub beside : Place → Key → Place
+beside (At section other) key = At section key
+beside place key = place
+
+-- The place of item `n`, counted from 0, of the list at `place`. If `place` isn't a key's, the result is `place`
+-- itself.
+abbrev pub item_of : Place → ℕ → Place
+item_of (At section key) n = Item section key n
+item_of place n = place
+
 -- Checks an address. A port must be 1 to 65,535, and a path must not be empty.
-unfoldable pub address_of : RawAddress → Result AddressValue ConfigFault
-address_of (Port z) = do
-  n ← ranged 1 65535 z
+unfoldable pub address_of : Place → RawAddress → Result AddressValue ConfigFlaw
+address_of place (Port z) = do
+  n ← ranged place 1 65535 z
   Ok (port n)
-address_of (Socket path) = do
-  some ← demand (not (length path == 0))
+address_of place (Socket path) = do
+  some ← demand (Empty place) (not (length path == 0))
   Ok (socket path)
 
--- Adds a point to points that are given as bits: point p is bit p - 1. It must be one of the site's points, and not be
--- among them already.
-unfoldable pub with_point : ℕ → ℕ → ℤ → Result ℕ ConfigFault
-with_point points bits z = do
-  p ← ranged 1 points z
-  new ← demand (bits / 2 ^ (p - 1) % 2 == 0)
+-- Adds the point `z` to points that are given as bits: point p is bit p - 1. It must be one of the site's points, and
+-- not be among them already. `place` is its place in the list at `list`, counted from 0.
+unfoldable pub with_point : Place → ℕ → ℕ → ℕ → ℤ → Result ℕ ConfigFlaw
+with_point list place points bits z = do
+  p ← ranged (item_of list place) 1 points z
+  new ← demand (PointTwice list p) (bits / 2 ^ (p - 1) % 2 == 0)
   Ok (bit_or bits (2 ^ (p - 1)))
 
-abbrev pub with_points : ℕ → ℕ → List ℤ → Result ℕ ConfigFault
-with_points points bits [] = Ok bits
-with_points points bits (z ∷ zs) = do
-  more ← with_point points bits z
-  with_points points more zs
+abbrev pub with_points : Place → ℕ → ℕ → ℕ → List ℤ → Result ℕ ConfigFlaw
+with_points list place points bits [] = Ok bits
+with_points list place points bits (z ∷ zs) = do
+  more ← with_point list place points bits z
+  with_points list (place + 1) points more zs
 
--- The points in a list, as bits, at a site that has points 1 to `points`. The list must have at least one point, and
--- none twice.
-unfoldable pub bits_of : ℕ → List ℤ → Result ℕ ConfigFault
-bits_of points zs = do
-  some ← demand (not (length zs == 0))
-  with_points points 0 zs
+-- The points in the list at `list`, as bits, at a site that has points 1 to `points`. The list must have at least one
+-- point, and none twice.
+unfoldable pub bits_of : Place → ℕ → List ℤ → Result ℕ ConfigFlaw
+bits_of list points zs = do
+  some ← demand (WrongCount list 0 1 points) (not (length zs == 0))
+  with_points list 0 points 0 zs
 
--- Whose lines a door takes, at a site that has tills 1 to `tills` and points 1 to `points`.
-unfoldable pub role_of : ℕ → ℕ → RawRole → Result Role ConfigFault
-role_of tills points Tills = Ok roles.Till
-role_of tills points (OneTill z) = do
-  n ← ranged 1 tills z
+-- Whose lines a door takes, at a site that has tills 1 to `tills` and points 1 to `points`. `place` is where the
+-- configuration has the door's address.
+unfoldable pub role_of : ℕ → ℕ → Place → RawRole → Result Role ConfigFlaw
+role_of tills points place Tills = Ok roles.Till
+role_of tills points place (OneTill z) = do
+  n ← ranged (beside place key.Number) 1 tills z
   Ok (roles.OneTill n)
-role_of tills points Dispensers = Ok roles.Dispenser
-role_of tills points (SomePoints zs) = do
-  bits ← bits_of points zs
+role_of tills points place Dispensers = Ok roles.Dispenser
+role_of tills points place (SomePoints zs) = do
+  bits ← bits_of (beside place key.Points) points zs
   Ok (roles.SomePoints bits)
-role_of tills points Owner = Ok roles.Owner
+role_of tills points place Owner = Ok roles.Owner
 
--- Ok if the address and the role of the door are in their ranges, or else the fault.
-unfoldable pub door_fits : ℕ → ℕ → RawDoor → Result (Unit {0}) ConfigFault
+-- Ok if the address and the role of the door are in their ranges, or else the flaw.
+unfoldable pub door_fits : ℕ → ℕ → RawDoor → Result (Unit {0}) ConfigFlaw
 door_fits tills points d = do
-  a ← address_of d.address
-  r ← role_of tills points d.role
+  a ← address_of d.place d.address
+  r ← role_of tills points d.place d.role
   Ok tt
 
-abbrev pub doors_fit : ℕ → ℕ → List RawDoor → Result (Unit {0}) ConfigFault
+abbrev pub doors_fit : ℕ → ℕ → List RawDoor → Result (Unit {0}) ConfigFlaw
 doors_fit tills points [] = Ok tt
 doors_fit tills points (d ∷ ds) = do
   fits ← door_fits tills points d
   doors_fit tills points ds
 
--- The two addresses are the same port, or the same text as a path.
-abbrev pub same_address : RawAddress → RawAddress → Bool
-same_address (Port y) (Port z) = int_eq y z
-same_address (Socket p) (Socket q) = bytes_eq p q
-same_address (Port y) (Socket q) = false
-same_address (Socket p) (Port z) = false
+-- The flaw if the addresses of two doors are the same port, or the same text as a path. `first` and `second` are the
+-- places of the addresses.
+abbrev pub address_clash : Place → Place → RawAddress → RawAddress → Option ConfigFlaw
+address_clash first second (Port y) (Port z) = if int_eq y z then Some (SamePort first second y) else None
+address_clash first second (Socket p) (Socket q) = if bytes_eq p q then Some (SameSocket first second) else None
+address_clash first second (Port y) (Socket q) = None
+address_clash first second (Socket p) (Port z) = None
 
--- Both doors are for the same single till.
-abbrev pub same_till : RawRole → RawRole → Bool
-same_till (OneTill y) (OneTill z) = int_eq y z
-same_till a b = false
+-- The flaw if two doors are each for the same single till. `first` and `second` are the places of the doors' addresses.
+abbrev pub till_clash : Place → Place → RawRole → RawRole → Option ConfigFlaw
+till_clash first second (OneTill y) (OneTill z) = if int_eq y z then Some (SameTill first second y) else None
+till_clash first second a b = None
 
-abbrev pub are_apart : RawDoor → RawDoor → Bool
-are_apart d e = not (same_address d.address e.address) && not (same_till d.role e.role)
+abbrev pub pair_clash : RawDoor → RawDoor → Option ConfigFlaw
+pair_clash d e = first_of (address_clash d.place e.place d.address e.address) (till_clash d.place e.place d.role e.role)
 
-abbrev pub is_apart : RawDoor → List RawDoor → Bool
-is_apart d [] = true
-is_apart d (e ∷ es) = are_apart d e && is_apart d es
+abbrev pub clash_with : RawDoor → List RawDoor → Option ConfigFlaw
+clash_with d [] = None
+clash_with d (e ∷ es) = first_of (pair_clash d e) (clash_with d es)
 
--- All doors have different addresses, and each till has at most one door of its own.
-abbrev pub each_apart : List RawDoor → Bool
-each_apart [] = true
-each_apart (d ∷ ds) = is_apart d ds && each_apart ds
+-- The flaw of the first two doors that have the same address, or are for the same single till. None if all doors have
+-- different addresses, and each till has at most one door of its own.
+abbrev pub clash_among : List RawDoor → Option ConfigFlaw
+clash_among [] = None
+clash_among (d ∷ ds) = first_of (clash_with d ds) (clash_among ds)
 
--- How many workers a shared door has; 0 if there is no such door.
-abbrev pub shared_workers : ℕ → Option ℤ → Result ℕ ConfigFault
-shared_workers most None = Ok 0
-shared_workers most (Some z) = ranged 1 most z
+-- How many workers a shared door has: the value of `key`, which must be from 1 to `most`, or 0 if there is no such
+-- door.
+abbrev pub shared_workers : Key → ℕ → Option ℤ → Result ℕ ConfigFlaw
+shared_workers key most None = Ok 0
+shared_workers key most (Some z) = ranged (At OfServe key) 1 most z
 
 -- How many workers a door of this role has. The owner's door, a door of one till and a door of some points have one
 -- each.
@@ -144,7 +165,8 @@ abbrev pub count_single : Side → List RawDoor → ℕ
 count_single side [] = 0
 count_single side (d ∷ ds) = (if is_single side d.role then 1 else 0) + count_single side ds
 
--- A door of this role takes the lines of the till with this number, or those that name the point with this number.
+-- A door of this role takes the lines of till `n`, if the side is tills, or those that name point `n`, if the side is
+-- dispensers.
 abbrev pub takes : Side → ℕ → RawRole → Bool
 takes sides.Tills n Tills = true
 takes sides.Tills n (OneTill z) = int_eq z (pos n)
@@ -152,23 +174,31 @@ takes sides.Dispensers n Dispensers = true
 takes sides.Dispensers n (SomePoints zs) = list_any (λ z. int_eq z (pos n)) zs
 takes side n role = false
 
--- Each number from 1 to this one has a door that takes its lines.
-abbrev pub each_taken : Side → List RawDoor → ℕ → Bool
-each_taken side ds zero = true
-each_taken side ds (suc n) = list_any (λ d. takes side (suc n) d.role) ds && each_taken side ds n
+-- One of the doors takes the lines of till `n`, if the side is tills, or those that name point `n`, if the side is
+-- dispensers.
+abbrev pub is_taken : Side → List RawDoor → ℕ → Bool
+is_taken side ds n = list_any (λ d. takes side n d.role) ds
 
--- The shared door's workers and the doors of single tills, or of some points, are at most `most` in all. Each till, or
--- each point, has a door that takes its lines.
-unfoldable pub side_fits : Side → ℕ → ℕ → ℕ → List RawDoor → Bool
-side_fits side shared most n ds = nat_le (shared + count_single side ds) most && each_taken side ds n
+-- The flaw of the lowest number, from 1 to the given one, of a till or a point whose lines no door takes. None if each
+-- of these numbers has a door.
+abbrev pub first_left : Side → List RawDoor → ℕ → Option ConfigFlaw
+first_left side ds zero = None
+first_left side ds (suc n) = first_of (first_left side ds n) (if is_taken side ds (suc n) then None else Some (WithoutDoor side (suc n)))
 
-unfoldable pub door_of : ℕ → ℕ → ℕ → ℕ → RawDoor → Result DoorValue ConfigFault
+-- Checks one side: tills or dispensers. The shared door's workers and the doors of single tills, or of some points,
+-- must be at most `most` in all. Each till or point, from 1 to `n`, must have a door that takes its lines.
+unfoldable pub side_fits : Side → ℕ → ℕ → ℕ → List RawDoor → Result (Unit {0}) ConfigFlaw
+side_fits side shared most n ds = do
+  few ← demand (TooManyWorkers side (shared + count_single side ds) most) (nat_le (shared + count_single side ds) most)
+  without (first_left side ds n)
+
+unfoldable pub door_of : ℕ → ℕ → ℕ → ℕ → RawDoor → Result DoorValue ConfigFlaw
 door_of tills points till_workers dispenser_workers d = do
-  a ← address_of d.address
-  r ← role_of tills points d.role
+  a ← address_of d.place d.address
+  r ← role_of tills points d.place d.role
   Ok (record { place = d.place; address = a; role = r; workers = workers_of till_workers dispenser_workers d.role })
 
-abbrev pub each_door : (RawDoor → Result DoorValue ConfigFault) → List RawDoor → Result (List DoorValue) ConfigFault
+abbrev pub each_door : (RawDoor → Result DoorValue ConfigFlaw) → List RawDoor → Result (List DoorValue) ConfigFlaw
 each_door one [] = Ok []
 each_door one (d ∷ ds) = do
   x ← one d
@@ -176,16 +206,16 @@ each_door one (d ∷ ds) = do
   Ok (x ∷ xs)
 
 -- Where and how to serve a site of this many tills and points.
-unfoldable pub serve_of : ℕ → ℕ → TypedServe → Result ServeValue ConfigFault
+unfoldable pub serve_of : ℕ → ℕ → TypedServe → Result ServeValue ConfigFlaw
 serve_of tills points s = do
   fit ← doors_fit tills points s.doors
-  apart ← demand (each_apart s.doors)
-  t ← shared_workers 64 s.till_workers
-  w ← shared_workers 31 s.dispenser_workers
-  n ← ranged 1 1000000 s.connections
-  i ← ranged 0 86400 s.idle_seconds
-  of_tills ← demand (side_fits sides.Tills t 64 tills s.doors)
-  of_dispensers ← demand (side_fits sides.Dispensers w 31 points s.doors)
+  apart ← without (clash_among s.doors)
+  t ← shared_workers key.TillWorkers 64 s.till_workers
+  w ← shared_workers key.DispenserWorkers 31 s.dispenser_workers
+  n ← ranged (At OfServe key.Connections) 1 1000000 s.connections
+  i ← ranged (At OfServe key.IdleSeconds) 0 86400 s.idle_seconds
+  of_tills ← side_fits sides.Tills t 64 tills s.doors
+  of_dispensers ← side_fits sides.Dispensers w 31 points s.doors
   doors ← each_door (door_of tills points t w) s.doors
   Ok (record { doors = doors; connections = n; idle_seconds = i })
 

@@ -1,17 +1,13 @@
 -- Definitions: the fault number of each flaw of a configuration, and the position that it reports (this profile).
-use Rattle.std.specs.Prelude.{◌≡◌, ℕ, ◌≤◌, List, length, Bool, true, false, Option, Some, None, Result, Ok, Err}
+use Rattle.std.specs.Prelude.{◌≡◌, ℕ, ◌≤◌, List, length, Option, Some, None, Result, Ok, Err}
 use Rattle.site_config.specs.declared.fault.ConfigFault.{ConfigFault}
 use Rattle.site_config.specs.declared.fault.ConfigFault.TheVariants as fault
 use Rattle.site_config.specs.declared.flaw.ConfigFlaw.{ConfigFlaw}
 use Rattle.site_config.specs.declared.flaw.ConfigFlaw.TheVariants.{NotUtf8, NotToml, UnknownKey, Missing, WrongType, OutOfRange, WrongCount, OverBound}
 use Rattle.site_config.specs.declared.flaw.ConfigFlaw.TheVariants.{BothThere, Needless, Empty, SamePort, SameSocket, SameTill, PointTwice}
 use Rattle.site_config.specs.declared.flaw.ConfigFlaw.TheVariants.{TooManyWorkers, WithoutDoor, OutOfMemory}
-use Rattle.site_config.specs.declared.flaw.Section.{Section}
-use Rattle.site_config.specs.declared.flaw.Section.TheVariants.{Top, Point, Counter, Serve, Till, Dispenser}
 use Rattle.std.specs.Str.Lossy.{utf8_valid_len}
-use Rattle.site_config.specs.Document.{Fails}
 use Rattle.site_config.specs.Positions.{position_at}
-use Rattle.site_config.specs.Typed.{is_top_key, is_point_key, is_counter_key, is_serve_key, is_till_key, is_dispenser_key}
 
 abbrev pub fault_of : ConfigFlaw → ConfigFault
 fault_of (NotUtf8 line column) = fault.K1
@@ -46,22 +42,11 @@ StandsAt bytes (NotUtf8 line column) = (line, column) ≡ position_at bytes (utf
 StandsAt bytes (NotToml line column message) = (index : ℕ) × (index ≤ length bytes) × ((line, column) ≡ position_at bytes index)
 StandsAt bytes flaw = Unit {0}
 
--- What a function returned, once `view` is applied to it, is what reading gives, unless memory ran out. A flaw that was
--- returned has the number of the fault that reading gives.
-abbrev pub Finds : {X Y : Type 0} → (X → Y) → Result X ConfigFlaw → Result Y ConfigFault → Type 0
-Finds view (Ok x) read = read ≡ Ok (view x)
-Finds view (Err flaw) read = Fails (fault_of flaw) read
+-- Replaces a flaw by its fault number.
+abbrev pub numbered : {A : Type 0} → Result A ConfigFlaw → Result A ConfigFault
+numbered (Ok x) = Ok x
+numbered (Err flaw) = Err (fault_of flaw)
 
--- The result of a check: None exactly if its condition holds, or else a flaw with the number K3.
-abbrev pub Checks : Bool → Option ConfigFlaw → Type 0
-Checks holds None = holds ≡ true
-Checks holds (Some flaw) = (holds ≡ false) × (fault_of flaw ≡ fault.K3)
-
--- A table of this section may have a key of this name.
-abbrev pub is_key_of : Section → List ℕ → Bool
-is_key_of Top name = is_top_key name
-is_key_of (Point place) name = is_point_key name
-is_key_of (Counter place) name = is_counter_key name
-is_key_of Serve name = is_serve_key name
-is_key_of (Till place) name = is_till_key name
-is_key_of (Dispenser place) name = is_dispenser_key name
+-- The flaw is that a text isn't a document: its fault number is K1.
+abbrev pub IsOfText : ConfigFlaw → Type 0
+IsOfText flaw = fault_of flaw ≡ fault.K1

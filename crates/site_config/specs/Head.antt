@@ -16,7 +16,8 @@ before_end bytes = if ends_head bytes then take (length bytes - 4) bytes else by
 abbrev pub head_part : List ℕ → Option (List ℕ)
 head_part bytes = if nat_le (length (before_end bytes)) 65536 then Some (before_end bytes) else None
 
--- These bytes were taken from the input. They end with the first line `---`, or the input ended, or they are more than 65,540.
+-- The bytes `bytes` were taken from the input. They end with the first line `---`, or the input ended, or they are more
+-- than 65,540.
 pub record IsHead (old new : Option (List ℕ)) (bytes : List ℕ) : Type 0 where
   pub taken : Consumes old new bytes
   pub first : (k : ℕ) → k < length bytes → ends_head (take k bytes) ≡ false

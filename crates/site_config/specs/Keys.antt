@@ -1,7 +1,12 @@
--- Definitions: the keys of a configuration as they are written (this profile).
-use Rattle.std.specs.Prelude.{ℕ, List, codes}
+-- Definitions: the keys and the places of a configuration as they are written (this profile).
+use Rattle.std.specs.Prelude.{ℕ, ◌+◌, List, [], ◌++◌, codes, min}
+use Rattle.std.specs.Fmt.{decimal}
 use Rattle.site_config.specs.declared.flaw.Key.{Key}
 use Rattle.site_config.specs.declared.flaw.Key.TheVariants as key
+use Rattle.site_config.specs.declared.flaw.Section.{Section}
+use Rattle.site_config.specs.declared.flaw.Section.TheVariants as sections
+use Rattle.site_config.specs.declared.flaw.Place.{Place}
+use Rattle.site_config.specs.declared.flaw.Place.TheVariants.{At, Item, Counter}
 
 abbrev pub name_of : Key → List ℕ
 name_of key.Tills = codes "tills"
@@ -30,3 +35,22 @@ name_of key.Number = codes "number"
 name_of key.Points = codes "points"
 name_of key.Port = codes "port"
 name_of key.Socket = codes "socket"
+
+-- The number, counted from 1, of the item at `place`, which is counted from 0. The number is at most 2^64 - 1.
+abbrev pub counted : ℕ → ℕ
+counted place = min (place + 1) 18446744073709551615
+
+-- The text that is written before a key of this section. Points and doors are counted from 1 and counters from 0, as
+-- the site counts them.
+abbrev pub section_text : Section → List ℕ
+section_text sections.Top = []
+section_text (sections.Point place) = codes "point[" ++ decimal (counted place) ++ codes "]."
+section_text (sections.Counter place) = codes "counter[" ++ decimal place ++ codes "]."
+section_text sections.Serve = codes "serve."
+section_text (sections.Till place) = codes "serve.till[" ++ decimal (counted place) ++ codes "]."
+section_text (sections.Dispenser place) = codes "serve.dispenser[" ++ decimal (counted place) ++ codes "]."
+
+abbrev pub place_text : Place → List ℕ
+place_text (At section key) = section_text section ++ name_of key
+place_text (Item section key place) = section_text section ++ name_of key ++ codes "[" ++ decimal (counted place) ++ codes "]"
+place_text (Counter place) = codes "counter[" ++ decimal place ++ codes "]"

@@ -13,7 +13,7 @@ abbrev pub position_from : ℕ × ℕ → List ℕ → ℕ × ℕ
 position_from at [] = at
 position_from at (byte ∷ bytes) = position_from (past at byte) bytes
 
--- the position of what follows a text
+-- the position of the end of a text
 unfoldable pub position_behind : List ℕ → ℕ × ℕ
 position_behind text = position_from (1, 1) text
 

@@ -1,64 +1,61 @@
 -- Definitions: the ranges, lengths, counts and conditions of a configuration (K3).
-use Rattle.std.specs.Prelude.{◌==◌, ◌&&◌, ◌-◌, nat_le, ℕ, ℤ, List, [], ◌∷◌, ◌++◌, length, replicate, Option}
-use Rattle.std.specs.Prelude.{Some, None, Result, Ok, option_map}
+use Rattle.std.specs.Prelude.{◌==◌, ◌&&◌, ◌-◌, nat_le, ℕ, ℤ, List, ◌++◌, length, replicate, Option}
+use Rattle.std.specs.Prelude.{Some, None, Result, Ok, Err, option_map}
+use Rattle.toml.specs.Data.{Members}
 use Rattle.site_config.specs.declared.fault.ConfigFault.{ConfigFault}
+use Rattle.site_config.specs.declared.fault.ConfigFault.TheVariants.{K1}
+use Rattle.site_config.specs.declared.flaw.ConfigFlaw.{ConfigFlaw}
+use Rattle.site_config.specs.declared.flaw.ConfigFlaw.TheVariants.{WrongCount, OverBound}
+use Rattle.site_config.specs.declared.flaw.Key.TheVariants as key
+use Rattle.site_config.specs.declared.flaw.Section.TheVariants.{Top, Point, Counter}
+use Rattle.site_config.specs.declared.flaw.Place.TheVariants.{At, Item}
 use Rattle.site_config.specs.declared.settings.Settings.{Settings}
 use Rattle.site_core.specs.Limits.{ConfigValue}
-use Rattle.site_config.specs.Document.{◌>>=◌, document_of}
+use Rattle.site_config.specs.Document.{◌>>=◌, demand, each_of, document_of}
+use Rattle.site_config.specs.Flaws.{numbered}
 use Rattle.site_config.specs.Typed.{Typed, TypedServe, typed_of}
-use Rattle.site_config.specs.Demands.{ranged, demand}
+use Rattle.site_config.specs.Demands.{ranged}
 use Rattle.site_config.specs.Doors.{ServeValue, serve_of, serve_seen}
 
--- The numbers if each is from low to high, or K3.
-abbrev pub all_ranged : ℕ → ℕ → List ℤ → Result (List ℕ) ConfigFault
-all_ranged low high [] = Ok []
-all_ranged low high (z ∷ zs) = do
-  n ← ranged low high z
-  ns ← all_ranged low high zs
-  Ok (n ∷ ns)
-
--- The slots of a point's releases and of its presets, each from 0 to 15.
-unfoldable pub point_of : ℤ × ℤ → Result (ℕ × ℕ) ConfigFault
-point_of p = do
-  r ← ranged 0 15 p.0
-  s ← ranged 0 15 p.1
+-- The slots of a point's releases and of its presets, each from 0 to 15. The place of the point is counted from 0.
+unfoldable pub point_of : ℕ → ℤ × ℤ → Result (ℕ × ℕ) ConfigFlaw
+point_of place p = do
+  r ← ranged (At (Point place) key.Release) 0 15 p.0
+  s ← ranged (At (Point place) key.Preset) 0 15 p.1
   Ok (r, s)
 
--- The value and the bound of a counter. The value is at most the bound.
-unfoldable pub counter_of : ℤ × ℤ → Result (ℕ × ℕ) ConfigFault
-counter_of p = do
-  v ← ranged 0 9223372036854775807 p.0
-  b ← ranged 0 9223372036854775807 p.1
-  fits ← demand (nat_le v b)
+-- The value and the bound of a counter. The value must be at most the bound.
+unfoldable pub counter_of : ℕ → ℤ × ℤ → Result (ℕ × ℕ) ConfigFlaw
+counter_of place p = do
+  v ← ranged (At (Counter place) key.Value) 0 9223372036854775807 p.0
+  b ← ranged (At (Counter place) key.Bound) 0 9223372036854775807 p.1
+  fits ← demand (OverBound place v b) (nat_le v b)
   Ok (v, b)
 
-abbrev pub each_of : (ℤ × ℤ → Result (ℕ × ℕ) ConfigFault) → List (ℤ × ℤ) → Result (List (ℕ × ℕ)) ConfigFault
-each_of one [] = Ok []
-each_of one (p ∷ ps) = do
-  q ← one p
-  qs ← each_of one ps
-  Ok (q ∷ qs)
+-- The price of the product at this place, counted from 0. It must be from 0 to 9,999,999.
+abbrev pub price_of : ℕ → ℤ → Result ℕ ConfigFlaw
+price_of place z = ranged (Item Top key.Prices place) 0 9999999 z
 
 -- The prices of a site: there must be 8.
-unfoldable pub prices_of : List ℤ → Result (List ℕ) ConfigFault
+unfoldable pub prices_of : List ℤ → Result (List ℕ) ConfigFlaw
 prices_of zs = do
-  eight ← demand (length zs == 8)
-  all_ranged 0 9999999 zs
+  eight ← demand (WrongCount (At Top key.Prices) (length zs) 8 8) (length zs == 8)
+  each_of price_of 0 zs
 
 -- The points of a site: there must be 1 to 32.
-unfoldable pub points_of : List (ℤ × ℤ) → Result (List (ℕ × ℕ)) ConfigFault
+unfoldable pub points_of : List (ℤ × ℤ) → Result (List (ℕ × ℕ)) ConfigFlaw
 points_of ps = do
-  some ← demand (nat_le 1 (length ps) && nat_le (length ps) 32)
-  each_of point_of ps
+  some ← demand (WrongCount (At Top key.Point) (length ps) 1 32) (nat_le 1 (length ps) && nat_le (length ps) 32)
+  each_of point_of 0 ps
 
--- The 32 counters of a site, of which at most 32 are given. The others have value 0 and bound 0.
-unfoldable pub counters_of : List (ℤ × ℤ) → Result (List (ℕ × ℕ)) ConfigFault
+-- The 32 counters of a site. At most 32 may be given, and the others have value 0 and bound 0.
+unfoldable pub counters_of : List (ℤ × ℤ) → Result (List (ℕ × ℕ)) ConfigFlaw
 counters_of ps = do
-  few ← demand (nat_le (length ps) 32)
-  qs ← each_of counter_of ps
+  few ← demand (WrongCount (At Top key.Counter) (length ps) 0 32) (nat_le (length ps) 32)
+  qs ← each_of counter_of 0 ps
   Ok (qs ++ replicate (32 - length qs) (0, 0))
 
-abbrev pub serve_from : ℕ → ℕ → Option TypedServe → Result (Option ServeValue) ConfigFault
+abbrev pub serve_from : ℕ → ℕ → Option TypedServe → Result (Option ServeValue) ConfigFlaw
 serve_from tills points None = Ok None
 serve_from tills points (Some s) = do
   r ← serve_of tills points s
@@ -69,10 +66,10 @@ pub record Told : Type 0 where
   pub config : ConfigValue
   pub serve : Option ServeValue
 
-unfoldable pub told_of : Typed → Result Told ConfigFault
+unfoldable pub told_of : Typed → Result Told ConfigFlaw
 told_of d = do
-  tills ← ranged 1 64 d.tills
-  slot ← ranged 0 15 d.price_slot
+  tills ← ranged (At Top key.Tills) 1 64 d.tills
+  slot ← ranged (At Top key.PriceSlot) 0 15 d.price_slot
   prices ← prices_of d.prices
   points ← points_of d.points
   counters ← counters_of d.counters
@@ -82,9 +79,14 @@ told_of d = do
 abbrev pub told : Settings → Told
 told s = record { config = s.config; serve = option_map serve_seen s.serve }
 
+-- The values in a document, or its first flaw: any K2 comes before any K3.
+unfoldable pub settings_of : Members → Result Told ConfigFlaw
+settings_of ms = typed_of ms >>= told_of
+
+abbrev pub config_in : Option Members → Result Told ConfigFault
+config_in None = Err K1
+config_in (Some ms) = numbered (settings_of ms)
+
 -- The values in the text of a configuration, or its fault: K1 comes before K2, and K2 before K3.
 unfoldable pub config_of : List ℕ → Result Told ConfigFault
-config_of bytes = do
-  doc ← document_of bytes
-  typed ← typed_of doc
-  told_of typed
+config_of bytes = config_in (document_of bytes)

@@ -1,16 +1,19 @@
 -- Definitions: the keys of a document, and the types of their values (K2).
-use Rattle.std.specs.Prelude.{◌&&◌, ◌||◌, not, ◌+◌, ℕ, ℤ, pos, List, [], ◌∷◌, codes, Bool, true, false, Option, Some, None, Result, Ok, Err}
-use Rattle.std.specs.Prelude.{option_and_then, option_map, is_some}
+use Rattle.std.specs.Prelude.{◌||◌, not, ◌+◌, ℕ, ℤ, pos, List, [], ◌∷◌, codes, Bool, true, false, Option, Some, None, Result, Ok, Err}
+use Rattle.std.specs.Prelude.{option_map, is_some, if◌then◌else◌}
 use Rattle.std.specs.Str.{bytes_eq}
 use Rattle.toml.specs.Data.{Data, Items, Members, no_items, item, no_members, member, get_member, as_integer, as_str, as_array, as_table}
-use Rattle.site_config.specs.declared.fault.ConfigFault.{ConfigFault}
-use Rattle.site_config.specs.declared.fault.ConfigFault.TheVariants.{K2}
+use Rattle.site_config.specs.declared.flaw.ConfigFlaw.{ConfigFlaw}
+use Rattle.site_config.specs.declared.flaw.ConfigFlaw.TheVariants.{UnknownKey, Missing, WrongType, BothThere, Needless}
+use Rattle.site_config.specs.declared.flaw.«Type».TheVariants as types
 use Rattle.site_config.specs.declared.flaw.Key.{Key}
 use Rattle.site_config.specs.declared.flaw.Key.TheVariants as key
 use Rattle.site_config.specs.declared.flaw.Section.{Section}
-use Rattle.site_config.specs.declared.flaw.Section.TheVariants.{Serve, Till, Dispenser}
+use Rattle.site_config.specs.declared.flaw.Section.TheVariants.{Top, Point, Serve, Till, Dispenser}
+use Rattle.site_config.specs.declared.flaw.Section.TheVariants as sections
 use Rattle.site_config.specs.declared.flaw.Place.{Place}
-use Rattle.site_config.specs.declared.flaw.Place.TheVariants.{At}
+use Rattle.site_config.specs.declared.flaw.Place.TheVariants.{At, Item}
+use Rattle.site_config.specs.declared.flaw.Place.TheVariants as places
 use Rattle.site_config.specs.declared.flaw.Side.{Side}
 use Rattle.site_config.specs.declared.flaw.Side.TheVariants as sides
 use Rattle.site_config.specs.declared.raw.Raw.{Raw}
@@ -19,7 +22,7 @@ use Rattle.site_config.specs.declared.raw.RawDoor.{RawDoor}
 use Rattle.site_config.specs.declared.raw.RawAddress.TheVariants.{Port, Socket}
 use Rattle.site_config.specs.declared.raw.RawRole.{RawRole}
 use Rattle.site_config.specs.declared.raw.RawRole.TheVariants.{Tills, OneTill, Dispensers, SomePoints, Owner}
-use Rattle.site_config.specs.Document.{or_fault, ◌>>=◌, with_front}
+use Rattle.site_config.specs.Document.{or_flaw, demand, ◌>>=◌, with_front}
 use Rattle.site_config.specs.Keys.{name_of}
 
 -- The keys that a table may have, for each kind of table.
@@ -31,11 +34,6 @@ is_top_key k =
 
 unfoldable pub is_point_key : List ℕ → Bool
 is_point_key k = bytes_eq k (codes "release") || bytes_eq k (codes "preset")
-
--- Each key of the table passes the test.
-abbrev pub has_only : (List ℕ → Bool) → Members → Bool
-has_only test no_members = true
-has_only test (member k d ms) = test k && has_only test ms
 
 unfoldable pub is_counter_key : List ℕ → Bool
 is_counter_key k = bytes_eq k (codes "value") || bytes_eq k (codes "bound")
@@ -61,56 +59,91 @@ is_till_key k = bytes_eq k (codes "number") || (bytes_eq k (codes "port") || byt
 unfoldable pub is_dispenser_key : List ℕ → Bool
 is_dispenser_key k = bytes_eq k (codes "points") || (bytes_eq k (codes "port") || bytes_eq k (codes "socket"))
 
-abbrev pub require : Bool → Result (Unit {0}) ConfigFault
-require true = Ok tt
-require false = Err K2
+-- A table of this section may have a key of this name.
+abbrev pub is_key_of : Section → List ℕ → Bool
+is_key_of Top name = is_top_key name
+is_key_of (Point place) name = is_point_key name
+is_key_of (sections.Counter place) name = is_counter_key name
+is_key_of Serve name = is_serve_key name
+is_key_of (Till place) name = is_till_key name
+is_key_of (Dispenser place) name = is_dispenser_key name
 
--- The number that is the value of a key, or K2.
-abbrev pub integer_at : List ℕ → Members → Result ℤ ConfigFault
-integer_at key ms = or_fault K2 (option_and_then as_integer (get_member key ms))
+-- The first key of a table, in the table's order, that doesn't pass the test.
+abbrev pub other_key : (List ℕ → Bool) → Members → Option (List ℕ)
+other_key test no_members = None
+other_key test (member k d ms) = if test k then other_key test ms else Some k
 
--- The items as numbers, or K2.
-abbrev pub integers : Items → Result (List ℤ) ConfigFault
-integers no_items = Ok []
-integers (item d ds) = do
-  z ← or_fault K2 (as_integer d)
-  zs ← integers ds
-  Ok (z ∷ zs)
+abbrev pub known_or : Section → Option (List ℕ) → Result (Unit {0}) ConfigFlaw
+known_or section None = Ok tt
+known_or section (Some name) = Err (UnknownKey section name)
 
--- The numbers of two keys of a table, which may have no other keys.
-unfoldable pub pair_in : (List ℕ → Bool) → List ℕ → List ℕ → Data → Result (ℤ × ℤ) ConfigFault
-pair_in is_key first second d = do
-  ms ← or_fault K2 (as_table d)
-  known ← require (has_only is_key ms)
-  x ← integer_at first ms
-  y ← integer_at second ms
-  Ok (x, y)
+-- Ok if a table of this section may have each key of `ms`, or else the flaw of the first key that it may not have.
+abbrev pub known_in : Section → Members → Result (Unit {0}) ConfigFlaw
+known_in section ms = known_or section (other_key (is_key_of section) ms)
 
-unfoldable pub point_in : Data → Result (ℤ × ℤ) ConfigFault
-point_in d = pair_in is_point_key (codes "release") (codes "preset") d
+-- The value `d` as a number, a text, a table or an array. If it has another type, the flaw `WrongType` names its place.
+abbrev pub integer_of : Place → Data → Result ℤ ConfigFlaw
+integer_of place d = or_flaw (WrongType place types.Integer) (as_integer d)
 
-unfoldable pub counter_in : Data → Result (ℤ × ℤ) ConfigFault
-counter_in d = pair_in is_counter_key (codes "value") (codes "bound") d
+abbrev pub text_of : Place → Data → Result (List ℕ) ConfigFlaw
+text_of place d = or_flaw (WrongType place types.Text) (as_str d)
 
--- Reads each item of an array with `one`. If an item can't be read, the result is its fault.
-abbrev pub each_in : (Data → Result (ℤ × ℤ) ConfigFault) → Items → Result (List (ℤ × ℤ)) ConfigFault
-each_in one no_items = Ok []
-each_in one (item d ds) = do
-  x ← one d
-  xs ← each_in one ds
+abbrev pub table_of : Place → Data → Result Members ConfigFlaw
+table_of place d = or_flaw (WrongType place types.Table) (as_table d)
+
+abbrev pub array_of : Place → Data → Result Items ConfigFlaw
+array_of place d = or_flaw (WrongType place types.Array) (as_array d)
+
+-- The value of a key of a section. The key must be given.
+abbrev pub value_at : Section → Key → Members → Result Data ConfigFlaw
+value_at section key ms = or_flaw (Missing (At section key)) (get_member (name_of key) ms)
+
+abbrev pub integer_at : Section → Key → Members → Result ℤ ConfigFlaw
+integer_at section key ms = value_at section key ms >>= integer_of (At section key)
+
+abbrev pub array_at : Section → Key → Members → Result Items ConfigFlaw
+array_at section key ms = value_at section key ms >>= array_of (At section key)
+
+-- Reads each item of an array with `one`. The first item has the place `place`, and each later one the next place. If
+-- an item can't be read, the result is its flaw.
+abbrev pub each_in : {A : Type 0} → (ℕ → Data → Result A ConfigFlaw) → ℕ → Items → Result (List A) ConfigFlaw
+each_in one place no_items = Ok []
+each_in one place (item d ds) = do
+  x ← one place d
+  xs ← each_in one (place + 1) ds
   Ok (x ∷ xs)
 
-unfoldable pub integers_at : List ℕ → Members → Result (List ℤ) ConfigFault
-integers_at key ms = or_fault K2 (option_and_then as_array (get_member key ms)) >>= integers
+-- Reads an item of a key's list as a number. `place` is the item's place in the list, counted from 0.
+abbrev pub integer_in : Section → Key → ℕ → Data → Result ℤ ConfigFlaw
+integer_in section key place d = integer_of (Item section key place) d
 
-unfoldable pub points_at : Members → Result (List (ℤ × ℤ)) ConfigFault
-points_at ms = or_fault K2 (option_and_then as_array (get_member (codes "point") ms)) >>= each_in point_in
+unfoldable pub integers_at : Section → Key → Members → Result (List ℤ) ConfigFlaw
+integers_at section key ms = array_at section key ms >>= each_in (integer_in section key) 0
 
-abbrev pub counters_from : Option Data → Result (List (ℤ × ℤ)) ConfigFault
+-- Reads the numbers of two keys from the table `d`, which is the value at `place`. The table may have only keys of
+-- `section`.
+unfoldable pub pair_in : Place → Section → Key × Key → Data → Result (ℤ × ℤ) ConfigFlaw
+pair_in place section keys d = do
+  ms ← table_of place d
+  known ← known_in section ms
+  x ← integer_at section keys.0 ms
+  y ← integer_at section keys.1 ms
+  Ok (x, y)
+
+unfoldable pub point_in : ℕ → Data → Result (ℤ × ℤ) ConfigFlaw
+point_in place d = pair_in (Item Top key.Point place) (Point place) (key.Release, key.Preset) d
+
+unfoldable pub counter_in : ℕ → Data → Result (ℤ × ℤ) ConfigFlaw
+counter_in place d = pair_in (places.Counter place) (sections.Counter place) (key.Value, key.Bound) d
+
+unfoldable pub points_at : Members → Result (List (ℤ × ℤ)) ConfigFlaw
+points_at ms = array_at Top key.Point ms >>= each_in point_in 0
+
+abbrev pub counters_from : Option Data → Result (List (ℤ × ℤ)) ConfigFlaw
 counters_from None = Ok []
-counters_from (Some d) = or_fault K2 (as_array d) >>= each_in counter_in
+counters_from (Some d) = array_of (At Top key.Counter) d >>= each_in counter_in 0
 
-unfoldable pub counters_at : Members → Result (List (ℤ × ℤ)) ConfigFault
+unfoldable pub counters_at : Members → Result (List (ℤ × ℤ)) ConfigFlaw
 counters_at ms = counters_from (get_member (codes "counter") ms)
 
 -- A table has a value at this key.
@@ -119,16 +152,17 @@ has_key key ms = is_some (get_member (name_of key) ms)
 
 -- A door whose port is the value of one key, or whose socket is the value of another one. Exactly one of these keys
 -- must be given. The door's place is the key that is given.
-abbrev pub door_by : Place → Place → RawRole → Option Data → Option Data → Result RawDoor ConfigFault
+abbrev pub door_by : Place → Place → RawRole → Option Data → Option Data → Result RawDoor ConfigFlaw
 door_by port socket role (Some d) None = do
-  z ← or_fault K2 (as_integer d)
+  z ← integer_of port d
   Ok (record { place = port; address = Port z; role = role })
 door_by port socket role None (Some d) = do
-  path ← or_fault K2 (as_str d)
+  path ← text_of socket d
   Ok (record { place = socket; address = Socket path; role = role })
-door_by port socket role x y = Err K2
+door_by port socket role None None = Err (Missing port)
+door_by port socket role (Some x) (Some y) = Err (BothThere port socket)
 
-unfoldable pub door_at : Section → Key × Key → RawRole → Members → Result RawDoor ConfigFault
+unfoldable pub door_at : Section → Key × Key → RawRole → Members → Result RawDoor ConfigFlaw
 door_at section keys role ms =
     door_by (At section keys.0) (At section keys.1) role (get_member (name_of keys.0) ms) (get_member (name_of keys.1) ms)
 
@@ -137,74 +171,70 @@ abbrev pub has_shared : Key × Key → Members → Bool
 has_shared keys ms = has_key keys.0 ms || has_key keys.1 ms
 
 -- The shared door, if one of its keys is given. If none is given, there must be tables of doors at the key `tables`.
-abbrev pub shared_if : Bool → Key × Key → Key → RawRole → Members → Result (List RawDoor) ConfigFault
+abbrev pub shared_if : Bool → Key × Key → Key → RawRole → Members → Result (List RawDoor) ConfigFlaw
 shared_if true keys tables role ms = do
   door ← door_at Serve keys role ms
   Ok (door ∷ [])
 shared_if false keys tables role ms = do
-  some ← require (has_key tables ms)
+  some ← demand (Missing (At Serve keys.0)) (has_key tables ms)
   Ok []
 
-unfoldable pub shared_at : Key × Key → Key → RawRole → Members → Result (List RawDoor) ConfigFault
+unfoldable pub shared_at : Key × Key → Key → RawRole → Members → Result (List RawDoor) ConfigFlaw
 shared_at keys tables role ms = shared_if (has_shared keys ms) keys tables role ms
 
--- How many workers a shared door has. This key must be given exactly if there is such a door.
-abbrev pub workers_if : Bool → Key → Members → Result (Option ℤ) ConfigFault
-workers_if true key ms = do
-  z ← integer_at (name_of key) ms
+-- How many workers a shared door has, or None if there is no such door. The key `key` must be given exactly if there is
+-- one.
+abbrev pub workers_if : Bool → Key × Key → Key → Members → Result (Option ℤ) ConfigFlaw
+workers_if true keys key ms = do
+  z ← integer_at Serve key ms
   Ok (Some z)
-workers_if false key ms = do
-  absent ← require (not (has_key key ms))
+workers_if false keys key ms = do
+  absent ← demand (Needless (At Serve key) (At Serve keys.0) (At Serve keys.1)) (not (has_key key ms))
   Ok None
 
-unfoldable pub workers_at : Key × Key → Key → Members → Result (Option ℤ) ConfigFault
-workers_at keys key ms = workers_if (has_shared keys ms) key ms
+unfoldable pub workers_at : Key × Key → Key → Members → Result (Option ℤ) ConfigFlaw
+workers_at keys key ms = workers_if (has_shared keys ms) keys key ms
 
--- The door of one till, and that of some points. The place of its table is counted from 0.
-unfoldable pub till_in : ℕ → Data → Result RawDoor ConfigFault
+-- Reads a table as the door of one till (`till_in`) or of some points (`dispenser_in`). `place` is the table's place,
+-- counted from 0.
+unfoldable pub till_in : ℕ → Data → Result RawDoor ConfigFlaw
 till_in place d = do
-  ms ← or_fault K2 (as_table d)
-  known ← require (has_only is_till_key ms)
-  z ← integer_at (codes "number") ms
+  ms ← table_of (Item Serve key.Till place) d
+  known ← known_in (Till place) ms
+  z ← integer_at (Till place) key.Number ms
   door_at (Till place) (key.Port, key.Socket) (OneTill z) ms
 
-unfoldable pub dispenser_in : ℕ → Data → Result RawDoor ConfigFault
+unfoldable pub dispenser_in : ℕ → Data → Result RawDoor ConfigFlaw
 dispenser_in place d = do
-  ms ← or_fault K2 (as_table d)
-  known ← require (has_only is_dispenser_key ms)
-  zs ← integers_at (codes "points") ms
+  ms ← table_of (Item Serve key.Dispenser place) d
+  known ← known_in (Dispenser place) ms
+  zs ← integers_at (Dispenser place) key.Points ms
   door_at (Dispenser place) (key.Port, key.Socket) (SomePoints zs) ms
 
 -- The door of one till, if the side is tills, or that of some points, if the side is dispensers.
-abbrev pub single_in : Side → ℕ → Data → Result RawDoor ConfigFault
+abbrev pub single_in : Side → ℕ → Data → Result RawDoor ConfigFlaw
 single_in sides.Tills = till_in
 single_in sides.Dispensers = dispenser_in
 
--- Reads each table of an array as a door. The first table has the place `place`, and each later one the next place.
-abbrev pub each_table : (ℕ → Data → Result RawDoor ConfigFault) → ℕ → Items → Result (List RawDoor) ConfigFault
-each_table one place no_items = Ok []
-each_table one place (item d ds) = do
-  x ← one place d
-  xs ← each_table one (place + 1) ds
-  Ok (x ∷ xs)
+-- The doors in the tables at a key of `[serve]`. If the key isn't given, the list is empty.
+abbrev pub tables_from : (ℕ → Data → Result RawDoor ConfigFlaw) → Key → Option Data → Result (List RawDoor) ConfigFlaw
+tables_from one key None = Ok []
+tables_from one key (Some d) = array_of (At Serve key) d >>= each_in one 0
 
-abbrev pub tables_from : (ℕ → Data → Result RawDoor ConfigFault) → Option Data → Result (List RawDoor) ConfigFault
-tables_from one None = Ok []
-tables_from one (Some d) = or_fault K2 (as_array d) >>= each_table one 0
+unfoldable pub tills_at : Members → Result (List RawDoor) ConfigFlaw
+tills_at ms = tables_from till_in key.Till (get_member (codes "till") ms)
 
-unfoldable pub tills_at : Members → Result (List RawDoor) ConfigFault
-tills_at ms = tables_from till_in (get_member (codes "till") ms)
+unfoldable pub dispensers_at : Members → Result (List RawDoor) ConfigFlaw
+dispensers_at ms = tables_from dispenser_in key.Dispenser (get_member (codes "dispenser") ms)
 
-unfoldable pub dispensers_at : Members → Result (List RawDoor) ConfigFault
-dispensers_at ms = tables_from dispenser_in (get_member (codes "dispenser") ms)
-
-unfoldable pub owner_at : Members → Result (List RawDoor) ConfigFault
+unfoldable pub owner_at : Members → Result (List RawDoor) ConfigFlaw
 owner_at ms = do
   door ← door_at Serve (key.OwnerPort, key.OwnerSocket) Owner ms
   Ok (door ∷ [])
 
--- The doors in their order: the tills' shared one, those of single tills, the dispensers' shared one, those of some points, the owner's.
-unfoldable pub doors_at : Members → Result (List RawDoor) ConfigFault
+-- All doors in their order: the tills' shared one, those of single tills, the dispensers' shared one, those of some
+-- points, the owner's.
+unfoldable pub doors_at : Members → Result (List RawDoor) ConfigFlaw
 doors_at ms = do
   shared ← shared_at (key.TillPort, key.TillSocket) key.Till Tills ms
   tills ← with_front shared (tills_at ms)
@@ -213,9 +243,9 @@ doors_at ms = do
   with_front dispensers (owner_at ms)
 
 -- After how many seconds without a byte a connection ends. If the key is left out it is 0, for never.
-abbrev pub idle_from : Option Data → Result ℤ ConfigFault
+abbrev pub idle_from : Option Data → Result ℤ ConfigFlaw
 idle_from None = Ok (pos 0)
-idle_from (Some d) = or_fault K2 (as_integer d)
+idle_from (Some d) = integer_of (At Serve key.IdleSeconds) d
 
 -- The values of the keys of `[serve]`. If a shared door isn't given, its number of workers is None.
 pub record TypedServe : Type 0 where
@@ -225,24 +255,24 @@ pub record TypedServe : Type 0 where
   pub connections : ℤ
   pub idle_seconds : ℤ
 
-unfoldable pub served_in : Data → Result TypedServe ConfigFault
+unfoldable pub served_in : Data → Result TypedServe ConfigFlaw
 served_in d = do
-  ms ← or_fault K2 (as_table d)
-  known ← require (has_only is_serve_key ms)
+  ms ← table_of (At Top key.Serve) d
+  known ← known_in Serve ms
   doors ← doors_at ms
   t ← workers_at (key.TillPort, key.TillSocket) key.TillWorkers ms
   w ← workers_at (key.DispenserPort, key.DispenserSocket) key.DispenserWorkers ms
-  n ← integer_at (codes "connections") ms
+  n ← integer_at Serve key.Connections ms
   i ← idle_from (get_member (codes "idle_seconds") ms)
   Ok (record { doors = doors; till_workers = t; dispenser_workers = w; connections = n; idle_seconds = i })
 
-abbrev pub served_from : Option Data → Result (Option TypedServe) ConfigFault
+abbrev pub served_from : Option Data → Result (Option TypedServe) ConfigFlaw
 served_from None = Ok None
 served_from (Some d) = do
   s ← served_in d
   Ok (Some s)
 
-unfoldable pub served_at : Members → Result (Option TypedServe) ConfigFault
+unfoldable pub served_at : Members → Result (Option TypedServe) ConfigFlaw
 served_at ms = served_from (get_member (codes "serve") ms)
 
 -- The values of the keys of a document.
@@ -255,12 +285,12 @@ pub record Typed : Type 0 where
   pub serve : Option TypedServe
 
 -- The values of the keys of a document. An unknown key, a missing key or a wrong type is K2.
-unfoldable pub typed_of : Members → Result Typed ConfigFault
+unfoldable pub typed_of : Members → Result Typed ConfigFlaw
 typed_of ms = do
-  known ← require (has_only is_top_key ms)
-  tills ← integer_at (codes "tills") ms
-  slot ← integer_at (codes "price_slot") ms
-  prices ← integers_at (codes "prices") ms
+  known ← known_in Top ms
+  tills ← integer_at Top key.Tills ms
+  slot ← integer_at Top key.PriceSlot ms
+  prices ← integers_at Top key.Prices ms
   points ← points_at ms
   counters ← counters_at ms
   serve ← served_at ms

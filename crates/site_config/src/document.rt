@@ -1,10 +1,8 @@
 //! Reads bytes as a TOML document.
-ghost use Rattle.std.specs.Prelude.{◌≡◌, ◌<◌, ◌≤◌, Err, IfErr, Result, length};
-ghost use Rattle.toml.specs.Data.{Members};
+ghost use Rattle.std.specs.Prelude.{◌≡◌, ◌≢◌, ◌<◌, ◌≤◌, IfErr, IfOk, None, Some, length};
 ghost use Rattle.toml.specs.View.{table_view};
-ghost use Rattle.site_config.specs.Document.{Fails, document_of};
-ghost use Rattle.site_config.specs.Flaws.{Finds, StandsAt, fault_of};
-ghost use Rattle.site_config.specs.declared.fault.ConfigFault.{ConfigFault};
+ghost use Rattle.site_config.specs.Document.{document_of};
+ghost use Rattle.site_config.specs.Flaws.{IsOfText, StandsAt};
 ghost use Rattle.site_config.specs.Positions.{past, position_behind, position_at};
 
 use crate::flaw::ConfigFlaw;
@@ -24,7 +22,7 @@ fn past(at: (usize, usize), byte: u8) -> (usize, usize)
     }
 }
 
-/// Returns the line and the column of what follows a text, both counted from 1. The column counts characters.
+/// Returns the line and the column of the end of a text, both counted from 1. The column counts characters.
 fn position_behind(text: &[u8]) -> (usize, usize)
     ensures { result ≡ position_behind text.now }
 {
@@ -35,17 +33,18 @@ fn position_behind(text: &[u8]) -> (usize, usize)
     at
 }
 
-/// Returns the line and the column of a byte.
+/// Returns the line and the column of the byte at the index `at`.
 fn position_at(bytes: &[u8], at: usize) -> (usize, usize)
     ensures { result ≡ position_at bytes.now at }
 {
     position_behind(bytes.get(..at).unwrap_or(bytes))
 }
 
-/// Returns the flaw of bytes that aren't TOML at this place, with the message of the reader.
+/// Returns the flaw of bytes in which the TOML reader found an error at the index `at`, with the reader's message. If
+/// memory ran out, returns `OutOfMemory`.
 fn not_toml(alloc: Global, bytes: &[u8], at: usize, message: &str) -> ConfigFlaw
     requires { at ≤ length bytes.now }
-    ensures fault { (read : Result Members ConfigFault) → read ≡ Err ConfigFault.K1 → Fails (fault_of result) read }
+    ensures fault { result ≢ ConfigFlaw.OutOfMemory → IsOfText result }
     ensures position { StandsAt bytes.now result }
 {
     let (line, column) = position_at(bytes, at);
@@ -62,7 +61,9 @@ fn not_toml(alloc: Global, bytes: &[u8], at: usize, message: &str) -> ConfigFlaw
 /// Reads the bytes as a document. The error is `NotUtf8` or `NotToml` with its position (K1), or that memory ran out.
 #[tactic(auto, unfolding(crate::specs::Document::document_of))]
 pub fn read_document(alloc: Global, bytes: &[u8]) -> Result<Table, ConfigFlaw>
-    ensures found { Finds table_view result (document_of bytes.now) }
+    ensures read { IfOk result (λ table. document_of bytes.now ≡ Some (table_view table)) }
+    ensures none { IfErr result (λ flaw. flaw ≢ ConfigFlaw.OutOfMemory → document_of bytes.now ≡ None) }
+    ensures fault { IfErr result (λ flaw. flaw ≢ ConfigFlaw.OutOfMemory → IsOfText flaw) }
     ensures position { IfErr result (StandsAt bytes.now) }
 {
     match str::from_utf8(bytes) {

@@ -1,13 +1,15 @@
 //! Checks the doors of `[serve]`, and makes them (K3).
-ghost use Rattle.std.specs.Prelude.{◌≡◌, ◌≤◌, ◌+◌, length, map, not, is_some, IfOk};
-ghost use Rattle.std.specs.List.{list_any};
-ghost use Rattle.site_config.specs.Demands.{demand, ranged};
-ghost use Rattle.site_config.specs.Flaws.{Finds, Checks, fault_of};
+ghost use Rattle.std.specs.Prelude.{◌≡◌, ◌≤◌, ◌+◌, length, map, IfOk};
+ghost use Rattle.site_config.specs.Document.{Finds};
+ghost use Rattle.site_config.specs.Demands.{ranged};
 ghost use Rattle.site_config.specs.Typed.{seen_serve};
-ghost use Rattle.site_config.specs.Doors.{address_of, with_point, with_points, bits_of, role_of, door_fits, doors_fit};
-ghost use Rattle.site_config.specs.Doors.{same_address, same_till, are_apart, is_apart, each_apart, shared_workers};
-ghost use Rattle.site_config.specs.Doors.{workers_of, is_single, count_single, takes, each_taken, side_fits, door_of};
+ghost use Rattle.site_config.specs.Document.{without};
+ghost use Rattle.site_config.specs.Doors.{beside, item_of, address_of, with_point, with_points, bits_of, role_of};
+ghost use Rattle.site_config.specs.Doors.{door_fits, doors_fit, address_clash, till_clash, pair_clash, clash_with};
+ghost use Rattle.site_config.specs.Doors.{clash_among, shared_workers, workers_of, is_single, count_single, takes};
+ghost use Rattle.site_config.specs.Doors.{is_taken, first_left, side_fits, door_of};
 ghost use Rattle.site_config.specs.Doors.{each_door, serve_of, address_seen, door_seen, serve_seen};
+ghost use Rattle.site_config.specs.Laws.{DoorsTakeOwnLines};
 ghost use Rattle.bpf_model.specs.declared.limits.TheConstants.{POINTS};
 
 use crate::flaw::{ConfigFlaw, Key, Place, Section, Side};
@@ -17,21 +19,28 @@ use crate::settings::{Address, Door, Serve};
 use std::alloc::Global;
 use till_request::Role;
 
-/// The most workers that tills may have in all, and the most that dispensers may have.
+/// The most workers that tills may have in all.
 const MOST_OF_TILLS: u32 = 64;
 
+/// The most workers that dispensers may have in all.
 const MOST_OF_DISPENSERS: u32 = 31;
 
-/// Returns the place of another key of the same table.
-fn beside(place: Place, key: Key) -> Place {
+/// Returns the place of `key` in the table that has the key at `place`. If `place` isn't a key's, returns `place`
+/// itself.
+fn beside(place: Place, key: Key) -> Place
+    ensures { result ≡ beside place key }
+{
     match place {
         Place::At(section, _) => Place::At(section, key),
         _ => place,
     }
 }
 
-/// Returns the place of an item of a list, by its place counted from 0.
-fn item_of(list: Place, place: usize) -> Place {
+/// Returns the place of an item of the list at `list`. The item's place there is counted from 0. If `list` isn't the
+/// place of a key, returns `list` itself.
+fn item_of(list: Place, place: usize) -> Place
+    ensures { result ≡ item_of list place }
+{
     match list {
         Place::At(section, key) => Place::Item(section, key, place),
         _ => list,
@@ -41,7 +50,7 @@ fn item_of(list: Place, place: usize) -> Place {
 /// Makes the address of a door. The error is `OutOfRange` or `Empty`, or that memory ran out.
 #[tactic(auto, unfolding(crate::specs::Doors::address_of))]
 fn make_address(alloc: Global, place: Place, address: &RawAddress) -> Result<Address, ConfigFlaw>
-    ensures { Finds address_seen result (address_of address.now) }
+    ensures { Finds address_seen result (address_of place address.now) }
 {
     match address {
         RawAddress::Port(port) => Ok(Address::Port(value_of!(in_range(place, *port, 1, 65_535)))),
@@ -54,7 +63,7 @@ fn make_address(alloc: Global, place: Place, address: &RawAddress) -> Result<Add
     }
 }
 
-/// Adds a point to some points. Point p is bit p - 1. The error is `OutOfRange` or `PointTwice`.
+/// Adds a point to points that are given as bits: point p is bit p - 1. The error is `OutOfRange` or `PointTwice`.
 #[tactic(auto, unfolding(crate::specs::Doors::with_point))]
 fn add_point(
     list: Place,
@@ -64,7 +73,7 @@ fn add_point(
     value: i64,
 ) -> Result<u32, ConfigFlaw>
     requires { points ≤ POINTS }
-    ensures { Finds (λ x. x) result (with_point points bits value) }
+    ensures { Finds (λ x. x) result (with_point list place points bits value) }
 {
     let point = value_of!(in_range(item_of(list, place), value, 1, points));
     if (bits >> (point - 1)) % 2 != 0 {
@@ -75,7 +84,7 @@ fn add_point(
 
 fn add_points(list: Place, points: u32, values: &[i64]) -> Result<u32, ConfigFlaw>
     requires { points ≤ POINTS }
-    ensures { Finds (λ x. x) result (with_points points 0 values.now) }
+    ensures { Finds (λ x. x) result (with_points list 0 points 0 values.now) }
 {
     let mut bits = 0;
     let mut place = 0;
@@ -89,11 +98,11 @@ fn add_points(list: Place, points: u32, values: &[i64]) -> Result<u32, ConfigFla
     Ok(bits)
 }
 
-/// Returns some points of a site as bits. The error is `WrongCount`, `OutOfRange` or `PointTwice`.
+/// Returns the points in a list as bits: point p is bit p - 1. The error is `WrongCount`, `OutOfRange` or `PointTwice`.
 #[tactic(auto, unfolding(crate::specs::Doors::bits_of))]
 fn make_bits(list: Place, points: u32, values: &[i64]) -> Result<u32, ConfigFlaw>
     requires { points ≤ POINTS }
-    ensures { Finds (λ x. x) result (bits_of points values.now) }
+    ensures { Finds (λ x. x) result (bits_of list points values.now) }
 {
     if values.is_empty() {
         return Err(ConfigFlaw::WrongCount(list, 0, 1, points as usize));
@@ -101,12 +110,18 @@ fn make_bits(list: Place, points: u32, values: &[i64]) -> Result<u32, ConfigFlaw
     add_points(list, points, values)
 }
 
+/// States that by the configuration a door takes a line of a till, or a line that names a point, exactly if a session
+/// of its role may send it. Does nothing.
+pub fn law_of_own_lines()
+    ensures { DoorsTakeOwnLines }
+{}
+
 /// Makes the role of a door. `place` is where the configuration has the door's address. The error is that a number
 /// names no till or point of the site, that a point is listed twice, or that no point is listed.
 #[tactic(auto, unfolding(crate::specs::Doors::role_of))]
 fn make_role(tills: u32, points: u32, place: Place, role: &RawRole) -> Result<Role, ConfigFlaw>
     requires { points ≤ POINTS }
-    ensures { Finds (λ x. x) result (role_of tills points role.now) }
+    ensures { Finds (λ x. x) result (role_of tills points place role.now) }
 {
     match role {
         RawRole::Tills => Ok(Role::Till),
@@ -144,9 +159,9 @@ fn check_doors(alloc: Global, tills: u32, points: u32, doors: &[RawDoor]) -> Res
     Ok(())
 }
 
-/// Returns the flaw of two doors that have the same address.
+/// Returns the flaw if two doors have the same address, or `None` otherwise.
 fn address_clash(first: &RawDoor, second: &RawDoor) -> Option<ConfigFlaw>
-    ensures { Checks (not (same_address first.now.address second.now.address)) result }
+    ensures { result ≡ address_clash first.now.place second.now.place first.now.address second.now.address }
 {
     match (&first.address, &second.address) {
         (RawAddress::Port(port), RawAddress::Port(other)) if port == other => {
@@ -159,9 +174,9 @@ fn address_clash(first: &RawDoor, second: &RawDoor) -> Option<ConfigFlaw>
     }
 }
 
-/// Returns the flaw of two doors that are for the same till alone.
+/// Returns the flaw if two doors are each for the same single till, or `None` otherwise.
 fn till_clash(first: &RawDoor, second: &RawDoor) -> Option<ConfigFlaw>
-    ensures { Checks (not (same_till first.now.role second.now.role)) result }
+    ensures { result ≡ till_clash first.now.place second.now.place first.now.role second.now.role }
 {
     match (&first.role, &second.role) {
         (RawRole::OneTill(till), RawRole::OneTill(other)) if till == other => {
@@ -172,7 +187,7 @@ fn till_clash(first: &RawDoor, second: &RawDoor) -> Option<ConfigFlaw>
 }
 
 fn pair_clash(first: &RawDoor, second: &RawDoor) -> Option<ConfigFlaw>
-    ensures { Checks (are_apart first.now second.now) result }
+    ensures { result ≡ pair_clash first.now second.now }
 {
     match address_clash(first, second) {
         Some(flaw) => Some(flaw),
@@ -181,7 +196,7 @@ fn pair_clash(first: &RawDoor, second: &RawDoor) -> Option<ConfigFlaw>
 }
 
 fn clash_with(door: &RawDoor, others: &[RawDoor]) -> Option<ConfigFlaw>
-    ensures { Checks (is_apart door.now others.now) result }
+    ensures { result ≡ clash_with door.now others.now }
 {
     for other in others {
         if let Some(flaw) = pair_clash(door, other) {
@@ -191,10 +206,10 @@ fn clash_with(door: &RawDoor, others: &[RawDoor]) -> Option<ConfigFlaw>
     None
 }
 
-/// Checks that each address is that of one door, and that each till has one door of its own at most. The error is
+/// Checks that all doors have different addresses, and that each till has at most one door of its own. The error is
 /// `SamePort`, `SameSocket` or `SameTill`.
 fn check_apart(doors: &[RawDoor]) -> Result<(), ConfigFlaw>
-    ensures { Finds (λ x. x) result (demand (each_apart doors.now)) }
+    ensures { Finds (λ x. x) result (without (clash_among doors.now)) }
 {
     let mut rest = doors;
     while let [first, others @ ..] = rest {
@@ -206,9 +221,9 @@ fn check_apart(doors: &[RawDoor]) -> Result<(), ConfigFlaw>
     Ok(())
 }
 
-/// Returns how many workers a shared door has, 0 where there is no such door. The error is `OutOfRange`.
+/// Returns how many workers a shared door has, or 0 if there is no such door. The error is `OutOfRange`.
 fn shared_of(key: Key, value: Option<i64>, most: u32) -> Result<u32, ConfigFlaw>
-    ensures read { Finds (λ x. x) result (shared_workers most value) }
+    ensures read { Finds (λ x. x) result (shared_workers key most value) }
     ensures range { IfOk result (λ n. n ≤ most) }
 {
     match value {
@@ -227,7 +242,7 @@ fn is_one(side: Side, role: &RawRole) -> bool
     }
 }
 
-/// Returns how many doors are one till's, or some points'.
+/// Returns how many doors are one till's each, if the side is tills, or some points' each, if the side is dispensers.
 fn count_of(side: Side, doors: &[RawDoor]) -> usize
     ensures count { result ≡ count_single side doors.now }
     ensures bound { result ≤ length doors.now }
@@ -239,7 +254,8 @@ fn count_of(side: Side, doors: &[RawDoor]) -> usize
     count
 }
 
-/// Returns whether a door of this role takes the lines of a till, or those that name a point, by its number.
+/// Returns whether a door of this role takes the lines of till `number`, if the side is tills, or those that name point
+/// `number`, if the side is dispensers.
 fn takes_lines(side: Side, number: u32, role: &RawRole) -> bool
     ensures { result ≡ takes side number role.now }
 {
@@ -255,7 +271,7 @@ fn takes_lines(side: Side, number: u32, role: &RawRole) -> bool
 }
 
 fn is_taken(side: Side, number: u32, doors: &[RawDoor]) -> bool
-    ensures { result ≡ list_any (λ d. takes side number d.role) doors.now }
+    ensures { result ≡ is_taken side doors.now number }
 {
     for door in doors {
         if takes_lines(side, number, &door.role) {
@@ -265,29 +281,19 @@ fn is_taken(side: Side, number: u32, doors: &[RawDoor]) -> bool
     false
 }
 
-/// Returns whether each number from 1 to this one has a door that takes its lines.
-fn is_each_taken(side: Side, doors: &[RawDoor], most: u32) -> bool
-    ensures { result ≡ each_taken side doors.now most }
+/// Returns the flaw of the lowest number, from 1 to `most`, of a till or a point whose lines no door takes, or `None`
+/// if each has a door.
+fn first_left(side: Side, doors: &[RawDoor], most: u32) -> Option<ConfigFlaw>
+    ensures { result ≡ first_left side doors.now most }
 {
-    let mut number = most;
-    while number > 0 {
+    let mut number = 0;
+    while number < most {
+        number += 1;
         if !is_taken(side, number, doors) {
-            return false;
-        }
-        number -= 1;
-    }
-    true
-}
-
-/// Returns the lowest number from 1 to `most` - 1 of a till, or a point, whose lines no door takes; `most` if there is
-/// none.
-fn first_left(side: Side, doors: &[RawDoor], most: u32) -> u32 {
-    for number in 1..most {
-        if !is_taken(side, number, doors) {
-            return number;
+            return Some(ConfigFlaw::WithoutDoor(side, number));
         }
     }
-    most
+    None
 }
 
 /// Checks the doors of one side. `shared` is the number of the shared door's workers, and `most` the most workers that
@@ -302,18 +308,17 @@ fn check_side(
     doors: &[RawDoor],
 ) -> Result<(), ConfigFlaw>
     requires { shared ≤ most }
-    ensures { Finds (λ x. x) result (demand (side_fits side shared most numbers doors.now)) }
+    ensures { Finds (λ x. x) result (side_fits side shared most numbers doors.now) }
 {
     let own = count_of(side, doors);
     if own > (most - shared) as usize {
         let count = own.saturating_add(shared as usize);
         return Err(ConfigFlaw::TooManyWorkers(side, count, most as usize));
     }
-    if !is_each_taken(side, doors, numbers) {
-        let number = first_left(side, doors, numbers);
-        return Err(ConfigFlaw::WithoutDoor(side, number));
+    match first_left(side, doors, numbers) {
+        Some(flaw) => Err(flaw),
+        None => Ok(()),
     }
-    Ok(())
 }
 
 /// Returns how many workers a door of this role has.
@@ -367,13 +372,13 @@ fn make_doors(alloc: Global, counts: Counts, doors: &[RawDoor]) -> Result<Vec<Do
 
 /// Returns a number of `[serve]` if it is from low to high. The error is `OutOfRange`.
 fn number_of(key: Key, value: i64, low: u32, high: u32) -> Result<u32, ConfigFlaw>
-    ensures { Finds (λ x. x) result (ranged low high value) }
+    ensures { Finds (λ x. x) result (ranged (Place.At Section.Serve key) low high value) }
 {
     in_range(Place::At(Section::Serve, key), value, low, high)
 }
 
-/// Makes what `[serve]` says of a site that has this many tills and points, 32 points at most. The error is the first
-/// K3, or that memory ran out.
+/// Makes the settings of `[serve]` for a site that has `tills` tills and `points` points, at most 32. The error is the
+/// first K3, or that memory ran out.
 #[tactic(auto, unfolding(crate::specs::Doors::serve_of))]
 pub fn make_serve(
     alloc: Global,

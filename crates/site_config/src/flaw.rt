@@ -1,5 +1,9 @@
-//! What exactly is wrong in the text of a configuration, and the words for it.
+//! What exactly is wrong in the text of a configuration, and the message that describes it.
+ghost use Rattle.std.specs.Prelude.{◌≡◌};
+ghost use Rattle.site_config.specs.Keys.{counted};
+
 use crate::fault::ConfigFault;
+use crate::text::Text;
 use std::alloc::{AllocError, AllocFailed};
 use std::fmt;
 
@@ -74,19 +78,21 @@ impl Key {
 }
 
 impl fmt::Display for Key {
+    ghost use Rattle.std.specs.Prelude.{Some};
+    ghost use Rattle.site_config.specs.Keys.{name_of};
+
+    ghost output = { λ k. Some (name_of k) };
+
     fn fmt<W: fmt::Write>(&self, f: &mut fmt::Formatter<W>) -> fmt::Result {
         f.write_str(self.name())
     }
 }
 
-/// Writes an item of a list, by its number, and what follows it.
-fn write_item<W: fmt::Write>(
-    f: &mut fmt::Formatter<W>,
-    list: &str,
-    number: usize,
-    end: &str,
-) -> fmt::Result {
-    write!(f, "{list}[{number}]{end}")
+/// Returns the number, counted from 1, of the item at `place`, which is counted from 0.
+fn counted(place: usize) -> usize
+    ensures { result ≡ counted place }
+{
+    place.saturating_add(1)
 }
 
 /// A table of a configuration. `Top` is the whole document, and `Serve` is `[serve]`. The others are one table of
@@ -102,22 +108,27 @@ pub enum Section {
 }
 
 impl fmt::Display for Section {
-    /// Writes what comes before a key. Points and doors are counted from 1 and counters from 0, as the site counts them.
+    ghost use Rattle.std.specs.Prelude.{Some};
+    ghost use Rattle.site_config.specs.Keys.{section_text};
+
+    ghost output = { λ s. Some (section_text s) };
+
+    /// Writes what comes before a key of this section. Points and doors are counted from 1 and counters from 0, as the
+    /// site counts them.
     fn fmt<W: fmt::Write>(&self, f: &mut fmt::Formatter<W>) -> fmt::Result {
         match *self {
             Section::Top => Ok(()),
-            Section::Point(place) => write_item(f, "point", place.saturating_add(1), "."),
-            Section::Counter(place) => write_item(f, "counter", place, "."),
+            Section::Point(place) => write!(f, "point[{}].", counted(place)),
+            Section::Counter(place) => write!(f, "counter[{place}]."),
             Section::Serve => f.write_str("serve."),
-            Section::Till(place) => write_item(f, "serve.till", place.saturating_add(1), "."),
-            Section::Dispenser(place) => {
-                write_item(f, "serve.dispenser", place.saturating_add(1), ".")
-            }
+            Section::Till(place) => write!(f, "serve.till[{}].", counted(place)),
+            Section::Dispenser(place) => write!(f, "serve.dispenser[{}].", counted(place)),
         }
     }
 }
 
-/// A value of a configuration: the value of a key, or an item of its list, by its place counted from 0.
+/// The place of a value in a configuration. `At` is the value of a key. `Item` is an item of a key's list, and
+/// `Counter` is a table of `[[counter]]`, each with its place there, counted from 0.
 #[derive(Clone, Copy)]
 pub enum Place {
     At(Section, Key),
@@ -126,15 +137,17 @@ pub enum Place {
 }
 
 impl fmt::Display for Place {
+    ghost use Rattle.std.specs.Prelude.{Some};
+    ghost use Rattle.site_config.specs.Keys.{place_text};
+
+    ghost output = { λ p. Some (place_text p) };
+
     /// Writes the place. Counters are counted from 0, as the site counts them, and all other items from 1.
     fn fmt<W: fmt::Write>(&self, f: &mut fmt::Formatter<W>) -> fmt::Result {
         match *self {
             Place::At(section, key) => write!(f, "{section}{key}"),
-            Place::Item(section, key, place) => {
-                write!(f, "{section}")?;
-                write_item(f, key.name(), place.saturating_add(1), "")
-            }
-            Place::Counter(place) => write_item(f, "counter", place, ""),
+            Place::Item(section, key, place) => write!(f, "{section}{key}[{}]", counted(place)),
+            Place::Counter(place) => write!(f, "counter[{place}]"),
         }
     }
 }
@@ -147,14 +160,21 @@ pub enum Side {
 }
 
 impl Side {
-    fn plural(self) -> &'static str {
+    ghost use Rattle.std.specs.Prelude.{◌≡◌};
+    ghost use Rattle.site_config.specs.Words.{plural_of, singular_of};
+
+    fn plural(self) -> &'static str
+        ensures { result.now ≡ plural_of self }
+    {
         match self {
             Side::Tills => "tills",
             Side::Dispensers => "dispensers",
         }
     }
 
-    fn singular(self) -> &'static str {
+    fn singular(self) -> &'static str
+        ensures { result.now ≡ singular_of self }
+    {
         match self {
             Side::Tills => "till",
             Side::Dispensers => "point",
@@ -172,6 +192,11 @@ pub enum Type {
 }
 
 impl fmt::Display for Type {
+    ghost use Rattle.std.specs.Prelude.{Some};
+    ghost use Rattle.site_config.specs.Words.{type_text};
+
+    ghost output = { λ t. Some (type_text t) };
+
     fn fmt<W: fmt::Write>(&self, f: &mut fmt::Formatter<W>) -> fmt::Result {
         f.write_str(match self {
             Type::Integer => "a whole number",
@@ -182,19 +207,23 @@ impl fmt::Display for Type {
     }
 }
 
-/// Writes how many items a list has, and the least and the most that it may have.
-fn write_count<W: fmt::Write>(
-    f: &mut fmt::Formatter<W>,
-    list: Place,
-    count: usize,
-    low: usize,
-    high: usize,
-) -> fmt::Result {
-    write!(f, "'{list}' has {count} items, and not {low}")?;
-    if low < high {
-        write!(f, " to {high}")
-    } else {
-        Ok(())
+/// The least and the most that a number may be. If they are equal, only one number is written.
+#[derive(Clone, Copy, Drop)]
+struct Range(usize, usize);
+
+impl fmt::Display for Range {
+    ghost use Rattle.std.specs.Prelude.{Some};
+    ghost use Rattle.site_config.specs.Words.{range_text};
+
+    ghost output = { λ r. Some (range_text r.0 r.1) };
+
+    fn fmt<W: fmt::Write>(&self, f: &mut fmt::Formatter<W>) -> fmt::Result {
+        let Range(low, high) = *self;
+        if low < high {
+            write!(f, "{low} to {high}")
+        } else {
+            write!(f, "{low}")
+        }
     }
 }
 
@@ -212,9 +241,9 @@ pub enum ConfigFlaw {
         column: usize,
         message: String,
     },
-    /// K2: a table has a key that isn't one of its keys.
-    UnknownKey(Section, String),
-    /// K2: a key or a value that has to be there is missing.
+    /// K2: a table of this section has an unknown key, which is given by its name.
+    UnknownKey(Section, Text),
+    /// K2: a key that must be given is missing.
     Missing(Place),
     /// K2: a value isn't of the type that it must have.
     WrongType(Place, Type),
@@ -228,7 +257,7 @@ pub enum ConfigFlaw {
     WrongCount(Place, usize, usize, usize),
     /// K3: a counter, by its place counted from 0, with its value and its bound.
     OverBound(usize, u64, u64),
-    /// K3: the path of a socket that is empty.
+    /// K3: the path of a socket is empty.
     Empty(Place),
     /// K3: two keys that name the same port.
     SamePort(Place, Place, i64),
@@ -245,60 +274,132 @@ pub enum ConfigFlaw {
     OutOfMemory,
 }
 
-/// Writes what is wrong with the doors of `[serve]`: their keys, their addresses and whose lines they take.
-fn write_doors<W: fmt::Write>(f: &mut fmt::Formatter<W>, flaw: &ConfigFlaw) -> fmt::Result {
-    match flaw {
-        ConfigFlaw::BothThere(first, second) => {
-            write!(f, "'{first}' and '{second}' are both there")
+/// How many items a list has, and the least and the most that it may have.
+#[derive(Clone, Copy, Drop)]
+struct Miscounted(usize, usize, usize);
+
+impl fmt::Display for Miscounted {
+    ghost use Rattle.std.specs.Prelude.{Some};
+    ghost use Rattle.site_config.specs.Words.{miscounted_text};
+
+    ghost output = { λ m. Some (miscounted_text m.0 m.1 m.2) };
+
+    fn fmt<W: fmt::Write>(&self, f: &mut fmt::Formatter<W>) -> fmt::Result {
+        write!(f, "{} items, and not {}", self.0, Range(self.1, self.2))
+    }
+}
+
+/// A value, and the least and the most that it may be.
+#[derive(Clone, Copy, Drop)]
+struct Outside(i64, u64, u64);
+
+impl fmt::Display for Outside {
+    ghost use Rattle.std.specs.Prelude.{Some};
+    ghost use Rattle.site_config.specs.Words.{outside_text};
+
+    ghost output = { λ o. Some (outside_text o.0 o.1 o.2) };
+
+    fn fmt<W: fmt::Write>(&self, f: &mut fmt::Formatter<W>) -> fmt::Result {
+        write!(f, "{} is not {} to {}", self.0, self.1, self.2)
+    }
+}
+
+/// A counter's value, and its bound.
+#[derive(Clone, Copy, Drop)]
+struct Over(u64, u64);
+
+impl fmt::Display for Over {
+    ghost use Rattle.std.specs.Prelude.{Some};
+    ghost use Rattle.site_config.specs.Words.{over_text};
+
+    ghost output = { λ o. Some (over_text o.0 o.1) };
+
+    fn fmt<W: fmt::Write>(&self, f: &mut fmt::Formatter<W>) -> fmt::Result {
+        write!(f, "{} is over its bound, {}", self.0, self.1)
+    }
+}
+
+/// What is wrong with the doors of `[serve]`: their keys, their addresses and whose lines they take.
+#[derive(Clone, Copy, Drop)]
+struct OfDoors<'a>(&'a ConfigFlaw);
+
+impl fmt::Display for OfDoors<'_> {
+    ghost use Rattle.std.specs.Prelude.{Some};
+    ghost use Rattle.site_config.specs.Words.{doors_text};
+
+    ghost output = { λ d. Some (doors_text d.0.now) };
+
+    fn fmt<W: fmt::Write>(&self, f: &mut fmt::Formatter<W>) -> fmt::Result {
+        match self.0 {
+            ConfigFlaw::BothThere(first, second) => {
+                write!(f, "'{first}' and '{second}' are both there")
+            }
+            ConfigFlaw::Needless(place, port, socket) => {
+                write!(f, "'{place}' is there without '{port}' or '{socket}'")
+            }
+            ConfigFlaw::Empty(place) => write!(f, "{place} is empty"),
+            ConfigFlaw::SamePort(first, second, port) => {
+                write!(f, "{first} and {second} are both {port}")
+            }
+            ConfigFlaw::SameSocket(first, second) => {
+                write!(f, "{first} and {second} are the same path")
+            }
+            ConfigFlaw::SameTill(first, second, till) => {
+                write!(f, "{first} and {second} are both for till {till}")
+            }
+            ConfigFlaw::PointTwice(place, point) => write!(f, "{place} has point {point} twice"),
+            ConfigFlaw::TooManyWorkers(side, count, most) => {
+                let whose = side.plural();
+                write!(f, "{whose} have {count} workers, and not 1 to {most}")
+            }
+            ConfigFlaw::WithoutDoor(side, number) => {
+                write!(f, "{} {number} has no door", side.singular())
+            }
+            ConfigFlaw::NotUtf8 { .. }
+            | ConfigFlaw::NotToml { .. }
+            | ConfigFlaw::UnknownKey(..)
+            | ConfigFlaw::Missing(..)
+            | ConfigFlaw::WrongType(..)
+            | ConfigFlaw::OutOfRange(..)
+            | ConfigFlaw::WrongCount(..)
+            | ConfigFlaw::OverBound(..)
+            | ConfigFlaw::OutOfMemory => Ok(()),
         }
-        ConfigFlaw::Needless(place, port, socket) => {
-            write!(f, "'{place}' is there without '{port}' or '{socket}'")
-        }
-        ConfigFlaw::Empty(place) => write!(f, "{place} is empty"),
-        ConfigFlaw::SamePort(first, second, port) => {
-            write!(f, "{first} and {second} are both {port}")
-        }
-        ConfigFlaw::SameSocket(first, second) => {
-            write!(f, "{first} and {second} are the same path")
-        }
-        ConfigFlaw::SameTill(first, second, till) => {
-            write!(f, "{first} and {second} are both for till {till}")
-        }
-        ConfigFlaw::PointTwice(place, point) => write!(f, "{place} has point {point} twice"),
-        ConfigFlaw::TooManyWorkers(side, count, most) => {
-            let whose = side.plural();
-            write!(f, "{whose} have {count} workers, and not 1 to {most}")
-        }
-        ConfigFlaw::WithoutDoor(side, number) => {
-            let whose = side.singular();
-            write!(f, "{whose} {number} has no door")
-        }
-        _ => Ok(()),
     }
 }
 
 impl fmt::Display for ConfigFlaw {
+    ghost use Rattle.std.specs.Prelude.{Some};
+    ghost use Rattle.site_config.specs.Words.{flaw_text};
+
+    ghost output = { λ flaw. Some (flaw_text flaw) };
+
     fn fmt<W: fmt::Write>(&self, f: &mut fmt::Formatter<W>) -> fmt::Result {
         match self {
             ConfigFlaw::NotUtf8 { .. } => f.write_str("the text isn't UTF-8"),
-            ConfigFlaw::NotToml { message, .. } => f.write_str(message),
+            ConfigFlaw::NotToml { message, .. } => f.write_str(message.as_str()),
             ConfigFlaw::UnknownKey(section, name) => write!(f, "unknown key '{section}{name}'"),
             ConfigFlaw::Missing(place) => write!(f, "'{place}' is missing"),
             ConfigFlaw::WrongType(place, kind) => write!(f, "'{place}' is not {kind}"),
             ConfigFlaw::OutOfRange(place, value, low, high) => {
-                write!(f, "{place} = {value} is not {low} to {high}")
+                write!(f, "{place} = {}", Outside(*value, *low, *high))
             }
             ConfigFlaw::WrongCount(list, count, low, high) => {
-                write_count(f, *list, *count, *low, *high)
+                write!(f, "'{list}' has {}", Miscounted(*count, *low, *high))
             }
             ConfigFlaw::OverBound(counter, value, bound) => {
-                write!(
-                    f,
-                    "counter[{counter}].value = {value} is over its bound, {bound}"
-                )
+                write!(f, "counter[{counter}].value = {}", Over(*value, *bound))
             }
             ConfigFlaw::OutOfMemory => f.write_str("out of memory"),
-            _ => write_doors(f, self),
+            ConfigFlaw::BothThere(..)
+            | ConfigFlaw::Needless(..)
+            | ConfigFlaw::Empty(..)
+            | ConfigFlaw::SamePort(..)
+            | ConfigFlaw::SameSocket(..)
+            | ConfigFlaw::SameTill(..)
+            | ConfigFlaw::PointTwice(..)
+            | ConfigFlaw::TooManyWorkers(..)
+            | ConfigFlaw::WithoutDoor(..) => write!(f, "{}", OfDoors(self)),
         }
     }
 }
@@ -307,7 +408,7 @@ impl ConfigFlaw {
     ghost use Rattle.std.specs.Prelude.{◌≡◌};
     ghost use Rattle.site_config.specs.Flaws.{fault_of, position_of};
 
-    /// Returns the number of the fault.
+    /// Returns the fault number of the flaw.
     pub fn fault(&self) -> ConfigFault
         ensures { result ≡ fault_of self.now }
     {

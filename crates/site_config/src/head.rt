@@ -19,8 +19,8 @@ fn is_head_end(bytes: &[u8]) -> bool
     bytes == b"---\n".as_slice() || &bytes[from..] == b"\n---\n".as_slice()
 }
 
-/// Reads the bytes up to the first line `---` and returns them with that line, or all bytes where there is no such
-/// line. What follows the line stays unread. Reading also stops where there are too many bytes for a configuration.
+/// Reads the bytes up to the first line `---` and returns them with that line, or all bytes if there is no such line.
+/// What follows the line stays unread. Reading also stops once there are too many bytes for a configuration.
 ///
 /// `left` is how many reads may still be made, of one byte each. The error is that none is left, that the input failed,
 /// or that memory ran out.
@@ -48,8 +48,8 @@ pub fn read_head<I: LineIn>(
     }
 }
 
-/// Returns the configuration in the bytes that `read_head` returned: what comes before the line `---`. None where it
-/// has over 65,536 bytes.
+/// Returns the configuration in the bytes that `read_head` returned: what comes before the line `---`. None if it has
+/// over 65,536 bytes.
 pub fn config_part(bytes: &[u8]) -> Option<&[u8]>
     ensures { option_map (λ part. part.now) result ≡ head_part bytes.now }
 {

@@ -1,8 +1,8 @@
 //! Reads the configuration of a site from its text.
 #![tactic(auto)]
 
-/// Gives the value of a result. If the result is a flaw, the function returns that. This is `?` without a conversion of
-/// the flaw, which takes half the time to prove.
+/// Gives the value of a result. If the result is a flaw, the function that uses the macro returns the flaw. The macro
+/// is `?` without a conversion of the flaw, and takes half the time to prove.
 macro_rules! value_of {
     ($result:expr) => {
         match $result {
@@ -12,7 +12,7 @@ macro_rules! value_of {
     };
 }
 
-/// Gives what an allocation made. If memory ran out, the function returns that as a flaw.
+/// Gives what an allocation made. If memory ran out, the function that uses the macro returns the flaw `OutOfMemory`.
 macro_rules! room_for {
     ($result:expr) => {
         match $result {
@@ -32,9 +32,11 @@ mod ranges;
 mod raw;
 mod served;
 mod settings;
+mod text;
 mod typed;
 mod values;
 
+pub use doors::law_of_own_lines;
 pub use fault::ConfigFault;
 pub use flaw::{ConfigFlaw, Key, Place, Section, Side, Type};
 pub use head::{MOST_BYTES, config_part, read_head};

@@ -1,13 +1,13 @@
 //! Checks that a number is in its range (K3).
 ghost use Rattle.std.specs.Prelude.{◌≤◌, IfOk};
-ghost use Rattle.site_config.specs.Flaws.{Finds};
+ghost use Rattle.site_config.specs.Document.{Finds};
 ghost use Rattle.site_config.specs.Demands.{ranged};
 
 use crate::flaw::{ConfigFlaw, Place};
 
 /// Returns the number if it is from low to high. The error is `OutOfRange`.
 pub fn in_range(place: Place, value: i64, low: u32, high: u32) -> Result<u32, ConfigFlaw>
-    ensures read { Finds (λ x. x) result (ranged low high value) }
+    ensures read { Finds (λ x. x) result (ranged place low high value) }
     ensures range { IfOk result (λ n. (low ≤ n) × (n ≤ high)) }
 {
     match u32::try_from(value) {

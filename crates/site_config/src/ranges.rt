@@ -1,14 +1,15 @@
 //! Checks the ranges, lengths, counts and conditions of a configuration (K3), and makes the settings.
-ghost use Rattle.std.specs.Prelude.{◌≡◌, ◌≤◌, ◌-◌, ◌++◌, length, replicate, option_map, IfErr, IfOk, All, Err};
+ghost use Rattle.std.specs.Prelude.{◌≡◌, ◌≤◌, ◌-◌, ◌++◌, length, replicate, option_map, IfErr, IfOk, All, None, Some};
+ghost use Rattle.toml.specs.Data.{Members};
 ghost use Rattle.toml.specs.View.{table_view};
 ghost use Rattle.site_core.specs.Limits.{IsCounter};
-ghost use Rattle.site_config.specs.Document.{Gives, document_of};
-ghost use Rattle.site_config.specs.Flaws.{Finds, StandsAt};
+ghost use Rattle.site_config.specs.Document.{Finds, Gives, document_of, each_of};
+ghost use Rattle.site_config.specs.Flaws.{StandsAt, numbered};
 ghost use Rattle.site_config.specs.Typed.{seen, seen_serve};
 ghost use Rattle.site_config.specs.Demands.{ranged};
 ghost use Rattle.site_config.specs.Doors.{serve_seen};
-ghost use Rattle.site_config.specs.Ranges.{all_ranged, point_of, counter_of, each_of, prices_of, points_of};
-ghost use Rattle.site_config.specs.Ranges.{counters_of, serve_from, told_of, told, config_of};
+ghost use Rattle.site_config.specs.Ranges.{price_of, point_of, counter_of, prices_of, points_of, counters_of};
+ghost use Rattle.site_config.specs.Ranges.{serve_from, told_of, told, settings_of, config_of};
 ghost use Rattle.bpf_model.specs.declared.limits.TheConstants.{COUNTERS, POINTS};
 
 use crate::document::read_document;
@@ -21,6 +22,7 @@ use crate::settings::{Serve, Settings};
 use crate::typed::read_typed;
 use site_core::Config;
 use std::alloc::Global;
+use toml::Table;
 
 /// The greatest value and the greatest bound of a counter: the greatest number that a document can contain.
 const MOST_COUNTER: u64 = 9_223_372_036_854_775_807;
@@ -30,7 +32,7 @@ const MOST_PRICE: u32 = 9_999_999;
 
 /// Returns the number if it is not below 0. The error is `OutOfRange`.
 fn not_negative(place: Place, value: i64) -> Result<u64, ConfigFlaw>
-    ensures { Finds (λ x. x) result (ranged 0 MOST_COUNTER value) }
+    ensures { Finds (λ x. x) result (ranged place 0 MOST_COUNTER value) }
 {
     match u64::try_from(value) {
         Ok(number) => Ok(number),
@@ -47,7 +49,7 @@ fn wrong_count(key: Key, count: usize, low: usize, high: usize) -> ConfigFlaw
 
 #[tactic(auto, unfolding(crate::specs::Ranges::point_of))]
 fn make_point(place: usize, pair: (i64, i64)) -> Result<(u32, u32), ConfigFlaw>
-    ensures read { Finds (λ x. x) result (point_of pair) }
+    ensures read { Finds (λ x. x) result (point_of place pair) }
     ensures range { IfOk result (λ p. (p.0 ≤ 15) × (p.1 ≤ 15)) }
 {
     let section = Section::Point(place);
@@ -58,7 +60,7 @@ fn make_point(place: usize, pair: (i64, i64)) -> Result<(u32, u32), ConfigFlaw>
 
 #[tactic(auto, unfolding(crate::specs::Ranges::counter_of))]
 fn make_counter(place: usize, pair: (i64, i64)) -> Result<(u64, u64), ConfigFlaw>
-    ensures read { Finds (λ x. x) result (counter_of pair) }
+    ensures read { Finds (λ x. x) result (counter_of place pair) }
     ensures range { IfOk result IsCounter }
 {
     let section = Section::Counter(place);
@@ -72,7 +74,7 @@ fn make_counter(place: usize, pair: (i64, i64)) -> Result<(u64, u64), ConfigFlaw
 
 /// Returns the price of a product, if it is in its range.
 fn make_price(place: usize, value: i64) -> Result<u32, ConfigFlaw>
-    ensures read { Finds (λ x. x) result (ranged 0 MOST_PRICE value) }
+    ensures read { Finds (λ x. x) result (price_of place value) }
     ensures range { IfOk result (λ price. price ≤ MOST_PRICE) }
 {
     in_range(
@@ -84,12 +86,14 @@ fn make_price(place: usize, value: i64) -> Result<u32, ConfigFlaw>
 }
 
 fn each_price(alloc: Global, values: &[i64]) -> Result<Vec<u32>, ConfigFlaw>
-    ensures read { Finds (λ v. v.items) result (all_ranged 0 MOST_PRICE values.now) }
+    ensures read { Finds (λ v. v.items) result (each_of price_of 0 values.now) }
+    ensures each { IfOk result (λ v. length v.items ≡ length values.now) }
     ensures range { IfOk result (λ v. All (λ price. price ≤ MOST_PRICE) v.items) }
 {
     let mut prices = Vec::new(alloc);
     for value in values {
-        let price = match make_price(prices.len(), *value) {
+        let place = prices.len();
+        let price = match make_price(place, *value) {
             Ok(price) => price,
             Err(flaw) => return Err(flaw),
         };
@@ -108,7 +112,7 @@ fn eight_of(list: &[u32]) -> [u32; 8]
     array
 }
 
-#[tactic(auto, unfolding(crate::specs::Ranges::prices_of), using(crate::proofs::Lengths::lengths))]
+#[tactic(auto, unfolding(crate::specs::Ranges::prices_of))]
 fn make_prices(alloc: Global, values: &[i64]) -> Result<[u32; 8], ConfigFlaw>
     ensures read { Finds (λ x. x) result (prices_of values.now) }
     ensures range { IfOk result (All (λ price. price ≤ MOST_PRICE)) }
@@ -121,7 +125,7 @@ fn make_prices(alloc: Global, values: &[i64]) -> Result<[u32; 8], ConfigFlaw>
 }
 
 fn each_point(alloc: Global, pairs: &[(i64, i64)]) -> Result<Vec<(u32, u32)>, ConfigFlaw>
-    ensures read { Finds (λ v. v.items) result (each_of point_of pairs.now) }
+    ensures read { Finds (λ v. v.items) result (each_of point_of 0 pairs.now) }
     ensures each { IfOk result (λ v. length v.items ≡ length pairs.now) }
     ensures range { IfOk result (λ v. All (λ p. (p.0 ≤ 15) × (p.1 ≤ 15)) v.items) }
 {
@@ -145,7 +149,7 @@ fn make_points(alloc: Global, pairs: &[(i64, i64)]) -> Result<Vec<(u32, u32)>, C
 }
 
 fn each_counter(alloc: Global, pairs: &[(i64, i64)]) -> Result<Vec<(u64, u64)>, ConfigFlaw>
-    ensures read { Finds (λ v. v.items) result (each_of counter_of pairs.now) }
+    ensures read { Finds (λ v. v.items) result (each_of counter_of 0 pairs.now) }
     ensures each { IfOk result (λ v. length v.items ≡ length pairs.now) }
     ensures range { IfOk result (λ v. All IsCounter v.items) }
 {
@@ -218,20 +222,32 @@ fn make_settings(alloc: Global, raw: &Raw) -> Result<Settings, ConfigFlaw>
     }
 }
 
+/// Reads the settings from a document. The error is its first flaw (K2 or K3), or that memory ran out.
+#[tactic(auto, unfolding(crate::specs::Ranges::settings_of))]
+fn settings_in(alloc: Global, document: &Table) -> Result<Settings, ConfigFlaw>
+    ensures { Finds told result (settings_of (table_view document.now)) }
+{
+    let raw = value_of!(read_typed(alloc, document));
+    make_settings(alloc, &raw)
+}
+
 /// Reads the settings from a text. The error is that memory ran out, or the first flaw in the text: a flaw of the
 /// document (K1) comes before one of a key or a type (K2), and these come before one of a range, a count or a
 /// condition (K3).
 #[tactic(auto, unfolding(crate::specs::Ranges::config_of))]
 pub fn read_settings(alloc: Global, bytes: &[u8]) -> Result<Settings, ConfigFlaw>
-    ensures found { Finds told result (config_of bytes.now) }
-    ensures position { document_of bytes.now ≡ Err ConfigFault.K1 → IfErr result (StandsAt bytes.now) }
+    ensures found { Gives told (numbered result) (config_of bytes.now) }
+    ensures named { (document : Members) → document_of bytes.now ≡ Some document
+        → Finds told result (settings_of document) }
+    ensures position { document_of bytes.now ≡ None → IfErr result (StandsAt bytes.now) }
 {
-    let document = value_of!(read_document(alloc, bytes));
-    let raw = value_of!(read_typed(alloc, &document));
-    make_settings(alloc, &raw)
+    match read_document(alloc, bytes) {
+        Ok(document) => settings_in(alloc, &document),
+        Err(flaw) => Err(flaw),
+    }
 }
 
-/// Reads the settings from a text. The error is the number of its first fault.
+/// Reads the settings from a text. The error is the fault number of the text's first flaw, or that memory ran out.
 pub fn read_config(alloc: Global, bytes: &[u8]) -> Result<Settings, ConfigFault>
     ensures { Gives told result (config_of bytes.now) }
 {

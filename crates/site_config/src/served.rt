@@ -1,17 +1,16 @@
 //! Reads the table `[serve]` and those of its doors, and checks their types (K2).
 ghost use Rattle.std.specs.Prelude.{◌≡◌, option_map};
 ghost use Rattle.toml.specs.View.{view, table_view, items_view};
-ghost use Rattle.toml.specs.Data.{get_member, as_str};
-ghost use Rattle.site_config.specs.Document.{or_fault, with_front};
-ghost use Rattle.site_config.specs.Flaws.{Finds};
+ghost use Rattle.toml.specs.Data.{get_member};
+ghost use Rattle.site_config.specs.Document.{Finds, with_front};
 ghost use Rattle.site_config.specs.Keys.{name_of};
-ghost use Rattle.site_config.specs.declared.fault.ConfigFault.TheVariants.{K2};
-ghost use Rattle.site_config.specs.Typed.{has_shared, door_at, shared_at, workers_at, till_in};
-ghost use Rattle.site_config.specs.Typed.{dispenser_in, single_in, each_table, tables_from, owner_at, doors_at};
+ghost use Rattle.site_config.specs.Typed.{text_of, has_shared, door_at, shared_at, workers_at, till_in};
+ghost use Rattle.site_config.specs.Typed.{dispenser_in, single_in, each_in, tables_from, owner_at, doors_at};
 ghost use Rattle.site_config.specs.Typed.{idle_from, served_in, served_at, seen_serve};
 
 use crate::flaw::{ConfigFlaw, Key, Place, Section, Side};
-use crate::raw::{Numbers, RawAddress, RawDoor, RawRole, Served, Text};
+use crate::raw::{Numbers, RawAddress, RawDoor, RawRole, Served};
+use crate::text::Text;
 use crate::values::{
     array_of, check_keys, find_array, find_value, has_key, integer_of, read_integer, read_integers,
     table_of, text_of,
@@ -31,16 +30,16 @@ const OWNER_KEYS: (Key, Key) = (Key::OwnerPort, Key::OwnerSocket);
 /// The keys that name the address of a door in a table of its own.
 const KEYS: (Key, Key) = (Key::Port, Key::Socket);
 
-/// Returns a value as a text that is the caller's own. The error is `WrongType`, or that memory ran out.
+/// Copies the text of a value. The error is `WrongType`, or that memory ran out.
 fn read_text(alloc: Global, value: &Value, place: Place) -> Result<Text, ConfigFlaw>
-    ensures { Finds (λ t. t) result (or_fault K2 (as_str (view value.now))) }
+    ensures { Finds (λ t. t) result (text_of place (view value.now)) }
 {
     let text = value_of!(text_of(value, place));
     Ok(Text::new(room_for!(String::from_str(alloc, text))))
 }
 
-/// Reads a door whose port is the value of one key, or whose socket is that of another. Exactly one of them must be
-/// there. The error is `Missing`, `BothThere` or `WrongType`, or that memory ran out.
+/// Reads a door whose port is the value of one key, or whose socket is the value of another one. Exactly one of these
+/// keys must be given. The error is `Missing`, `BothThere` or `WrongType`, or that memory ran out.
 #[tactic(auto, unfolding(crate::specs::Typed::door_at))]
 fn read_door(
     alloc: Global,
@@ -72,7 +71,7 @@ fn read_door(
     }
 }
 
-/// Returns whether there is a shared door: whether one of its keys is there.
+/// Returns whether there is a shared door: whether the key of its port, or that of its socket, is given.
 fn is_shared(table: &Table, keys: (Key, Key)) -> bool
     ensures { result ≡ has_shared keys (table_view table.now) }
 {
@@ -103,8 +102,8 @@ fn add_shared(
     Ok(doors)
 }
 
-/// Reads how many workers a shared door has. The key must be there exactly if the door is. The error is `Missing`,
-/// `Needless` or `WrongType`.
+/// Reads how many workers a shared door has, or `None` if there is no such door. The key `key` must be given exactly if
+/// there is one. The error is `Missing`, `Needless` or `WrongType`.
 #[tactic(auto, unfolding(crate::specs::Typed::workers_at))]
 fn read_workers(table: &Table, keys: (Key, Key), key: Key) -> Result<Option<i64>, ConfigFlaw>
     ensures { Finds (λ x. x) result (workers_at keys key (table_view table.now)) }
@@ -163,7 +162,7 @@ fn read_single(
     }
 }
 
-/// Reads the doors of single tills, or those of some points each, from their tables, and returns them behind the doors so
+/// Reads the doors of single tills, or those of some points each, from their tables, and appends them to the doors so
 /// far.
 fn each_single(
     alloc: Global,
@@ -171,7 +170,7 @@ fn each_single(
     values: &[Value],
     mut doors: Vec<RawDoor>,
 ) -> Result<Vec<RawDoor>, ConfigFlaw>
-    ensures { Finds (λ v. v.items) result (with_front doors.items (each_table (single_in side) 0 (items_view values.now))) }
+    ensures { Finds (λ v. v.items) result (with_front doors.items (each_in (single_in side) 0 (items_view values.now))) }
 {
     let mut place = 0;
     for value in values {
@@ -181,8 +180,8 @@ fn each_single(
     Ok(doors)
 }
 
-/// Reads the doors of single tills, or those of some points each, from the tables at this key, and returns them behind
-/// the doors so far.
+/// Reads the doors of single tills, or those of some points each, from the tables at this key, and appends them to the
+/// doors so far.
 fn add_singles(
     alloc: Global,
     table: &Table,
@@ -191,7 +190,7 @@ fn add_singles(
     doors: Vec<RawDoor>,
 ) -> Result<Vec<RawDoor>, ConfigFlaw>
     ensures { Finds (λ v. v.items) result
-        (with_front doors.items (tables_from (single_in side) (get_member (name_of key) (table_view table.now)))) }
+        (with_front doors.items (tables_from (single_in side) key (get_member (name_of key) (table_view table.now)))) }
 {
     match find_value(table, key.name()) {
         Some(value) => {

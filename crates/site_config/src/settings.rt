@@ -1,4 +1,4 @@
-//! The settings: what a configuration says.
+//! The settings that a configuration gives.
 use crate::flaw::Place;
 use site_core::Config;
 use till_request::Role;
@@ -22,11 +22,11 @@ pub struct Door {
     pub workers: u32,
 }
 
-/// Where and how to serve the site: its doors, how many connections, and how many seconds a connection may be silent
-/// before it ends (0: for ever). The doors are in the order in which workers get their passes: the tills' shared one,
-/// those of one till each, the dispensers' shared one, those of some points each, the owner's. No two have the same
-/// address, and no two are for the same till alone. Tills have 1 to 64 workers in all, dispensers 1 to 31, and the owner
-/// has one.
+/// Where and how to serve the site: its doors, how many connections, and after how many seconds without a byte a
+/// connection ends (0 for never). The doors are in the order in which workers get their passes: the tills' shared one,
+/// those of one till each, the dispensers' shared one, those of some points each, the owner's. All doors have different
+/// addresses, and each till has at most one door of its own. Tills have 1 to 64 workers in all, dispensers 1 to 31, and
+/// the owner has one.
 #[derive(Drop)]
 pub struct Serve {
     pub doors: Vec<Door>,
@@ -34,7 +34,7 @@ pub struct Serve {
     pub idle_seconds: u32,
 }
 
-/// What a configuration says: the site, and where and how to serve it, if it says that.
+/// The settings that a configuration gives: the site, and where and how to serve it, if `[serve]` is given.
 #[derive(Drop)]
 pub struct Settings {
     pub config: Config,

@@ -1,8 +1,6 @@
 //! Reads the keys of a document and checks their types (K2).
-ghost use Rattle.std.specs.Prelude.{◌≡◌, codes};
 ghost use Rattle.toml.specs.View.{view, table_view, items_view};
-ghost use Rattle.site_config.specs.Flaws.{Finds, is_key_of};
-ghost use Rattle.site_config.specs.Keys.{name_of};
+ghost use Rattle.site_config.specs.Document.{Finds};
 ghost use Rattle.site_config.specs.Typed.{pair_in, point_in, counter_in, each_in, integers_at, points_at};
 ghost use Rattle.site_config.specs.Typed.{counters_at, typed_of, seen};
 
@@ -15,7 +13,7 @@ use crate::values::{
 use std::alloc::Global;
 use toml::{Table, Value};
 
-/// Returns the numbers of the two keys of a table.
+/// Reads the numbers of two keys from a table.
 #[tactic(auto, unfolding(crate::specs::Typed::pair_in))]
 fn read_pair(
     alloc: Global,
@@ -24,8 +22,7 @@ fn read_pair(
     section: Section,
     keys: (Key, Key),
 ) -> Result<(i64, i64), ConfigFlaw>
-    ensures { Finds (λ x. x) result
-        (pair_in (is_key_of section) (name_of keys.0) (name_of keys.1) (view value.now)) }
+    ensures { Finds (λ x. x) result (pair_in place section keys (view value.now)) }
 {
     let table = value_of!(table_of(value, place));
     value_of!(check_keys(alloc, table, section));
@@ -36,7 +33,7 @@ fn read_pair(
 
 #[tactic(auto, unfolding(crate::specs::Typed::point_in))]
 fn read_point(alloc: Global, value: &Value, place: usize) -> Result<(i64, i64), ConfigFlaw>
-    ensures { Finds (λ x. x) result (point_in (view value.now)) }
+    ensures { Finds (λ x. x) result (point_in place (view value.now)) }
 {
     let keys = (Key::Release, Key::Preset);
     read_pair(
@@ -50,7 +47,7 @@ fn read_point(alloc: Global, value: &Value, place: usize) -> Result<(i64, i64), 
 
 #[tactic(auto, unfolding(crate::specs::Typed::counter_in))]
 fn read_counter(alloc: Global, value: &Value, place: usize) -> Result<(i64, i64), ConfigFlaw>
-    ensures { Finds (λ x. x) result (counter_in (view value.now)) }
+    ensures { Finds (λ x. x) result (counter_in place (view value.now)) }
 {
     let keys = (Key::Value, Key::Bound);
     read_pair(
@@ -62,9 +59,9 @@ fn read_counter(alloc: Global, value: &Value, place: usize) -> Result<(i64, i64)
     )
 }
 
-/// Returns for each point of a list its two slots.
+/// Reads each item of a list as a point, and returns its two slots.
 fn read_points(alloc: Global, values: &[Value]) -> Result<Vec<(i64, i64)>, ConfigFlaw>
-    ensures { Finds (λ v. v.items) result (each_in point_in (items_view values.now)) }
+    ensures { Finds (λ v. v.items) result (each_in point_in 0 (items_view values.now)) }
 {
     let mut pairs = Vec::new(alloc);
     for value in values {
@@ -73,9 +70,9 @@ fn read_points(alloc: Global, values: &[Value]) -> Result<Vec<(i64, i64)>, Confi
     Ok(pairs)
 }
 
-/// Returns for each counter of a list its value and its bound.
+/// Reads each item of a list as a counter, and returns its value and its bound.
 fn read_counters(alloc: Global, values: &[Value]) -> Result<Vec<(i64, i64)>, ConfigFlaw>
-    ensures { Finds (λ v. v.items) result (each_in counter_in (items_view values.now)) }
+    ensures { Finds (λ v. v.items) result (each_in counter_in 0 (items_view values.now)) }
 {
     let mut pairs = Vec::new(alloc);
     for value in values {
@@ -86,7 +83,7 @@ fn read_counters(alloc: Global, values: &[Value]) -> Result<Vec<(i64, i64)>, Con
 
 #[tactic(auto, unfolding(crate::specs::Typed::integers_at))]
 fn find_prices(alloc: Global, table: &Table) -> Result<Vec<i64>, ConfigFlaw>
-    ensures { Finds (λ v. v.items) result (integers_at (codes "prices") (table_view table.now)) }
+    ensures { Finds (λ v. v.items) result (integers_at Section.Top Key.Prices (table_view table.now)) }
 {
     let values = value_of!(find_array(table, Section::Top, Key::Prices));
     read_integers(alloc, values, Section::Top, Key::Prices)

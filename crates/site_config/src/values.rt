@@ -1,22 +1,21 @@
-//! Reads values by their keys, and checks which keys are there and what types they have (K2).
-ghost use Rattle.std.specs.Prelude.{◌≡◌, option_map, option_and_then, string_bytes};
-ghost use Rattle.std.specs.List.{list_all};
+//! Reads the values of keys, and checks which keys are given and that their values have the right types (K2).
+ghost use Rattle.std.specs.Prelude.{◌≡◌, not, option_map, string_bytes};
+ghost use Rattle.std.specs.List.{find};
 ghost use Rattle.std.specs.BTreeMap.{keys};
 ghost use Rattle.toml.specs.View.{view, table_view, items_view};
-ghost use Rattle.toml.specs.Data.{get_member, as_integer, as_str, as_table, as_array};
-ghost use Rattle.site_config.specs.Document.{or_fault};
-ghost use Rattle.site_config.specs.Flaws.{Finds, is_key_of};
-ghost use Rattle.site_config.specs.Keys.{name_of};
-ghost use Rattle.site_config.specs.declared.fault.ConfigFault.TheVariants.{K2};
+ghost use Rattle.toml.specs.Data.{get_member};
+ghost use Rattle.site_config.specs.Document.{Finds};
 ghost use Rattle.site_config.specs.Typed.{is_top_key, is_point_key, is_counter_key, is_serve_key, is_till_key};
 ghost use Rattle.site_config.specs.Typed.{is_port_key, is_socket_key, is_number_key, is_dispenser_key};
-ghost use Rattle.site_config.specs.Typed.{has_only, has_key, integer_at, integers, require};
+ghost use Rattle.site_config.specs.Typed.{is_key_of, other_key, known_in, has_key, integer_of, text_of, table_of};
+ghost use Rattle.site_config.specs.Typed.{array_of, integer_at, integer_in, array_at, each_in};
 
 use crate::flaw::{ConfigFlaw, Key, Place, Section, Type};
+use crate::text::Text;
 use std::alloc::Global;
 use toml::{Table, Value};
 
-/// Returns the value of a key.
+/// Returns the value of a key, or `None` if the key isn't given.
 pub fn find_value<'a>(table: &'a Table, key: &str) -> Option<&'a Value>
     ensures { option_map (λ v. view v.now) result ≡ get_member key.now (table_view table.now) }
 {
@@ -30,7 +29,7 @@ pub fn has_key(table: &Table, key: Key) -> bool
     find_value(table, key.name()).is_some()
 }
 
-/// Returns whether a section has a key of this name.
+/// Returns whether a table of this section may have a key of this name.
 fn is_known(section: Section, key: &str) -> bool
     ensures { result ≡ is_key_of section key.now }
 {
@@ -44,17 +43,25 @@ fn is_known(section: Section, key: &str) -> bool
     }
 }
 
-/// Returns the first key of a table, in the table's order, that its section doesn't have.
-fn unknown_key(table: &Table, section: Section) -> &str {
-    match table.keys().find(|key| !is_known(section, key.as_str())) {
-        Some(key) => key.as_str(),
-        None => "",
+fn find_unknown(table: &Table, section: Section) -> Option<&String>
+    ensures { option_map (λ key. key.now) result ≡ find (λ key. not (is_key_of section (string_bytes key))) (keys table.now) }
+{
+    table.keys().find(|key| !is_known(section, key.as_str()))
+}
+
+/// Returns the first key of a table, in the table's order, that a table of this section may not have.
+fn unknown_key(table: &Table, section: Section) -> Option<&str>
+    ensures { option_map (λ key. key.now) result ≡ other_key (is_key_of section) (table_view table.now) }
+{
+    match find_unknown(table, section) {
+        Some(key) => Some(key.as_str()),
+        None => None,
     }
 }
 
 /// Returns a value as a number. The error is `WrongType`.
 pub fn integer_of(value: &Value, place: Place) -> Result<i64, ConfigFlaw>
-    ensures { Finds (λ x. x) result (or_fault K2 (as_integer (view value.now))) }
+    ensures { Finds (λ x. x) result (integer_of place (view value.now)) }
 {
     value
         .as_integer()
@@ -63,7 +70,7 @@ pub fn integer_of(value: &Value, place: Place) -> Result<i64, ConfigFlaw>
 
 /// Returns a value as a text. The error is `WrongType`.
 pub fn text_of(value: &Value, place: Place) -> Result<&str, ConfigFlaw>
-    ensures { Finds (λ t. t.now) result (or_fault K2 (as_str (view value.now))) }
+    ensures { Finds (λ t. t.now) result (text_of place (view value.now)) }
 {
     value
         .as_str()
@@ -72,7 +79,7 @@ pub fn text_of(value: &Value, place: Place) -> Result<&str, ConfigFlaw>
 
 /// Returns a value as a table. The error is `WrongType`.
 pub fn table_of(value: &Value, place: Place) -> Result<&Table, ConfigFlaw>
-    ensures { Finds (λ t. table_view t.now) result (or_fault K2 (as_table (view value.now))) }
+    ensures { Finds (λ t. table_view t.now) result (table_of place (view value.now)) }
 {
     value
         .as_table()
@@ -81,7 +88,7 @@ pub fn table_of(value: &Value, place: Place) -> Result<&Table, ConfigFlaw>
 
 /// Returns a value as an array. The error is `WrongType`.
 pub fn array_of(value: &Value, place: Place) -> Result<&Vec<Value>, ConfigFlaw>
-    ensures { Finds (λ v. items_view v.now.items) result (or_fault K2 (as_array (view value.now))) }
+    ensures { Finds (λ v. items_view v.now.items) result (array_of place (view value.now)) }
 {
     value
         .as_array()
@@ -90,7 +97,7 @@ pub fn array_of(value: &Value, place: Place) -> Result<&Vec<Value>, ConfigFlaw>
 
 /// Returns the number of a key. The error is `Missing` or `WrongType`.
 pub fn read_integer(table: &Table, section: Section, key: Key) -> Result<i64, ConfigFlaw>
-    ensures { Finds (λ x. x) result (integer_at (name_of key) (table_view table.now)) }
+    ensures { Finds (λ x. x) result (integer_at section key (table_view table.now)) }
 {
     let place = Place::At(section, key);
     match find_value(table, key.name()) {
@@ -170,38 +177,26 @@ fn is_dispenser(key: &str) -> bool
     key == "points" || key == "port" || key == "socket"
 }
 
-fn all_known(table: &Table, section: Section) -> bool
-    ensures { result ≡ list_all (λ k. is_key_of section (string_bytes k)) (keys table.now) }
-{
-    table.keys().all(|key| is_known(section, key.as_str()))
-}
-
-/// Returns whether a section has each key of its table.
-fn has_known_keys(table: &Table, section: Section) -> bool
-    ensures { result ≡ has_only (is_key_of section) (table_view table.now) }
-{
-    all_known(table, section)
-}
-
-/// Checks that a section has each key of its table. The error is `UnknownKey`.
+/// Checks that a table of this section may have each key of `table`. The error is `UnknownKey` with the first key that
+/// it may not have, or that memory ran out.
 pub fn check_keys(alloc: Global, table: &Table, section: Section) -> Result<(), ConfigFlaw>
-    ensures { Finds (λ x. x) result (require (has_only (is_key_of section) (table_view table.now))) }
+    ensures { Finds (λ x. x) result (known_in section (table_view table.now)) }
 {
-    if has_known_keys(table, section) {
+    let Some(key) = unknown_key(table, section) else {
         return Ok(());
-    }
-    let name = room_for!(String::from_str(alloc, unknown_key(table, section)));
+    };
+    let name = Text::new(room_for!(String::from_str(alloc, key)));
     Err(ConfigFlaw::UnknownKey(section, name))
 }
 
-/// Returns the items of a key's list as numbers. The error is `WrongType`.
+/// Returns the items of a key's list as numbers. The error is `WrongType`, or that memory ran out.
 pub fn read_integers(
     alloc: Global,
     values: &[Value],
     section: Section,
     key: Key,
 ) -> Result<Vec<i64>, ConfigFlaw>
-    ensures { Finds (λ v. v.items) result (integers (items_view values.now)) }
+    ensures { Finds (λ v. v.items) result (each_in (integer_in section key) 0 (items_view values.now)) }
 {
     let mut numbers = Vec::new(alloc);
     for value in values {
@@ -214,8 +209,7 @@ pub fn read_integers(
 /// Returns the array of a key. The error is `Missing` or `WrongType`.
 pub fn find_array(table: &Table, section: Section, key: Key) -> Result<&Vec<Value>, ConfigFlaw>
     ensures { Finds
-        (λ v. items_view v.now.items) result
-        (or_fault K2 (option_and_then as_array (get_member (name_of key) (table_view table.now)))) }
+        (λ v. items_view v.now.items) result (array_at section key (table_view table.now)) }
 {
     let place = Place::At(section, key);
     match find_value(table, key.name()) {

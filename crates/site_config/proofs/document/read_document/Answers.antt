@@ -1,19 +1,18 @@
-use Rattle.std.proofs.Common.{◌≡◌, Bool, true, false, refl, ap}
+use Rattle.std.proofs.Common.{◌≡◌, Bool, true, false, refl}
 use Rattle.std.specs.Str.{is_utf8}
 use Rattle.std.proofs.lemmas.Str.{is_utf8-from_IsUtf8, IsUtf8-from_is_utf8}
-use Rattle.site_config.specs.Document.{document_of, or_fault}
-use Rattle.site_config.specs.declared.fault.ConfigFault.TheVariants.{K1}
+use Rattle.site_config.specs.Document.{document_of}
 use Rattle.site_config.proofs.document.read_document.Goals as goal
 
 false_unless : (b : Bool) → (b ≡ true → ⊥) → b ≡ false
 false_unless true n = absurd (n refl)
 false_unless false n = refl
 
-pub returns-in-Ok-table_from_str-clause-found : goal.returns-in-Ok-table_from_str-clause-found
+pub returns-in-Ok-table_from_str-clause-read : goal.returns-in-Ok-table_from_str-clause-read
 unfolding document_of
-returns-in-Ok-table_from_str-clause-found c =
-    rw (is_utf8-from_IsUtf8 c.args.bytes.now c.in-Ok.ensures.cases.1) (ap (or_fault K1) (rw c.in-Ok.ensures.cases.0 at c.in-Ok-table_from_str.ensures.ok))
+returns-in-Ok-table_from_str-clause-read c =
+    rw (is_utf8-from_IsUtf8 c.args.bytes.now c.in-Ok.ensures.cases.1) (rw c.in-Ok.ensures.cases.0 at c.in-Ok-table_from_str.ensures.ok)
 
-pub returns-in-Err-clause-found : goal.returns-in-Err-clause-found
+pub returns-in-Err-clause-none : goal.returns-in-Err-clause-none
 unfolding document_of
-returns-in-Err-clause-found c = rw (false_unless (is_utf8 c.args.bytes.now) (λ h. c.in-Err.ensures.cases.0 (IsUtf8-from_is_utf8 c.args.bytes.now h)))
+returns-in-Err-clause-none c n = rw (false_unless (is_utf8 c.args.bytes.now) (λ h. c.in-Err.ensures.cases.0 (IsUtf8-from_is_utf8 c.args.bytes.now h)))

@@ -5,6 +5,6 @@ use Rattle.site_config.proofs.doors.add_points.Given as goal
 -- Adding the rest of the points to those so far gives the same as adding all of them.
 abbrev pub invariant-loop-value : goal.invariant-loop-value
 invariant-loop-value l = record {
-  read : with_points l.points l.bits (drop l.value-index l.values) ≡ with_points l.points 0 l.values;
+  read : with_points l.list l.place l.points l.bits (drop l.value-index l.values) ≡ with_points l.list 0 l.points 0 l.values;
   counted : l.place ≡ l.value-index;
 }

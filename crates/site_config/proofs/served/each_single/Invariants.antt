@@ -1,13 +1,13 @@
 use Rattle.std.proofs.Common.{◌≡◌, drop}
 use Rattle.toml.specs.View.{items_view}
 use Rattle.site_config.specs.Document.{with_front}
-use Rattle.site_config.specs.Typed.{each_table, single_in}
+use Rattle.site_config.specs.Typed.{each_in, single_in}
 use Rattle.site_config.proofs.served.each_single.Given as goal
 
 -- The doors so far and those of the tables that are left are, together, the doors at the start and those of all tables.
 abbrev pub invariant-loop-value : goal.invariant-loop-value
 invariant-loop-value l = record {
-  read : with_front l.doors.items (each_table (single_in l.side) l.place (items_view (drop l.value-index l.values)))
-      ≡ with_front l.initial.doors.items (each_table (single_in l.side) 0 (items_view l.values));
+  read : with_front l.doors.items (each_in (single_in l.side) l.place (items_view (drop l.value-index l.values)))
+      ≡ with_front l.initial.doors.items (each_in (single_in l.side) 0 (items_view l.values));
   counted : l.place ≡ l.value-index;
 }
