@@ -1,0 +1,53 @@
+-- Definitions: which states a point can have, and what its values say when they are written down.
+use Rattle.std.specs.Prelude.{ℕ, ◌≤◌, ◌<◌, ◌≡◌, true, List, ◌∷◌, ◌++◌, length, All, Option, Some, None, option_to_list, slice_index_or}
+use Rattle.fuelling_point.specs.declared.kinds.Transaction.{Transaction}
+use Rattle.fuelling_point.specs.declared.snapshot.Snapshot.{Snapshot}
+use Rattle.fuelling_point.specs.States.{is_busy}
+use Rattle.fuelling_point.specs.Table.{PointState}
+
+-- An unpaid transaction of a point whose newest transaction has the number `last`. Its amount is in cents, its volume in centilitres.
+pub record IsUnpaid (last : ℕ) (t : Transaction) : Type 0 where
+  pub some : 1 ≤ t.number
+  pub number : t.number ≤ last
+  pub amount : t.amount ≤ 999999999
+  pub volume : t.volume ≤ 999999999
+
+-- The numbers of the transactions rise.
+abbrev pub Rise : List Transaction → Type 0
+Rise (older ∷ newer ∷ rest) = (older.number < newer.number) × Rise (newer ∷ rest)
+Rise _ = Unit {0}
+
+-- The ranges of a point's values. At most two transactions are unpaid, and at most one while a delivery is authorised or under way. Of two the older is first.
+pub record IsPointState (p : PointState) : Type 0 where
+  pub nozzle : p.nozzle ≤ 8
+  pub amount : p.amount ≤ 999999999
+  pub volume : p.volume ≤ 999999999
+  pub most : length p.unpaid ≤ 2
+  pub room : is_busy p.state ≡ true → length p.unpaid ≤ 1
+  pub unpaid : All (IsUnpaid p.last) p.unpaid
+  pub rise : Rise p.unpaid
+
+-- The state that a snapshot is of.
+abbrev pub snapshot_state : Snapshot → PointState
+snapshot_state s = record {
+  state = s.state;
+  nozzle = s.nozzle;
+  preset = s.preset;
+  limit = s.limit;
+  amount = s.amount;
+  volume = s.volume;
+  order = s.order;
+  taken = s.taken;
+  last = s.last;
+  unpaid = option_to_list (slice_index_or s.unpaid 0 None) ++ option_to_list (slice_index_or s.unpaid 1 None);
+}
+
+-- Of two places for unpaid transactions, the second is used only if the first is.
+abbrev pub FirstThenSecond : Option Transaction → Option Transaction → Type 0
+FirstThenSecond None (Some t) = ⊥
+FirstThenSecond _ _ = Unit {0}
+
+-- The snapshot is one of a point.
+pub record IsSnapshot (s : Snapshot) : Type 0 where
+  pub places : FirstThenSecond (slice_index_or s.unpaid 0 None) (slice_index_or s.unpaid 1 None)
+  pub state : IsPointState (snapshot_state s)

@@ -1,0 +1,69 @@
+//! All that a fuelling point keeps, as plain values that can be written down and read back.
+
+ghost use Rattle.std.specs.Prelude.{◌↔◌, IsTrue};
+ghost use Rattle.fuelling_point.specs.Snapshot.{IsSnapshot, IsUnpaid};
+ghost use Rattle.fuelling_point.specs.States.{is_busy};
+ghost use Rattle.fuelling_point.specs.Views.{Room, Keeps, IsOlder};
+
+use crate::kinds::{Order, State, Transaction};
+
+/// The greatest amount of a delivery in cents, and its greatest volume in centilitres.
+pub const GREATEST: u64 = 999_999_999;
+
+/// All that a fuelling point keeps. Each field but `unpaid` is what the `Point`'s method of its name returns: amounts
+/// in cents, volumes in centilitres.
+#[derive(Clone, Copy, Drop)]
+pub struct Snapshot {
+    pub state: State,
+    pub nozzle: u32,
+    pub preset: u64,
+    pub limit: u64,
+    pub amount: u64,
+    pub volume: u64,
+    /// The pending order.
+    pub order: Option<Order>,
+    /// Whether the dispenser has taken the order to deliver.
+    pub taken: bool,
+    pub last: u32,
+    /// The unpaid transactions, the older one first.
+    pub unpaid: [Option<Transaction>; 2],
+}
+
+impl Snapshot {
+    /// Returns whether a point can have these values.
+    pub fn is_of_point(&self) -> bool
+        ensures { IsTrue result ↔ IsSnapshot self.now }
+    {
+        let [first, second] = self.unpaid;
+        self.nozzle <= 8
+            && self.amount <= GREATEST
+            && self.volume <= GREATEST
+            && are_places(first, second, self.state)
+            && is_kept(first, self.last)
+            && is_kept(second, self.last)
+    }
+}
+
+/// Returns whether these two places can hold the unpaid transactions of a point in this state.
+fn are_places(first: Option<Transaction>, second: Option<Transaction>, state: State) -> bool
+    ensures { IsTrue result ↔ (Room first second (is_busy state) × IsOlder first second) }
+{
+    match (first, second) {
+        (_, None) => true,
+        (None, Some(_)) => false,
+        (Some(older), Some(newer)) => !state.is_busy() && older.number < newer.number,
+    }
+}
+
+/// Returns whether the place is free, or has a transaction of a point whose newest one has the number `last`.
+fn is_kept(place: Option<Transaction>, last: u32) -> bool
+    ensures { IsTrue result ↔ Keeps last place }
+{
+    match place {
+        None => true,
+        Some(t) => t.number >= 1
+            && t.number <= last
+            && t.amount <= GREATEST
+            && t.volume <= GREATEST,
+    }
+}
