@@ -6,11 +6,14 @@ use Rattle.program_slots.specs.Slots.{version_in}
 use Rattle.program_slots.specs.declared.SlotFault.{SlotFault}
 use Rattle.program_slots.specs.declared.SlotFault.TheVariants.{NoSuchSlot, VersionsFull, OutOfMemory}
 
--- The program became a new version with the next number. It is in its slot, and each other slot keeps its version.
+-- The program became a new version with the next number. It is in its slot, and each other slot keeps its version. What
+-- the slots began with stays.
 pub record Installs (old : SlotsValue) (slot : ℕ) (program : ProgramText) (number : ℕ) (new : SlotsValue) : Type 0 where
-  pub number_is : number ≡ length old.programs + 1
+  pub number_is : number ≡ old.before + length old.programs + 1
   pub programs_are : new.programs ≡ old.programs ++ program ∷ []
   pub installed_is : new.installed ≡ slice_set old.installed slot (Some number)
+  pub before_is : new.before ≡ old.before
+  pub opened_is : new.opened ≡ old.opened
   pub in_slot : version_in new slot ≡ Some (record { number = number; program = program })
   pub elsewhere : (other : ℕ) → other ≢ slot → version_in new other ≡ version_in old other
 

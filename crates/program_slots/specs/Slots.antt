@@ -1,29 +1,45 @@
 -- Definitions: which version is in a slot. There are 16 slots, 0 to 15, and versions are numbered from 1 over all slots (this profile).
-use Rattle.std.specs.Prelude.{ℕ, ◌-◌, nat_le, if◌then◌else◌, [], ◌∷◌, slice_get, slice_index_or, Option, Some, None}
+use Rattle.std.specs.Prelude.{◌≡◌, ◌≤◌, ℕ, ◌-◌, ◌==◌, nat_lt, if◌then◌else◌, List, [], ◌∷◌, slice_get, slice_index_or, Option, option_map, Some, None}
 use Rattle.std.specs.List.{repeat}
-use Rattle.bpf_model.specs.Program.{ProgramText}
-use Rattle.program_slots.specs.Value.{SlotsValue}
+use Rattle.bpf_model.specs.Program.{ProgramText, IsGood}
+use Rattle.reg_types.specs.Shown.{refusal_of}
+use Rattle.program_slots.specs.Value.{SlotsValue, Version}
+
+-- The slot has no version, or one of these many, with a good program that the verifier accepts.
+abbrev pub IsRule : ℕ → Option Version → Type 0
+IsRule versions None = Unit {0}
+IsRule versions (Some v) = (1 ≤ v.number) × (v.number ≤ versions) × IsGood v.program × (refusal_of v.program ≡ None)
+
+-- Slots that begin with these versions, after this many.
+abbrev pub opened_slots : ℕ → List (Option Version) → SlotsValue
+opened_slots before opened = record { before = before; opened = opened; installed = repeat 16 (None ∷ []); programs = [] }
 
 abbrev pub no_versions : SlotsValue
-no_versions = record { installed = repeat 16 (None ∷ []); programs = [] }
+no_versions = opened_slots 0 []
+
+-- The program that was installed as the version of this number.
+abbrev pub installed_program : SlotsValue → ℕ → Option ProgramText
+installed_program v number = slice_get v.programs (number - v.before - 1)
+
+-- The version in a slot: the one that was installed last, or else the one that the slot began with; None for an empty
+-- slot.
+abbrev pub version_in : SlotsValue → ℕ → Option Version
+version_in v slot =
+    elim (slice_index_or v.installed slot None) [
+      | Some n ↦ option_map (λ program. record { number = n; program = program }) (installed_program v n)
+      | None ↦ slice_index_or v.opened slot None
+    ]
 
 -- The number of the version in a slot; None for an empty slot.
 abbrev pub number_in : SlotsValue → ℕ → Option ℕ
-number_in v slot = slice_index_or v.installed slot None
+number_in v slot = option_map (λ (w : Version). w.number) (version_in v slot)
 
--- The program of a version. Versions are numbered from 1.
+-- The program of the first of these versions that has this number.
+abbrev pub program_among : List (Option Version) → ℕ → Option ProgramText
+program_among [] number = None
+program_among (None ∷ rest) number = program_among rest number
+program_among (Some w ∷ rest) number = if w.number == number then Some w.program else program_among rest number
+
+-- The program of a version that was installed in these slots, or that one of them began with.
 abbrev pub program_of : SlotsValue → ℕ → Option ProgramText
-program_of v number = if nat_le 1 number then slice_get v.programs (number - 1) else None
-
--- A version: its number and its program.
-pub record Version : Type 0 where
-  pub number : ℕ
-  pub program : ProgramText
-
--- The version with the number that is stored in a slot; None for an empty slot.
-abbrev pub version_of : SlotsValue → Option ℕ → Option Version
-version_of v None = None
-version_of v (Some n) = elim (program_of v n) [ Some p ↦ Some (record { number = n; program = p }) | None ↦ None ]
-
-abbrev pub version_in : SlotsValue → ℕ → Option Version
-version_in v slot = version_of v (number_in v slot)
+program_of v number = if nat_lt v.before number then installed_program v number else program_among v.opened number

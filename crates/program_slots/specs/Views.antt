@@ -1,18 +1,30 @@
 -- Representation: what the fields of `Slots` mean, and its invariant.
-use Rattle.std.specs.Prelude.{◌≡◌, ℕ, ◌≤◌, length, map, Option, Some, None, All}
+use Rattle.std.specs.Prelude.{◌≡◌, ℕ, ◌+◌, ◌≤◌, ◌<◌, length, map, Option, Some, None, All}
 use Rattle.std.specs.Arc.{arc_value}
 use Rattle.program_slots.specs.Value.{SlotsValue}
+use Rattle.program_slots.specs.Slots.{IsRule}
 use Rattle.program_slots.specs.declared.Slots.TheInside.{Inside}
 
 abbrev pub slots_view : Inside → SlotsValue
-slots_view s = record { installed = s.installed; programs = map (λ program. arc_value program) s.programs.items }
+slots_view s = record {
+  before = s.before;
+  opened = s.opened.items;
+  installed = s.installed;
+  programs = map (λ program. arc_value program) s.programs.items;
+}
 
--- The slot is empty, or its number is that of a version.
-abbrev pub IsVersion : ℕ → Option ℕ → Type 0
-IsVersion count None = Unit {0}
-IsVersion count (Some n) = (1 ≤ n) × (n ≤ count)
+-- Nothing was installed in the slot, or what was has the number of one of `count` versions that were made after the
+-- first `before`.
+abbrev pub IsVersion : ℕ → ℕ → Option ℕ → Type 0
+IsVersion before count None = Unit {0}
+IsVersion before count (Some n) = (before < n) × (n ≤ before + count)
 
+-- There are 16 slots, and each stores the number of a version that was installed. There are at most 4,096 of these, and
+-- at most 4,290,000,000 before them. Each slot began with no version, or with one of those before.
 pub record AreSlots (s : Inside) : Type 0 where
   pub slots : length s.installed ≡ 16
   pub count : length s.programs.items ≤ 4096
-  pub named : All (IsVersion (length s.programs.items)) s.installed
+  pub named : All (IsVersion s.before (length s.programs.items)) s.installed
+  pub before : s.before ≤ 4290000000
+  pub places : length s.opened.items ≤ 16
+  pub rules : All (IsRule s.before) s.opened.items

@@ -1,19 +1,25 @@
 //! The slots that programs are loaded into. Each load makes a new version, whose number is never used again. A slot
-//! stores the number of its newest version.
+//! stores the number of its newest version. Slots may begin with versions that were made before them.
 #![tactic(auto)]
 
-ghost use Rattle.std.specs.Prelude.{◌≡◌, ◌≢◌, ℕ, ◌+◌, MatchOption, OnErr, IfOk, Some, None};
+ghost use Rattle.std.specs.Prelude.{◌≡◌, ℕ, ◌+◌, ◌≤◌, length, map, All, slice_index_or, Some, None};
+ghost use Rattle.std.specs.Prelude.{MatchOption, OnErr, IfOk};
+ghost use Rattle.std.specs.List.{range_with_len};
 ghost use Rattle.std.specs.Arc.{arc_value};
-ghost use Rattle.program_slots.specs.Slots.{no_versions, number_in, program_of};
+ghost use Rattle.program_slots.specs.Slots.{IsRule, no_versions, opened_slots, version_in, number_in, program_of};
+ghost use Rattle.program_slots.specs.Slots.{program_among};
 ghost use Rattle.program_slots.specs.Promises.{Installs, Refuses};
 
+mod version;
+
 use reg_types::Program;
-use std::alloc::Global;
+use std::alloc::{AllocError, Global};
 use std::marker::Model;
 use std::sync::Arc;
 use thiserror::Error;
+pub use version::Version;
 
-/// The greatest number of versions, in all slots together.
+/// The greatest number of versions that can be installed, in all slots together.
 pub const VERSIONS: usize = 4096;
 
 /// The number of slots.
@@ -30,9 +36,11 @@ pub enum SlotFault {
     OutOfMemory,
 }
 
-/// The 16 slots, and the programs of all versions that were ever installed.
+/// The 16 slots, the versions that they began with, and the programs of all versions that were installed since.
 #[derive(Drop)]
 pub struct Slots {
+    before: u32,
+    opened: Vec<Option<Version>>,
     installed: [Option<u32>; 16],
     programs: Vec<Arc<Program>>,
 }
@@ -54,16 +62,29 @@ impl Slots {
     pub fn new(alloc: Global) -> Self
         ensures { result ≡ no_versions }
     {
+        Self::opened(alloc, 0, Vec::new(alloc))
+    }
+
+    /// Makes 16 slots that begin with these versions: the first with the first, and so on. `before`, at most
+    /// 4,290,000,000, is how many versions were ever made. Each of these is one of those. Allocates no memory.
+    pub fn opened(alloc: Global, before: u32, opened: Vec<Option<Version>>) -> Self
+        requires few { before ≤ 4290000000 }
+        requires rules { All (IsRule before) opened.items }
+        requires places { length opened.items ≤ 16 }
+        ensures { result ≡ opened_slots before opened.items }
+    {
         Slots {
+            before,
+            opened,
             installed: [None; 16],
             programs: Vec::new(alloc),
         }
     }
 
-    /// Installs a program in a slot as a new version, and returns the version's number. Versions are numbered from 1.
-    /// No other slot changes.
+    /// Installs a program in a slot as a new version, and returns the version's number. Versions are numbered on from
+    /// how many were made before these slots began. No other slot changes.
     ///
-    /// The error is `NoSuchSlot` for a slot over 15, else `VersionsFull` if there are 4,096 versions, else
+    /// The error is `NoSuchSlot` for a slot over 15, else `VersionsFull` if 4,096 versions were installed, else
     /// `OutOfMemory`. After an error nothing has changed, and the program is dropped.
     pub fn install(&mut self, slot: u32, program: Arc<Program>) -> Result<u32, SlotFault>
         ensures step { IfOk result (λ number. Installs self.old slot (arc_value program) number self.new) }
@@ -79,30 +100,106 @@ impl Slots {
         if self.programs.push(program).is_err() {
             return Err(SlotFault::OutOfMemory);
         }
-        let number = self.programs.len() as u32;
+        let number = self.before + self.programs.len() as u32;
         self.installed[slot as usize] = Some(number);
         Ok(number)
+    }
+
+    /// Returns the number and the program of the version in a slot: the one that was installed last, else the one that
+    /// the slot began with. `None` for an empty slot and for a slot over 15.
+    pub fn in_slot(&self, slot: u32) -> Option<(u32, &Arc<Program>)>
+        ensures { MatchOption result (version_in self.now slot ≡ None)
+            (λ v. version_in self.now slot ≡ Some (record { number = v.0; program = arc_value v.1.now })) }
+    {
+        let Some(number) = *self.installed.get(slot as usize)? else {
+            return opened_in(self.opened.as_slice(), slot);
+        };
+        let program = self.programs.get((number - self.before - 1) as usize)?;
+        Some((number, program))
     }
 
     /// Returns the number of the version in a slot; `None` for an empty slot and for a slot over 15.
     pub fn installed(&self, slot: u32) -> Option<u32>
         ensures { result ≡ number_in self.now slot }
     {
-        if slot < SLOTS {
-            self.installed[slot as usize]
-        } else {
-            None
-        }
+        let (number, _program) = self.in_slot(slot)?;
+        Some(number)
     }
 
-    /// Returns the program of the version of this number, or `None` if there is no such version.
+    /// Returns the program of the version of this number: of one that was installed, or that a slot began with. `None`
+    /// if there is no such version.
     pub fn version(&self, number: u32) -> Option<&Arc<Program>>
         ensures { MatchOption result (program_of self.now number ≡ None)
             (λ program. program_of self.now number ≡ Some (arc_value program.now)) }
     {
-        if number == 0 {
-            return None;
+        if number > self.before {
+            self.programs.get((number - self.before - 1) as usize)
+        } else {
+            program_numbered(self.opened.as_slice(), number)
         }
-        self.programs.get(number as usize - 1)
     }
+
+    /// Returns how many versions were ever made: before these slots began and since.
+    pub fn versions(&self) -> u32
+        ensures { result ≡ self.now.before + length self.now.programs }
+    {
+        self.before + self.programs.len() as u32
+    }
+
+    /// Returns the version in each of slots 0 to 15, as a list that slots can begin with. Copies no program. The error
+    /// is that memory ran out.
+    pub fn rules(&self, alloc: Global) -> Result<Vec<Option<Version>>, AllocError>
+        ensures each { IfOk result
+            (λ rules. rules.items ≡ map (λ slot. version_in self.now slot) (range_with_len 0 16)) }
+        ensures good { IfOk result (λ rules. All (IsRule (self.now.before + length self.now.programs)) rules.items) }
+    {
+        let mut rules = Vec::with_capacity(alloc, SLOTS as usize)?;
+        for slot in 0..SLOTS {
+            rules.push(self.rule(slot)?)?;
+        }
+        Ok(rules)
+    }
+
+    // Returns a copy of the version in a slot. The error is that memory ran out.
+    fn rule(&self, slot: u32) -> Result<Option<Version>, AllocError>
+        ensures same { IfOk result (λ rule. rule ≡ version_in self.now slot) }
+        ensures good { IfOk result (λ rule. IsRule (self.now.before + length self.now.programs) rule) }
+    {
+        // Reading a field gives the prover the invariant.
+        let _before = &self.before;
+        let Some((number, program)) = self.in_slot(slot) else {
+            return Ok(None);
+        };
+        // This call gives the prover that the program is good.
+        let _bytes = program.bytes();
+        let program = Arc::try_clone(program)?;
+        Ok(Some(Version { number, program }))
+    }
+}
+
+// Returns the number and the program of the version that a slot began with, if any.
+fn opened_in(opened: &[Option<Version>], slot: u32) -> Option<(u32, &Arc<Program>)>
+    ensures { MatchOption result (slice_index_or opened.now slot None ≡ None)
+        (λ v. slice_index_or opened.now slot None ≡ Some (record { number = v.0; program = arc_value v.1.now })) }
+{
+    match opened.get(slot as usize)? {
+        Some(version) => Some((version.number, &version.program)),
+        None => None,
+    }
+}
+
+// Returns the program of the first version that has this number, or `None` if there is none.
+fn program_numbered(versions: &[Option<Version>], number: u32) -> Option<&Arc<Program>>
+    ensures { MatchOption result (program_among versions.now number ≡ None)
+        (λ program. program_among versions.now number ≡ Some (arc_value program.now)) }
+{
+    for version in versions {
+        let Some(version) = version else {
+            continue;
+        };
+        if version.number == number {
+            return Some(&version.program);
+        }
+    }
+    None
 }

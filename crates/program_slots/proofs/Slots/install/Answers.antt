@@ -7,12 +7,13 @@ use Rattle.program_slots.proofs.Slots.install.Goals as goal
 
 pub returns-clause-step : goal.returns-clause-step
 returns-clause-step c =
-    let old = c.self.inside.programs.items in
+    let s = c.self.inside in
+    let old = s.programs.items in
     let pushed : c.push.new.self.items ≡ old ++ c.args.program ∷ [] = grind (arith, common_steps) in
     let programs : map (λ x. arc_value x) c.push.new.self.items ≡ map (λ x. arc_value x) old ++ arc_value c.args.program ∷ [] =
     rw pushed (map-append (λ x. arc_value x) old (c.args.program ∷ [])) in
     let count : length (map (λ x. arc_value x) old) ≡ length old = length-map old (λ x. arc_value x) in
-    let number : c.len-number.result ≡ length (map (λ x. arc_value x) old) + 1 = rw count (grind (arith, common_steps)) in
-    let at : c.args.slot < length c.self.inside.installed = grind (arith, common_steps) in
-    rw (← c.self.view_is, programs) (installs c.self.inside.installed (map (λ x. arc_value x) old) c.args.slot (arc_value c.args.program) c.len-number.result
-    number at (rw count c.self.invariant.named))
+    let number : s.before + c.len-2.result ≡ s.before + length (map (λ x. arc_value x) old) + 1 = rw count (grind (arith, common_steps)) in
+    let at : c.args.slot < length s.installed = grind (arith, common_steps) in
+    rw (← c.self.view_is, programs) (installs s.before s.opened.items s.installed (map (λ x. arc_value x) old) c.args.slot (arc_value c.args.program)
+    (s.before + c.len-2.result) number at (rw count c.self.invariant.named))

@@ -1,0 +1,36 @@
+//! A version: a program that was installed in a slot, with its number.
+
+ghost use Rattle.std.specs.Prelude.{◌≡◌, IfOk};
+
+use reg_types::Program;
+use std::alloc::AllocError;
+use std::marker::Model;
+use std::sync::Arc;
+
+/// A version: its number, from 1, and its program.
+#[derive(Drop)]
+pub struct Version {
+    pub number: u32,
+    pub program: Arc<Program>,
+}
+
+impl Model for Version {
+    ghost use Rattle.std.specs.Arc.{arc_value};
+    ghost use Rattle.program_slots.specs.Value.{Version as VersionValue};
+
+    ghost Value = { VersionValue };
+
+    ghost view = { λ v. record { number = v.number; program = arc_value v.program } };
+}
+
+impl Version {
+    /// Makes a second owner of this version, with the same program. The error is that memory ran out.
+    pub fn copied(&self) -> Result<Version, AllocError>
+        ensures { IfOk result (λ v. v ≡ self.now) }
+    {
+        Ok(Version {
+            number: self.number,
+            program: Arc::try_clone(&self.program)?,
+        })
+    }
+}
