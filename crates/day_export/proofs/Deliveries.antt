@@ -14,9 +14,10 @@ use Rattle.till_request.specs.declared.act.Act.TheVariants as act
 use Rattle.till_request.specs.declared.act.Reply.TheVariants as reply
 use Rattle.decision_journal.specs.declared.entries.Entry.{Entry}
 use Rattle.site_core.specs.Limits.{ConfigValue}
-use Rattle.site_core.specs.State.{SiteState, at_number}
+use Rattle.site_core.specs.State.{SiteState, at_number, fresh_state}
 use Rattle.site_core.specs.Step.{effect, entry_of}
 use Rattle.site_core.specs.Legal.{Legal}
+use Rattle.site_core.proofs.First.{first-state}
 use Rattle.day_report.specs.Walk.{with_act, with_entry, closed_points}
 use Rattle.day_report.specs.Sales.{sale_of, unpaid_at}
 use Rattle.day_report.specs.declared.sales.Sale.{Sale}
@@ -289,19 +290,20 @@ comes-more config past b later e h is leaves =
       told = subst (All HasDelivery) (sym more) (All-append HasDelivery _ _ h.told (row-told s e h.kept));
     }
 
-comes : (config : ConfigValue) (past : List Entry) (b : SiteState) → Legal config past b → Comes config past b
-comes config [] b l =
+comes : (config : ConfigValue) (past : List Entry) (b : SiteState) → config.opening ≡ None → Legal config past b → Comes config past b
+comes config [] b first l =
+    let fresh : b ≡ fresh_state config = l ∙ first-state config first in
     record {
-      points = same-points config.points ∙ ap (λ (x : SiteState). x.points) (sym l);
-      prices = ap (λ (x : SiteState). x.prices) (sym l);
+      points = same-points config.points ∙ ap (λ (x : SiteState). x.points) (sym fresh);
+      prices = ap (λ (x : SiteState). x.prices) (sym fresh);
       kept = kept-none (length config.points);
       told = All-nil HasDelivery;
     }
-comes config (e ∷ past) b l = comes-more config past l.0 b e (comes config past l.0 l.1) l.3.enters l.3.leaves
+comes config (e ∷ past) b first l = comes-more config past l.0 b e (comes config past l.0 first l.1) l.3.enters l.3.leaves
 
 pub telling : RowsTellEachSite
-telling config history state legal =
-    let c : Comes config (reverse history) state = comes config (reverse history) state legal in
+telling config history state first legal =
+    let c : Comes config (reverse history) state = comes config (reverse history) state first legal in
     let same : reverse (reverse history) ≡ history = reverse-reverse history in
     record {
       points = ap (λ h. (stands (stand_before config) h).points) (sym same) ∙ c.points;

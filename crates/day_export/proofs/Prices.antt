@@ -20,7 +20,7 @@ use Rattle.decision_journal.specs.declared.entries.Entry.{Entry}
 use Rattle.bpf_model.specs.Machine.{Counters}
 use Rattle.bpf_model.specs.Program.{outcome}
 use Rattle.bpf_model.specs.Layouts.{bytes_of}
-use Rattle.program_slots.specs.Slots.{Version}
+use Rattle.program_slots.specs.Value.{Version}
 use Rattle.site_core.specs.declared.question.Kind.TheVariants as kind
 use Rattle.site_core.specs.declared.question.Question.{Question}
 use Rattle.site_core.specs.Limits.{ConfigValue}
@@ -93,16 +93,16 @@ verdict-same s till moment q v x c p false grants at =
     subst (Same s) (sym (verdict-grant s till moment x g q v c (with_point counted q.point (after_command p till (command_of q.kind g))) grants
     (grant-at counted till x q p at))) refl
 
-version-same : (past : List Entry) (s : SiteState) (till moment : ℕ) (q : Question) (p : PointState) (o : Option Version) → in_force q.slot past ≡ o
-    → at_number s.points q.point ≡ Some p → Same s (decided past s till moment (Ok q))
-version-same past s till moment q p None none at = subst (Same s) (sym (decided-none past s till moment q none)) refl
-version-same past s till moment q p (Some v) some at =
+version-same : (config : ConfigValue) (past : List Entry) (s : SiteState) (till moment : ℕ) (q : Question) (p : PointState) (o : Option Version) → in_force config q.slot past ≡ o
+    → at_number s.points q.point ≡ Some p → Same s (decided config past s till moment (Ok q))
+version-same config past s till moment q p None none at = subst (Same s) (sym (decided-none config past s till moment q none)) refl
+version-same config past s till moment q p (Some v) some at =
     let x : ℕ × Counters = ran (outcome v.program (bytes_of (context v.program.layout s till moment q)) (view_of s) s.counters) s.counters in
-    subst (Same s) (sym (decided-some past s till moment q v some)) (verdict-same s till moment q v x.0 x.1 p (x.0 == 0) refl at)
+    subst (Same s) (sym (decided-some config past s till moment q v some)) (verdict-same s till moment q v x.0 x.1 p (x.0 == 0) refl at)
 
-decided-same : (past : List Entry) (s : SiteState) (till moment : ℕ) (x : Result Question Reply) → AsksThere s x → Same s (decided past s till moment x)
-decided-same past s till moment (Err r) there = subst (Same s) (sym (decided-refused past s till moment r)) refl
-decided-same past s till moment (Ok q) there = version-same past s till moment q there.0 (in_force q.slot past) refl there.1
+decided-same : (config : ConfigValue) (past : List Entry) (s : SiteState) (till moment : ℕ) (x : Result Question Reply) → AsksThere s x → Same s (decided config past s till moment x)
+decided-same config past s till moment (Err r) there = subst (Same s) (sym (decided-refused config past s till moment r)) refl
+decided-same config past s till moment (Ok q) there = version-same config past s till moment q there.0 (in_force config q.slot past) refl there.1
 
 -- ---- price changes
 
@@ -158,32 +158,32 @@ verdict-tells s till moment q v x c product price false grants asks =
     (sym (verdict-grant s till moment x q.asked q v c (record counted { prices = slice_set s.prices (q.product - 1) q.asked }) grants none))
     (ap (λ k. slice_set s.prices (k - 1) q.asked) asks.1 ∙ with-is s.prices product q.asked asks.2)
 
-version-tells : (past : List Entry) (s : SiteState) (till moment : ℕ) (q : Question) (product price : ℕ) (o : Option Version) → in_force q.slot past ≡ o
-    → AsksPrice product (Ok q) → Tells s (act.Till till (request.Price product price)) (decided past s till moment (Ok q))
-version-tells past s till moment q product price None none asks =
-    subst (Tells s (act.Till till (request.Price product price))) (sym (decided-none past s till moment q none)) refl
-version-tells past s till moment q product price (Some v) some asks =
+version-tells : (config : ConfigValue) (past : List Entry) (s : SiteState) (till moment : ℕ) (q : Question) (product price : ℕ) (o : Option Version) → in_force config q.slot past ≡ o
+    → AsksPrice product (Ok q) → Tells s (act.Till till (request.Price product price)) (decided config past s till moment (Ok q))
+version-tells config past s till moment q product price None none asks =
+    subst (Tells s (act.Till till (request.Price product price))) (sym (decided-none config past s till moment q none)) refl
+version-tells config past s till moment q product price (Some v) some asks =
     let x : ℕ × Counters = ran (outcome v.program (bytes_of (context v.program.layout s till moment q)) (view_of s) s.counters) s.counters in
-    subst (Tells s (act.Till till (request.Price product price))) (sym (decided-some past s till moment q v some))
+    subst (Tells s (act.Till till (request.Price product price))) (sym (decided-some config past s till moment q v some))
     (verdict-tells s till moment q v x.0 x.1 product price (x.0 == 0) refl asks)
 
-price-tells : (past : List Entry) (s : SiteState) (till moment product price : ℕ) (x : Result Question Reply) → AsksPrice product x
-    → Tells s (act.Till till (request.Price product price)) (decided past s till moment x)
-price-tells past s till moment product price (Err r) asks =
-    subst (Tells s (act.Till till (request.Price product price))) (sym (decided-refused past s till moment r))
+price-tells : (config : ConfigValue) (past : List Entry) (s : SiteState) (till moment product price : ℕ) (x : Result Question Reply) → AsksPrice product x
+    → Tells s (act.Till till (request.Price product price)) (decided config past s till moment x)
+price-tells config past s till moment product price (Err r) asks =
+    subst (Tells s (act.Till till (request.Price product price))) (sym (decided-refused config past s till moment r))
     (subst (λ y. s.prices ≡ prices_after s.prices (act.Till till (request.Price product price)) y) (sym asks.2) refl)
-price-tells past s till moment product price (Ok q) asks = version-tells past s till moment q product price (in_force q.slot past) refl asks
+price-tells config past s till moment product price (Ok q) asks = version-tells config past s till moment q product price (in_force config q.slot past) refl asks
 
 -- ---- the prices after any act
 
 asked-tells : (config : ConfigValue) (past : List Entry) (s : SiteState) (till moment : ℕ) (r : Request)
     → Tells s (act.Till till r) (asked config past s till moment r)
 asked-tells config past s till moment (request.Release n a) =
-    decided-same past s till moment (release_question config s n a) (release-there config s n a (at_number s.points n) refl)
+    decided-same config past s till moment (release_question config s n a) (release-there config s n a (at_number s.points n) refl)
 asked-tells config past s till moment (request.Preset n a) =
-    decided-same past s till moment (preset_question config s n a) (preset-there config s n a (at_number s.points n) refl)
+    decided-same config past s till moment (preset_question config s n a) (preset-there config s n a (at_number s.points n) refl)
 asked-tells config past s till moment (request.Price n a) =
-    price-tells past s till moment n a (price_question config s n a) (price-asks (first_busy s) n a config.price_slot)
+    price-tells config past s till moment n a (price_question config s n a) (price-asks (first_busy s) n a config.price_slot)
 asked-tells config past s till moment (request.OpenPoint n) = commanded-same s till n _ (at_number s.points n) refl
 asked-tells config past s till moment (request.ClosePoint n) = commanded-same s till n _ (at_number s.points n) refl
 asked-tells config past s till moment (request.Suspend n) = commanded-same s till n _ (at_number s.points n) refl

@@ -1,5 +1,5 @@
 -- Promises: laws about the rows of a day.
-use Rattle.std.specs.Prelude.{◌≡◌, ◌<◌, ℕ, ◌^◌, Bool, List, [], ◌∷◌, ◌++◌, drop, length, map, slice_index_or, Some, All}
+use Rattle.std.specs.Prelude.{◌≡◌, ◌<◌, ℕ, ◌^◌, Bool, List, [], ◌∷◌, ◌++◌, drop, length, map, slice_index_or, Some, None, All}
 use Rattle.std.specs.List.{AllByRecursion, filter_map}
 use Rattle.csv.specs.Reading.{AreRecords, default_config, strip_bom}
 use Rattle.csv.specs.declared.parser.State.TheVariants as state
@@ -68,10 +68,11 @@ pub record RowsTellTheSite (config : ConfigValue) (history : List Entry) (state 
   pub prices : (stand_at config history).prices ≡ state.prices
   pub deliveries : All HasDelivery (rows_of rows.Sales config history)
 
--- `RowsTellTheSite` holds for every legal history.
+-- `RowsTellTheSite` holds for every legal history of a site that has no day behind it.
 abbrev pub RowsTellEachSite : Type 0
 RowsTellEachSite =
-    (config : ConfigValue) (history : List Entry) (state : SiteState) → LegalHistory config history state → RowsTellTheSite config history state
+    (config : ConfigValue) (history : List Entry) (state : SiteState) → config.opening ≡ None → LegalHistory config history state
+    → RowsTellTheSite config history state
 
 -- ---- contexts
 

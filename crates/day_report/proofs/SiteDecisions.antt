@@ -23,16 +23,17 @@ use Rattle.decision_journal.specs.declared.entries.Entry.{Entry}
 use Rattle.bpf_model.specs.Machine.{Counters}
 use Rattle.bpf_model.specs.Program.{ProgramText, outcome}
 use Rattle.bpf_model.specs.Layouts.{bytes_of}
-use Rattle.program_slots.specs.Slots.{Version}
+use Rattle.program_slots.specs.Value.{Version}
 use Rattle.site_core.specs.declared.question.Question.{Question}
 use Rattle.site_core.specs.Limits.{ConfigValue}
 use Rattle.site_core.specs.State.{SiteState, at_number, first_busy, view_of}
 use Rattle.site_core.specs.Context.{context}
-use Rattle.site_core.specs.History.{loaded, in_force, versions}
+use Rattle.site_core.specs.History.{loaded, in_force, versions, versions_before}
 use Rattle.site_core.specs.Decide.{Effect, replied, refused, denied, no_such_till, is_decided, is_till, release_question, preset_question, price_question}
 use Rattle.site_core.specs.Decide.{decided, verdict, ran, grant}
 use Rattle.site_core.specs.Step.{effect, asked, commanded, command_effect, reported, event_effect, order_reply, fault_reply, show_reply}
 use Rattle.site_core.specs.Legal.{Legal}
+use Rattle.site_core.proofs.First.{first-rule, first-versions}
 use Rattle.site_core.proofs.Points.{commanded-none, commanded-some, reported-none, reported-some}
 use Rattle.site_core.proofs.Decisions.{decided-refused, decided-none, decided-some}
 use Rattle.site_core.proofs.Grants.{verdict-deny, verdict-grant}
@@ -111,27 +112,31 @@ all-versions n (d ∷ ds) fits =
 abbrev InRange : Version → ℕ → Type 0
 InRange v n = (1 ≤ v.number) × (v.number ≤ n)
 
-if-force : (b : Bool) (n : ℕ) (p : ProgramText) (o : Option Version) (v : Version) → (o ≡ Some v → InRange v n)
-    → (if b then Some (record { number = n + 1; program = p }) else o) ≡ Some v → InRange v (n + 1)
-if-force true n p o v earlier h =
-    let e : ◌≡◌ {A = Version} (record { number = n + 1; program = p }) v = cc in
-    let is : n + 1 ≡ v.number = ap (λ (x : Version). x.number) e in
-    (omega (arith, is), omega (arith, is))
-if-force false n p o v earlier h = let r = earlier h in let l : v.number ≤ n = r.1 in (r.0, omega (arith, l))
+if-force : (b : Bool) (before n : ℕ) (p : ProgramText) (o : Option Version) (v : Version) → before ≡ 0 → (o ≡ Some v → InRange v n)
+    → (if b then Some (record { number = before + n + 1; program = p }) else o) ≡ Some v → InRange v (n + 1)
+if-force true before n p o v none earlier h =
+    let e : ◌≡◌ {A = Version} (record { number = before + n + 1; program = p }) v = cc in
+    let is : before + n + 1 ≡ v.number = ap (λ (x : Version). x.number) e in
+    (omega (arith, is, none), omega (arith, is, none))
+if-force false before n p o v none earlier h = let r = earlier h in let l : v.number ≤ n = r.1 in (r.0, omega (arith, l))
 
-force-more : (slot : ℕ) (earlier : List Entry) (v : Version) (o : Option (ℕ × ProgramText)) → (in_force slot earlier ≡ Some v → InRange v (versions earlier))
+force-more : (config : ConfigValue) (slot : ℕ) (earlier : List Entry) (v : Version) (o : Option (ℕ × ProgramText)) → versions_before config ≡ 0
+    → (in_force config slot earlier ≡ Some v → InRange v (versions earlier))
     → (elim o as (λ _. Option Version) [
-      | Some l ↦ if l.0 == slot then Some (record { number = versions earlier + 1; program = l.1 })
-          else in_force slot earlier
-      | None ↦ in_force slot earlier
+      | Some l ↦ if l.0 == slot then Some (record { number = versions_before config + versions earlier + 1; program = l.1 })
+          else in_force config slot earlier
+      | None ↦ in_force config slot earlier
     ]) ≡ Some v
     → InRange v (elim o as (λ _. ℕ) [ Some _ ↦ versions earlier + 1 | None ↦ versions earlier ])
-force-more slot earlier v None h is = h is
-force-more slot earlier v (Some l) h is = if-force (l.0 == slot) (versions earlier) l.1 (in_force slot earlier) v h is
+force-more config slot earlier v None none h is = h is
+force-more config slot earlier v (Some l) none h is =
+    if-force (l.0 == slot) (versions_before config) (versions earlier) l.1 (in_force config slot earlier) v none h is
 
-in-range : (slot : ℕ) (past : List Entry) (v : Version) → in_force slot past ≡ Some v → InRange v (versions past)
-in-range slot [] v h = absurd (cc)
-in-range slot (entry ∷ earlier) v h = force-more slot earlier v (loaded entry.act entry.reply) (in-range slot earlier v) h
+in-range : (config : ConfigValue) (first : config.opening ≡ None) (slot : ℕ) (past : List Entry) (v : Version) → in_force config slot past ≡ Some v
+    → InRange v (versions past)
+in-range config first slot [] v h = absurd (let e : ◌≡◌ {A = Option Version} None (Some v) = sym (first-rule config slot first) ∙ h in cc)
+in-range config first slot (entry ∷ earlier) v h =
+    force-more config slot earlier v (loaded entry.act entry.reply) (first-versions config first) (in-range config first slot earlier v) h
 
 -- ---- the decision in each act and its reply
 
@@ -218,20 +223,20 @@ verdict-says past s till moment q v n c r x false is asks range =
     subst (λ e. DecidesOne past (act.Till till r) e.reply) (sym (verdict-grant s till moment n g.0 q v c g.1 is refl))
     (says past till r x (reply.Granted g.0 v.number) v true asks refl refl range)
 
-version-says : (past : List Entry) (s : SiteState) (till moment : ℕ) (q : Question) (r : Request) (x : Asked) (o : Option Version) → in_force q.slot past ≡ o
-    → asked_by r ≡ Some x → DecidesOne past (act.Till till r) (decided past s till moment (Ok q)).reply
-version-says past s till moment q r x None none asks =
-    subst (λ e. DecidesOne past (act.Till till r) e.reply) (sym (decided-none past s till moment q none)) (quiet past (act.Till till r) _ refl)
-version-says past s till moment q r x (Some v) some asks =
+version-says : (config : ConfigValue) (first : config.opening ≡ None) (past : List Entry) (s : SiteState) (till moment : ℕ) (q : Question) (r : Request) (x : Asked) (o : Option Version) → in_force config q.slot past ≡ o
+    → asked_by r ≡ Some x → DecidesOne past (act.Till till r) (decided config past s till moment (Ok q)).reply
+version-says config first past s till moment q r x None none asks =
+    subst (λ e. DecidesOne past (act.Till till r) e.reply) (sym (decided-none config past s till moment q none)) (quiet past (act.Till till r) _ refl)
+version-says config first past s till moment q r x (Some v) some asks =
     let y : ℕ × Counters = ran (outcome v.program (bytes_of (context v.program.layout s till moment q)) (view_of s) s.counters) s.counters in
-    subst (λ e. DecidesOne past (act.Till till r) e.reply) (sym (decided-some past s till moment q v some))
-    (verdict-says past s till moment q v y.0 y.1 r x (y.0 == 0) refl asks (in-range q.slot past v some))
+    subst (λ e. DecidesOne past (act.Till till r) e.reply) (sym (decided-some config past s till moment q v some))
+    (verdict-says past s till moment q v y.0 y.1 r x (y.0 == 0) refl asks (in-range config first q.slot past v some))
 
-question-says : (past : List Entry) (s : SiteState) (till moment : ℕ) (r : Request) (x : Asked) (y : Result Question Reply) → asked_by r ≡ Some x
-    → refuses y ≡ false → DecidesOne past (act.Till till r) (decided past s till moment y).reply
-question-says past s till moment r x (Err f) asks silent =
-    subst (λ e. DecidesOne past (act.Till till r) e.reply) (sym (decided-refused past s till moment f)) (quiet past (act.Till till r) f silent)
-question-says past s till moment r x (Ok q) asks silent = version-says past s till moment q r x (in_force q.slot past) refl asks
+question-says : (config : ConfigValue) (first : config.opening ≡ None) (past : List Entry) (s : SiteState) (till moment : ℕ) (r : Request) (x : Asked) (y : Result Question Reply) → asked_by r ≡ Some x
+    → refuses y ≡ false → DecidesOne past (act.Till till r) (decided config past s till moment y).reply
+question-says config first past s till moment r x (Err f) asks silent =
+    subst (λ e. DecidesOne past (act.Till till r) e.reply) (sym (decided-refused config past s till moment f)) (quiet past (act.Till till r) f silent)
+question-says config first past s till moment r x (Ok q) asks silent = version-says config first past s till moment q r x (in_force config q.slot past) refl asks
 
 -- ---- requests and replies without a decision
 
@@ -276,42 +281,42 @@ load-no false more v = refl
 
 -- ---- the decision of any act
 
-asked-decides : (config : ConfigValue) (past : List Entry) (s : SiteState) (till moment : ℕ) (r : Request)
+asked-decides : (config : ConfigValue) (first : config.opening ≡ None) (past : List Entry) (s : SiteState) (till moment : ℕ) (r : Request)
     → DecidesOne past (act.Till till r) (asked config past s till moment r).reply
-asked-decides config past s till moment (request.Release n a) = question-says past s till moment (request.Release n a) kinds.Release
+asked-decides config first past s till moment (request.Release n a) = question-says config first past s till moment (request.Release n a) kinds.Release
     (release_question config s n a) refl (release-no config s n a (at_number s.points n) refl)
-asked-decides config past s till moment (request.Preset n a) =
-    question-says past s till moment (request.Preset n a) kinds.Preset (preset_question config s n a) refl (preset-no config s n a (at_number s.points n) refl)
-asked-decides config past s till moment (request.Price n a) =
-    question-says past s till moment (request.Price n a) kinds.Price (price_question config s n a) refl (price-no (first_busy s) n a config.price_slot)
-asked-decides config past s till moment (request.OpenPoint n) =
+asked-decides config first past s till moment (request.Preset n a) =
+    question-says config first past s till moment (request.Preset n a) kinds.Preset (preset_question config s n a) refl (preset-no config s n a (at_number s.points n) refl)
+asked-decides config first past s till moment (request.Price n a) =
+    question-says config first past s till moment (request.Price n a) kinds.Price (price_question config s n a) refl (price-no (first_busy s) n a config.price_slot)
+asked-decides config first past s till moment (request.OpenPoint n) =
     quiet past (act.Till till (request.OpenPoint n)) _ (commanded-no s till n command.OpenPoint (at_number s.points n) refl)
-asked-decides config past s till moment (request.ClosePoint n) =
+asked-decides config first past s till moment (request.ClosePoint n) =
     quiet past (act.Till till (request.ClosePoint n)) _ (commanded-no s till n command.ClosePoint (at_number s.points n) refl)
-asked-decides config past s till moment (request.Suspend n) =
+asked-decides config first past s till moment (request.Suspend n) =
     quiet past (act.Till till (request.Suspend n)) _ (commanded-no s till n command.Suspend (at_number s.points n) refl)
-asked-decides config past s till moment (request.Resume n) =
+asked-decides config first past s till moment (request.Resume n) =
     quiet past (act.Till till (request.Resume n)) _ (commanded-no s till n command.Resume (at_number s.points n) refl)
-asked-decides config past s till moment (request.Stop n) =
+asked-decides config first past s till moment (request.Stop n) =
     quiet past (act.Till till (request.Stop n)) _ (commanded-no s till n command.Stop (at_number s.points n) refl)
-asked-decides config past s till moment (request.Lock n x) =
+asked-decides config first past s till moment (request.Lock n x) =
     quiet past (act.Till till (request.Lock n x)) _ (commanded-no s till n (command.Lock x) (at_number s.points n) refl)
-asked-decides config past s till moment (request.Unlock n x) =
+asked-decides config first past s till moment (request.Unlock n x) =
     quiet past (act.Till till (request.Unlock n x)) _ (commanded-no s till n (command.Unlock x) (at_number s.points n) refl)
-asked-decides config past s till moment (request.Clear n x) =
+asked-decides config first past s till moment (request.Clear n x) =
     quiet past (act.Till till (request.Clear n x)) _ (commanded-no s till n (command.Clear x) (at_number s.points n) refl)
-asked-decides config past s till moment (request.Show n) = quiet past (act.Till till (request.Show n)) _ (show-no s n (at_number s.points n) refl)
+asked-decides config first past s till moment (request.Show n) = quiet past (act.Till till (request.Show n)) _ (show-no s n (at_number s.points n) refl)
 
-till-decides : (config : ConfigValue) (past : List Entry) (s : SiteState) (till moment : ℕ) (r : Request) (b : Bool)
+till-decides : (config : ConfigValue) (first : config.opening ≡ None) (past : List Entry) (s : SiteState) (till moment : ℕ) (r : Request) (b : Bool)
     → DecidesOne past (act.Till till r) (if b then asked config past s till moment r else replied no_such_till s).reply
-till-decides config past s till moment r true = asked-decides config past s till moment r
-till-decides config past s till moment r false = quiet past (act.Till till r) no_such_till refl
+till-decides config first past s till moment r true = asked-decides config first past s till moment r
+till-decides config first past s till moment r false = quiet past (act.Till till r) no_such_till refl
 
-effect-decides : (config : ConfigValue) (past : List Entry) (s : SiteState) (moment : ℕ) (a : Act) → DecidesOne past a (effect config past s moment a).reply
-effect-decides config past s moment (act.Till till r) = till-decides config past s till moment r (is_till config till)
-effect-decides config past s moment (act.Dispenser n event) = quiet past (act.Dispenser n event) _ (reported-no s n event (at_number s.points n) refl)
-effect-decides config past s moment (act.Load slot mask layout bytes) =
-    quiet past (act.Load slot mask layout bytes) _ (load-no (nat_le slot 15) (nat_lt (versions past) 4096) (versions past + 1))
+effect-decides : (config : ConfigValue) (first : config.opening ≡ None) (past : List Entry) (s : SiteState) (moment : ℕ) (a : Act) → DecidesOne past a (effect config past s moment a).reply
+effect-decides config first past s moment (act.Till till r) = till-decides config first past s till moment r (is_till config till)
+effect-decides config first past s moment (act.Dispenser n event) = quiet past (act.Dispenser n event) _ (reported-no s n event (at_number s.points n) refl)
+effect-decides config first past s moment (act.Load slot mask layout bytes) =
+    quiet past (act.Load slot mask layout bytes) _ (load-no (nat_le slot 15) (nat_lt (versions past) 4096) (versions_before config + versions past + 1))
 
 -- ---- induction over the entries of a history
 
@@ -373,16 +378,16 @@ comes-more past entry one h =
       loaded = omega (arith, pushed, were, loading);
     }
 
-comes : (config : ConfigValue) (past : List Entry) (s : SiteState) → Legal config past s → Comes past
-comes config [] s l = record { count = refl; fits = tt; loaded = refl }
-comes config (entry ∷ past) s l =
+comes : (config : ConfigValue) (first : config.opening ≡ None) (past : List Entry) (s : SiteState) → Legal config past s → Comes past
+comes config first [] s l = record { count = refl; fits = tt; loaded = refl }
+comes config first (entry ∷ past) s l =
     let e : Effect = effect config past l.0 entry.moment entry.act in
     let answered : entry.reply ≡ e.reply = ap (λ (x : Entry). x.reply) l.3.enters in
-    comes-more past entry (subst (DecidesOne past entry.act) (sym answered) (effect-decides config past l.0 entry.moment entry.act)) (comes config past l.0 l.1)
+    comes-more past entry (subst (DecidesOne past entry.act) (sym answered) (effect-decides config first past l.0 entry.moment entry.act)) (comes config first past l.0 l.1)
 
 pub tells : VersionsTellAllDecisions
-tells config history state legal =
-    let c : Comes (reverse history) = comes config (reverse history) state legal in
+tells config history state first legal =
+    let c : Comes (reverse history) = comes config first (reverse history) state legal in
     let same : reverse (reverse history) ≡ history = reverse-reverse history in
     let ds = filter_map decision_of history in
     let loaded : length (loads 0 history) ≡ versions (reverse history) = ap (λ h. length (loads 0 h)) (sym same) ∙ c.loaded in

@@ -16,10 +16,11 @@ use Rattle.till_request.specs.declared.act.Act.TheVariants as act
 use Rattle.till_request.specs.declared.act.Request.{Request}
 use Rattle.till_request.specs.declared.act.Request.TheVariants as request
 use Rattle.site_core.specs.Limits.{ConfigValue}
-use Rattle.site_core.specs.State.{SiteState, at_number}
+use Rattle.site_core.specs.State.{SiteState, at_number, fresh_state}
 use Rattle.site_core.specs.Decide.{Effect, is_till, after_command, replied, no_such_till}
 use Rattle.site_core.specs.Step.{effect, entry_of, asked}
 use Rattle.site_core.specs.Legal.{Legal}
+use Rattle.site_core.proofs.First.{first-state}
 use Rattle.day_report.specs.Walk.{with_changed, with_command, with_entry, with_act, after_event, command_told, stand, closed_points}
 use Rattle.day_report.specs.Sales.{cleared_by, clearing_of, unpaid_at, sale_of, sales}
 use Rattle.day_report.specs.Totals.{count_in, cents_in}
@@ -264,15 +265,17 @@ comes-more config past b s entry h is leaves =
           (sale-fits config past b entry (clearing_of entry.act entry.reply) (paid b.points (clearing_of entry.act entry.reply)) h.long is refl refl));
     }
 
-comes : (config : ConfigValue) (past : List Entry) (s : SiteState) → Legal config past s → Comes config past s
-comes config [] s l = record {
-  points = same-points config.points ∙ ap (λ (x : SiteState). x.points) (sym l);
-  count = ap (λ (x : SiteState). x.clears) (sym l);
-  cents = ap (λ (x : SiteState). x.cleared) (sym l);
-  long = ap (λ (x : SiteState). length x.points) l ∙ opening-long config.points;
-  fits = tt;
-}
-comes config (entry ∷ past) s l = comes-more config past l.0 s entry (comes config past l.0 l.1) l.3.enters l.3.leaves
+comes : (config : ConfigValue) (past : List Entry) (s : SiteState) → config.opening ≡ None → Legal config past s → Comes config past s
+comes config [] s first l =
+    let fresh : s ≡ fresh_state config = l ∙ first-state config first in
+    record {
+      points = same-points config.points ∙ ap (λ (x : SiteState). x.points) (sym fresh);
+      count = ap (λ (x : SiteState). x.clears) (sym fresh);
+      cents = ap (λ (x : SiteState). x.cleared) (sym fresh);
+      long = ap (λ (x : SiteState). length x.points) fresh ∙ opening-long config.points;
+      fits = tt;
+    }
+comes config (entry ∷ past) s first l = comes-more config past l.0 s entry (comes config past l.0 first l.1) l.3.enters l.3.leaves
 
 -- ---- sums by a key
 
@@ -338,8 +341,8 @@ till-keys config tills (s ∷ sales) most f = let l : s.till ≤ config.tills =
     f.0.till in ((f.0.some_till, omega (arith, l, most)), till-keys config tills sales most f.1)
 
 pub tells : SalesTellTheSite
-tells config history state legal =
-    let c : Comes config (reverse history) state = comes config (reverse history) state legal in
+tells config history state first legal =
+    let c : Comes config (reverse history) state = comes config (reverse history) state first legal in
     let same : reverse (reverse history) ≡ history = reverse-reverse history in
     let cents : cents_in part.All (sales_of config history) ≡ state.cleared = ap (λ h. cents_in part.All (sales_of config h)) (sym same) ∙ c.cents in
     let fits : Fit config (sales_of config history) = subst (λ h. Fit config (sales_of config h)) same c.fits in

@@ -29,14 +29,14 @@ use Rattle.bpf_model.specs.declared.context.Layout.{Layout}
 use Rattle.bpf_model.specs.Machine.{Counters}
 use Rattle.bpf_model.specs.Program.{outcome}
 use Rattle.bpf_model.specs.Layouts.{bytes_of}
-use Rattle.program_slots.specs.Slots.{Version}
+use Rattle.program_slots.specs.Value.{Version}
 use Rattle.site_core.specs.declared.question.Kind.{Kind}
 use Rattle.site_core.specs.declared.question.Kind.TheVariants as kind
 use Rattle.site_core.specs.declared.question.Question.{Question}
 use Rattle.site_core.specs.Limits.{ConfigValue}
 use Rattle.site_core.specs.State.{SiteState, at_number, with_point, first_busy, view_of}
 use Rattle.site_core.specs.Context.{context}
-use Rattle.site_core.specs.History.{in_force, versions}
+use Rattle.site_core.specs.History.{in_force, versions, versions_before}
 use Rattle.site_core.specs.Decide.{Effect, replied, refused, no_such_till, is_till, is_within, bad_amount, transactions_full, wrong_state, need, slots_of}
 use Rattle.site_core.specs.Decide.{release_question, preset_question, price_question, price_at, decided, verdict, ran, grant, granted_point, command_of}
 use Rattle.site_core.specs.Decide.{after_command}
@@ -377,32 +377,32 @@ verdict-says s till moment q v x c r false nonzero says =
     let g = grant (record s { counters = c }) till q x in
     subst (Tells s (act.Till till r)) (sym (verdict-grant s till moment x g.0 q v c g.1 nonzero refl)) (plain-clearing s till r g.0 v.number g.1 _ (says x c))
 
-version-says : (past : List Entry) (s : SiteState) (till moment : ℕ) (q : Question) (r : Request) (o : Option Version) → in_force q.slot past ≡ o
+version-says : (config : ConfigValue) (past : List Entry) (s : SiteState) (till moment : ℕ) (q : Question) (r : Request) (o : Option Version) → in_force config q.slot past ≡ o
     → ((v : ℕ) (y : ℕ) (d : Counters) → GrantTells s till r v (grant (record s { counters = d }) till q y))
-    → Tells s (act.Till till r) (decided past s till moment (Ok q))
-version-says past s till moment q r None none says = subst (Tells s (act.Till till r)) (sym (decided-none past s till moment q none)) (same-till s till r _ tt)
-version-says past s till moment q r (Some v) some says =
+    → Tells s (act.Till till r) (decided config past s till moment (Ok q))
+version-says config past s till moment q r None none says = subst (Tells s (act.Till till r)) (sym (decided-none config past s till moment q none)) (same-till s till r _ tt)
+version-says config past s till moment q r (Some v) some says =
     let x : ℕ × Counters = ran (outcome v.program (bytes_of (context v.program.layout s till moment q)) (view_of s) s.counters) s.counters in
-    subst (Tells s (act.Till till r)) (sym (decided-some past s till moment q v some))
+    subst (Tells s (act.Till till r)) (sym (decided-some config past s till moment q v some))
     (verdict-says s till moment q v x.0 x.1 r (x.0 == 0) refl (says v.number))
 
-point-says : (past : List Entry) (s : SiteState) (till moment n : ℕ) (k : Kind) (r : Request) (x : Result Question Reply) → 0 < till → AsksAt k n x
-    → Grants k n r → Tells s (act.Till till r) (decided past s till moment x)
-point-says past s till moment n k r (Err f) some asks grants =
-    subst (Tells s (act.Till till r)) (sym (decided-refused past s till moment f))
+point-says : (config : ConfigValue) (past : List Entry) (s : SiteState) (till moment n : ℕ) (k : Kind) (r : Request) (x : Result Question Reply) → 0 < till → AsksAt k n x
+    → Grants k n r → Tells s (act.Till till r) (decided config past s till moment x)
+point-says config past s till moment n k r (Err f) some asks grants =
+    subst (Tells s (act.Till till r)) (sym (decided-refused config past s till moment f))
     (subst (λ y. Tells s (act.Till till r) (replied y s)) (sym asks.2) (same-till s till r (reply.Refused asks.0 asks.1) tt))
-point-says past s till moment n k r (Ok q) some asks grants =
+point-says config past s till moment n k r (Ok q) some asks grants =
     let here : Grants q.kind q.point r = λ g. grants g ∙ (λ i. Some (sym asks.1 i, command_of (sym asks.0 i) g)) in
-    version-says past s till moment q r (in_force q.slot past) refl (λ v y d. grant-tells s till y q r v d (at_number s.points q.point) some refl here)
+    version-says config past s till moment q r (in_force config q.slot past) refl (λ v y d. grant-tells s till y q r v d (at_number s.points q.point) some refl here)
 
-price-says : (past : List Entry) (s : SiteState) (till moment n a : ℕ) (x : Result Question Reply) → AsksAt kind.Price 0 x
-    → Tells s (act.Till till (request.Price n a)) (decided past s till moment x)
-price-says past s till moment n a (Err f) asks =
-    subst (Tells s (act.Till till (request.Price n a))) (sym (decided-refused past s till moment f))
+price-says : (config : ConfigValue) (past : List Entry) (s : SiteState) (till moment n a : ℕ) (x : Result Question Reply) → AsksAt kind.Price 0 x
+    → Tells s (act.Till till (request.Price n a)) (decided config past s till moment x)
+price-says config past s till moment n a (Err f) asks =
+    subst (Tells s (act.Till till (request.Price n a))) (sym (decided-refused config past s till moment f))
     (subst (λ y. Tells s (act.Till till (request.Price n a)) (replied y s)) (sym asks.2)
     (same-till s till (request.Price n a) (reply.Refused asks.0 asks.1) tt))
-price-says past s till moment n a (Ok q) asks =
-    version-says past s till moment q (request.Price n a) (in_force q.slot past) refl (λ v y d. price-tells s till y q n a v d asks.1)
+price-says config past s till moment n a (Ok q) asks =
+    version-says config past s till moment q (request.Price n a) (in_force config q.slot past) refl (λ v y d. price-tells s till y q n a v d asks.1)
 
 -- ---- the steps of all acts
 
@@ -416,12 +416,12 @@ show-tells s till n (Some p) at =
 
 asked-says : (config : ConfigValue) (past : List Entry) (s : SiteState) (till moment : ℕ) (r : Request) → 0 < till
     → Tells s (act.Till till r) (asked config past s till moment r)
-asked-says config past s till moment (request.Release n a) some = point-says past s till moment n kind.Release (request.Release n a)
+asked-says config past s till moment (request.Release n a) some = point-says config past s till moment n kind.Release (request.Release n a)
     (release_question config s n a) some (release-asks config s n a (at_number s.points n) refl) (λ g. refl)
-asked-says config past s till moment (request.Preset n a) some = point-says past s till moment n kind.Preset (request.Preset n a) (preset_question config s n a)
+asked-says config past s till moment (request.Preset n a) some = point-says config past s till moment n kind.Preset (request.Preset n a) (preset_question config s n a)
     some (preset-asks config s n a (at_number s.points n) refl) (λ g. refl)
 asked-says config past s till moment (request.Price n a) some =
-    price-says past s till moment n a (price_question config s n a) (price-asks (first_busy s) n a config.price_slot)
+    price-says config past s till moment n a (price_question config s n a) (price-asks (first_busy s) n a config.price_slot)
 asked-says config past s till moment (request.OpenPoint n) some =
     done-tells s till n (request.OpenPoint n) command.OpenPoint (at_number s.points n) some refl refl
 asked-says config past s till moment (request.ClosePoint n) some =
@@ -509,4 +509,4 @@ pub effect-says : (config : ConfigValue) (past : List Entry) (s : SiteState) (mo
 effect-says config past s moment (act.Till till r) = till-says config past s till moment r (is_till config till) refl
 effect-says config past s moment (act.Dispenser n event) = reported-says s n event (at_number s.points n) refl
 effect-says config past s moment (act.Load slot mask layout bytes) = load-says s (act.Load slot mask layout bytes) (nat_le slot 15)
-    (nat_lt (versions past) 4096) (versions past + 1) (λ r. refl) (load-clears-none slot mask layout bytes)
+    (nat_lt (versions past) 4096) (versions_before config + versions past + 1) (λ r. refl) (load-clears-none slot mask layout bytes)

@@ -1,5 +1,5 @@
 -- Promises: laws about what a history adds up to.
-use Rattle.std.specs.Prelude.{◌≡◌, ◌≤◌, ℕ, ◌+◌, true, false, List, length, sum_by, count_by}
+use Rattle.std.specs.Prelude.{◌≡◌, ◌≤◌, ℕ, ◌+◌, true, false, List, length, sum_by, count_by, None}
 use Rattle.std.specs.List.{range_with_len, filter_map}
 use Rattle.decision_journal.specs.declared.entries.Entry.{Entry}
 use Rattle.site_core.specs.Limits.{ConfigValue}
@@ -29,9 +29,11 @@ pub record TellsItsSite (config : ConfigValue) (history : List Entry) (state : S
   pub by_point : sum_by (λ n. cents_in (part.Point n) (sales_of config history)) (range_with_len 1 (length config.points)) ≡ state.cleared
   pub by_till : (tills : ℕ) → config.tills ≤ tills → sum_by (λ t. cents_in (part.Till t) (sales_of config history)) (range_with_len 1 tills) ≡ state.cleared
 
--- The sales in the journal of any legal history agree with the state that the history leads to.
+-- The sales in the journal of any legal history agree with the state that the history leads to, if the site has no day
+-- behind it.
 abbrev pub SalesTellTheSite : Type 0
-SalesTellTheSite = (config : ConfigValue) (history : List Entry) (state : SiteState) → LegalHistory config history state → TellsItsSite config history state
+SalesTellTheSite = (config : ConfigValue) (history : List Entry) (state : SiteState) → config.opening ≡ None → LegalHistory config history state
+    → TellsItsSite config history state
 
 -- how many decisions a version made in all: on releases, presets and prices, granted and denied
 abbrev pub decided_in_all : ℕ → List Decision → ℕ
@@ -40,9 +42,9 @@ decided_in_all v ds =
     + decided_by deciding.Presets false v ds + decided_by deciding.Prices true v ds + decided_by deciding.Prices false v ds
 
 -- The grants and denials of all loaded versions together are as many as the entries whose reply only a rule can lead
--- to.
+-- to, if the site has no day behind it.
 abbrev pub VersionsTellAllDecisions : Type 0
 VersionsTellAllDecisions =
-    (config : ConfigValue) (history : List Entry) (state : SiteState) → LegalHistory config history state →
+    (config : ConfigValue) (history : List Entry) (state : SiteState) → config.opening ≡ None → LegalHistory config history state →
     sum_by (λ v. decided_in_all v (filter_map decision_of history)) (range_with_len 1 (length (loads 0 history))) ≡ count_by
     (λ (entry : Entry). is_decided entry.reply) history

@@ -74,7 +74,7 @@ told_of d = do
   points ← points_of d.points
   counters ← counters_of d.counters
   serve ← serve_from tills (length points) d.serve
-  Ok (record { config = record { tills = tills; price_slot = slot; prices = prices; points = points; counters = counters }; serve = serve })
+  Ok (record { config = record { tills = tills; price_slot = slot; prices = prices; points = points; counters = counters; opening = None }; serve = serve })
 
 abbrev pub told : Settings → Told
 told s = record { config = s.config; serve = option_map serve_seen s.serve }

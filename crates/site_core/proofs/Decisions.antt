@@ -6,32 +6,33 @@ use Rattle.till_request.specs.declared.act.Reply.{Reply}
 use Rattle.bpf_model.specs.Machine.{Counters}
 use Rattle.bpf_model.specs.Runs.{Ended}
 use Rattle.bpf_model.specs.Program.{outcome}
-use Rattle.program_slots.specs.Slots.{Version}
+use Rattle.program_slots.specs.Value.{Version}
 use Rattle.bpf_model.specs.Layouts.{bytes_of}
 use Rattle.site_core.specs.declared.question.Question.{Question}
+use Rattle.site_core.specs.Limits.{ConfigValue}
 use Rattle.site_core.specs.State.{SiteState, view_of}
 use Rattle.site_core.specs.Context.{context}
 use Rattle.site_core.specs.History.{in_force}
 use Rattle.site_core.specs.Decide.{replied, no_program, decided, verdict, ran}
 
-pub decided-refused : (past : List Entry) (s : SiteState) (till moment : ℕ) (r : Reply) → decided past s till moment (Err r) ≡ replied r s
+pub decided-refused : (config : ConfigValue) (past : List Entry) (s : SiteState) (till moment : ℕ) (r : Reply) → decided config past s till moment (Err r) ≡ replied r s
 unfolding decided
-decided-refused past s till moment r = refl
+decided-refused config past s till moment r = refl
 
-pub decided-none : (past : List Entry) (s : SiteState) (till moment : ℕ) (q : Question) → in_force q.slot past ≡ None
-    → decided past s till moment (Ok q) ≡ replied (no_program q.slot) s
+pub decided-none : (config : ConfigValue) (past : List Entry) (s : SiteState) (till moment : ℕ) (q : Question) → in_force config q.slot past ≡ None
+    → decided config past s till moment (Ok q) ≡ replied (no_program q.slot) s
 unfolding decided
-decided-none past s till moment q none = rw (none, decided)
+decided-none config past s till moment q none = rw (none, decided)
 
-pub decided-some : (past : List Entry) (s : SiteState) (till moment : ℕ) (q : Question) (v : Version) → in_force q.slot past ≡ Some v
-    → decided past s till moment (Ok q)
+pub decided-some : (config : ConfigValue) (past : List Entry) (s : SiteState) (till moment : ℕ) (q : Question) (v : Version) → in_force config q.slot past ≡ Some v
+    → decided config past s till moment (Ok q)
     ≡ (let r : ℕ × Counters = ran (outcome v.program (bytes_of (context v.program.layout s till moment q)) (view_of s) s.counters) s.counters in
     verdict s till moment q v r.0 r.1)
 unfolding decided
-decided-some past s till moment q v some = rw (some, decided)
+decided-some config past s till moment q v some = rw (some, decided)
 
-pub decided-ended : (past : List Entry) (s : SiteState) (till moment : ℕ) (q : Question) (v : Version) (r : ℕ) (counters : Counters)
-    → in_force q.slot past ≡ Some v → outcome v.program (bytes_of (context v.program.layout s till moment q)) (view_of s) s.counters ≡ Ended r counters
-    → decided past s till moment (Ok q) ≡ verdict s till moment q v r counters
-decided-ended past s till moment q v r counters some ended =
-    decided-some past s till moment q v some ∙ ap (λ o. verdict s till moment q v (ran o s.counters).0 (ran o s.counters).1) ended
+pub decided-ended : (config : ConfigValue) (past : List Entry) (s : SiteState) (till moment : ℕ) (q : Question) (v : Version) (r : ℕ) (counters : Counters)
+    → in_force config q.slot past ≡ Some v → outcome v.program (bytes_of (context v.program.layout s till moment q)) (view_of s) s.counters ≡ Ended r counters
+    → decided config past s till moment (Ok q) ≡ verdict s till moment q v r counters
+decided-ended config past s till moment q v r counters some ended =
+    decided-some config past s till moment q v some ∙ ap (λ o. verdict s till moment q v (ran o s.counters).0 (ran o s.counters).1) ended

@@ -11,7 +11,7 @@ use Rattle.fuelling_point.specs.Promises.{FollowsTable}
 use Rattle.fuelling_point.specs.declared.kinds.PointFault.{PointFault}
 use Rattle.till_request.specs.declared.act.Reply.TheVariants as reply
 use Rattle.bpf_model.specs.Machine.{Counters}
-use Rattle.program_slots.specs.Slots.{Version}
+use Rattle.program_slots.specs.Value.{Version}
 use Rattle.site_core.specs.declared.question.Question.{Question}
 use Rattle.site_core.specs.State.{SiteState, at_number, with_point}
 use Rattle.site_core.specs.Bounds.{Bounded}
@@ -48,12 +48,12 @@ grant-is s till r q p new outcome one le is answers =
 pub bounded-with : (k : ℕ) (s : SiteState) (n : ℕ) (p new : PointState) → Bounded k s → n ≤ length s.points → 1 ≤ n → p ≡ get_or s.points (n - 1) p
     → new.last ≤ p.last + 1 → Bounded (k + 1) (with_point s n new)
 bounded-with k s n p new b le one is last =
-    let small : p.last ≤ k = subst (λ (x : PointState). x.last ≤ k) (sym is) (b.last (n - 1) p (omega arith)) in
+    let small : p.last ≤ 4290000000 + k = subst (λ (x : PointState). x.last ≤ 4290000000 + k) (sym is) (b.last (n - 1) p (omega arith)) in
     record {
-      last = All-set (λ (x : PointState). x.last ≤ k + 1) s.points (n - 1) new (omega arith)
-          (λ j d h. let l : (get_or s.points j d).last ≤ k = b.last j d h in omega (arith, l));
-      cleared = let c : s.cleared ≤ 999999999 * k = b.cleared in omega (arith, c);
-      clears = let c : s.clears ≤ k = b.clears in omega (arith, c);
+      last = All-set (λ (x : PointState). x.last ≤ 4290000000 + (k + 1)) s.points (n - 1) new (omega arith)
+          (λ j d h. let l : (get_or s.points j d).last ≤ 4290000000 + k = b.last j d h in omega (arith, l));
+      cleared = let c : s.cleared ≤ 1000000000000000000 + 999999999 * k = b.cleared in omega (arith, c);
+      clears = let c : s.clears ≤ 1000000000000000000 + k = b.clears in omega (arith, c);
     }
 
 pub verdict-deny : (s : SiteState) (till moment r : ℕ) (q : Question) (v : Version) (c : Counters) → (r == 0) ≡ true

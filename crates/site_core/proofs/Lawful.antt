@@ -13,7 +13,7 @@ use Rattle.till_request.specs.declared.act.Reply.TheVariants as reply
 use Rattle.bpf_model.specs.Machine.{Counters}
 use Rattle.bpf_model.specs.Runs.{Outcome, Ended, Halted, Running}
 use Rattle.bpf_model.specs.Program.{outcome}
-use Rattle.program_slots.specs.Slots.{Version}
+use Rattle.program_slots.specs.Value.{Version}
 use Rattle.bpf_model.specs.Layouts.{bytes_of}
 use Rattle.site_core.specs.declared.question.Kind.TheVariants as kind
 use Rattle.site_core.specs.declared.question.Question.{Question}
@@ -87,7 +87,7 @@ unfolding grant
 grant-release s till n amount r slot p at = rw (at, grant)
 
 by-answer : (config : ConfigValue) (past : List Entry) (s : SiteState) (till moment n amount g v r : ℕ) (q : Question) (w : Version) (c : Counters)
-    (zero : Bool) → (r == 0) ≡ zero → Asks config s n amount q → in_force q.slot past ≡ Some w
+    (zero : Bool) → (r == 0) ≡ zero → Asks config s n amount q → in_force config q.slot past ≡ Some w
     → outcome w.program (bytes_of (context w.program.layout s till moment q)) (view_of s) s.counters ≡ Ended r c
     → reply.Granted g v ≡ (verdict s till moment q w r c).reply → LawfulRelease config past s till moment n amount g v
 by-answer config past s till moment n amount g v r q w c true zero a some exit h = absurd (let e = h ∙ verdict-denied s till moment q w r c zero in cc)
@@ -100,7 +100,7 @@ by-answer config past s till moment n amount g v r q w c false zero a some exit 
       point = a.point;
       is_point = a.is_point;
       version = w;
-      in_force = sym (ap (λ x. in_force x past) slot) ∙ some;
+      in_force = sym (ap (λ x. in_force config x past) slot) ∙ some;
       number = number;
       r = r;
       counters = c;
@@ -113,7 +113,7 @@ by-answer config past s till moment n amount g v r q w c false zero a some exit 
     }
 
 by-outcome : (config : ConfigValue) (past : List Entry) (s : SiteState) (till moment n amount g v : ℕ) (q : Question) (w : Version) (o : Outcome)
-    → Asks config s n amount q → in_force q.slot past ≡ Some w → outcome w.program (bytes_of (context w.program.layout s till moment q)) (view_of s) s.counters
+    → Asks config s n amount q → in_force config q.slot past ≡ Some w → outcome w.program (bytes_of (context w.program.layout s till moment q)) (view_of s) s.counters
     ≡ o → reply.Granted g v ≡ (verdict s till moment q w (ran o s.counters).0 (ran o s.counters).1).reply → LawfulRelease config past s till moment n amount g v
 by-outcome config past s till moment n amount g v q w (Ended r c) a some is h =
     by-answer config past s till moment n amount g v r q w c (r == 0) refl a some is h
@@ -121,27 +121,27 @@ by-outcome config past s till moment n amount g v q w Halted a some is h = absur
 by-outcome config past s till moment n amount g v q w (Running t) a some is h = absurd (let e = h ∙ verdict-denied s till moment q w 0 s.counters refl in cc)
 
 by-version : (config : ConfigValue) (past : List Entry) (s : SiteState) (till moment n amount g v : ℕ) (q : Question) (o : Option Version)
-    → Asks config s n amount q → in_force q.slot past ≡ o → reply.Granted g v ≡ (decided past s till moment (Ok q)).reply
+    → Asks config s n amount q → in_force config q.slot past ≡ o → reply.Granted g v ≡ (decided config past s till moment (Ok q)).reply
     → LawfulRelease config past s till moment n amount g v
 by-version config past s till moment n amount g v q None a none h =
-    absurd (let e : reply.Granted g v ≡ no_program q.slot = h ∙ ap (λ (x : Effect). x.reply) (decided-none past s till moment q none) in cc)
+    absurd (let e : reply.Granted g v ≡ no_program q.slot = h ∙ ap (λ (x : Effect). x.reply) (decided-none config past s till moment q none) in cc)
 by-version config past s till moment n amount g v q (Some w) a some h =
     by-outcome config past s till moment n amount g v q w (outcome w.program (bytes_of (context w.program.layout s till moment q)) (view_of s) s.counters) a
     some refl
-    (h ∙ ap (λ (x : Effect). x.reply) (decided-some past s till moment q w some))
+    (h ∙ ap (λ (x : Effect). x.reply) (decided-some config past s till moment q w some))
 
 by-question : (config : ConfigValue) (past : List Entry) (s : SiteState) (till moment n amount g v : ℕ) (x : Result Question Reply)
-    → release_question config s n amount ≡ x → reply.Granted g v ≡ (decided past s till moment x).reply → LawfulRelease config past s till moment n amount g v
+    → release_question config s n amount ≡ x → reply.Granted g v ≡ (decided config past s till moment x).reply → LawfulRelease config past s till moment n amount g v
 by-question config past s till moment n amount g v (Ok q) is h =
-    by-version config past s till moment n amount g v q (in_force q.slot past) (asks config s n amount q (at_number s.points n) refl is) refl h
+    by-version config past s till moment n amount g v q (in_force config q.slot past) (asks config s n amount q (at_number s.points n) refl is) refl h
 by-question config past s till moment n amount g v (Err r) is h =
-    let same : reply.Granted g v ≡ r = h ∙ ap (λ (x : Effect). x.reply) (decided-refused past s till moment r) in
+    let same : reply.Granted g v ≡ r = h ∙ ap (λ (x : Effect). x.reply) (decided-refused config past s till moment r) in
     let no : is_decided r ≡ false = sym (ap refuses is) ∙ release-no config s n amount (at_number s.points n) refl in
     let yes : true ≡ is_decided r = ap is_decided same in
     absurd (let e : true ≡ false = yes ∙ no in cc)
 
 by-till : (config : ConfigValue) (past : List Entry) (s : SiteState) (till moment n amount g v : ℕ) (b : Bool)
-    → reply.Granted g v ≡ (if b then decided past s till moment (release_question config s n amount) else replied no_such_till s).reply
+    → reply.Granted g v ≡ (if b then decided config past s till moment (release_question config s n amount) else replied no_such_till s).reply
     → LawfulRelease config past s till moment n amount g v
 by-till config past s till moment n amount g v true h = by-question config past s till moment n amount g v (release_question config s n amount) refl h
 by-till config past s till moment n amount g v false h = absurd (let e : reply.Granted g v ≡ no_such_till = h in cc)

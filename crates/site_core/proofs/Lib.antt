@@ -17,3 +17,6 @@ pub mod Contexts
 pub mod Asking
 pub mod StillAsked
 pub mod Outside
+pub mod First
+pub mod Days
+pub mod NextDay

@@ -18,7 +18,7 @@ use Rattle.bpf_model.specs.Machine.{Counters, counter}
 use Rattle.bpf_model.specs.Runs.{Ended}
 use Rattle.bpf_model.specs.Program.{outcome}
 use Rattle.program_slots.specs.Value.{SlotsValue}
-use Rattle.program_slots.specs.Slots.{Version}
+use Rattle.program_slots.specs.Value.{Version}
 use Rattle.bpf_model.specs.Layouts.{bytes_of}
 use Rattle.site_core.specs.declared.question.Question.{Question}
 use Rattle.site_core.specs.Limits.{ConfigValue}
@@ -47,36 +47,37 @@ use Rattle.site_core.proofs.Asking.{ok-is, none-some, asked-routed}
 -- ---- the step for a request that asks a program
 
 asked-request : (config : ConfigValue) (past : List Entry) (s : SiteState) (till moment : ℕ) (r : Request) (q : Question) → question_of config s r ≡ Some q
-    → asked config past s till moment r ≡ decided past s till moment (Ok q)
-asked-request config past s till moment (request.Release n a) q h = ap (decided past s till moment) (ok-is (release_question config s n a) q h)
-asked-request config past s till moment (request.Preset n a) q h = ap (decided past s till moment) (ok-is (preset_question config s n a) q h)
-asked-request config past s till moment (request.Price n a) q h = ap (decided past s till moment) (ok-is (price_question config s n a) q h)
+    → asked config past s till moment r ≡ decided config past s till moment (Ok q)
+asked-request config past s till moment (request.Release n a) q h = ap (decided config past s till moment) (ok-is (release_question config s n a) q h)
+asked-request config past s till moment (request.Preset n a) q h = ap (decided config past s till moment) (ok-is (preset_question config s n a) q h)
+asked-request config past s till moment (request.Price n a) q h = ap (decided config past s till moment) (ok-is (price_question config s n a) q h)
 asked-request config past s till moment _ q h = absurd (none-some q h)
 
 asked-till : (config : ConfigValue) (past : List Entry) (s : SiteState) (till moment : ℕ) (r : Request) (q : Question) (b : Bool)
     → (if b then question_of config s r else None) ≡ Some q → (if b then asked config past s till moment r else replied no_such_till s)
-    ≡ decided past s till moment (Ok q)
+    ≡ decided config past s till moment (Ok q)
 asked-till config past s till moment r q true h = asked-request config past s till moment r q h
 asked-till config past s till moment r q false h = absurd (none-some q h)
 
 pub effect-decided : (config : ConfigValue) (past : List Entry) (s : SiteState) (till moment : ℕ) (r : Request) (q : Question)
-    → asked_question config s till r ≡ Some q → effect config past s moment (act.Till till r) ≡ decided past s till moment (Ok q)
+    → asked_question config s till r ≡ Some q → effect config past s moment (act.Till till r) ≡ decided config past s till moment (Ok q)
 effect-decided config past s till moment r q h = asked-till config past s till moment r q (is_till config till) h
 
 -- A till's entry loads no program, so the slots still agree with the history.
-pub agrees-till : (slots : SlotsValue) (past : List Entry) (entry : Entry) (till : ℕ) (r : Request) → Agrees slots past → entry.act ≡ act.Till till r
-    → Agrees slots (entry ∷ past)
-agrees-till slots past entry till r a is =
+pub agrees-till : (config : ConfigValue) (slots : SlotsValue) (past : List Entry) (entry : Entry) (till : ℕ) (r : Request) → Agrees config slots past → entry.act ≡ act.Till till r
+    → Agrees config slots (entry ∷ past)
+agrees-till config slots past entry till r a is =
     let none : loaded entry.act entry.reply ≡ None = ap (λ x. loaded x entry.reply) is in
     record {
       in_force = λ slot. rw (none, in_force) (a.in_force slot);
+      before = a.before;
       versions = rw (none, versions) a.versions;
     }
 
 -- If the state still asks what the draft asked, then settling the draft's run performs the step for its request.
 pub performs-settled : (config : ConfigValue) (past : List Entry) (s new : SiteState) (slots : SlotsValue) (draft : DraftValue) (q : Question) (r0 : ℕ)
     (after : Counters) (entry : Entry) → entry.moment ≡ draft.moment → entry.act ≡ act.Till draft.till draft.request → StillAsked config s slots draft q
-    → Agrees slots past → outcome draft.version.program draft.context draft.view s.counters ≡ Ended r0 after
+    → Agrees config slots past → outcome draft.version.program draft.context draft.view s.counters ≡ Ended r0 after
     → verdict s draft.till draft.moment q draft.version r0 after
     ≡ record { reply = entry.reply; run = entry.run; after = new } → Performs config past s draft.moment (act.Till draft.till draft.request)
     entry new slots
@@ -89,9 +90,9 @@ performs-settled config past s new slots draft q r0 after entry moment_is act_is
       moment_is = moment_is;
       effect_is =
           effect-decided config past s draft.till draft.moment draft.request q still.asked
-          ∙ decided-ended past s draft.till draft.moment q draft.version r0 after (agrees.in_force q.slot ∙ still.version_is) ended
+          ∙ decided-ended config past s draft.till draft.moment q draft.version r0 after (agrees.in_force q.slot ∙ still.version_is) ended
           ∙ settled;
-      agrees = λ other is replied_is. agrees-till slots past other draft.till draft.request agrees (is ∙ act_is);
+      agrees = λ other is replied_is. agrees-till config slots past other draft.till draft.request agrees (is ∙ act_is);
       accepted = ap load_refusal act_is;
       good = subst GoodLoad (sym act_is) tt;
     }
@@ -109,15 +110,15 @@ point-run s till n c (Some p) at = ap (λ (e : Effect). e.run) (commanded-some s
 commanded-run : (s : SiteState) (till n : ℕ) (c : Command) → (commanded s till n c).run ≡ None
 commanded-run s till n c = point-run s till n c (at_number s.points n) refl
 
-refused-run : (past : List Entry) (s : SiteState) (till moment : ℕ) (x : Asked) → result_ok x ≡ None → (decided past s till moment x).run ≡ None
-refused-run past s till moment (Ok q) h = absurd (none-some q (sym h))
-refused-run past s till moment (Err r) h = ap (λ (e : Effect). e.run) (decided-refused past s till moment r)
+refused-run : (config : ConfigValue) (past : List Entry) (s : SiteState) (till moment : ℕ) (x : Asked) → result_ok x ≡ None → (decided config past s till moment x).run ≡ None
+refused-run config past s till moment (Ok q) h = absurd (none-some q (sym h))
+refused-run config past s till moment (Err r) h = ap (λ (e : Effect). e.run) (decided-refused config past s till moment r)
 
 request-run : (config : ConfigValue) (past : List Entry) (s : SiteState) (till moment : ℕ) (r : Request) → question_of config s r ≡ None
     → (asked config past s till moment r).run ≡ None
-request-run config past s till moment (request.Release n a) h = refused-run past s till moment (release_question config s n a) h
-request-run config past s till moment (request.Preset n a) h = refused-run past s till moment (preset_question config s n a) h
-request-run config past s till moment (request.Price n a) h = refused-run past s till moment (price_question config s n a) h
+request-run config past s till moment (request.Release n a) h = refused-run config past s till moment (release_question config s n a) h
+request-run config past s till moment (request.Preset n a) h = refused-run config past s till moment (preset_question config s n a) h
+request-run config past s till moment (request.Price n a) h = refused-run config past s till moment (price_question config s n a) h
 request-run config past s till moment (request.OpenPoint n) h = commanded-run s till n command.OpenPoint
 request-run config past s till moment (request.ClosePoint n) h = commanded-run s till n command.ClosePoint
 request-run config past s till moment (request.Suspend n) h = commanded-run s till n command.Suspend
@@ -135,11 +136,11 @@ till-run config past s till moment r false h = refl
 
 -- If a request asks no question, or its slot has no program, then the step runs no program.
 pub runs-none : (config : ConfigValue) (past : List Entry) (s : SiteState) (till moment : ℕ) (r : Request)
-    → (asked_question config s till r ≡ None) ⊎ ((q : Question) × (asked_question config s till r ≡ Some q) × (in_force q.slot past ≡ None))
+    → (asked_question config s till r ≡ None) ⊎ ((q : Question) × (asked_question config s till r ≡ Some q) × (in_force config q.slot past ≡ None))
     → (effect config past s moment (act.Till till r)).run ≡ None
 runs-none config past s till moment r (inl h) = till-run config past s till moment r (is_till config till) h
 runs-none config past s till moment r (inr h) =
-    ap (λ (e : Effect). e.run) (effect-decided config past s till moment r h.0 h.1 ∙ decided-none past s till moment h.0 h.2)
+    ap (λ (e : Effect). e.run) (effect-decided config past s till moment r h.0 h.1 ∙ decided-none config past s till moment h.0 h.2)
 
 verdict-run : (s : SiteState) (till moment : ℕ) (q : Question) (v : Version) (r : ℕ) (c : Counters) (b : Bool) → (r == 0) ≡ b
     → IsSome (verdict s till moment q v r c).run
@@ -150,10 +151,10 @@ verdict-run s till moment q v r c false some =
 
 -- If a request asks a question, and its slot has a version in force, then the step runs a program.
 pub runs-some : (config : ConfigValue) (past : List Entry) (s : SiteState) (till moment : ℕ) (r : Request) (q : Question) (v : Version)
-    → asked_question config s till r ≡ Some q → in_force q.slot past ≡ Some v → IsSome (effect config past s moment (act.Till till r)).run
+    → asked_question config s till r ≡ Some q → in_force config q.slot past ≡ Some v → IsSome (effect config past s moment (act.Till till r)).run
 runs-some config past s till moment r q v h some =
     let x : ℕ × Counters = ran (outcome v.program (bytes_of (context v.program.layout s till moment q)) (view_of s) s.counters) s.counters in
-    subst (λ (e : Effect). IsSome e.run) (sym (effect-decided config past s till moment r q h ∙ decided-some past s till moment q v some))
+    subst (λ (e : Effect). IsSome e.run) (sym (effect-decided config past s till moment r q h ∙ decided-some config past s till moment q v some))
     (verdict-run s till moment q v x.0 x.1 (x.0 == 0) refl)
 
 -- ---- what `begin` returns
@@ -168,7 +169,7 @@ begins-undecided : (site : SiteValue) (till moment : ℕ) (r : Request) → run_
 begins-undecided site till moment r none = (none, undecided site till moment r none)
 
 pub begins-none : (config : ConfigValue) (history : List Entry) (s : SiteState) (slots : SlotsValue) (till moment : ℕ) (r : Request)
-    → Agrees slots (reverse history) → Drafts config s slots till moment r None
+    → Agrees config slots (reverse history) → Drafts config s slots till moment r None
     → (run_now (record { config = config; history = history; state = s }) till moment r ≡ None)
     × (is_decided (reply_now (record { config = config; history = history; state = s }) till moment r) ≡ false)
 begins-none config history s slots till moment r agrees (inl h) =
@@ -181,14 +182,14 @@ begins-none config history s slots till moment r agrees (inr h) =
     }) till moment r (runs-none config (reverse history) s till moment r (inr (h.0, h.1, agrees.in_force h.0.slot ∙ h.2)))
 
 pub begun : (config : ConfigValue) (history : List Entry) (s : SiteState) (slots : SlotsValue) (till moment : ℕ) (r : Request) (draft : DraftValue)
-    → Agrees slots (reverse history) → IsDraft config s slots till moment r draft → Begun (record {
+    → Agrees config slots (reverse history) → IsDraft config s slots till moment r draft → Begun (record {
       config = config;
       history = history;
       state = s;
     }) till moment r draft
 begun config history s slots till moment r draft agrees d =
     let q = d.question in
-    let some : in_force q.slot (reverse history) ≡ Some draft.version = agrees.in_force q.slot ∙ d.version_is in
+    let some : in_force config q.slot (reverse history) ≡ Some draft.version = agrees.in_force q.slot ∙ d.version_is in
     let again : asked_question config s draft.till draft.request ≡ Some q = (λ i. asked_question config s (d.till_is i) (d.request_is i)) ∙ d.asked in
     let routed_is : routed config s draft.till draft.request ≡ Some q = asked-routed config s draft.till draft.request q again in
     record {
@@ -209,7 +210,7 @@ begun config history s slots till moment r draft agrees d =
 
 -- If the history isn't full and `Drafts` holds for what `begin` returns, then `Begins` holds for it too.
 pub begins : (config : ConfigValue) (history : List Entry) (s : SiteState) (slots : SlotsValue) (till moment : ℕ) (r : Request) (b : Begin)
-    → Agrees slots (reverse history) → length history < 1048576 → Drafts config s slots till moment r (drafted b)
+    → Agrees config slots (reverse history) → length history < 1048576 → Drafts config s slots till moment r (drafted b)
     → Begins (record { config = config; history = history; state = s }) till moment r b
 begins config history s slots till moment r begin.Direct agrees less d = inr (begins-none config history s slots till moment r agrees d)
 begins config history s slots till moment r (begin.Run draft) agrees less d = (less, begun config history s slots till moment r draft agrees d)
@@ -217,14 +218,14 @@ begins config history s slots till moment r (begin.Run draft) agrees less d = (l
 -- If the history isn't full and `Drafts` holds for the result of a call, then `Begins` holds for it too. Nothing is
 -- claimed if memory ran out.
 pub begins-ok : (config : ConfigValue) (history : List Entry) (s : SiteState) (slots : SlotsValue) (till moment : ℕ) (r : Request)
-    (result : Result Begin AllocError) → Agrees slots (reverse history) → length history < 1048576
+    (result : Result Begin AllocError) → Agrees config slots (reverse history) → length history < 1048576
     → IfOk result (λ b. Drafts config s slots till moment r (drafted b))
     → IfOk result (Begins (record { config = config; history = history; state = s }) till moment r)
 begins-ok config history s slots till moment r (Ok b) agrees less d = begins config history s slots till moment r b agrees less d
 begins-ok config history s slots till moment r (Err e) agrees less d = d
 
 -- What a run would be made on is the same, whether versions are looked up in the slots or in the history.
-pub basis-is : (config : ConfigValue) (history : List Entry) (s : SiteState) (slots : SlotsValue) (draft : DraftValue) → Agrees slots (reverse history)
+pub basis-is : (config : ConfigValue) (history : List Entry) (s : SiteState) (slots : SlotsValue) (draft : DraftValue) → Agrees config slots (reverse history)
     → basis_in config s slots draft ≡ basis (record { config = config; history = history; state = s }) draft
 basis-is config history s slots draft agrees =
     λ i. basis_of (λ slot. sym (agrees.in_force slot) i) s draft.till draft.moment (routed config s draft.till draft.request)

@@ -19,14 +19,14 @@ use Rattle.till_request.specs.declared.act.Reply.{Reply}
 use Rattle.till_request.specs.declared.act.Reply.TheVariants as reply
 use Rattle.bpf_model.specs.Machine.{Counters}
 use Rattle.bpf_model.specs.Program.{outcome}
-use Rattle.program_slots.specs.Slots.{Version}
+use Rattle.program_slots.specs.Value.{Version}
 use Rattle.bpf_model.specs.Layouts.{bytes_of}
 use Rattle.site_core.specs.declared.question.Kind.TheVariants as kind
 use Rattle.site_core.specs.declared.question.Question.{Question}
 use Rattle.site_core.specs.Limits.{ConfigValue}
 use Rattle.site_core.specs.State.{SiteState, at_number, first_busy, view_of}
 use Rattle.site_core.specs.Context.{context}
-use Rattle.site_core.specs.History.{in_force, versions}
+use Rattle.site_core.specs.History.{versions_before, in_force, versions}
 use Rattle.site_core.specs.Decide.{Effect, replied, refused, no_such_till, is_decided, is_till, is_within, bad_amount, transactions_full, wrong_state, need}
 use Rattle.site_core.specs.Decide.{slots_of, release_question, preset_question, price_question, price_at, decided, verdict, ran, grant}
 use Rattle.site_core.specs.Step.{effect, asked, commanded, command_effect, reported, event_effect, order_reply, fault_reply, show_reply}
@@ -88,16 +88,16 @@ verdict-tells s till moment q v r c false some =
     let g = grant (record s { counters = c }) till q r in
     subst Tells (sym (verdict-grant s till moment r g.0 q v c g.1 some refl)) refl
 
-version-tells : (past : List Entry) (s : SiteState) (till moment : ℕ) (q : Question) (o : Option Version) → in_force q.slot past ≡ o
-    → Tells (decided past s till moment (Ok q))
-version-tells past s till moment q None none = subst Tells (sym (decided-none past s till moment q none)) refl
-version-tells past s till moment q (Some v) some =
+version-tells : (config : ConfigValue) (past : List Entry) (s : SiteState) (till moment : ℕ) (q : Question) (o : Option Version) → in_force config q.slot past ≡ o
+    → Tells (decided config past s till moment (Ok q))
+version-tells config past s till moment q None none = subst Tells (sym (decided-none config past s till moment q none)) refl
+version-tells config past s till moment q (Some v) some =
     let x : ℕ × Counters = ran (outcome v.program (bytes_of (context v.program.layout s till moment q)) (view_of s) s.counters) s.counters in
-    subst Tells (sym (decided-some past s till moment q v some)) (verdict-tells s till moment q v x.0 x.1 (x.0 == 0) refl)
+    subst Tells (sym (decided-some config past s till moment q v some)) (verdict-tells s till moment q v x.0 x.1 (x.0 == 0) refl)
 
-decided-tells : (past : List Entry) (s : SiteState) (till moment : ℕ) (x : Result Question Reply) → refuses x ≡ false → Tells (decided past s till moment x)
-decided-tells past s till moment (Ok q) undecided = version-tells past s till moment q (in_force q.slot past) refl
-decided-tells past s till moment (Err r) undecided = subst Tells (sym (decided-refused past s till moment r)) undecided
+decided-tells : (config : ConfigValue) (past : List Entry) (s : SiteState) (till moment : ℕ) (x : Result Question Reply) → refuses x ≡ false → Tells (decided config past s till moment x)
+decided-tells config past s till moment (Ok q) undecided = version-tells config past s till moment q (in_force config q.slot past) refl
+decided-tells config past s till moment (Err r) undecided = subst Tells (sym (decided-refused config past s till moment r)) undecided
 
 fault-no : (f : PointFault) → is_decided (fault_reply f) ≡ false
 fault-no (WrongState state) = refl
@@ -134,11 +134,11 @@ show-no s n (Some p) at = rw (at, show_reply) refl
 
 asked-tells : (config : ConfigValue) (past : List Entry) (s : SiteState) (till moment : ℕ) (r : Request) → Tells (asked config past s till moment r)
 asked-tells config past s till moment (request.Release n a) =
-    decided-tells past s till moment (release_question config s n a) (release-no config s n a (at_number s.points n) refl)
+    decided-tells config past s till moment (release_question config s n a) (release-no config s n a (at_number s.points n) refl)
 asked-tells config past s till moment (request.Preset n a) =
-    decided-tells past s till moment (preset_question config s n a) (preset-no config s n a (at_number s.points n) refl)
+    decided-tells config past s till moment (preset_question config s n a) (preset-no config s n a (at_number s.points n) refl)
 asked-tells config past s till moment (request.Price n a) =
-    decided-tells past s till moment (price_question config s n a) (price-no (first_busy s) n a config.price_slot)
+    decided-tells config past s till moment (price_question config s n a) (price-no (first_busy s) n a config.price_slot)
 asked-tells config past s till moment (request.OpenPoint n) = commanded-tells s till n command.OpenPoint (at_number s.points n) refl
 asked-tells config past s till moment (request.ClosePoint n) = commanded-tells s till n command.ClosePoint (at_number s.points n) refl
 asked-tells config past s till moment (request.Suspend n) = commanded-tells s till n command.Suspend (at_number s.points n) refl
@@ -163,4 +163,4 @@ pub effect-tells : (config : ConfigValue) (past : List Entry) (s : SiteState) (m
     ≡ is_some (effect config past s moment a).run
 effect-tells config past s moment (act.Till till r) = till-tells config past s till moment r (is_till config till)
 effect-tells config past s moment (act.Dispenser n event) = reported-tells s n event (at_number s.points n) refl
-effect-tells config past s moment (act.Load slot mask layout bytes) = load-no (nat_le slot 15) (nat_lt (versions past) 4096) (versions past + 1)
+effect-tells config past s moment (act.Load slot mask layout bytes) = load-no (nat_le slot 15) (nat_lt (versions past) 4096) (versions_before config + versions past + 1)

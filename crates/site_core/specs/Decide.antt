@@ -25,7 +25,7 @@ use Rattle.site_core.specs.declared.question.Kind.TheVariants.{Release, Preset, 
 use Rattle.site_core.specs.declared.question.Question.{Question}
 use Rattle.site_core.specs.declared.question.Asks.{Asks}
 use Rattle.site_core.specs.declared.question.Asks.TheVariants as asks
-use Rattle.program_slots.specs.Slots.{Version}
+use Rattle.program_slots.specs.Value.{Version}
 use Rattle.site_core.specs.History.{in_force}
 
 -- What an event results in: the reply, the run of a program if there was one, and the state after it.
@@ -213,10 +213,10 @@ ran _ before = (0, before)
 
 -- The effect of a question. If it was refused before a program is looked for, the reply is this refusal. If its slot
 -- has no program, the reply is S23. Otherwise it is the decision of the slot's program, run on the current state.
-unfoldable pub decided : List Entry → SiteState → ℕ → ℕ → Result Question Reply → Effect
-decided past s till moment (Err refusal) = replied refusal s
-decided past s till moment (Ok q) =
-    elim (in_force q.slot past) [
+unfoldable pub decided : ConfigValue → List Entry → SiteState → ℕ → ℕ → Result Question Reply → Effect
+decided config past s till moment (Err refusal) = replied refusal s
+decided config past s till moment (Ok q) =
+    elim (in_force config q.slot past) [
       | None ↦ replied (no_program q.slot) s
       | Some v ↦
           let r : ℕ × Counters = ran (outcome v.program (bytes_of (context v.program.layout s till moment q)) (view_of s) s.counters) s.counters in

@@ -1,12 +1,13 @@
 -- Definitions: looking back through a history. In these definitions a history has its newest entry first.
-use Rattle.std.specs.Prelude.{ℕ, ◌+◌, List, [], ◌∷◌, Option, Some, None, ◌==◌, if◌then◌else◌}
+use Rattle.std.specs.Prelude.{ℕ, ◌+◌, List, [], ◌∷◌, Option, Some, None, ◌==◌, if◌then◌else◌, slice_index_or}
 use Rattle.decision_journal.specs.declared.entries.Entry.{Entry}
 use Rattle.till_request.specs.declared.act.Act.{Act}
 use Rattle.till_request.specs.declared.act.Act.TheVariants as act
 use Rattle.till_request.specs.declared.act.Reply.{Reply}
 use Rattle.till_request.specs.declared.act.Reply.TheVariants as reply
 use Rattle.bpf_model.specs.Program.{ProgramText, as_loaded}
-use Rattle.program_slots.specs.Slots.{Version}
+use Rattle.program_slots.specs.Value.{Version}
+use Rattle.site_core.specs.Limits.{ConfigValue}
 
 -- The slot and the program of a load that was answered with a version.
 abbrev pub loaded : Act → Reply → Option (ℕ × ProgramText)
@@ -19,12 +20,21 @@ versions [] = 0
 versions (entry ∷ earlier) =
     elim (loaded entry.act entry.reply) [ Some _ ↦ versions earlier + 1 | None ↦ versions earlier ]
 
--- The version in force in a slot: the program of the last load into it that was answered with a version. Its number is how many loads were
--- answered with a version up to that one, itself included.
-abbrev pub in_force : ℕ → List Entry → Option Version
-in_force slot [] = None
-in_force slot (entry ∷ earlier) =
+-- How many versions were loaded before the history begins: those of the opening.
+abbrev pub versions_before : ConfigValue → ℕ
+versions_before config = elim config.opening [ None ↦ 0 | Some o ↦ o.versions ]
+
+-- The version in force in a slot when the history begins: that of the opening.
+abbrev pub opening_rule : ConfigValue → ℕ → Option Version
+opening_rule config slot = elim config.opening [ None ↦ None | Some o ↦ slice_index_or o.rules slot None ]
+
+-- The version in force in a slot: the program of the last load into it that was answered with a version, or else that
+-- of the opening. A version's number is how many were ever loaded up to it, itself included.
+abbrev pub in_force : ConfigValue → ℕ → List Entry → Option Version
+in_force config slot [] = opening_rule config slot
+in_force config slot (entry ∷ earlier) =
     elim (loaded entry.act entry.reply) [
-      | Some l ↦ if l.0 == slot then Some (record { number = versions earlier + 1; program = l.1 }) else in_force slot earlier
-      | None ↦ in_force slot earlier
+      | Some l ↦ if l.0 == slot then Some (record { number = versions_before config + versions earlier + 1; program = l.1 })
+          else in_force config slot earlier
+      | None ↦ in_force config slot earlier
     ]

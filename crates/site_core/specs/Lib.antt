@@ -1,3 +1,5 @@
+pub mod Opening
+pub mod Fitting
 pub mod Limits
 pub mod State
 pub mod Context
@@ -15,3 +17,4 @@ pub mod Draft
 pub mod Differences
 pub mod Asked
 pub mod Outside
+pub mod Days

@@ -1,20 +1,24 @@
 -- Definitions: the configuration of a site, and the limits of its values (this profile).
-use Rattle.std.specs.Prelude.{ℕ, ◌≤◌, List, length, All}
+use Rattle.std.specs.Prelude.{◌≡◌, ℕ, ◌≤◌, List, length, Option, Some, All}
+use Rattle.site_core.specs.Opening.{OpeningValue, IsOpening}
 
--- The values of a configuration. A point's pair is the slot of its releases and the slot of its presets; a counter's pair is its value and its bound.
+-- The values of a configuration. A point's pair is the slot of its releases and the slot of its presets; a counter's
+-- pair is its value and its bound. Where there is an opening, the site begins with that in place of the prices and
+-- counters of the configuration and of closed points.
 pub record ConfigValue : Type 0 where
   pub tills : ℕ
   pub price_slot : ℕ
   pub prices : List ℕ
   pub points : List (ℕ × ℕ)
   pub counters : List (ℕ × ℕ)
+  pub opening : Option OpeningValue
 
 -- A counter's value is at most its bound, and its bound is at most 2^63 - 1.
 abbrev pub IsCounter : ℕ × ℕ → Type 0
 IsCounter p = (p.0 ≤ p.1) × (p.1 ≤ 9223372036854775807)
 
 -- Each value is in its range: 1 to 64 tills, 1 to 32 points, slots 0 to 15, and prices in thousandths up to 9,999,999.
--- `IsCounter` holds for each counter.
+-- `IsCounter` holds for each counter. An opening is one that a site with these points can begin with.
 pub record IsConfig (c : ConfigValue) : Type 0 where
   pub some_till : 1 ≤ c.tills
   pub tills : c.tills ≤ 64
@@ -24,6 +28,7 @@ pub record IsConfig (c : ConfigValue) : Type 0 where
   pub points : length c.points ≤ 32
   pub slots : All (λ p. (p.0 ≤ 15) × (p.1 ≤ 15)) c.points
   pub counters : All IsCounter c.counters
+  pub opening : (o : OpeningValue) → c.opening ≡ Some o → IsOpening (length c.points) o
 
 -- How many entries a history may have at most.
 abbrev pub most_entries : ℕ

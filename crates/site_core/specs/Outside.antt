@@ -25,7 +25,7 @@ use Rattle.site_core.specs.Site.{SiteValue, Enters, entered}
 -- What the draft's run would be made on in the current state.
 abbrev pub basis : SiteValue → DraftValue → Basis
 basis site draft =
-    basis_of (λ slot. in_force slot (reverse site.history)) site.state draft.till draft.moment (routed site.config site.state draft.till draft.request)
+    basis_of (λ slot. in_force site.config slot (reverse site.history)) site.state draft.till draft.moment (routed site.config site.state draft.till draft.request)
 
 -- The run that the step would make for a till's request now, if any.
 abbrev pub run_now : SiteValue → ℕ → ℕ → Request → Option Run

@@ -7,6 +7,7 @@ use Rattle.fuelling_point.specs.States.{is_busy, state_number}
 use Rattle.bpf_model.specs.declared.machine.PointView.{PointView}
 use Rattle.bpf_model.specs.declared.machine.View.{View}
 use Rattle.bpf_model.specs.Machine.{Counters, counter, no_point}
+use Rattle.site_core.specs.Opening.{OpeningValue}
 use Rattle.site_core.specs.Limits.{ConfigValue}
 
 -- The state of a site. Points and products are numbered from 1, counters from 0. Prices are in thousandths. `cleared` is the total of all
@@ -18,9 +19,18 @@ pub record SiteState : Type 0 where
   pub cleared : ℕ
   pub clears : ℕ
 
--- The state in which a site starts: each point is closed, prices and counters are those of the configuration, and nothing is cleared.
+-- The state in which a site starts that has no day behind it: each point is closed, prices and counters are those of
+-- the configuration, and nothing is cleared.
+abbrev pub fresh_state : ConfigValue → SiteState
+fresh_state config = record { points = map (λ _. fresh_point) config.points; prices = config.prices; counters = config.counters; cleared = 0; clears = 0 }
+
+-- The state that an opening has.
+abbrev pub opened_state : OpeningValue → SiteState
+opened_state o = record { points = o.points; prices = o.prices; counters = o.counters; cleared = o.cleared; clears = o.clears }
+
+-- The state in which a site starts: that of the opening, if there is one.
 abbrev pub opening_state : ConfigValue → SiteState
-opening_state config = record { points = map (λ _. fresh_point) config.points; prices = config.prices; counters = config.counters; cleared = 0; clears = 0 }
+opening_state config = elim config.opening [ None ↦ fresh_state config | Some o ↦ opened_state o ]
 
 -- The item of this number, counted from 1.
 abbrev pub at_number : {T : Type 0} → List T → ℕ → Option T

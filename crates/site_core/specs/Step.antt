@@ -15,7 +15,7 @@ use Rattle.till_request.specs.declared.act.Reply.{Reply}
 use Rattle.till_request.specs.declared.act.Reply.TheVariants as reply
 use Rattle.site_core.specs.Limits.{ConfigValue}
 use Rattle.site_core.specs.State.{SiteState, at_number, with_point}
-use Rattle.site_core.specs.History.{versions}
+use Rattle.site_core.specs.History.{versions, versions_before}
 use Rattle.site_core.specs.declared.question.Asks.{Asks}
 use Rattle.site_core.specs.declared.question.Asks.TheVariants as asks
 use Rattle.site_core.specs.Decide.{Effect, replied, refused, wrong_state, no_such_point, no_such_till, is_till, decided, admitted, asks_of}
@@ -72,26 +72,27 @@ reported s n event =
     elim (at_number s.points n) [ None ↦ replied no_such_point s | Some p ↦ event_effect s n (event_step p event) ]
 
 -- The effect of a till's request, by what it leads to.
-abbrev pub effect_of : List Entry → SiteState → ℕ → ℕ → Asks → Effect
-effect_of past s till moment (asks.Decision q) = decided past s till moment (admitted s q)
-effect_of past s till moment (asks.Command n command) = commanded s till n command
-effect_of past s till moment (asks.Show n) = replied (show_reply s n) s
+abbrev pub effect_of : ConfigValue → List Entry → SiteState → ℕ → ℕ → Asks → Effect
+effect_of config past s till moment (asks.Decision q) = decided config past s till moment (admitted s q)
+effect_of config past s till moment (asks.Command n command) = commanded s till n command
+effect_of config past s till moment (asks.Show n) = replied (show_reply s n) s
 
 -- The effect of a request by a till that the site has.
 abbrev pub asked : ConfigValue → List Entry → SiteState → ℕ → ℕ → Request → Effect
-asked config past s till moment request = effect_of past s till moment (asks_of config request)
+asked config past s till moment request = effect_of config past s till moment (asks_of config request)
 
--- The reply to a load: S32 if there is no such slot, S30 if there are 4,096 versions already, or else the next version.
-abbrev pub load_reply : ℕ → List Entry → Reply
-load_reply slot past =
-    if nat_le slot 15 then if nat_lt (versions past) 4096 then reply.Version (versions past + 1) else refused 30 else refused 32
+-- The reply to a load: S32 if there is no such slot, S30 if the history has 4,096 versions already, or else the next
+-- version.
+abbrev pub load_reply : ConfigValue → ℕ → List Entry → Reply
+load_reply config slot past =
+    if nat_le slot 15 then if nat_lt (versions past) 4096 then reply.Version (versions_before config + versions past + 1) else refused 30 else refused 32
 
 -- The effect of an event.
 abbrev pub effect : ConfigValue → List Entry → SiteState → ℕ → Act → Effect
 effect config past s moment (act.Till till request) =
     if is_till config till then asked config past s till moment request else replied no_such_till s
 effect config past s moment (act.Dispenser n event) = reported s n event
-effect config past s moment (act.Load slot mask layout bytes) = replied (load_reply slot past) s
+effect config past s moment (act.Load slot mask layout bytes) = replied (load_reply config slot past) s
 
 -- The moment that the entry has: a till's request has its own, all other acts have 0.
 abbrev pub entered_moment : Act → ℕ → ℕ

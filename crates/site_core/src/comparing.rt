@@ -4,7 +4,8 @@ ghost use Rattle.std.specs.Prelude.{◌≡◌, ◌≢◌, ◌↔◌, ◌<◌, Is
 ghost use Rattle.std.specs.Prelude.{option_map, IfSome};
 ghost use Rattle.std.specs.Arc.{arc_value};
 ghost use Rattle.interp.specs.Depends.{Agrees};
-ghost use Rattle.program_slots.specs.Slots.{Version, version_in};
+ghost use Rattle.program_slots.specs.Value.{Version};
+ghost use Rattle.program_slots.specs.Slots.{version_in};
 ghost use Rattle.bpf_model.specs.Machine.{counter};
 ghost use Rattle.site_core.specs.Decide.{is_declared};
 ghost use Rattle.site_core.specs.Differences.{FirstDiffers, CounterDiffers};
@@ -15,16 +16,6 @@ use helpers::PointView;
 use program_slots::Slots;
 use reg_types::Program;
 use std::sync::Arc;
-
-/// Returns the number and the program of the version in a slot.
-pub fn look_up(slots: &Slots, slot: u32) -> Option<(u32, &Arc<Program>)>
-    ensures { MatchOption result (version_in slots.now slot ≡ None)
-        (λ v. version_in slots.now slot ≡ Some (record { number = v.0; program = arc_value v.1.now })) }
-{
-    let number = slots.installed(slot)?;
-    let program = slots.version(number)?;
-    Some((number, program))
-}
 
 pub fn first_byte(a: &[u8], b: &[u8]) -> Option<u32>
     requires many { length a.now ≡ length b.now }
@@ -87,7 +78,7 @@ pub fn first_counter(declared: u32, a: &Counters, b: &Counters) -> Option<u32>
     None
 }
 
-fn is_same_program(a: &Program, b: &Program) -> bool
+pub fn is_same_program(a: &Program, b: &Program) -> bool
     ensures { IsTrue result ↔ (a.now ≡ b.now) }
 {
     a.declared() == b.declared() && a.layout() == b.layout() && a.bytes() == b.bytes()
@@ -106,7 +97,7 @@ pub fn is_version(
         (λ now. (version_in slots.now slot ≢ Some version)
         × (now ≡ option_map (λ (v : Version). v.number) (version_in slots.now slot))) }
 {
-    match look_up(slots, slot) {
+    match slots.in_slot(slot) {
         None => Err(None),
         Some((installed, held)) => {
             if installed == number && is_same_program(held, program) {

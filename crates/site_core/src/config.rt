@@ -1,19 +1,25 @@
 //! The configuration of a site.
 
-ghost use Rattle.std.specs.Prelude.{◌≡◌, ◌<◌, ◌↔◌, IfOk, IfSome, IsTrue, is_some};
+ghost use Rattle.std.specs.Prelude.{◌≡◌, ◌<◌, ◌↔◌, IfOk, IfErr, OnOk, IfSome, IsTrue, MatchOption, Some, None, is_some, length, option_map};
+ghost use Rattle.std.specs.Arc.{arc_value};
+ghost use Rattle.site_core.specs.Opening.{IsOpening};
+ghost use Rattle.site_core.specs.Fitting.{Misfits};
 ghost use Rattle.site_core.specs.Limits.{ConfigValue, IsConfig};
 ghost use Rattle.std.specs.Bool.{OnTrue};
 ghost use Rattle.site_core.specs.Decide.{is_till, slots_of};
 
+use crate::opening::{Opening, OpeningFault};
 use std::alloc::{AllocError, Global};
 use std::marker::Model;
+use std::sync::Arc;
 
 /// The greatest bound of a counter: the greatest number that the text of a configuration can contain.
 const MOST_COUNTER: u64 = 9_223_372_036_854_775_807;
 
 /// The configuration that a site is started from: how many tills there are, the slot of price changes, the prices of
 /// products 1 to 8 in thousandths, for each point the slots of its releases and of its presets, and the values and
-/// bounds of the counters. Every value is in its range.
+/// bounds of the counters. Every value is in its range. If there is an opening, the site begins with its prices,
+/// counters and points in place of those.
 #[derive(Drop)]
 pub struct Config {
     tills: u32,
@@ -21,9 +27,12 @@ pub struct Config {
     prices: [u32; 8],
     points: Vec<(u32, u32)>,
     counters: [(u64, u64); 32],
+    opening: Option<Arc<Opening>>,
 }
 
 impl Model for Config {
+    ghost use Rattle.std.specs.Prelude.{option_map};
+    ghost use Rattle.std.specs.Arc.{arc_value};
     ghost use Rattle.site_core.specs.Limits.{ConfigValue, IsConfig};
 
     ghost Value = { ConfigValue };
@@ -34,6 +43,7 @@ impl Model for Config {
       prices = c.prices;
       points = c.points.items;
       counters = c.counters;
+      opening = option_map (λ o. arc_value o) c.opening;
     } };
 
     ghost invariant = { λ c. IsConfig (record {
@@ -42,6 +52,7 @@ impl Model for Config {
       prices = c.prices;
       points = c.points.items;
       counters = c.counters;
+      opening = option_map (λ o. arc_value o) c.opening;
     }) };
 }
 
@@ -62,6 +73,7 @@ impl Config {
           prices = prices;
           points = points.items;
           counters = counters;
+          opening = None;
         } in
             IfSome result (λ config. config ≡ value) }
         ensures variant { let value : ConfigValue = record {
@@ -70,6 +82,7 @@ impl Config {
           prices = prices;
           points = points.items;
           counters = counters;
+          opening = None;
         } in
             IsTrue (is_some result) ↔ IsConfig value }
     {
@@ -97,6 +110,7 @@ impl Config {
             prices,
             points,
             counters,
+            opening: None,
         })
     }
 
@@ -105,13 +119,54 @@ impl Config {
         ensures { IfOk result (λ config. config ≡ self.now) }
     {
         let points = Vec::from_slice(alloc, self.points.as_slice())?;
+        let opening = match &self.opening {
+            None => None,
+            Some(opening) => Some(Arc::try_clone(opening)?),
+        };
         Ok(Config {
             tills: self.tills,
             price_slot: self.price_slot,
             prices: self.prices,
             points,
             counters: self.counters,
+            opening,
         })
+    }
+
+    /// Returns the configuration of a site that begins with this opening, in place of any other. The error is why no
+    /// site with these points can begin with it, or that memory ran out.
+    pub fn opened(self, alloc: Global, opening: Opening) -> Result<Config, OpeningFault>
+        ensures value { IfOk result (λ config. config ≡ record self { opening = Some opening }) }
+        ensures fits { OnOk result (IsOpening (length self.points) opening) }
+        ensures fault { IfErr result (λ fault. Misfits (length self.points) opening fault) }
+    {
+        if let Some(fault) = opening.fault(self.points.len()) {
+            return Err(fault);
+        }
+        let opening = match Arc::new(alloc, opening) {
+            Ok(opening) => opening,
+            Err(_) => return Err(OpeningFault::OutOfMemory),
+        };
+        Ok(Config {
+            tills: self.tills,
+            price_slot: self.price_slot,
+            prices: self.prices,
+            points: self.points,
+            counters: self.counters,
+            opening: Some(opening),
+        })
+    }
+
+    /// Returns the opening that the site begins with, if there is one.
+    pub fn opening(&self) -> Option<&Opening>
+        ensures there { MatchOption result (self.now.opening ≡ None) (λ opening. self.now.opening ≡ Some opening.now) }
+        ensures good { IfSome result (λ opening. IsOpening (length self.now.points) opening.now) }
+        ensures range { IsConfig self.now }
+    {
+        match &self.opening {
+            None => None,
+            Some(opening) => Some(opening),
+        }
     }
 
     /// Returns whether the two configurations are the same in every part.
@@ -126,6 +181,14 @@ impl Config {
         }
         is_same_points(self.points.as_slice(), other.points.as_slice())
             && is_same_counters(self.counters.as_slice(), other.counters.as_slice())
+            && is_same_opening(&self.opening, &other.opening)
+    }
+
+    /// Returns the number of tills.
+    pub fn tills(&self) -> u32
+        ensures { result ≡ self.now.tills }
+    {
+        self.tills
     }
 
     /// Returns whether the site has a till of this number.
@@ -149,7 +212,8 @@ impl Config {
         self.prices
     }
 
-    pub(crate) fn counters(&self) -> [(u64, u64); 32]
+    /// Returns the values and the bounds of the counters.
+    pub fn counters(&self) -> [(u64, u64); 32]
         ensures { result ≡ self.now.counters }
     {
         self.counters
@@ -186,6 +250,16 @@ impl Config {
         ensures range { IsConfig self.now }
     {
         self.points.as_slice()
+    }
+}
+
+fn is_same_opening(a: &Option<Arc<Opening>>, b: &Option<Arc<Opening>>) -> bool
+    ensures { IsTrue result ↔ (option_map (λ o. arc_value o) a.now ≡ option_map (λ o. arc_value o) b.now) }
+{
+    match (a, b) {
+        (None, None) => true,
+        (Some(a), Some(b)) => a.is_same(b),
+        _ => false,
     }
 }
 

@@ -131,5 +131,8 @@ pub fn note_counts(
     ensures noted { IfOk result (λ noted. noted ≡ counts mask before.now after.now) }
     ensures none { mask ≡ 0 → IsOk result }
 {
+    if mask == 0 {
+        return Ok(Counts::none(alloc));
+    }
     Counts::of(alloc, &places_of(mask, before, after))
 }

@@ -3,7 +3,7 @@
 
 ghost use Rattle.std.specs.Prelude.{◌≡◌, IfOk, length};
 
-use crate::comparing::{first_byte, first_counter, first_point, first_price, is_version, look_up};
+use crate::comparing::{first_byte, first_counter, first_point, first_price, is_version};
 use crate::config::Config;
 use crate::events::Answered;
 use crate::perform::{asked_question, routed};
@@ -86,7 +86,7 @@ impl Draft {
         let Some(question) = asked_question(config, station, till, request) else {
             return Ok(Begin::Direct);
         };
-        let Some((version, program)) = look_up(slots, question.slot) else {
+        let Some((version, program)) = slots.in_slot(question.slot) else {
             return Ok(Begin::Direct);
         };
         let layout = program.layout();
@@ -196,7 +196,7 @@ impl Ready {
         ensures pass { IfOk result (λ entry. entry.pass ≡ pass) }
         ensures performed { MatchResult result
             (λ entry. IsFresh (basis_in config.now station.old slots.now self.now.draft) self.now.draft
-            × ((past : List Entry) → Agrees slots.now past →
+            × ((past : List Entry) → Agrees config.now slots.now past →
             Performs config.now past station.old self.now.draft.moment
             (act.Till self.now.draft.till self.now.draft.request) entry station.new slots.now))
             (DiffersIfStale (basis_in config.now station.old slots.now self.now.draft) self.now.draft) }

@@ -10,6 +10,7 @@ ghost use Rattle.site_core.specs.Step.{effect};
 ghost use Rattle.site_core.specs.Draft.{Basis, DraftValue};
 ghost use Rattle.site_core.specs.Differences.{IsFresh, Differs};
 ghost use Rattle.site_core.specs.Audit.{OwnAudit};
+ghost use Rattle.site_core.specs.Days.{DayGoesOn, EachEventGoesOn};
 ghost use Rattle.site_core.specs.declared.why.Why.{Why};
 
 /// A law: if nothing that a draft's run depends on differs, there is no first difference. So a commit is done exactly
@@ -32,4 +33,17 @@ pub fn programs_alone_decide()
 /// A law: an audit of a site's own history returns that site, unless memory runs out.
 pub fn audit_of_its_own_history()
     ensures { OwnAudit }
+{}
+
+/// A law: closing a day changes nothing but the numbers of entries. The legal histories of the next day are those by
+/// which the day before could have gone on, and they lead to the same states. It holds while both days together have at
+/// most 1,048,576 entries and fewer than 4,096 versions.
+pub fn day_goes_on()
+    ensures { DayGoesOn }
+{}
+
+/// A law: an event of the next day has the effect that it would have had if the day before had gone on, however many
+/// entries both days have. It holds while both have fewer than 4,096 versions together.
+pub fn each_event_goes_on()
+    ensures { EachEventGoesOn }
 {}

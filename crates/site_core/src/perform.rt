@@ -4,6 +4,7 @@ ghost use Rattle.std.specs.Prelude.{◌≡◌, ℕ, ◌+◌, ◌<◌, IfOk, OnEr
 ghost use Rattle.std.specs.Arc.{arc_value};
 ghost use Rattle.decision_journal.specs.declared.entries.Entry.{Entry};
 ghost use Rattle.till_request.specs.declared.act.Act.TheVariants as act;
+ghost use Rattle.site_core.specs.Limits.{ConfigValue};
 ghost use Rattle.site_core.specs.Bounds.{Bounded, HasRoom};
 ghost use Rattle.site_core.specs.Decide.{admitted, decided};
 ghost use Rattle.site_core.specs.Asked.{asked_question};
@@ -12,7 +13,6 @@ ghost use Rattle.site_core.specs.Keeping.{Agrees, Performs, Loads};
 ghost use Rattle.site_core.specs.Site.{act_of};
 ghost use Rattle.site_core.specs.Step.{effect};
 
-use crate::comparing::look_up;
 use crate::config::Config;
 use crate::events::{Event, What};
 use crate::question::{Asks, Question, asks_of};
@@ -37,7 +37,7 @@ pub fn perform(
 ) -> Result<Entry, AllocError>
     requires points { length station.old.points ≡ length config.now.points }
     requires bounded { HasRoom station.old }
-    ensures performed { IfOk result (λ entry. (past : List Entry) → Agrees slots.old past →
+    ensures performed { IfOk result (λ entry. (past : List Entry) → Agrees config.now slots.old past →
         Performs config.now past station.old event.moment (act_of event.what) entry station.new slots.new) }
     ensures number { IfOk result (λ entry. entry.number ≡ number) }
     ensures pass { IfOk result (λ entry. entry.pass ≡ event.pass) }
@@ -101,8 +101,8 @@ pub fn entry_without_run(number: u32, pass: u32, act: Act, reply: Reply) -> Entr
 
 /// Installs a program in a slot as a new version, and returns the reply to the load. The error is that memory ran out.
 fn load(slots: &mut Slots, slot: u32, program: Arc<Program>) -> Result<Reply, AllocError>
-    ensures reply { IfOk result (λ reply. (past : List Entry) → Agrees slots.old past
-        → Loads slots.old slot (arc_value program) past reply slots.new) }
+    ensures reply { IfOk result (λ reply. (config : ConfigValue) (past : List Entry) → Agrees config slots.old past
+        → Loads config slots.old slot (arc_value program) past reply slots.new) }
     ensures unchanged { OnErr result (slots.new ≡ slots.old) }
 {
     match slots.install(slot, program) {
@@ -126,7 +126,7 @@ fn ask(
 ) -> Result<(Reply, Option<Run>), AllocError>
     requires points { length station.old.points ≡ length config.now.points }
     requires bounded { HasRoom station.old }
-    ensures effect { IfOk result (λ made. (past : List Entry) → Agrees slots.now past →
+    ensures effect { IfOk result (λ made. (past : List Entry) → Agrees config.now slots.now past →
         effect config.now past station.old moment (act.Till till request) ≡ record {
           reply = made.0;
           run = made.1;
@@ -192,8 +192,8 @@ fn decide(
 ) -> Result<(Reply, Option<Run>), AllocError>
     requires bounded { HasRoom station.old }
     requires till { 0 < till }
-    ensures effect { IfOk result (λ made. (past : List Entry) → Agrees slots.now past →
-        decided past station.old till moment (admitted station.old question) ≡ record {
+    ensures effect { IfOk result (λ made. (config : ConfigValue) (past : List Entry) → Agrees config slots.now past →
+        decided config past station.old till moment (admitted station.old question) ≡ record {
           reply = made.0;
           run = made.1;
           after = station.new;
@@ -206,7 +206,7 @@ fn decide(
         Ok(question) => question,
         Err(refusal) => return Ok((refusal, None)),
     };
-    let Some((version, program)) = look_up(slots, question.slot) else {
+    let Some((version, program)) = slots.in_slot(question.slot) else {
         return Ok((no_program(question.slot), None));
     };
     let layout = program.layout();

@@ -2,11 +2,12 @@
 
 ghost use Rattle.std.specs.Prelude.{option_copied, ◌≡◌, ℕ, ◌+◌, ◌<◌, ◌≤◌, IfOk, IsOk, OnOk, OnErr, length, Some, None};
 ghost use Rattle.std.specs.Bool.{OnTrue, OnFalse};
-ghost use Rattle.site_core.specs.State.{opening_state, at_number, price_of, busy_points, open_points, first_busy};
+ghost use Rattle.site_core.specs.State.{opening_state, fresh_state, opened_state, at_number, price_of, busy_points, open_points, first_busy};
 ghost use Rattle.site_core.specs.State.{view_of, counter_of};
 ghost use Rattle.bpf_model.specs.Layouts.{layout_of, bytes_of};
 ghost use Rattle.bpf_model.specs.Runs.{Ended};
 ghost use Rattle.bpf_model.specs.Program.{outcome};
+ghost use Rattle.bpf_model.specs.declared.limits.TheConstants.{POINTS};
 ghost use Rattle.site_core.specs.Bounds.{Bounded, HasRoom};
 ghost use Rattle.site_core.specs.Context.{context, fields, product_of, told};
 ghost use Rattle.site_core.specs.Asked.{FitsContext};
@@ -21,6 +22,7 @@ ghost use Rattle.fuelling_point.specs.States.{state_number};
 use crate::config::Config;
 use crate::context::{Field, kind_number, lay};
 use crate::decision::{asked_at, command_of, granted_point, note_counts, price_at};
+use crate::opening::Opening;
 use crate::question::{Kind, Question};
 use crate::replies::{NO_SUCH_POINT, denied, event_reply, fault_reply};
 use crate::seeing::{renew, seen, seen_points};
@@ -71,6 +73,16 @@ impl Station {
     pub fn start(alloc: Global, config: &Config) -> Result<Station, AllocError>
         ensures { IfOk result (λ s. s ≡ opening_state config.now) }
     {
+        match config.opening() {
+            None => Station::fresh(alloc, config),
+            Some(opening) => Station::opened(alloc, opening),
+        }
+    }
+
+    /// Makes the state of a site that has no day behind it. The error is that memory ran out.
+    fn fresh(alloc: Global, config: &Config) -> Result<Station, AllocError>
+        ensures { IfOk result (λ s. s ≡ fresh_state config.now) }
+    {
         let mut points = Vec::new(alloc);
         for _point in config.points() {
             points.push(Point::new())?;
@@ -86,6 +98,26 @@ impl Station {
             counters: Counters::new(config.counters()),
             cleared: 0,
             clears: 0,
+        })
+    }
+
+    /// Makes the state that an opening has. The error is that memory ran out.
+    fn opened(alloc: Global, opening: &Opening) -> Result<Station, AllocError>
+        requires { length opening.now.points ≤ POINTS }
+        ensures { IfOk result (λ s. s ≡ opened_state opening.now) }
+    {
+        let points = Vec::from_slice(alloc, opening.points.as_slice())?;
+        let view = View {
+            count: points.len() as u32,
+            points: seen_points(points.as_slice()),
+            prices: opening.prices(),
+        };
+        Ok(Station {
+            points,
+            view,
+            counters: opening.counters,
+            cleared: opening.cleared,
+            clears: opening.clears,
         })
     }
 
@@ -271,6 +303,20 @@ impl Station {
         } else {
             None
         }
+    }
+
+    /// Returns the points, in their order.
+    pub fn points(&self) -> &[Point]
+        ensures { result.now ≡ self.now.points }
+    {
+        self.points.as_slice()
+    }
+
+    /// Returns the total of all cleared amounts in cents, and how many transactions were cleared.
+    pub fn totals(&self) -> (u64, u64)
+        ensures { result ≡ (self.now.cleared, self.now.clears) }
+    {
+        (self.cleared, self.clears)
     }
 
     pub fn counters(&self) -> &Counters

@@ -28,7 +28,7 @@ pub trait SiteLedger: Ledger {
 }
 
 impl SiteLedger for Brand {
-    ghost config = { record { tills = 1; price_slot = 0; prices = []; points = []; counters = [] } };
+    ghost config = { record { tills = 1; price_slot = 0; prices = []; points = []; counters = []; opening = None } };
 
     ghost base = { [] };
 

@@ -5,7 +5,7 @@ use Rattle.std.specs.Arc.{arc_value}
 use Rattle.bpf_model.specs.Runs.{Ended}
 use Rattle.bpf_model.specs.Program.{ProgramText, outcome}
 use Rattle.bpf_model.specs.Layouts.{bytes_of}
-use Rattle.program_slots.specs.Slots.{Version}
+use Rattle.program_slots.specs.Value.{Version}
 use Rattle.site_core.specs.State.{view_of}
 use Rattle.site_core.specs.Context.{context}
 use Rattle.site_core.specs.History.{in_force}
@@ -16,22 +16,22 @@ use Rattle.site_core.proofs.Grants.{verdict-is, bounded-counted}
 use Rattle.site_core.proofs.perform.decide.Goals as goal
 
 pub returns-in-Err-clause-effect : goal.returns-in-Err-clause-effect
-returns-in-Err-clause-effect c = λ past agrees.
-    rw (← c.in-Err.ensures.question) (decided-refused past c.args.station.now c.args.till c.args.moment c.in-Err.refusal)
+returns-in-Err-clause-effect c = λ config past agrees.
+    rw (← c.in-Err.ensures.question) (decided-refused config past c.args.station.now c.args.till c.args.moment c.in-Err.refusal)
 
 pub returns-in_default-clause-effect : goal.returns-in_default-clause-effect
-returns-in_default-clause-effect c = λ past agrees.
+returns-in_default-clause-effect c = λ config past agrees.
     let q = c.in-Ok.question in
-    let none : in_force q.slot past ≡ None = agrees.in_force q.slot ∙ c.in_default.ensures in
-    rw (← c.in-Ok.ensures.question, c.no_program.ensures) (decided-none past c.args.station.now c.args.till c.args.moment q none)
+    let none : in_force config q.slot past ≡ None = agrees.in_force q.slot ∙ c.in_default.ensures in
+    rw (← c.in-Ok.ensures.question, c.no_program.ensures) (decided-none config past c.args.station.now c.args.till c.args.moment q none)
 
 pub returns-clause-effect : goal.returns-clause-effect
-returns-clause-effect c = λ past agrees.
+returns-clause-effect c = λ config past agrees.
     let s = c.args.station.now in
     let q = c.in-Ok.question in
     let p : ProgramText = arc_value c.in-Some.program.now in
     let v : Version = record { number = c.in-Some.version; program = p } in
-    let some : in_force q.slot past ≡ Some v = agrees.in_force q.slot ∙ c.in-Some.ensures in
+    let some : in_force config q.slot past ≡ Some v = agrees.in_force q.slot ∙ c.in-Some.ensures in
     let layout_is : c.layout-layout.result ≡ p.layout = c.layout-layout.ensures ∙ ap (λ (t : ProgramText). t.layout) c.deref.ensures in
     let given : c.context-context.result ≡ context p.layout s c.args.till c.args.moment q =
     c.context-context.ensures.context ∙ ap (λ l. context l s c.args.till c.args.moment q) layout_is in
@@ -43,7 +43,7 @@ returns-clause-effect c = λ past agrees.
     c.in_ok-r0.ensures.noted ∙ ap (λ (t : ProgramText). counts t.declared s.counters after) c.deref-2.ensures in
     let told : settled (with_counters s after) c.args.till q c.in-Some.version r0 ≡ (c.settle.result, c.settle.new.self) =
     (λ i. settled (sym c.run.ensures.rest i) c.args.till q c.in-Some.version r0) ∙ c.settle.ensures.settled in
-    rw (← c.in-Ok.ensures.question) (decided-ended past s c.args.till c.args.moment q v r0 after some ended
+    rw (← c.in-Ok.ensures.question) (decided-ended config past s c.args.till c.args.moment q v r0 after some ended
     ∙ verdict-is s c.args.till c.args.moment r0 q v after c.settle.result c.settle.new.self told
     ∙ (λ i. record {
       reply = c.settle.result;

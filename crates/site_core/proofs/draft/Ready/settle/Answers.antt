@@ -63,7 +63,7 @@ returns-clause-performed c =
     }) in
     let Settled : DraftValue → Type 0 = λ x.
     IsFresh (basis_in c.args.config.now s c.args.slots.now x) x
-    × ((past : List Entry) → Agrees c.args.slots.now past
+    × ((past : List Entry) → Agrees c.args.config.now c.args.slots.now past
     → Performs c.args.config.now past s x.moment (act.Till x.till x.request) done c.settle-reply.new.self c.args.slots.now) in
     subst Settled (c.draft.view_is ∙ ap (λ (r : ReadyValue). r.draft) c.self.view_is) (
       still.fresh,

@@ -1,0 +1,50 @@
+-- Definitions: how one day of a site follows another (this profile).
+use Rattle.std.specs.Prelude.{◌≡◌, ℕ, ◌+◌, ◌<◌, ◌≤◌, ◌↔◌, List, ◌++◌, length, map, reverse, Some}
+use Rattle.std.specs.List.{range_with_len}
+use Rattle.decision_journal.specs.declared.entries.Entry.{Entry}
+use Rattle.till_request.specs.declared.act.Act.{Act}
+use Rattle.site_core.specs.Opening.{OpeningValue}
+use Rattle.site_core.specs.Limits.{ConfigValue, IsConfig}
+use Rattle.site_core.specs.State.{SiteState}
+use Rattle.site_core.specs.History.{in_force, versions, versions_before}
+use Rattle.site_core.specs.Step.{effect}
+use Rattle.site_core.specs.Legal.{LegalHistory}
+use Rattle.site_core.specs.Site.{SiteValue, Upholds}
+
+-- What a site leaves for the next day: its state, how many versions were ever loaded, and the version in force in each
+-- of slots 0 to 15.
+abbrev pub carried : SiteValue → OpeningValue
+carried site = record {
+  points = site.state.points;
+  prices = site.state.prices;
+  counters = site.state.counters;
+  cleared = site.state.cleared;
+  clears = site.state.clears;
+  versions = versions_before site.config + versions (reverse site.history);
+  rules = map (λ slot. in_force site.config slot (reverse site.history)) (range_with_len 0 16);
+}
+
+-- The configuration of the next day.
+abbrev pub next_day : SiteValue → ConfigValue
+next_day site = record site.config { opening = Some (carried site) }
+
+-- The entry with a number that is greater by k.
+abbrev pub numbered_on : ℕ → Entry → Entry
+numbered_on k entry = record entry { number = entry.number + k }
+
+-- The law of the day's end: closing a day changes nothing but the numbers of entries. A list of entries, oldest first,
+-- is a legal history of the next day exactly if, numbered on, it could have followed the site's own history; and both
+-- lead to the same state. This holds as long as the one long history stays within the limits of one: 1,048,576 entries, and
+-- fewer than 4,096 versions.
+abbrev pub DayGoesOn : Type 0
+DayGoesOn = (site : SiteValue) (day : List Entry) (state : SiteState) → IsConfig site.config → Upholds site
+    → length site.history + length day ≤ 1048576 → versions (reverse site.history) + versions (reverse day) < 4096
+    → LegalHistory (next_day site) day state ↔ LegalHistory site.config (site.history ++ map (numbered_on (length site.history)) day) state
+
+-- The law of each event: on the next day it has the effect that it would have had if the day before had gone on, however
+-- many entries both days have. `later` has the entries of the next day so far, newest first.
+abbrev pub EachEventGoesOn : Type 0
+EachEventGoesOn = (site : SiteValue) (later : List Entry) (s : SiteState) (moment : ℕ) (act : Act) → IsConfig site.config
+    → versions (reverse site.history) + versions later < 4096
+    → effect (next_day site) later s moment act
+    ≡ effect site.config (map (numbered_on (length site.history)) later ++ reverse site.history) s moment act

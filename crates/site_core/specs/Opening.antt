@@ -1,0 +1,33 @@
+-- Definitions: what a site keeps from one day to the next (this profile).
+use Rattle.std.specs.Prelude.{◌≡◌, ℕ, ◌≤◌, List, length, Option, All}
+use Rattle.fuelling_point.specs.Table.{PointState}
+use Rattle.bpf_model.specs.Machine.{Counters}
+use Rattle.bpf_model.specs.Runs.{AreCounters}
+use Rattle.program_slots.specs.Value.{Version}
+use Rattle.program_slots.specs.Slots.{IsRule}
+
+-- The state in which a day begins: the points, prices in thousandths, counters with their bounds, the total of all
+-- amounts that were ever cleared in cents, and how many transactions were. `versions` is how many versions were ever
+-- loaded. `rules` has for each slot the version in force, if there is one.
+pub record OpeningValue : Type 0 where
+  pub points : List PointState
+  pub prices : List ℕ
+  pub counters : Counters
+  pub cleared : ℕ
+  pub clears : ℕ
+  pub versions : ℕ
+  pub rules : List (Option Version)
+
+-- The numbers of an opening are ones that a site with this many points can begin with: each price is at most 9,999,999,
+-- and each counter's value at most its bound. The numbers that only grow are so small that a day doesn't bring them to the end of their ranges: the
+-- number of a point's newest transaction, the total and the count of what was cleared, and the count of versions.
+pub record IsOpening (count : ℕ) (o : OpeningValue) : Type 0 where
+  pub points : length o.points ≡ count
+  pub prices : All (λ price. price ≤ 9999999) o.prices
+  pub counters : AreCounters o.counters
+  pub last : All (λ (p : PointState). p.last ≤ 4290000000) o.points
+  pub cleared : o.cleared ≤ 1000000000000000000
+  pub clears : o.clears ≤ 1000000000000000000
+  pub versions : o.versions ≤ 4290000000
+  pub slots : length o.rules ≡ 16
+  pub rules : All (IsRule o.versions) o.rules

@@ -1,0 +1,173 @@
+//! The opening: what a site keeps from one day to the next.
+
+ghost use Rattle.std.specs.Prelude.{◌≡◌, ◌↔◌, ◌≤◌, All, IsTrue, MatchOption};
+ghost use Rattle.fuelling_point.specs.Table.{PointState};
+ghost use Rattle.program_slots.specs.Slots.{IsRule};
+ghost use Rattle.site_core.specs.Opening.{IsOpening};
+ghost use Rattle.site_core.specs.Fitting.{Misfits};
+
+use crate::same::{are_same_counters, are_same_points, are_same_rules};
+use counters::Counters;
+use fuelling_point::Point;
+use program_slots::Version;
+use std::marker::Model;
+use thiserror::Error;
+
+/// The greatest number that a point's newest transaction may have in an opening. A day has 1,048,576 entries at most,
+/// so the numbers of a day stay below 2^32.
+const MOST_TRANSACTIONS: u32 = 4_290_000_000;
+
+/// The greatest total of cleared amounts in an opening, in cents, and the greatest number of cleared transactions.
+const MOST_CLEARED: u64 = 1_000_000_000_000_000_000;
+
+/// The greatest number of versions that an opening counts.
+const MOST_VERSIONS: u32 = 4_290_000_000;
+
+/// Why a site can't begin with an opening.
+#[derive(Clone, Copy, Debug, PartialEq, Eq, Drop, Error)]
+pub enum OpeningFault {
+    #[error("the opening has another number of points than the configuration")]
+    Points,
+    #[error("a price of the opening is over 9,999,999")]
+    Prices,
+    #[error("a point's newest transaction has a number over 4,290,000,000")]
+    Transactions,
+    #[error("the cleared total is over 10^18 cents")]
+    Cleared,
+    #[error("more than 10^18 transactions were cleared")]
+    Clears,
+    #[error("more than 4,290,000,000 versions were loaded")]
+    Versions,
+    #[error("the opening hasn't 16 slots")]
+    Slots,
+    #[error("a slot of the opening has a version that was never loaded")]
+    Rules,
+    #[error("out of memory (S31)")]
+    OutOfMemory,
+}
+
+/// What a site keeps from one day to the next.
+#[derive(Drop)]
+pub struct Opening {
+    /// The points, in their order.
+    pub points: Vec<Point>,
+    /// The prices of products 1 to 8 in thousandths, 0 for none.
+    pub prices: [u32; 8],
+    pub counters: Counters,
+    /// The total of all amounts that were ever cleared, in cents.
+    pub cleared: u64,
+    /// How many transactions were ever cleared.
+    pub clears: u64,
+    /// How many versions were ever loaded.
+    pub versions: u32,
+    /// For each of slots 0 to 15 the version in force, if there is one.
+    pub rules: Vec<Option<Version>>,
+}
+
+impl Model for Opening {
+    ghost use Rattle.site_core.specs.Opening.{OpeningValue};
+
+    ghost Value = { OpeningValue };
+
+    ghost view = { λ o. record {
+      points = o.points.items;
+      prices = o.prices;
+      counters = o.counters;
+      cleared = o.cleared;
+      clears = o.clears;
+      versions = o.versions;
+      rules = o.rules.items;
+    } };
+}
+
+impl Opening {
+    /// Returns why a site with this many points can't begin with the opening, or `None` if it can.
+    pub(crate) fn fault(&self, count: usize) -> Option<OpeningFault>
+        ensures { MatchOption result (IsOpening count self.now) (λ fault. Misfits count self.now fault) }
+    {
+        if self.points.len() != count {
+            return Some(OpeningFault::Points);
+        }
+        if !self.prices.iter().all(|price| *price <= 9_999_999) {
+            return Some(OpeningFault::Prices);
+        }
+        if !are_few(&self.points) {
+            return Some(OpeningFault::Transactions);
+        }
+        if self.cleared > MOST_CLEARED {
+            return Some(OpeningFault::Cleared);
+        }
+        if self.clears > MOST_CLEARED {
+            return Some(OpeningFault::Clears);
+        }
+        if self.versions > MOST_VERSIONS {
+            return Some(OpeningFault::Versions);
+        }
+        if self.rules.len() != 16 {
+            return Some(OpeningFault::Slots);
+        }
+        if !are_rules(self.versions, &self.rules) {
+            return Some(OpeningFault::Rules);
+        }
+        // This read gives the prover that there are 32 counters, each within its bound.
+        let _counter = self.counters.get(0);
+        None
+    }
+
+    // By this call the prover knows that there are eight prices.
+    pub(crate) fn prices(&self) -> [u32; 8]
+        ensures { result ≡ self.now.prices }
+    {
+        self.prices
+    }
+
+    /// Returns whether the two openings are the same in every part.
+    pub(crate) fn is_same(&self, other: &Opening) -> bool
+        ensures { IsTrue result ↔ (self.now ≡ other.now) }
+    {
+        if self.numbers() != other.numbers() {
+            return false;
+        }
+        if !are_same_points(&self.points, &other.points) {
+            return false;
+        }
+        if !are_same_counters(&self.counters, &other.counters) {
+            return false;
+        }
+        are_same_rules(&self.rules, &other.rules)
+    }
+
+    /// Returns the prices, the two totals of what was cleared, and how many versions there were.
+    fn numbers(&self) -> ([u32; 8], u64, u64, u32)
+        ensures { result ≡ (self.now.prices, self.now.cleared, self.now.clears, self.now.versions) }
+    {
+        (self.prices, self.cleared, self.clears, self.versions)
+    }
+}
+
+/// Returns whether each point's newest transaction has a number that an opening can have.
+fn are_few(points: &[Point]) -> bool
+    ensures { IsTrue result ↔ All (λ (p : PointState). p.last ≤ 4290000000) points.now }
+{
+    points.iter().all(|point| point.last() <= MOST_TRANSACTIONS)
+}
+
+/// Returns whether each slot has none or one of these many versions.
+fn are_rules(versions: u32, rules: &[Option<Version>]) -> bool
+    ensures { IsTrue result ↔ All (IsRule versions) rules.now }
+{
+    rules.iter().all(|rule| is_rule(versions, rule))
+}
+
+fn is_rule(versions: u32, rule: &Option<Version>) -> bool
+    ensures { IsTrue result ↔ IsRule versions rule.now }
+{
+    match rule {
+        None => true,
+        Some(version) => {
+            // This call gives the prover that the program is good.
+            let _bytes = version.program.bytes();
+            version.number >= 1 && version.number <= versions
+        }
+    }
+}
