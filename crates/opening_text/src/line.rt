@@ -1,0 +1,34 @@
+//! The lines of an opening's text, as values.
+
+use bpf_model::context::Layout;
+use fuelling_point::{Snapshot, Transaction};
+use till_request::Bytes;
+
+/// A line of an opening's text. Amounts are in cents, volumes in centilitres, prices in thousandths.
+#[derive(Drop)]
+pub enum Line {
+    /// The number of the day that begins with the opening.
+    Day(u32),
+    /// The total of all cleared amounts, and how many transactions were cleared.
+    Cleared(u64, u64),
+    /// How many versions were ever loaded.
+    Versions(u32),
+    /// The version in force in a slot: its number and its program.
+    Version {
+        slot: u64,
+        number: u32,
+        mask: u32,
+        layout: Layout,
+        bytes: Bytes,
+    },
+    /// A product and its price.
+    Price(u32, u32),
+    /// A counter, its value and its bound.
+    Counter(u32, u64, u64),
+    /// A point and all that it keeps but its unpaid transactions.
+    Point(u64, Snapshot),
+    /// A point and one of its unpaid transactions.
+    Unpaid(u64, Transaction),
+    /// The number of entries of the day before, and the SHA-256 of its journal's bytes.
+    Journal(u32, [u8; 32]),
+}
