@@ -10,11 +10,10 @@ _fc_command() {
         asm) takes=1 ;;
         dis) takes=1 options='--units' ;;
         verify) takes=1 options='--counters --context' ;;
-        play) takes=2 ;;
-        audit) takes=2 ;;
+        play | audit | carry) takes=2 options='--opening' ;;
         report) takes=2 ;;
         export) takes=3 kinds='sales decisions events' options='--json' ;;
-        serve) takes=1 options='--journal --sync' ;;
+        serve) takes=1 options='--journal --sync --opening' ;;
     esac
 }
 
@@ -29,12 +28,12 @@ _fc_words() { mapfile -t COMPREPLY < <(compgen -W "$1" -- "$2"); }
 _fc_value() {
     case $1 in
         --context) _fc_words '1 2' "$2" ;;
-        --journal) _fc_files "$2" ;;
+        --journal | --opening) _fc_files "$2" ;;
     esac
 }
 
 _fc() {
-    local commands='asm dis verify play audit report export serve help' takes kinds options
+    local commands='asm dis verify play audit carry report export serve help' takes kinds options
     local word before name='' files=0 at
     COMPREPLY=()
     word=${COMP_WORDS[COMP_CWORD]}
@@ -54,7 +53,7 @@ _fc() {
         return
     fi
     case $before in
-        --counters | --context | --journal)
+        --counters | --context | --journal | --opening)
             _fc_value "$before" "$word"
             return
             ;;
@@ -64,7 +63,7 @@ _fc() {
     _fc_command "$name"
     for ((at = 2; at < COMP_CWORD; at++)); do
         case ${COMP_WORDS[at]} in
-            --counters | --context | --journal)
+            --counters | --context | --journal | --opening)
                 options=${options/${COMP_WORDS[at]}/}
                 at=$((at + 1))
                 [ "${COMP_WORDS[at]}" != = ] || at=$((at + 1))

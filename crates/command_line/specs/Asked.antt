@@ -1,7 +1,8 @@
 -- Definitions: the job that a command line asks for once `clap` has parsed it. Its first argument is the program's
 -- name.
 use Rattle.std.specs.Prelude.{◌≡◌, ◌≢◌, ◌⊎◌, ◌<◌, ◌^◌, ℕ, List, [], ◌∷◌, codes, Bool, true, false, Option, Some, None, option_and_then, option_map}
-use Rattle.std.specs.Prelude.{if◌then◌else◌, ◌++◌, string_bytes, pos}
+use Rattle.std.specs.Prelude.{if◌then◌else◌, ◌++◌, String, string_bytes, pos}
+use Rattle.std.specs.Global.{Global}
 use Rattle.std.specs.Option.{option_map_or}
 use Rattle.std.specs.Str.{bytes_eq}
 use Rattle.std.specs.Str.Parse.{IsNumeral, digits_value, without_leading_plus}
@@ -47,9 +48,9 @@ abbrev pub context_rule : Rule
 context_rule =
     record (new_rule (codes "context")) { long = Some (codes "context"); value_names = 1; defaults = codes "1" ∷ [] }
 
--- --journal FILE
-abbrev pub journal_rule : Rule
-journal_rule = record (new_rule (codes "journal")) { long = Some (codes "journal"); value_names = 1 }
+-- an option with a value, such as --journal FILE
+abbrev pub option_rule : Text → Rule
+option_rule name = record (new_rule name) { long = Some name; value_names = 1 }
 
 -- an option without a value, such as --units
 abbrev pub flag_rule : Text → Rule
@@ -70,11 +71,18 @@ dis_app = with_rule (of_file (codes "dis") (codes "file")) (flag_rule (codes "un
 abbrev pub verify_app : App
 verify_app = with_rule (with_rule (of_file (codes "verify") (codes "file")) mask_rule) context_rule
 
+-- two files, and the option --opening FILE
+abbrev pub of_day : Text → Text → Text → App
+of_day name first second = with_rule (of_files name first second) (option_rule (codes "opening"))
+
 abbrev pub play_app : App
-play_app = of_files (codes "play") (codes "config") (codes "script")
+play_app = of_day (codes "play") (codes "config") (codes "script")
 
 abbrev pub audit_app : App
-audit_app = of_files (codes "audit") (codes "config") (codes "journal")
+audit_app = of_day (codes "audit") (codes "config") (codes "journal")
+
+abbrev pub carry_app : App
+carry_app = of_day (codes "carry") (codes "config") (codes "journal")
 
 abbrev pub report_app : App
 report_app = of_files (codes "report") (codes "config") (codes "journal")
@@ -85,34 +93,40 @@ export_app =
     (flag_rule (codes "json"))
 
 abbrev pub serve_app : App
-serve_app = with_rule (with_rule (of_file (codes "serve") (codes "config")) journal_rule) (flag_rule (codes "sync"))
+serve_app =
+    with_rule (with_rule (with_rule (of_file (codes "serve") (codes "config")) (option_rule (codes "journal"))) (flag_rule (codes "sync")))
+    (option_rule (codes "opening"))
 
 abbrev pub top_app : App
 top_app = record (new_app (codes "fc")) { top = record (new_app (codes "fc")).top { has_version = true } }
 
--- All subcommands: asm FILE, dis [--units] FILE, verify [--counters MASK] [--context LAYOUT] FILE, play CONFIG SCRIPT,
--- audit CONFIG JOURNAL, report CONFIG JOURNAL, export [--json] KIND CONFIG JOURNAL, and serve [--journal FILE [--sync]]
--- CONFIG.
+-- All subcommands: asm FILE, dis [--units] FILE, verify [--counters MASK] [--context LAYOUT] FILE, play [--opening FILE]
+-- CONFIG SCRIPT, audit [--opening FILE] CONFIG JOURNAL, carry [--opening FILE] CONFIG JOURNAL, report CONFIG JOURNAL,
+-- export [--json] KIND CONFIG JOURNAL, and serve [--journal FILE [--sync]] [--opening FILE] CONFIG.
 abbrev pub fc_app : App
 fc_app =
-    with_subcommand (with_subcommand (with_subcommand (with_subcommand (with_subcommand (with_subcommand (with_subcommand (with_subcommand top_app
-    asm_app.top) dis_app.top) verify_app.top) play_app.top) audit_app.top) report_app.top) export_app.top) serve_app.top
+    with_subcommand (with_subcommand (with_subcommand (with_subcommand (with_subcommand (with_subcommand (with_subcommand (with_subcommand
+    (with_subcommand top_app asm_app.top) dis_app.top) verify_app.top) play_app.top) audit_app.top) carry_app.top) report_app.top) export_app.top)
+    serve_app.top
 
 -- ---- jobs
 
+-- What can be asked for. Where a site may begin with an opening, the first text is the file of --opening, if that is
+-- given.
 pub data Asked : Type 0 where
   nothing : Asked
   asm : Text → Asked
   dis : Text → Asked
   dis_units : Text → Asked
   verify : ℕ → Layout → Text → Asked
-  play : Text → Text → Asked
-  audit : Text → Text → Asked
+  play : Option Text → Text → Text → Asked
+  audit : Option Text → Text → Text → Asked
+  carry : Option Text → Text → Text → Asked
   report : Text → Text → Asked
   export : Rows → Format → Text → Text → Asked
-  serve : Text → Asked
-  serve_kept : Text → Text → Asked
-  serve_synced : Text → Text → Asked
+  serve : Option Text → Text → Asked
+  serve_kept : Option Text → Text → Text → Asked
+  serve_synced : Option Text → Text → Text → Asked
 
 abbrev pub file_in : Text → (Text → Asked) → List Row → Option Asked
 file_in id ask rows = option_map ask (first_of id rows)
@@ -120,6 +134,10 @@ file_in id ask rows = option_map ask (first_of id rows)
 abbrev pub files_in : Text → Text → (Text → Text → Asked) → List Row → Option Asked
 files_in first second ask rows =
     option_and_then (λ (a : Text). option_map (ask a) (first_of second rows)) (first_of first rows)
+
+-- the file of the opening that the site begins with; None if --opening isn't given
+abbrev pub opening_in : List Row → Option Text
+opening_in rows = first_of (codes "opening") rows
 
 -- whether an option without a value, such as --units, is given
 abbrev pub is_set : Text → List Row → Bool
@@ -164,17 +182,17 @@ abbrev pub export_in : List Row → Option Asked
 export_in rows =
     option_and_then (λ (kind : Rows). files_in (codes "config") (codes "journal") (export kind (format_in rows)) rows) (kind_in rows)
 
--- What `serve` asks for, by whether --sync is given, and by the file of --journal. --sync without --journal asks for
--- nothing.
-abbrev pub serve_by : Bool → Option Text → Text → Option Asked
-serve_by false None config = Some (serve config)
-serve_by false (Some journal) config = Some (serve_kept config journal)
-serve_by true None config = None
-serve_by true (Some journal) config = Some (serve_synced config journal)
+-- What `serve` asks for, by the file of --opening, by whether --sync is given, and by the file of --journal. --sync
+-- without --journal asks for nothing.
+abbrev pub serve_by : Option Text → Bool → Option Text → Text → Option Asked
+serve_by opening false None config = Some (serve opening config)
+serve_by opening false (Some journal) config = Some (serve_kept opening config journal)
+serve_by opening true None config = None
+serve_by opening true (Some journal) config = Some (serve_synced opening config journal)
 
 abbrev pub serve_in : List Row → Option Asked
 serve_in rows =
-    option_and_then (serve_by (is_set (codes "sync") rows) (first_of (codes "journal") rows)) (first_of (codes "config") rows)
+    option_and_then (serve_by (opening_in rows) (is_set (codes "sync") rows) (first_of (codes "journal") rows)) (first_of (codes "config") rows)
 
 -- what a subcommand asks for, by its name and its values
 abbrev pub asked_by : Text → List Row → Option Asked
@@ -182,8 +200,9 @@ asked_by name rows =
     if bytes_eq name (codes "asm") then file_in (codes "file") asm rows
     else if bytes_eq name (codes "dis") then dis_in rows
     else if bytes_eq name (codes "verify") then verify_in rows
-    else if bytes_eq name (codes "play") then files_in (codes "config") (codes "script") play rows
-    else if bytes_eq name (codes "audit") then files_in (codes "config") (codes "journal") audit rows
+    else if bytes_eq name (codes "play") then files_in (codes "config") (codes "script") (play (opening_in rows)) rows
+    else if bytes_eq name (codes "audit") then files_in (codes "config") (codes "journal") (audit (opening_in rows)) rows
+    else if bytes_eq name (codes "carry") then files_in (codes "config") (codes "journal") (carry (opening_in rows)) rows
     else if bytes_eq name (codes "report") then files_in (codes "config") (codes "journal") report rows
     else if bytes_eq name (codes "export") then export_in rows
     else if bytes_eq name (codes "serve") then serve_in rows
@@ -193,6 +212,10 @@ abbrev pub asked_of : Option (Text × List Row) → Option Asked
 asked_of None = Some nothing
 asked_of (Some p) = asked_by p.0 p.1
 
+-- the bytes of a file's name, if a file is named
+abbrev pub named : Option (String Global) → Option Text
+named file = option_map string_bytes file
+
 -- What a job is a request for. The help or the version is a text to show, and counts as no request.
 abbrev pub asked : Job → Option Asked
 asked job.NoWords = Some nothing
@@ -200,13 +223,14 @@ asked (job.Asm file) = Some (asm (string_bytes file))
 asked (job.Dis file) = Some (dis (string_bytes file))
 asked (job.DisUnits file) = Some (dis_units (string_bytes file))
 asked (job.Verify counters context file) = Some (verify counters context (string_bytes file))
-asked (job.Play config script) = Some (play (string_bytes config) (string_bytes script))
-asked (job.Audit config journal) = Some (audit (string_bytes config) (string_bytes journal))
+asked (job.Play opening config script) = Some (play (named opening) (string_bytes config) (string_bytes script))
+asked (job.Audit opening config journal) = Some (audit (named opening) (string_bytes config) (string_bytes journal))
+asked (job.Carry opening config journal) = Some (carry (named opening) (string_bytes config) (string_bytes journal))
 asked (job.Report config journal) = Some (report (string_bytes config) (string_bytes journal))
 asked (job.Export rows format config journal) = Some (export rows format (string_bytes config) (string_bytes journal))
-asked (job.Serve config) = Some (serve (string_bytes config))
-asked (job.ServeKept config journal) = Some (serve_kept (string_bytes config) (string_bytes journal))
-asked (job.ServeSynced config journal) = Some (serve_synced (string_bytes config) (string_bytes journal))
+asked (job.Serve opening config) = Some (serve (named opening) (string_bytes config))
+asked (job.ServeKept opening config journal) = Some (serve_kept (named opening) (string_bytes config) (string_bytes journal))
+asked (job.ServeSynced opening config journal) = Some (serve_synced (named opening) (string_bytes config) (string_bytes journal))
 asked (job.Show text) = None
 
 -- ---- refusals

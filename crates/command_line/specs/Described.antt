@@ -1,21 +1,17 @@
 -- Promises: the commands that a table of subcommands describes to `clap`.
 use Rattle.std.specs.Prelude.{List, [], ◌∷◌, Some}
 use Rattle.clap.specs.Words.{App, Rule, Text, new_app, new_rule, with_rule, with_subcommand}
-use Rattle.command_line.specs.Asked.{context_rule, file_rule, flag_rule, journal_rule, kind_rule, mask_rule}
+use Rattle.command_line.specs.Asked.{context_rule, file_rule, flag_rule, kind_rule, mask_rule, option_rule}
 use Rattle.command_line.specs.declared.app.Argument.{Argument}
 use Rattle.command_line.specs.declared.app.Argument.TheVariants as argument
 use Rattle.command_line.specs.declared.app.Word.{Word}
-
--- an option --NAME VALUE
-abbrev pub option_rule : Text → Rule
-option_rule name = record (new_rule name) { long = Some name; value_names = 1 }
 
 abbrev pub rule_for : Argument → Rule
 rule_for (argument.File name help) = file_rule name.now
 rule_for argument.Kind = kind_rule
 rule_for argument.Mask = mask_rule
 rule_for argument.Context = context_rule
-rule_for argument.Journal = journal_rule
+rule_for (argument.FileOption name help) = option_rule name.now
 rule_for (argument.Flag name help) = flag_rule name.now
 
 -- adds these arguments to a command, in their order

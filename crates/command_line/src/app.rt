@@ -2,10 +2,10 @@
 ghost use Rattle.std.specs.Prelude.{◌≡◌, false, IfOk, codes};
 ghost use Rattle.clap.specs.Words.{app_of, new_app, rule_of, with_subcommand};
 ghost use Rattle.clap.specs.declared.builder.command.Command.TheViews.{out-Command};
-ghost use Rattle.command_line.specs.Asked.{context_rule, file_rule, flag_rule, journal_rule, kind_rule};
-ghost use Rattle.command_line.specs.Asked.{mask_rule};
+ghost use Rattle.command_line.specs.Asked.{context_rule, file_rule, flag_rule, kind_rule, mask_rule};
+ghost use Rattle.command_line.specs.Asked.{option_rule};
 ghost use Rattle.command_line.specs.Asked.{fc_app, top_app};
-ghost use Rattle.command_line.specs.Described.{app_for, option_rule, rule_for, with_words};
+ghost use Rattle.command_line.specs.Described.{app_for, rule_for, with_words};
 
 use clap::{Arg, ArgAction, Command, value_parser};
 use std::alloc::{AllocError, Global};
@@ -21,8 +21,8 @@ enum Argument {
     Mask,
     /// The option `--context LAYOUT`.
     Context,
-    /// The option `--journal FILE`.
-    Journal,
+    /// An option `--NAME FILE`: its name, and its help text.
+    FileOption(&'static str, &'static str),
     /// An option without a value: its name, and its help text.
     Flag(&'static str, &'static str),
 }
@@ -83,15 +83,6 @@ fn context_arg<'a>(alloc: Global) -> Arg<'a>
     option_arg(alloc, "context", "LAYOUT", help).default_value("1")
 }
 
-/// Makes the option `--journal`: the file in which a served site keeps its journal.
-fn journal_arg<'a>(alloc: Global) -> Arg<'a>
-    ensures rule { rule_of result ≡ journal_rule }
-    ensures local { result.global ≡ false }
-{
-    let help = "keep the journal in this file as it happens, and go on from what it holds";
-    option_arg(alloc, "journal", "FILE", help)
-}
-
 /// Makes an option `--NAME` without a value.
 fn flag_arg<'a>(alloc: Global, name: &'a str, help: &'a str) -> Arg<'a>
     ensures rule { rule_of result ≡ flag_rule name.entry.now }
@@ -109,9 +100,16 @@ const SCRIPT: &str = "requests, events and loads, one a line";
 
 const JOURNAL: &str = "what a play or a served site printed of its entries";
 
+const AUDITED: &str = "the journal of a play, or of a served site";
+
 const PROGRAM: &str = "the program's bytes, as hexadecimal digits";
 
-const WORDS: [Word; 8] = [
+const OPENING: Argument = Argument::FileOption(
+    "opening",
+    "begin with the opening in this file, as carry prints it",
+);
+
+const WORDS: [Word; 9] = [
     Word {
         name: "asm",
         about: "Prints the units of a rule",
@@ -144,6 +142,7 @@ const WORDS: [Word; 8] = [
         arguments: &[
             Argument::File("config", CONFIG),
             Argument::File("script", SCRIPT),
+            OPENING,
         ],
     },
     Word {
@@ -152,7 +151,18 @@ const WORDS: [Word; 8] = [
         example: "Example: fc audit site.toml day.journal",
         arguments: &[
             Argument::File("config", CONFIG),
-            Argument::File("journal", "the journal of a play, or of a served site"),
+            Argument::File("journal", AUDITED),
+            OPENING,
+        ],
+    },
+    Word {
+        name: "carry",
+        about: "Prints the opening of the day that comes after a journal",
+        example: "Example: fc carry site.toml day.journal > day.opening",
+        arguments: &[
+            Argument::File("config", CONFIG),
+            Argument::File("journal", AUDITED),
+            OPENING,
         ],
     },
     Word {
@@ -181,11 +191,15 @@ const WORDS: [Word; 8] = [
         example: "Examples: fc serve site.toml > day.journal, fc serve --journal day.journal site.toml",
         arguments: &[
             Argument::File("config", CONFIG),
-            Argument::Journal,
+            Argument::FileOption(
+                "journal",
+                "keep the journal in this file as it happens, and go on from what it holds",
+            ),
             Argument::Flag(
                 "sync",
                 "with --journal: answer only what the system says is on the disk",
             ),
+            OPENING,
         ],
     },
 ];
@@ -210,7 +224,7 @@ fn argument_of<'a>(alloc: Global, argument: Argument) -> Arg<'a>
         Argument::Kind => kind_arg(alloc),
         Argument::Mask => mask_arg(alloc),
         Argument::Context => context_arg(alloc),
-        Argument::Journal => journal_arg(alloc),
+        Argument::FileOption(name, help) => option_arg(alloc, name, "FILE", help),
         Argument::Flag(name, help) => flag_arg(alloc, name, help),
     }
 }

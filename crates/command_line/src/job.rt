@@ -24,7 +24,7 @@ pub enum Format {
 }
 
 /// The job that a command line asks for. Each `String` is the name of a file, as it was given. Only the `String` of
-/// `Show` is a text to print.
+/// `Show` is a text to print. An `opening` is the file of the opening that the site begins with, if one is given.
 #[derive(Drop)]
 pub enum Job {
     /// No argument was given: play a configuration and then a script, both read from standard input.
@@ -43,11 +43,19 @@ pub enum Job {
     },
     /// Answer the lines of a script, with a new site of this configuration.
     Play {
+        opening: Option<String>,
         config: String,
         script: String,
     },
     /// Audit a journal against a configuration.
     Audit {
+        opening: Option<String>,
+        config: String,
+        journal: String,
+    },
+    /// Audit a journal against a configuration, and print the opening of the next day.
+    Carry {
+        opening: Option<String>,
         config: String,
         journal: String,
     },
@@ -64,14 +72,19 @@ pub enum Job {
         journal: String,
     },
     /// Serve a site of this configuration, and print its journal at the end.
-    Serve(String),
+    Serve {
+        opening: Option<String>,
+        config: String,
+    },
     /// Serve a site of this configuration, and write its journal to a file as it grows.
     ServeKept {
+        opening: Option<String>,
         config: String,
         journal: String,
     },
     /// Serve a site like `ServeKept`, and send an answer only after its line in the journal is synced.
     ServeSynced {
+        opening: Option<String>,
         config: String,
         journal: String,
     },

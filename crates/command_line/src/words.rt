@@ -3,7 +3,8 @@ ghost use Rattle.std.specs.Prelude.{◌≡◌, IsTrue, IsSome, None, false, [], 
 ghost use Rattle.std.specs.Prelude.{map, codes, option_map, string_bytes, ◌↔◌};
 ghost use Rattle.clap.specs.Words.{first_of, rows_of, found_of, subcommand_of, subcommand_rows_of, takes, fault_of};
 ghost use Rattle.command_line.specs.Asked.{fc_app, asked, asked_of, is_set, layout_in, layout_named, IsShown, MayShow};
-ghost use Rattle.command_line.specs.Asked.{RefusesBy, format_in, kind_in, rows_named, unasked_by, unasked_text};
+ghost use Rattle.command_line.specs.Asked.{RefusesBy, format_in, kind_in, named, opening_in, rows_named};
+ghost use Rattle.command_line.specs.Asked.{unasked_by, unasked_text};
 ghost use Rattle.command_line.specs.Refusing.{Finds, FindsFiles, FindsIn, ReadsMask, IsUnasked, IsRefusalOf};
 
 use crate::app::fc;
@@ -125,11 +126,23 @@ fn files_of(
     }
 }
 
+/// Returns the name of the file that `--opening` gives; `None` if it isn't given.
+fn opening_of(alloc: Global, matches: &ArgMatches) -> Result<Option<String>, AllocError>
+    ensures { IfOk result (λ file. opening_in (rows_of (found_of matches.now)) ≡ named file) }
+{
+    file_of(alloc, matches, "opening")
+}
+
 fn play_of(alloc: Global, matches: &ArgMatches) -> Result<Option<Job>, AllocError>
     ensures { IfOk result (Finds (codes "play") (rows_of (found_of matches.now))) }
 {
+    let opening = opening_of(alloc, matches)?;
     match files_of(alloc, matches, "config", "script")? {
-        Some((config, script)) => Ok(Some(Job::Play { config, script })),
+        Some((config, script)) => Ok(Some(Job::Play {
+            opening,
+            config,
+            script,
+        })),
         None => Ok(None),
     }
 }
@@ -137,8 +150,27 @@ fn play_of(alloc: Global, matches: &ArgMatches) -> Result<Option<Job>, AllocErro
 fn audit_of(alloc: Global, matches: &ArgMatches) -> Result<Option<Job>, AllocError>
     ensures { IfOk result (Finds (codes "audit") (rows_of (found_of matches.now))) }
 {
+    let opening = opening_of(alloc, matches)?;
     match files_of(alloc, matches, "config", "journal")? {
-        Some((config, journal)) => Ok(Some(Job::Audit { config, journal })),
+        Some((config, journal)) => Ok(Some(Job::Audit {
+            opening,
+            config,
+            journal,
+        })),
+        None => Ok(None),
+    }
+}
+
+fn carry_of(alloc: Global, matches: &ArgMatches) -> Result<Option<Job>, AllocError>
+    ensures { IfOk result (Finds (codes "carry") (rows_of (found_of matches.now))) }
+{
+    let opening = opening_of(alloc, matches)?;
+    match files_of(alloc, matches, "config", "journal")? {
+        Some((config, journal)) => Ok(Some(Job::Carry {
+            opening,
+            config,
+            journal,
+        })),
         None => Ok(None),
     }
 }
@@ -215,11 +247,20 @@ fn serve_of(alloc: Global, matches: &ArgMatches) -> Result<Option<Job>, AllocErr
         return Ok(None);
     };
     let journal = file_of(alloc, matches, "journal")?;
+    let opening = opening_of(alloc, matches)?;
     match (is_set(matches, "sync"), journal) {
-        (false, None) => Ok(Some(Job::Serve(config))),
-        (false, Some(journal)) => Ok(Some(Job::ServeKept { config, journal })),
+        (false, None) => Ok(Some(Job::Serve { opening, config })),
+        (false, Some(journal)) => Ok(Some(Job::ServeKept {
+            opening,
+            config,
+            journal,
+        })),
         (true, None) => Ok(None),
-        (true, Some(journal)) => Ok(Some(Job::ServeSynced { config, journal })),
+        (true, Some(journal)) => Ok(Some(Job::ServeSynced {
+            opening,
+            config,
+            journal,
+        })),
     }
 }
 
@@ -233,6 +274,7 @@ fn named_job(alloc: Global, name: &str, matches: &ArgMatches) -> Result<Option<J
         "verify" => verify_of(alloc, matches),
         "play" => play_of(alloc, matches),
         "audit" => audit_of(alloc, matches),
+        "carry" => carry_of(alloc, matches),
         "report" => report_of(alloc, matches),
         "export" => export_of(alloc, matches),
         "serve" => serve_of(alloc, matches),

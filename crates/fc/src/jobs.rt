@@ -3,8 +3,8 @@ use crate::kept::{After, serve_kept};
 use crate::printed::serve_printed;
 use command_line::Job;
 use file_jobs::{
-    DONE, Stop, Tell, audit_files, export_files, play_files, play_input, report_files, say,
-    tell_file,
+    DONE, SiteFiles, Stop, Tell, audit_files, carry_files, export_files, play_files, play_input,
+    report_files, say, tell_file,
 };
 use std::fs::Files;
 use std::net::{Net, TcpListener, TcpStream};
@@ -30,8 +30,21 @@ pub fn do_job<
             context,
             file,
         } => tell_file(rt, file, Tell::Verify(*counters, *context)),
-        Job::Play { config, script } => play_files(rt, config, script),
-        Job::Audit { config, journal } => audit_files(rt, config, journal),
+        Job::Play {
+            opening,
+            config,
+            script,
+        } => play_files(rt, site_files(config, opening), script),
+        Job::Audit {
+            opening,
+            config,
+            journal,
+        } => audit_files(rt, site_files(config, opening), journal),
+        Job::Carry {
+            opening,
+            config,
+            journal,
+        } => carry_files(rt, site_files(config, opening), journal),
         Job::Report { config, journal } => report_files(rt, config, journal),
         Job::Export {
             rows,
@@ -39,8 +52,20 @@ pub fn do_job<
             config,
             journal,
         } => export_files(rt, *rows, *format, config, journal),
-        Job::Serve(config) => serve_printed(rt, host, config),
-        Job::ServeKept { config, journal } => serve_kept(rt, host, config, journal, After::Write),
-        Job::ServeSynced { config, journal } => serve_kept(rt, host, config, journal, After::Sync),
+        Job::Serve { opening, config } => serve_printed(rt, host, site_files(config, opening)),
+        Job::ServeKept {
+            opening,
+            config,
+            journal,
+        } => serve_kept(rt, host, site_files(config, opening), journal, After::Write),
+        Job::ServeSynced {
+            opening,
+            config,
+            journal,
+        } => serve_kept(rt, host, site_files(config, opening), journal, After::Sync),
     }
+}
+
+fn site_files<'a>(config: &'a String, opening: &'a Option<String>) -> SiteFiles<'a> {
+    SiteFiles::new(config, opening.as_deref())
 }

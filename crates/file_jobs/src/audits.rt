@@ -2,7 +2,7 @@
 use crate::faults::{Place, complain, out_of_memory, say, tell_journal};
 use crate::files::{Source, source_of, stream};
 use crate::progress::{Watched, watch};
-use crate::settings::settings_and;
+use crate::settings::{SiteFiles, day_and};
 use crate::statuses::{FAILED, REFUSED};
 use crate::stop::Stop;
 use decision_journal::JournalFault;
@@ -11,15 +11,16 @@ use site_core::Config;
 use std::io;
 use till_request::devices::StreamIn;
 
-/// Audits the journal in one file against the configuration in another, prints the result, and returns the exit status.
-/// The arguments `config` and `journal` name the files.
-pub fn audit_files(rt: &HostRuntime, config: &str, journal: &str) -> Result<u8, Stop> {
-    let (settings, source) = settings_and(rt, config, journal)?;
+/// Audits the journal in a file as one of this site, prints the result, and returns the exit status. The argument
+/// `journal` names the file.
+pub fn audit_files(rt: &HostRuntime, site: SiteFiles<'_>, journal: &str) -> Result<u8, Stop> {
+    let (day, source) = day_and(rt, site, journal)?;
+    let config = day.config;
     let size = source.size();
-    let told = audited(rt, &settings.config, journal, watch(rt, source, size))?;
+    let told = audited(rt, &config, journal, watch(rt, source, size))?;
     // The journal is read again to explain the refusal, and only a regular file can be read again.
     if told.status == REFUSED && size.is_some() {
-        explain_journal(rt, journal, settings.config);
+        explain_journal(rt, journal, config);
     }
     Ok(say(rt, &told.text, told.status))
 }

@@ -6,7 +6,7 @@ use crate::faults::{Place, complain, out_of_memory, refuse_length, tell, tell_cu
 use crate::files::{Source, name_of, stream};
 use crate::progress::Progress;
 use crate::refused_loads::RefusedLoads;
-use crate::settings::{settings_and, settings_in};
+use crate::settings::{SiteFiles, day_and, settings_in};
 use crate::statuses::{DONE, FAILED, REFUSED};
 use crate::stop::Stop;
 use console::{Ended, READS, SessionFault, Settings, config_part, play_within, read_head};
@@ -128,16 +128,20 @@ fn outlet<'a, 'b>(answers: &'b Answers<'a>) -> StreamOut<Outgoing<'a, 'b>> {
     }
 }
 
-/// Plays the script in one file against a new site of the configuration in another, and returns the exit status. The
-/// arguments `config` and `script` name the files.
-pub fn play_files(rt: &HostRuntime, config: &str, script: &str) -> Result<u8, Stop> {
-    let (settings, source) = settings_and(rt, config, script)?;
+/// Plays the script in a file against this site, with no entries yet, and returns the exit status. The argument
+/// `script` names the file.
+pub fn play_files<'a>(
+    rt: &'a HostRuntime,
+    site: SiteFiles<'_>,
+    script: &'a str,
+) -> Result<u8, Stop> {
+    let (day, source) = day_and(rt, site, script)?;
     let answers = Answers::new(rt)?;
     // On a terminal the user sees the answers, and they would be mixed with the progress line.
     let is_silent = !rt.stdout().is_terminal();
     let progress = Progress::new(rt, is_silent, source.size());
     let mut input = script_of(source, &answers, Some(&progress));
-    Ok(play_script(rt, settings.config, script, 0, &mut input, READS))
+    Ok(play_script(rt, day.config, script, 0, &mut input, READS))
 }
 
 /// Plays a script, and returns the exit status. `word` is the argument that names the script, and `lines` lines come

@@ -1,15 +1,68 @@
-//! Reading of configuration files.
+//! Reading of the files that say what a site begins with: its configuration, and its opening.
 use crate::faults::{refuse_config, tell};
 use crate::files::{Source, is_input, source_of, text_of};
+use crate::opening::{Day, day_from};
 use crate::statuses::USAGE;
 use crate::stop::Stop;
 use console::{Settings, read_settings};
 
-/// Reads the configuration file that an argument names. If it can't be read or is refused, prints why; the error has
-/// the exit status.
-pub fn settings_of(rt: &HostRuntime, word: &str) -> Result<Settings, Stop> {
-    let text = text_of(rt, word)?;
-    settings_in(rt, word, &text)
+/// The arguments that name the files of a site: its configuration, and the opening that it begins with, if there is
+/// one.
+#[derive(Clone, Copy)]
+pub struct SiteFiles<'a> {
+    config: &'a str,
+    opening: Option<&'a str>,
+}
+
+impl<'a> SiteFiles<'a> {
+    pub fn new(config: &'a str, opening: Option<&'a str>) -> SiteFiles<'a> {
+        SiteFiles { config, opening }
+    }
+
+    /// Returns the argument that names the configuration.
+    pub fn config(self) -> &'a str {
+        self.config
+    }
+
+    fn is_opening_input(self) -> bool {
+        match self.opening {
+            Some(opening) => is_input(opening),
+            None => false,
+        }
+    }
+}
+
+/// Reads the configuration of a site, and then its opening, if it has one. If one of them can't be read or is refused,
+/// or if both are standard input, prints why; the error has the exit status.
+pub fn day_of(rt: &HostRuntime, site: SiteFiles<'_>) -> Result<Day, Stop> {
+    if is_input(site.config) && site.is_opening_input() {
+        return Err(refuse_twice(rt));
+    }
+    let text = text_of(rt, site.config)?;
+    let settings = settings_in(rt, site.config, &text)?;
+    match site.opening {
+        Some(opening) => day_from(rt, opening, settings),
+        None => Ok(first_day(settings)),
+    }
+}
+
+/// Returns the day that a site of these settings begins with if it has no opening.
+fn first_day(settings: Settings) -> Day {
+    let Settings { config, serve } = settings;
+    Day {
+        config,
+        serve,
+        number: 1,
+    }
+}
+
+/// Prints that two files of a call are standard input. The result has the exit status.
+fn refuse_twice(rt: &HostRuntime) -> Stop {
+    tell(
+        rt,
+        &"- is standard input, which is read once: name one of the two files",
+    );
+    Stop::Said(USAGE)
 }
 
 /// Reads the settings in the text of a configuration. If it is refused, prints why; the error has the exit status.
@@ -20,21 +73,13 @@ pub fn settings_in(rt: &HostRuntime, word: &str, text: &[u8]) -> Result<Settings
     }
 }
 
-/// Reads the configuration file and opens the other file. Only one of the two may be standard input. If one fails,
-/// prints why; the error has the exit status.
-pub fn settings_and(
-    rt: &HostRuntime,
-    config: &str,
-    other: &str,
-) -> Result<(Settings, Source), Stop> {
-    if is_input(config) && is_input(other) {
-        tell(
-            rt,
-            &"- is standard input, which is read once: name one of the two files",
-        );
-        return Err(Stop::Said(USAGE));
+/// Reads the configuration of a site, and its opening, if it has one, and opens the other file. Only one of the files
+/// may be standard input. If one fails, prints why; the error has the exit status.
+pub fn day_and(rt: &HostRuntime, site: SiteFiles<'_>, other: &str) -> Result<(Day, Source), Stop> {
+    if is_input(other) && (is_input(site.config) || site.is_opening_input()) {
+        return Err(refuse_twice(rt));
     }
-    let settings = settings_of(rt, config)?;
+    let day = day_of(rt, site)?;
     let source = source_of(rt, other)?;
-    Ok((settings, source))
+    Ok((day, source))
 }

@@ -1,0 +1,153 @@
+//! The opening that a site begins with: its file is read, and compared with the configuration.
+ghost use Rattle.std.specs.Prelude.{IfOk};
+ghost use Rattle.file_jobs.specs.Fitting.{BeginsWith};
+
+use crate::faults::{
+    Place, complain, once_printed, out_of_memory, refuse, say, tell_at, tell_journal,
+};
+use crate::files::bytes_of;
+use crate::fitting::fitted;
+use crate::statuses::REFUSED;
+use crate::stop::Stop;
+use console::{Serve, Settings};
+use job_texts::{JournalFlaw, explain_refusal, told_audit_fault};
+use opening_text::{OpeningFile, OpeningFlaw, read_opening};
+use reg_types::Refusal;
+use site_core::{AuditFault, Config, Opening, OpeningFault};
+use std::alloc::{AllocError, Global};
+use std::fmt::Display;
+use std::str;
+
+/// The most bytes that the file of an opening may have. An opening with the longest programs has some 150,000.
+const MOST_OPENING: usize = 262_144;
+
+/// What a day of a site begins with: its configuration, which has the opening if there is one, how it is served, and the
+/// day's number, which is 1 without an opening.
+#[derive(Drop)]
+pub struct Day {
+    pub config: Config,
+    pub serve: Option<Serve>,
+    pub number: u32,
+}
+
+/// Returns the day that begins with the opening in the file that an argument names, for a site of these settings. If
+/// the opening can't be read, is refused or doesn't fit the configuration, prints why; the error has the exit status.
+pub fn day_from(rt: &HostRuntime, word: &str, settings: Settings) -> Result<Day, Stop> {
+    let file = opening_in(rt, word)?;
+    let Settings { config, serve } = settings;
+    let number = file.day;
+    match opened(rt, word, config, file.opening) {
+        Ok(config) => Ok(Day {
+            config,
+            serve,
+            number,
+        }),
+        Err(stop) => Err(stop),
+    }
+}
+
+/// Reads the opening in the file that an argument names. If it can't be read or is refused, prints why; the error has
+/// the exit status.
+fn opening_in(rt: &HostRuntime, word: &str) -> Result<OpeningFile, Stop> {
+    let Some(bytes) = bytes_of(rt, word, MOST_OPENING)? else {
+        complain(rt, Place::of(word), &"over 262,144 bytes", "L1");
+        return Err(Stop::Said(refuse(rt, "L1")));
+    };
+    match read_opening(rt.alloc(), &bytes) {
+        Ok(file) => Ok(file),
+        Err(flaw) => Err(refuse_opening(rt, word, &bytes, flaw)),
+    }
+}
+
+/// Prints why the text of an opening is refused: the words on standard error, the number (J1, J2 or F2) and the line
+/// on standard output.
+fn refuse_opening(rt: &HostRuntime, word: &str, text: &[u8], flaw: OpeningFlaw) -> Stop {
+    match flaw {
+        OpeningFlaw::BadLine(line) => refuse_line(rt, word, line, bad_line(text, line), "J1"),
+        OpeningFlaw::CutLine(line) => refuse_line(rt, word, line, "the last line has no LF", "J2"),
+        OpeningFlaw::BadProgram(line, refusal) => refuse_rule(rt, word, text, line, refusal),
+        OpeningFlaw::OutOfMemory => Stop::Said(out_of_memory(rt)),
+    }
+}
+
+/// Returns what is wrong with the line of this number, counted from 1: it can't stand there, or the text has ended.
+fn bad_line(text: &[u8], number: u32) -> &'static str {
+    match text.split(|byte| *byte == b'\n').nth(number as usize) {
+        Some(_) => "no line of an opening",
+        None => "the opening ends before its line 'journal'",
+    }
+}
+
+fn refuse_line(rt: &HostRuntime, word: &str, line: u32, words: &str, code: &str) -> Stop {
+    complain(rt, Place::of(word).line(u64::from(line)), &words, code);
+    Stop::Said(once_printed(rt, println!(rt; "{code} {line}"), REFUSED))
+}
+
+/// Prints why the verifier refuses the program in a line of an opening.
+fn refuse_rule(rt: &HostRuntime, word: &str, text: &[u8], line: u32, refusal: Refusal) -> Stop {
+    if explain_rule(rt, word, line, line_of(text, line), refusal).is_err() {
+        return Stop::Said(out_of_memory(rt));
+    }
+    match told_audit_fault(rt.alloc(), AuditFault::BadProgram(line, refusal)) {
+        Ok(told) => Stop::Said(say(rt, &told.text, told.status)),
+        Err(refused) => Stop::from(refused),
+    }
+}
+
+/// Prints on standard error the slot of the program in a line of an opening, and why the verifier refuses it.
+fn explain_rule(
+    rt: &HostRuntime,
+    word: &str,
+    number: u32,
+    line: &[u8],
+    refusal: Refusal,
+) -> Result<(), AllocError> {
+    // The line was read before, so nothing but memory can be wanting here.
+    let Some((slot, program)) = rule_in(rt.alloc(), line) else {
+        return Err(AllocError);
+    };
+    let refused = explain_refusal(rt.alloc(), &program, refusal)?;
+    tell_journal(rt, word, Some(number), &JournalFlaw::Program(slot, refused));
+    Ok(())
+}
+
+/// Returns the line of this number, counted from 1, without its LF. Returns no bytes if there is no such line.
+fn line_of(text: &[u8], number: u32) -> &[u8] {
+    let before = (number as usize).saturating_sub(1);
+    match text.split(|byte| *byte == b'\n').nth(before) {
+        Some(line) => line,
+        None => &[],
+    }
+}
+
+/// Returns the slot and the program of a line `version SLOT NUMBER MASK LOAD HEX`. Returns `None` if it is another line,
+/// or if memory ran out.
+fn rule_in(alloc: Global, line: &[u8]) -> Option<(u32, Vec<u8>)> {
+    let text = str::from_utf8(line).ok()?;
+    let (_, digits) = text.rsplit_once(' ')?;
+    let slot = text.split(' ').nth(1)?.parse::<u32>().ok()?;
+    let program = hex::decode(alloc, digits.as_bytes()).ok()?;
+    Some((slot, program))
+}
+
+/// Returns the configuration of a site that begins with an opening, with the bounds of its own counters. `word` names
+/// the opening's file. If the opening doesn't fit the configuration, prints why; the error has the exit status.
+fn opened(rt: &HostRuntime, word: &str, config: Config, opening: Opening) -> Result<Config, Stop>
+    ensures { IfOk result (BeginsWith config opening) }
+{
+    let opening = match fitted(&config, opening) {
+        Ok(opening) => opening,
+        Err(misfit) => return Err(refuse_words(rt, word, &misfit)),
+    };
+    match config.opened(rt.alloc(), opening) {
+        Ok(config) => Ok(config),
+        Err(OpeningFault::OutOfMemory) => Err(Stop::Said(out_of_memory(rt))),
+        Err(fault) => Err(refuse_words(rt, word, &fault)),
+    }
+}
+
+/// Prints why an opening doesn't fit a configuration. There is no number, and nothing on standard output.
+fn refuse_words<D: Display>(rt: &HostRuntime, word: &str, words: &D) -> Stop {
+    tell_at(rt, Place::of(word), words);
+    Stop::Said(REFUSED)
+}
