@@ -377,7 +377,7 @@ class Served(Call):
 
 
 def calls_of_files(shim):
-    """Plays, audits, pages, rows, and calls with a program file, some accepted and some refused. Makes their files."""
+    """Plays, audits, openings, pages, rows, and calls with a program file, some accepted and some refused. Makes their files."""
     def put(name, text):
         write(os.path.join(shim.folder, name), text)
 
@@ -391,6 +391,10 @@ def calls_of_files(shim):
     put("told.journal", journal.replace("granted 8000", "granted 8001", 1))
     put("bad.journal", journal.replace(" = done", " = don", 1))
     put("loaded.journal", journal.replace(AS_ASKED, NOTHING_SET, 1))
+    opening = shim.run(("carry", "site.toml", "day.journal")).printed
+    put("day.opening", opening)
+    put("bad.opening", opening.replace("cleared ", "cleared 0", 1))
+    put("loaded.opening", opening.replace(AS_ASKED, NOTHING_SET, 1))
     put("rule.bpf", text_of(os.path.join(HERE, "examples", "rules", "quota_by_counter.bpf")))
     put("form.bpf", "r0 = 0\nfoo\n")
     put("label.bpf", "goto end\n")
@@ -406,6 +410,12 @@ def calls_of_files(shim):
     yield Call("audit of no entry", "audit", "site.toml", "bad.journal")
     yield Call("audit of a refused program", "audit", "site.toml", "loaded.journal")
     yield Call("audit of standard input", "audit", "site.toml", "-", stdin=journal)
+    yield Call("audit from an opening", "audit", "--opening", "day.opening", "site.toml", "-")
+    yield Call("audit from no opening", "audit", "--opening", "bad.opening", "site.toml", "-")
+    yield Call("audit from a refused program", "audit", "--opening", "loaded.opening", "site.toml", "-")
+    yield Call("carry", "carry", "site.toml", "day.journal")
+    yield Call("carry from an opening", "carry", "--opening", "day.opening", "site.toml", "-")
+    yield Call("carry of another reply", "carry", "site.toml", "told.journal")
     yield Call("report", "report", "site.toml", "day.journal")
     yield Call("report of another reply", "report", "site.toml", "told.journal")
     yield Call("export of sales", "export", "sales", "site.toml", "day.journal")
