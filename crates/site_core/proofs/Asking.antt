@@ -199,7 +199,7 @@ some-none p h = cc
 in-range : (product price : ℕ) → (is_within 1 product 8 && is_within 1 price 9999999) ≡ true → (1 ≤ product) × (product ≤ 8) × (price ≤ 9999999)
 in-range product price h = (grind (arith, nat_tests, h), grind (arith, nat_tests, h), grind (arith, nat_tests, h))
 
-well-request : (config : ConfigValue) (s : SiteState) (r : Request) (q : Question) → question_of config s r ≡ Some q → WellAsked s q
+pub well-request : (config : ConfigValue) (s : SiteState) (r : Request) (q : Question) → question_of config s r ≡ Some q → WellAsked s q
 well-request config s (request.Release n amount) q h = λ none.
     let a : Asks config s n amount q = asks config s n amount q (at_number s.points n) refl (ok-is (release_question config s n amount) q h) in
     absurd (some-none a.point (sym a.is_point ∙ ap (λ (x : Question). at_number s.points x.point) (sym a.question) ∙ none))

@@ -25,7 +25,7 @@ after-is : (a : Answer (Option ℕ)) (p new : PointState) (outcome : Result (Opt
 after-is (Ok (q, given)) p new outcome h = sym h.1
 after-is (Err f) p new outcome h = sym h.1
 
-grant-some : (s : SiteState) (till r : ℕ) (q : Question) (p : PointState) → at_number s.points q.point ≡ Some p
+pub grant-some : (s : SiteState) (till r : ℕ) (q : Question) (p : PointState) → at_number s.points q.point ≡ Some p
     → grant s till q r ≡ (let g : ℕ = granted_point q.kind q.asked r p.preset in (g, with_point s q.point (after_command p till (command_of q.kind g))))
 unfolding grant
 grant-some s till r q p at = rw (at, grant)

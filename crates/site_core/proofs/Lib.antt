@@ -20,3 +20,8 @@ pub mod Outside
 pub mod First
 pub mod Days
 pub mod NextDay
+pub mod Numbers
+pub mod Holders
+pub mod EachEvent
+pub mod Carries
+pub mod CounterBounds

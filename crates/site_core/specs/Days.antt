@@ -1,11 +1,14 @@
 -- Definitions: how one day of a site follows another (this profile).
-use Rattle.std.specs.Prelude.{◌≡◌, ℕ, ◌+◌, ◌<◌, ◌≤◌, ◌↔◌, List, ◌++◌, length, map, reverse, Some}
+use Rattle.std.specs.Prelude.{◌≡◌, ℕ, ◌+◌, ◌<◌, ◌≤◌, ◌↔◌, List, ◌++◌, length, map, reverse, Some, All}
 use Rattle.std.specs.List.{range_with_len}
+use Rattle.fuelling_point.specs.Table.{PointState}
+use Rattle.fuelling_point.specs.declared.kinds.Transaction.{Transaction}
+use Rattle.bpf_model.specs.Machine.{Counters, counter}
 use Rattle.decision_journal.specs.declared.entries.Entry.{Entry}
 use Rattle.till_request.specs.declared.act.Act.{Act}
 use Rattle.site_core.specs.Opening.{OpeningValue}
 use Rattle.site_core.specs.Limits.{ConfigValue, IsConfig}
-use Rattle.site_core.specs.State.{SiteState}
+use Rattle.site_core.specs.State.{SiteState, opening_state}
 use Rattle.site_core.specs.History.{in_force, versions, versions_before}
 use Rattle.site_core.specs.Step.{effect}
 use Rattle.site_core.specs.Legal.{LegalHistory}
@@ -48,3 +51,21 @@ EachEventGoesOn = (site : SiteValue) (later : List Entry) (s : SiteState) (momen
     → versions (reverse site.history) + versions later < 4096
     → effect (next_day site) later s moment act
     ≡ effect site.config (map (numbered_on (length site.history)) later ++ reverse site.history) s moment act
+
+-- The counters have the same bounds.
+abbrev pub HaveSameBounds : Counters → Counters → Type 0
+HaveSameBounds a b = (c : ℕ) → (counter a c).1 ≡ (counter b c).1
+
+-- The law of bounds: what a site leaves has the bounds of counters that the site began with.
+abbrev pub BoundsStay : Type 0
+BoundsStay = (site : SiteValue) → Upholds site → HaveSameBounds (carried site).counters (opening_state site.config).counters
+
+-- Each unpaid transaction of the point is held by nobody, or by one of these many tills.
+abbrev pub IsHeldWithin : ℕ → PointState → Type 0
+IsHeldWithin tills p = All (λ (t : Transaction). t.holder ≤ tills) p.unpaid
+
+-- The law of holders: if each transaction with which a site begins is held by nobody or by one of its tills, then so is
+-- each that it leaves.
+abbrev pub HoldersStay : Type 0
+HoldersStay = (site : SiteValue) → Upholds site → All (IsHeldWithin site.config.tills) (opening_state site.config).points
+    → All (IsHeldWithin site.config.tills) (carried site).points

@@ -1,5 +1,6 @@
 -- Definitions: what a site keeps from one day to the next (this profile).
-use Rattle.std.specs.Prelude.{◌≡◌, ℕ, ◌≤◌, List, length, Option, All}
+use Rattle.std.specs.Prelude.{◌≡◌, ℕ, ◌≤◌, ◌==◌, List, [], ◌∷◌, length, Option, Some, None, false, All}
+use Rattle.std.specs.List.{AllByRecursion, IsDistinct}
 use Rattle.fuelling_point.specs.Table.{PointState}
 use Rattle.bpf_model.specs.Machine.{Counters}
 use Rattle.bpf_model.specs.Runs.{AreCounters}
@@ -18,9 +19,25 @@ pub record OpeningValue : Type 0 where
   pub versions : ℕ
   pub rules : List (Option Version)
 
+-- The numbers of the versions in the slots, in the order of slots.
+abbrev pub rule_numbers : List (Option Version) → List ℕ
+rule_numbers [] = []
+rule_numbers (None ∷ rest) = rule_numbers rest
+rule_numbers (Some v ∷ rest) = v.number ∷ rule_numbers rest
+
+-- No slot has a version of this number.
+abbrev pub IsNewNumber : List (Option Version) → ℕ → Type 0
+IsNewNumber rules number = AllByRecursion (λ n. (number == n) ≡ false) (rule_numbers rules)
+
+-- No two slots have versions of one number.
+abbrev pub HaveOwnNumbers : List (Option Version) → Type 0
+HaveOwnNumbers rules = IsDistinct (λ a b. a == b) (rule_numbers rules)
+
 -- The numbers of an opening are ones that a site with this many points can begin with: each price is at most 9,999,999,
--- and each counter's value at most its bound. The numbers that only grow are so small that a day doesn't bring them to the end of their ranges: the
--- number of a point's newest transaction, the total and the count of what was cleared, and the count of versions.
+-- and each counter's value at most its bound. Each of the 16 slots has no version or one that was loaded, and no two
+-- have versions of one number. The numbers that only grow are so small that a day doesn't bring them to the end of their
+-- ranges: the number of a point's newest transaction, the total and the count of what was cleared, and the count of
+-- versions.
 pub record IsOpening (count : ℕ) (o : OpeningValue) : Type 0 where
   pub points : length o.points ≡ count
   pub prices : All (λ price. price ≤ 9999999) o.prices
@@ -31,3 +48,4 @@ pub record IsOpening (count : ℕ) (o : OpeningValue) : Type 0 where
   pub versions : o.versions ≤ 4290000000
   pub slots : length o.rules ≡ 16
   pub rules : All (IsRule o.versions) o.rules
+  pub distinct : HaveOwnNumbers o.rules

@@ -10,7 +10,7 @@ ghost use Rattle.site_core.specs.Step.{effect};
 ghost use Rattle.site_core.specs.Draft.{Basis, DraftValue};
 ghost use Rattle.site_core.specs.Differences.{IsFresh, Differs};
 ghost use Rattle.site_core.specs.Audit.{OwnAudit};
-ghost use Rattle.site_core.specs.Days.{DayGoesOn, EachEventGoesOn};
+ghost use Rattle.site_core.specs.Days.{BoundsStay, DayGoesOn, EachEventGoesOn, HoldersStay};
 ghost use Rattle.site_core.specs.declared.why.Why.{Why};
 
 /// A law: if nothing that a draft's run depends on differs, there is no first difference. So a commit is done exactly
@@ -46,4 +46,15 @@ pub fn day_goes_on()
 /// entries both days have. It holds while both have fewer than 4,096 versions together.
 pub fn each_event_goes_on()
     ensures { EachEventGoesOn }
+{}
+
+/// A law: the counters that a site leaves for the next day have the bounds that they began with.
+pub fn bounds_stay()
+    ensures { BoundsStay }
+{}
+
+/// A law: if each unpaid transaction with which a site begins is held by nobody or by one of its tills, then so is each
+/// that it leaves for the next day.
+pub fn holders_stay()
+    ensures { HoldersStay }
 {}

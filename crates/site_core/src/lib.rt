@@ -26,9 +26,9 @@ pub use config::Config;
 pub use draft::{Begin, Commit, Draft, Ready};
 pub use events::{Answered, CallFault, Event, What};
 pub use laws::{
-    audit_of_its_own_history, day_goes_on, each_event_goes_on, fresh_differs_nowhere,
-    one_difference_is_first, programs_alone_decide,
+    audit_of_its_own_history, bounds_stay, day_goes_on, each_event_goes_on, fresh_differs_nowhere,
+    holders_stay, one_difference_is_first, programs_alone_decide,
 };
-pub use opening::{Opening, OpeningFault};
+pub use opening::{Opening, OpeningFault, is_new_number};
 pub use site::Site;
 pub use why::Why;

@@ -3,7 +3,7 @@
 ghost use Rattle.std.specs.Prelude.{◌≡◌, ◌↔◌, ◌≤◌, All, IsTrue, MatchOption};
 ghost use Rattle.fuelling_point.specs.Table.{PointState};
 ghost use Rattle.program_slots.specs.Slots.{IsRule};
-ghost use Rattle.site_core.specs.Opening.{IsOpening};
+ghost use Rattle.site_core.specs.Opening.{HaveOwnNumbers, IsNewNumber, IsOpening};
 ghost use Rattle.site_core.specs.Fitting.{Misfits};
 
 use crate::same::{are_same_counters, are_same_points, are_same_rules};
@@ -42,6 +42,8 @@ pub enum OpeningFault {
     Slots,
     #[error("a slot of the opening has a version that was never loaded")]
     Rules,
+    #[error("two slots of the opening have one version")]
+    Twice,
     #[error("out of memory (S31)")]
     OutOfMemory,
 }
@@ -109,6 +111,9 @@ impl Opening {
         if !are_rules(self.versions, &self.rules) {
             return Some(OpeningFault::Rules);
         }
+        if !have_own_numbers(&self.rules) {
+            return Some(OpeningFault::Twice);
+        }
         // This read gives the prover that there are 32 counters, each within its bound.
         let _counter = self.counters.get(0);
         None
@@ -169,5 +174,29 @@ fn is_rule(versions: u32, rule: &Option<Version>) -> bool
             let _bytes = version.program.bytes();
             version.number >= 1 && version.number <= versions
         }
+    }
+}
+
+/// Returns whether no two slots have versions of one number.
+fn have_own_numbers(rules: &[Option<Version>]) -> bool
+    ensures { IsTrue result ↔ HaveOwnNumbers rules.now }
+{
+    match rules.split_first() {
+        None => true,
+        Some((None, rest)) => have_own_numbers(rest),
+        Some((Some(version), rest)) => {
+            is_new_number(rest, version.number) && have_own_numbers(rest)
+        }
+    }
+}
+
+/// Returns whether no slot has a version of this number.
+pub fn is_new_number(rules: &[Option<Version>], number: u32) -> bool
+    ensures { IsTrue result ↔ IsNewNumber rules.now number }
+{
+    match rules.split_first() {
+        None => true,
+        Some((None, rest)) => is_new_number(rest, number),
+        Some((Some(version), rest)) => version.number != number && is_new_number(rest, number),
     }
 }
