@@ -1,0 +1,287 @@
+-- A text with a flaw isn't that of an opening.
+use Rattle.std.proofs.Common.{◌≡◌, ℕ, ◌<◌, List, [], ◌∷◌, ◌++◌, length, map, eqb, Option, Some, None, Result, Ok, refl}
+use Rattle.std.proofs.Common.{sym, ◌∙◌, ap, subst, append-nil, length-append, arith, zero, suc, ◌≤◌, ◌⊎◌, inl, inr, lit≤, replicate, min, ◌+◌}
+use Rattle.std.specs.List.{AllByRecursion, join_with_byte, slice_split}
+use Rattle.std.proofs.lemmas.Bool.{cases_lt}
+use Rattle.std.proofs.lemmas.List.Splits.{join_with_byte-slice_split, length-slice_split}
+use Rattle.till_request.specs.declared.act.LineFault.{LineFault}
+use Rattle.reg_types.specs.declared.refusal.Refusal.{Refusal}
+use Rattle.reg_types.specs.Shown.{refusal_of}
+use Rattle.bpf_model.specs.Program.{ProgramText}
+use Rattle.days.specs.declared.file.OpeningFile.{OpeningFile}
+use Rattle.days.specs.declared.file.OpeningFlaw.{OpeningFlaw}
+use Rattle.days.specs.declared.file.OpeningFlaw.TheVariants as flaws
+use Rattle.days.specs.declared.line.Line.{Line}
+use Rattle.days.specs.declared.line.Line.TheVariants as lines
+use Rattle.days.specs.File.{IsOpeningFile}
+use Rattle.days.specs.Ranges.{FileFits}
+use Rattle.days.specs.Flaws.{BeginOne, CannotFollow, HasNoOpening, IsCut, IsFlaw, IsPiece, IsRefusedLine}
+use Rattle.days.specs.Parsing.{line_read}
+use Rattle.days.specs.Reading.{AllStand, BadBehind, CanStand, CutBehind, Flawed, HasRead, IsRefusedIn}
+use Rattle.days.specs.Reading.{ReadingValue, ReadsBack, RefusedBehind, after_line, after_lines, nothing_read}
+use Rattle.days.specs.Reading.{program_in}
+use Rattle.days.specs.Text.{line_spelling, opening_lines, opening_text}
+use Rattle.days.proofs.OneLine.{opening_fits, split_text}
+use Rattle.days.proofs.ReadBack.{LineFits, reads_back}
+use Rattle.days.proofs.Taken.{all_gone, nothing_is, whole_file, whole_lines}
+use Rattle.days.proofs.Stands.{after_both, opening_leads}
+
+all_back : (ls : List Line) → AllByRecursion LineFits ls → AllByRecursion ReadsBack ls
+all_back [] h = tt
+all_back (l ∷ ls) h = (reads_back l h.0, all_back ls h.1)
+
+same_head : (w v : List ℕ) (ws vs : List (List ℕ)) → w ∷ ws ≡ v ∷ vs → w ≡ v
+same_head w v ws vs h = cc
+
+same_tail : (w v : List ℕ) (ws vs : List (List ℕ)) → w ∷ ws ≡ v ∷ vs → ws ≡ vs
+same_tail w v ws vs h = cc
+
+one_reading : (r : Result Line LineFault) (l m : Line) → r ≡ Ok l → r ≡ Ok m → l ≡ m
+one_reading r l m h k = cc
+
+-- lines with one spelling are the same line
+one_line : (l m : Line) → ReadsBack l → ReadsBack m → line_spelling m ≡ line_spelling l → m ≡ l
+one_line l m h k e = one_reading (line_read (line_spelling m)) m l k (ap line_read e ∙ h)
+
+not_none : (ws vs : List (List ℕ)) → 0 < length ws → [] ≡ vs ++ ws → ⊥
+not_none ws vs some h = let e : length (vs ++ ws) ≡ 0 = ap length (sym h) in absurd (omega (arith, length-append vs ws, e, some))
+
+pieces : (bs : List ℕ) → 0 < length (slice_split (λ b. eqb b 10) bs)
+pieces bs = omega (arith, length-slice_split (λ b. eqb b 10) bs)
+
+-- Where the pieces of a text are the spellings of `ms`, and begin with those of `ls`, the lines `ms` begin with `ls`.
+prefix : (ls ms : List Line) (ws : List (List ℕ)) → AllByRecursion ReadsBack ls → AllByRecursion ReadsBack ms → 0 < length ws
+    → map line_spelling ms ++ [] ∷ [] ≡ map line_spelling ls ++ ws → (more : List Line) × (ms ≡ ls ++ more) × (map line_spelling more ++ [] ∷ [] ≡ ws)
+prefix [] ms ws hl hm some h = (ms, refl, h)
+prefix (l ∷ ls) [] ws hl hm some h =
+    absurd (not_none ws (map line_spelling ls) some (same_tail [] (line_spelling l) [] (map line_spelling ls ++ ws) h))
+prefix (l ∷ ls) (m ∷ ms) ws hl hm some h =
+    let first : m ≡ l = one_line l m hl.0 hm.0 (same_head (line_spelling m) (line_spelling l) (map line_spelling ms ++ [] ∷ []) (map line_spelling ls ++ ws) h) in
+    let rest : (more : List Line) × (ms ≡ ls ++ more) × (map line_spelling more ++ [] ∷ [] ≡ ws) =
+    prefix ls ms ws hl.1 hm.1 some (same_tail (line_spelling m) (line_spelling l) (map line_spelling ms ++ [] ∷ []) (map line_spelling ls ++ ws) h) in
+    (rest.0, ap (λ x. x ∷ ms) first ∙ ap (λ xs. l ∷ xs) rest.1, rest.2)
+
+-- An opening with the text has the lines that were taken, and then these, which can stand behind them.
+record Begins (f : OpeningFile) (taken : List Line) (rest : List ℕ) : Type 0 where
+  more : List Line
+  lines : opening_lines f ≡ taken ++ more
+  stand : AllStand (after_lines nothing_read taken) more
+  back : AllByRecursion ReadsBack more
+  spelled : map line_spelling more ++ [] ∷ [] ≡ slice_split (λ b. eqb b 10) rest
+
+stand_rest : (r : ReadingValue) (ls ms : List Line) → AllStand r (ls ++ ms) → AllStand (after_lines r ls) ms
+stand_rest r [] ms h = h
+stand_rest r (l ∷ ls) ms h = stand_rest (after_line r l) ls ms h.1
+
+back_rest : (ls ms : List Line) → AllByRecursion ReadsBack (ls ++ ms) → AllByRecursion ReadsBack ms
+back_rest [] ms h = h
+back_rest (l ∷ ls) ms h = back_rest ls ms h.1
+
+begins : (text rest : List ℕ) (n : ℕ) (r : ReadingValue) (has : HasRead text rest n r) (f : OpeningFile) → IsOpeningFile f → FileFits f
+    → opening_text f ≡ text → Begins f has.taken rest
+begins text rest n r has f good fits is =
+    let back : AllByRecursion ReadsBack (opening_lines f) = all_back (opening_lines f) (opening_fits f good fits) in
+    let own : map line_spelling (opening_lines f) ++ [] ∷ [] ≡ map line_spelling has.taken ++ slice_split (λ b. eqb b 10) rest =
+    sym (split_text (opening_lines f) (opening_fits f good fits)) ∙ ap (slice_split (λ b. eqb b 10)) is ∙ has.split in
+    let p : (more : List Line) × (opening_lines f ≡ has.taken ++ more) × (map line_spelling more ++ [] ∷ [] ≡ slice_split (λ b. eqb b 10) rest) =
+    prefix has.taken (opening_lines f) (slice_split (λ b. eqb b 10) rest) has.back back (pieces rest) own in record {
+      more = p.0;
+      lines = p.1;
+      stand = stand_rest nothing_read has.taken p.0 (subst (λ ls. AllStand nothing_read ls) p.1 (opening_leads f good).stand);
+      back = back_rest has.taken p.0 (subst (λ ls. AllByRecursion ReadsBack ls) p.1 back);
+      spelled = p.2;
+    }
+
+bad_none : (text : List ℕ) (n : ℕ) → BadBehind text n → HasNoOpening text
+bad_none text n bad f good fits is =
+    let b : Begins f bad.read.taken bad.rest = begins text bad.rest n bad.r bad.read f good fits is in
+    by_more b.more (subst (λ x. AllStand x b.more) (sym bad.read.is) b.stand) b.back (b.spelled ∙ bad.next)
+  where
+    by_more : (more : List Line) → AllStand bad.r more → AllByRecursion ReadsBack more
+        → map line_spelling more ++ [] ∷ [] ≡ bad.line ∷ slice_split (λ b. eqb b 10) bad.behind → ⊥
+    by_more [] stand back e = not_none (slice_split (λ b. eqb b 10) bad.behind) [] (pieces bad.behind) (same_tail [] bad.line [] (slice_split (λ b. eqb b 10) bad.behind) e)
+    by_more (l ∷ ls) stand back e =
+        bad.bad l back.0 (same_head (line_spelling l) bad.line (map line_spelling ls ++ [] ∷ []) (slice_split (λ b. eqb b 10) bad.behind) e) stand.0
+
+cut_none : (text : List ℕ) (n : ℕ) → CutBehind text n → HasNoOpening text
+cut_none text n cut f good fits is =
+    let b : Begins f cut.read.taken cut.rest = begins text cut.rest n cut.r cut.read f good fits is in by_more b.more (b.spelled ∙ cut.cut)
+  where
+    by_more : (more : List Line) → map line_spelling more ++ [] ∷ [] ≡ cut.line ∷ [] → ⊥
+    by_more [] e =
+        let empty : cut.line ≡ [] = sym (same_head [] cut.line [] [] e) in
+        let none : cut.rest ≡ [] = sym (join_with_byte-slice_split 10 cut.rest) ∙ ap (join_with_byte 10) (cut.cut ∙ ap (λ w. w ∷ []) empty) in
+        let short : length cut.rest ≡ 0 = ap length none in absurd (omega (arith, short, cut.some))
+    by_more (l ∷ ls) e =
+        not_none ([] ∷ []) (map line_spelling ls) (omega arith) (sym (same_tail (line_spelling l) cut.line (map line_spelling ls ++ [] ∷ []) [] e))
+
+-- a line whose program is refused can't stand
+refused_stands : (r : ReadingValue) (l : Line) (refusal : Refusal) → IsRefusedIn (program_in l) refusal → CanStand r l → ⊥
+refused_stands r (lines.Day n) refusal h c = h
+refused_stands r (lines.Cleared total count) refusal h c = h
+refused_stands r (lines.Versions n) refusal h c = h
+refused_stands r (lines.Version slot number mask layout bytes) refusal h c = let none : None ≡ Some refusal = sym c.3.3 ∙ h in absurd (cc)
+refused_stands r (lines.Price product price) refusal h c = h
+refused_stands r (lines.Counter n value bound) refusal h c = h
+refused_stands r (lines.Point n s) refusal h c = h
+refused_stands r (lines.Unpaid n t) refusal h c = h
+refused_stands r (lines.Journal entries digest) refusal h c = h
+
+refused_none : (text : List ℕ) (n : ℕ) (refusal : Refusal) → RefusedBehind text n refusal → HasNoOpening text
+refused_none text n refusal it =
+    bad_none text n (record {
+      rest = it.rest;
+      r = it.r;
+      read = it.read;
+      line = line_spelling it.line;
+      behind = it.behind;
+      next = it.next;
+      bad = λ l back is stands. refused_stands it.r it.line refusal it.refused (subst (λ x. CanStand it.r x) (one_line it.line l it.back back is) stands);
+    })
+
+-- where all lines were taken, an opening with the text is the one that was read
+pub one_file : (text : List ℕ) (n : ℕ) (r : ReadingValue) → HasRead text [] n r → (f : OpeningFile) → IsOpeningFile f → FileFits f
+    → opening_text f ≡ text → r ≡ record { next = 61; file = f }
+one_file text n r has f good fits is =
+    let b : Begins f has.taken [] = begins text [] n r has f good fits is in
+    has.is ∙ by_more b.more b.lines b.spelled
+  where
+    by_more : (more : List Line) → opening_lines f ≡ has.taken ++ more → map line_spelling more ++ [] ∷ [] ≡ [] ∷ []
+        → after_lines nothing_read has.taken ≡ record { next = 61; file = f }
+    by_more [] e h = ap (after_lines nothing_read) (sym (append-nil has.taken) ∙ sym e) ∙ (opening_leads f good).after
+    by_more (l ∷ ls) e h =
+        absurd (not_none ([] ∷ []) (map line_spelling ls) (omega arith) (sym (same_tail (line_spelling l) [] (map line_spelling ls ++ [] ∷ []) [] h)))
+
+-- openings with one text are the same
+pub one_opening : (f g : OpeningFile) → IsOpeningFile f → FileFits f → IsOpeningFile g → FileFits g → opening_text f ≡ opening_text g → f ≡ g
+one_opening f g good fits good' fits' is =
+    let leads = opening_leads f good in
+    let has : HasRead (opening_text f) [] (min (length (opening_lines f) + 1) 4294967295) (record { next = 61; file = f }) = record {
+      taken = opening_lines f;
+      split = split_text (opening_lines f) (opening_fits f good fits);
+      back = all_back (opening_lines f) (opening_fits f good fits);
+      stand = leads.stand;
+      is = sym leads.after;
+      number_is = refl;
+    } in
+    ap (λ (r : ReadingValue). r.file) (one_file (opening_text f) (min (length (opening_lines f) + 1) 4294967295) (record { next = 61; file = f }) has g good' fits' (sym is))
+
+-- where all lines were taken, and the last one isn't there, no opening has the text
+pub short_none : (text : List ℕ) (n : ℕ) (r : ReadingValue) → HasRead text [] n r → ¬ (r.next ≡ 61) → HasNoOpening text
+short_none text n r has open_yet f good fits is = open_yet (ap (λ (x : ReadingValue). x.next) (one_file text n r has f good fits is))
+
+-- ---- the line of a flaw
+
+-- Lines that lead to the last one from any place.
+ends : (k : ℕ) (f : OpeningFile) → k ≤ 61 → (more : List Line) × AllStand (record { next = k; file = f }) more
+    × ((after_lines (record { next = k; file = f }) more).next ≡ 61)
+ends zero f le = (
+  lines.Day 2 ∷ lines.Cleared 0 0 ∷ lines.Versions 0 ∷ lines.Journal 0 (replicate 32 0) ∷ [],
+  ((refl, lit≤ tt), ((refl, lit≤ tt, lit≤ tt), ((refl, lit≤ tt), ((lit≤ tt, lit≤ tt), tt)))),
+  refl,
+)
+ends (suc zero) f le = (
+  lines.Cleared 0 0 ∷ lines.Versions 0 ∷ lines.Journal 0 (replicate 32 0) ∷ [],
+  ((refl, lit≤ tt, lit≤ tt), ((refl, lit≤ tt), ((lit≤ tt, lit≤ tt), tt))),
+  refl,
+)
+ends (suc (suc zero)) f le = (lines.Versions 0 ∷ lines.Journal 0 (replicate 32 0) ∷ [], ((refl, lit≤ tt), ((lit≤ tt, lit≤ tt), tt)), refl)
+ends (suc (suc (suc k))) f le = by_order (cases_lt 60 (suc (suc (suc k))))
+  where
+    by_order : ((60 < suc (suc (suc k))) ⊎ (suc (suc (suc k)) ≤ 60)) → (more : List Line) × AllStand (record { next = suc (suc (suc k)); file = f }) more
+        × ((after_lines (record { next = suc (suc (suc k)); file = f }) more).next ≡ 61)
+    by_order (inl last) = ([], tt, omega (arith, last, le))
+    by_order (inr few) = (lines.Journal 0 (replicate 32 0) ∷ [], ((omega arith, few), tt), refl)
+
+stand_on : (r : ReadingValue) (ls ms : List Line) → AllStand r ls → AllStand (after_lines r ls) ms → AllStand r (ls ++ ms)
+stand_on r [] ms h k = k
+stand_on r (l ∷ ls) ms h k = (h.0, stand_on (after_line r l) ls ms h.1 k)
+
+-- lines that can stand one behind another from the beginning are the first lines of an opening
+begin_one : (ls : List Line) → AllStand nothing_read ls → BeginOne ls
+begin_one ls h =
+    let r : ReadingValue = after_lines nothing_read ls in
+    let e : (more : List Line) × AllStand r more × ((after_lines r more).next ≡ 61) = ends r.next r.file (all_gone nothing_read ls nothing_is h).is.few in
+    let all : AllStand nothing_read (ls ++ e.0) = stand_on nothing_read ls e.0 h e.1 in
+    let after : after_lines r e.0 ≡ after_lines nothing_read (ls ++ e.0) = sym (after_both nothing_read ls e.0) in record {
+      f = (after_lines r e.0).file;
+      good = whole_file (after_lines r e.0) (ls ++ e.0) after all (omega (arith, e.2));
+      more = e.0;
+      lines_are = whole_lines (after_lines r e.0) (ls ++ e.0) after all e.2;
+    }
+
+-- the same of the text of another opening: it has the lines that were taken only if it goes on with a line that can stand there
+follows : (ls : List Line) → AllByRecursion ReadsBack ls → (r : ReadingValue) → r ≡ after_lines nothing_read ls → (piece : List ℕ)
+    → ((l : Line) → ReadsBack l → line_spelling l ≡ piece → CanStand r l → ⊥) → (behind : List (List ℕ)) → CannotFollow ls piece behind
+follows ls hl r is piece bad behind f good fits next rest e =
+    let back : AllByRecursion ReadsBack (opening_lines f) = all_back (opening_lines f) (opening_fits f good fits) in
+    let p : (more : List Line) × (opening_lines f ≡ ls ++ more) × (map line_spelling more ++ [] ∷ [] ≡ piece ∷ next ∷ rest) =
+    prefix ls (opening_lines f) (piece ∷ next ∷ rest) hl back (omega arith) (sym (split_text (opening_lines f) (opening_fits f good fits)) ∙ e) in
+    by_more p.0 (subst (λ x. AllStand x p.0) (sym is) (stand_rest nothing_read ls p.0 (subst (λ ms. AllStand nothing_read ms) p.1 (opening_leads f good).stand)))
+    (back_rest ls p.0 (subst (λ ms. AllByRecursion ReadsBack ms) p.1 back)) p.2
+  where
+    by_more : (more : List Line) → AllStand r more → AllByRecursion ReadsBack more → map line_spelling more ++ [] ∷ [] ≡ piece ∷ next ∷ rest → ⊥
+    by_more [] stand back e = not_none (next ∷ rest) [] (omega arith) (same_tail [] piece [] (next ∷ rest) e)
+    by_more (l ∷ ms) stand back e = bad l back.0 (same_head (line_spelling l) piece (map line_spelling ms ++ [] ∷ []) (next ∷ rest) e) stand.0
+
+bad_piece : (text : List ℕ) (n : ℕ) → BadBehind text n → IsPiece text n CannotFollow
+bad_piece text n bad = record {
+  before = bad.read.taken;
+  begin_one = begin_one bad.read.taken bad.read.stand;
+  piece = bad.line;
+  behind = slice_split (λ b. eqb b 10) bad.behind;
+  pieces_are = bad.read.split ∙ ap (λ ws. map line_spelling bad.read.taken ++ ws) bad.next;
+  number_is = bad.read.number_is;
+  so = follows bad.read.taken bad.read.back bad.r bad.read.is bad.line bad.bad (slice_split (λ b. eqb b 10) bad.behind);
+}
+
+-- an empty line is no line
+empty_line : (l : Line) → ReadsBack l → line_spelling l ≡ [] → ⊥
+empty_line l back is = let e : line_read [] ≡ Ok l = ap line_read (sym is) ∙ back in absurd (cc)
+
+pub short_is : (text : List ℕ) (n : ℕ) (r : ReadingValue) → HasRead text [] n r → ¬ (r.next ≡ 61) → IsFlaw text (flaws.BadLine n)
+short_is text n r has open_yet = (
+  short_none text n r has open_yet,
+  record {
+    before = has.taken;
+    begin_one = begin_one has.taken has.stand;
+    piece = [];
+    behind = [];
+    pieces_are = has.split;
+    number_is = has.number_is;
+    so = follows has.taken has.back r has.is [] (λ l back is stands. empty_line l back is) [];
+  },
+)
+
+cut_piece : (text : List ℕ) (n : ℕ) → CutBehind text n → IsPiece text n IsCut
+cut_piece text n cut =
+    let whole : cut.rest ≡ cut.line = sym (join_with_byte-slice_split 10 cut.rest) ∙ ap (join_with_byte 10) cut.cut in record {
+      before = cut.read.taken;
+      begin_one = begin_one cut.read.taken cut.read.stand;
+      piece = cut.line;
+      behind = [];
+      pieces_are = cut.read.split ∙ ap (λ ws. map line_spelling cut.read.taken ++ ws) cut.cut;
+      number_is = cut.read.number_is;
+      so = (refl, subst (λ w. 0 < length w) whole cut.some);
+    }
+
+program_refused : (p : Option ProgramText) (refusal : Refusal) → IsRefusedIn p refusal → (q : ProgramText) × (p ≡ Some q) × (refusal_of q ≡ Some refusal)
+program_refused None refusal h = absurd h
+program_refused (Some p) refusal h = (p, refl, h)
+
+refused_piece : (text : List ℕ) (n : ℕ) (refusal : Refusal) → RefusedBehind text n refusal → IsPiece text n (IsRefusedLine refusal)
+refused_piece text n refusal it = record {
+  before = it.read.taken;
+  begin_one = begin_one it.read.taken it.read.stand;
+  piece = line_spelling it.line;
+  behind = slice_split (λ b. eqb b 10) it.behind;
+  pieces_are = it.read.split ∙ ap (λ ws. map line_spelling it.read.taken ++ ws) it.next;
+  number_is = it.read.number_is;
+  so = (it.line, refl, program_refused (program_in it.line) refusal it.refused);
+}
+
+pub flaw_is : (text : List ℕ) (flaw : OpeningFlaw) → Flawed text flaw → IsFlaw text flaw
+flaw_is text (flaws.BadLine n) h = (bad_none text n h, bad_piece text n h)
+flaw_is text (flaws.CutLine n) h = (cut_none text n h, cut_piece text n h)
+flaw_is text (flaws.BadProgram n refusal) h = (refused_none text n refusal h, refused_piece text n refusal h)
+flaw_is text flaws.OutOfMemory h = tt

@@ -1,0 +1,38 @@
+-- Definitions: whether an opening fits a configuration (this profile).
+use Rattle.std.specs.Prelude.{◌≡◌, ◌≤◌, ◌<◌, ℕ, List, All, Some, length}
+use Rattle.bpf_model.specs.Machine.{Counters, counter}
+use Rattle.fuelling_point.specs.Table.{PointState}
+use Rattle.fuelling_point.specs.declared.kinds.Transaction.{Transaction}
+use Rattle.site_core.specs.Limits.{ConfigValue}
+use Rattle.site_core.specs.Opening.{IsOpening, OpeningValue}
+
+-- A transaction is held by nobody, or by one of these many tills.
+abbrev pub HasTill : ℕ → Transaction → Type 0
+HasTill tills t = t.holder ≤ tills
+
+-- Each unpaid transaction of the points is held by nobody, or by one of these many tills.
+abbrev pub HaveTills : ℕ → List PointState → Type 0
+HaveTills tills points = All (λ (p : PointState). All (HasTill tills) p.unpaid) points
+
+-- Each counter's value is at most its bound among others.
+abbrev pub AreWithin : Counters → Counters → Type 0
+AreWithin values bounds = (c : ℕ) → c < 32 → (counter values c).0 ≤ (counter bounds c).1
+
+-- An opening fits a configuration if both have the same number of points, if each transaction is held by nobody or by a
+-- till of the configuration, and if no counter's value is over its bound in the configuration.
+pub record Fits (config : ConfigValue) (o : OpeningValue) : Type 0 where
+  pub points : length o.points ≡ length config.points
+  pub tills : HaveTills config.tills o.points
+  pub counters : AreWithin o.counters config.counters
+
+-- The counters have these values, and the bounds of others.
+abbrev pub AreBounded : Counters → Counters → Counters → Type 0
+AreBounded values bounds cells = (c : ℕ) → c < 32 → counter cells c ≡ ((counter values c).0, (counter bounds c).1)
+
+-- The configuration of a site that begins with this opening: the bounds of the counters are its own, as they were. The
+-- opening with these counters is one that a site with as many points can begin with.
+abbrev pub BeginsWith : ConfigValue → OpeningValue → ConfigValue → Type 0
+BeginsWith config o begun =
+    Fits config o
+    × ((cells : Counters) × AreBounded o.counters config.counters cells × IsOpening (length config.points) (record o { counters = cells })
+    × (begun ≡ record config { opening = Some (record o { counters = cells }) }))

@@ -1,0 +1,66 @@
+-- Promises: that a text is of one opening alone, and why a text isn't that of an opening.
+use Rattle.std.specs.Prelude.{◌≡◌, ◌==◌, ℕ, ◌+◌, ◌<◌, min, List, [], ◌∷◌, ◌++◌, length, map, Some}
+use Rattle.std.specs.List.{slice_split}
+use Rattle.bpf_model.specs.Program.{ProgramText}
+use Rattle.reg_types.specs.declared.refusal.Refusal.{Refusal}
+use Rattle.reg_types.specs.Shown.{refusal_of}
+use Rattle.days.specs.declared.file.OpeningFile.{OpeningFile}
+use Rattle.days.specs.declared.file.OpeningFlaw.{OpeningFlaw}
+use Rattle.days.specs.declared.file.OpeningFlaw.TheVariants.{BadLine, CutLine, BadProgram, OutOfMemory}
+use Rattle.days.specs.declared.line.Line.{Line}
+use Rattle.days.specs.File.{IsOpeningFile}
+use Rattle.days.specs.Ranges.{FileFits}
+use Rattle.days.specs.Reading.{program_in}
+use Rattle.days.specs.Text.{line_spelling, opening_lines, opening_text}
+
+-- The text is that of no other opening.
+abbrev pub IsOnly : List ℕ → OpeningFile → Type 0
+IsOnly text file = (f : OpeningFile) → IsOpeningFile f → FileFits f → opening_text f ≡ text → f ≡ file
+
+-- No opening has this text.
+abbrev pub HasNoOpening : List ℕ → Type 0
+HasNoOpening text = (f : OpeningFile) → IsOpeningFile f → FileFits f → opening_text f ≡ text → ⊥
+
+-- The pieces between a text's LFs: its lines, and what is behind the last LF.
+abbrev pub pieces : List ℕ → List (List ℕ)
+pieces text = slice_split (λ b. b == 10) text
+
+-- The lines are the first ones of an opening.
+pub record BeginOne (lines : List Line) : Type 0 where
+  pub f : OpeningFile
+  pub good : IsOpeningFile f
+  pub more : List Line
+  pub lines_are : opening_lines f ≡ lines ++ more
+
+-- The piece of a text with this number, counted from 1. Those before it are the first lines of an opening, and the piece is so. A number above
+-- 4,294,967,295 is given as 4,294,967,295.
+pub record IsPiece (text : List ℕ) (number : ℕ) (IsSo : List Line → List ℕ → List (List ℕ) → Type 0) : Type 0 where
+  pub before : List Line
+  pub begin_one : BeginOne before
+  pub piece : List ℕ
+  pub behind : List (List ℕ)
+  pub pieces_are : pieces text ≡ map line_spelling before ++ piece ∷ behind
+  pub number_is : number ≡ min (length before + 1) 4294967295
+  pub so : IsSo before piece behind
+
+-- No opening's text begins with these lines and then with this piece as a line.
+abbrev pub CannotFollow : List Line → List ℕ → List (List ℕ) → Type 0
+CannotFollow before piece behind =
+    (f : OpeningFile) → IsOpeningFile f → FileFits f → (next : List ℕ) (rest : List (List ℕ))
+    → pieces (opening_text f) ≡ map line_spelling before ++ piece ∷ next ∷ rest → ⊥
+
+-- The piece isn't empty, and no LF is behind it.
+abbrev pub IsCut : List Line → List ℕ → List (List ℕ) → Type 0
+IsCut before piece behind = (behind ≡ []) × (0 < length piece)
+
+-- The piece is a line with a program that the verifier refuses for this reason.
+abbrev pub IsRefusedLine : Refusal → List Line → List ℕ → List (List ℕ) → Type 0
+IsRefusedLine refusal before piece behind =
+    (line : Line) × (line_spelling line ≡ piece) × ((p : ProgramText) × (program_in line ≡ Some p) × (refusal_of p ≡ Some refusal))
+
+-- What holds of a text, for each flaw: it isn't that of an opening, and the line is the first that can't stand where it stands.
+abbrev pub IsFlaw : List ℕ → OpeningFlaw → Type 0
+IsFlaw text (BadLine n) = HasNoOpening text × IsPiece text n CannotFollow
+IsFlaw text (CutLine n) = HasNoOpening text × IsPiece text n IsCut
+IsFlaw text (BadProgram n refusal) = HasNoOpening text × IsPiece text n (IsRefusedLine refusal)
+IsFlaw text OutOfMemory = Unit {0}

@@ -1,0 +1,15 @@
+pub mod Breaks
+pub mod Chain
+pub mod Closing
+pub mod File
+pub mod Fitting
+pub mod Flaws
+pub mod Given
+pub mod Leaving
+pub mod Misfits
+pub mod Parsing
+pub mod Ranges
+pub mod Reading
+pub mod Spelling
+pub mod Standing
+pub mod Text

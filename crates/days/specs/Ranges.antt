@@ -1,0 +1,36 @@
+-- Definitions: the ranges that the numbers of an opening's file have by their types in the code.
+use Rattle.std.specs.Prelude.{◌≡◌, ◌<◌, ◌^◌, length, Option, Some, None, All}
+use Rattle.hex.specs.Hex.{IsBytes}
+use Rattle.fuelling_point.specs.declared.kinds.Order.{Order}
+use Rattle.fuelling_point.specs.declared.kinds.Order.TheVariants as orders
+use Rattle.fuelling_point.specs.declared.kinds.Transaction.{Transaction}
+use Rattle.fuelling_point.specs.Table.{PointState}
+use Rattle.program_slots.specs.Value.{Version}
+use Rattle.days.specs.declared.file.OpeningFile.{OpeningFile}
+
+-- The amount of a pending order is below 2^64.
+abbrev pub OrderFits : Option Order → Type 0
+OrderFits (Some (orders.Authorise amount)) = amount < 2 ^ 64
+OrderFits order = Unit {0}
+
+-- The preset, the limit and the amount of the order are below 2^64, and tills below 2^32.
+pub record PointFits (p : PointState) : Type 0 where
+  pub preset : p.preset < 2 ^ 64
+  pub limit : p.limit < 2 ^ 64
+  pub order : OrderFits p.order
+  pub holders : All (λ (t : Transaction). t.holder < 2 ^ 32) p.unpaid
+
+-- The mask of a program is below 2^32, and its bytes are below 256.
+abbrev pub VersionFits : Option Version → Type 0
+VersionFits None = Unit {0}
+VersionFits (Some v) = (v.program.declared < 2 ^ 32) × IsBytes v.program.bytes
+
+-- What a file can hold besides: days and numbers of entries are below 2^32, a digest has 32 bytes, and there are fewer than 2^64 points.
+pub record FileFits (f : OpeningFile) : Type 0 where
+  pub day : f.day < 2 ^ 32
+  pub entries : f.entries < 2 ^ 32
+  pub digest : IsBytes f.digest
+  pub digest_length : length f.digest ≡ 32
+  pub few : length f.opening.points < 2 ^ 64
+  pub points : All PointFits f.opening.points
+  pub rules : All VersionFits f.opening.rules

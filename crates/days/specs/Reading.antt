@@ -1,0 +1,197 @@
+-- Promises: how an opening is read line by line: which line can stand next, and what has been read after it.
+use Rattle.std.specs.Prelude.{◌≡◌, ◌==◌, ℕ, ◌+◌, ◌-◌, ◌≤◌, ◌<◌, ◌^◌, List, [], ◌∷◌, ◌++◌}
+use Rattle.std.specs.Prelude.{length, map, min, replicate, slice_set, slice_index_or, Option, Some, None, Result, Ok, Err}
+use Rattle.std.specs.List.{AllByRecursion, slice_split}
+use Rattle.bpf_model.specs.Program.{ProgramText, as_loaded, IsGood}
+use Rattle.fuelling_point.specs.declared.kinds.Transaction.{Transaction}
+use Rattle.fuelling_point.specs.Snapshot.{IsPointState, IsSnapshot, snapshot_state}
+use Rattle.fuelling_point.specs.Table.{PointState, fresh_point}
+use Rattle.program_slots.specs.Slots.{IsRule}
+use Rattle.program_slots.specs.Value.{Version}
+use Rattle.reg_types.specs.declared.refusal.Refusal.{Refusal}
+use Rattle.reg_types.specs.Shown.{refusal_of}
+use Rattle.site_core.specs.Opening.{OpeningValue, IsNewNumber}
+use Rattle.days.specs.declared.file.OpeningFile.{OpeningFile}
+use Rattle.days.specs.declared.line.Line.{Line}
+use Rattle.days.specs.declared.line.Line.TheVariants as lines
+use Rattle.days.specs.declared.step.StepFault.{StepFault}
+use Rattle.days.specs.declared.step.StepFault.TheVariants.{Misplaced, Refused, OutOfMemory}
+use Rattle.days.specs.declared.file.OpeningFlaw.{OpeningFlaw}
+use Rattle.days.specs.declared.file.OpeningFlaw.TheVariants as flaws
+use Rattle.days.specs.Parsing.{line_read}
+use Rattle.days.specs.Text.{line_spelling}
+
+-- What has been read. Lines have places, which rise: 0, 1 and 2 are those of the first three lines, 3 to 18 of slots 0 to 15, 19 to 26 of
+-- products 1 to 8, 27 to 58 of counters 0 to 31, 59 of all lines of points, and 60 of the last line. `next` is the least place that the next line
+-- can have, or 61 after the last line. What hasn't been read is 0 or nothing in `file`.
+pub record ReadingValue : Type 0 where
+  pub next : ℕ
+  pub file : OpeningFile
+
+-- Before the first line nothing has been read.
+abbrev pub nothing_read : ReadingValue
+nothing_read = record {
+  next = 0;
+  file = record {
+    day = 0;
+    opening = record {
+      points = [];
+      prices = replicate 8 0;
+      counters = replicate 32 (0, 0);
+      cleared = 0;
+      clears = 0;
+      versions = 0;
+      rules = replicate 16 None;
+    };
+    entries = 0;
+    digest = replicate 32 0;
+  };
+}
+
+-- The state of a point, after one more unpaid transaction.
+abbrev pub with_unpaid : PointState → Transaction → PointState
+with_unpaid p t = record p { unpaid = p.unpaid ++ t ∷ [] }
+
+-- The point of this number.
+abbrev pub point_at : List PointState → ℕ → PointState
+point_at points n = slice_index_or points (n - 1) fresh_point
+
+-- The line can stand next.
+abbrev pub CanStand : ReadingValue → Line → Type 0
+CanStand r (lines.Day n) = (r.next ≡ 0) × (2 ≤ n)
+CanStand r (lines.Cleared total count) = (r.next ≡ 1) × (total ≤ 1000000000000000000) × (count ≤ 1000000000000000000)
+CanStand r (lines.Versions n) = (r.next ≡ 2) × (n ≤ 4290000000)
+CanStand r (lines.Version slot number mask layout bytes) =
+    (3 ≤ r.next) × (r.next ≤ 3 + slot) × (slot < 16) × IsRule r.file.opening.versions (Some (record { number = number; program = as_loaded bytes mask layout }))
+    × IsNewNumber r.file.opening.rules number
+CanStand r (lines.Price product price) = (3 ≤ r.next) × (r.next ≤ 18 + product) × (1 ≤ product) × (product ≤ 8) × (1 ≤ price) × (price ≤ 9999999)
+CanStand r (lines.Counter c value bound) = (3 ≤ r.next) × (r.next ≤ 27 + c) × (c < 32) × (value ≤ bound) × (1 ≤ bound) × (bound < 2 ^ 64)
+CanStand r (lines.Point n s) =
+    (3 ≤ r.next) × (r.next ≤ 59) × (n ≡ length r.file.opening.points + 1) × (s.last ≤ 4290000000) × (s.unpaid ≡ None ∷ None ∷ []) × IsSnapshot s
+CanStand r (lines.Unpaid n t) =
+    (r.next ≡ 59) × (1 ≤ n) × (n ≡ length r.file.opening.points) × IsPointState (with_unpaid (point_at r.file.opening.points n) t)
+CanStand r (lines.Journal entries digest) = (3 ≤ r.next) × (r.next ≤ 60)
+
+-- What has been read after a line of a slot, a product, a counter or a point.
+abbrev pub with_opening : ReadingValue → ℕ → OpeningValue → ReadingValue
+with_opening r next opening = record { next = next; file = record r.file { opening = opening } }
+
+-- What has been read after the line.
+abbrev pub after_line : ReadingValue → Line → ReadingValue
+after_line r (lines.Day n) = record { next = 1; file = record r.file { day = n } }
+after_line r (lines.Cleared total count) = with_opening r 2 (record r.file.opening { cleared = total; clears = count })
+after_line r (lines.Versions n) = with_opening r 3 (record r.file.opening { versions = n })
+after_line r (lines.Version slot number mask layout bytes) =
+    with_opening r (4 + slot)
+    (record r.file.opening { rules = slice_set r.file.opening.rules slot (Some (record { number = number; program = as_loaded bytes mask layout })) })
+after_line r (lines.Price product price) =
+    with_opening r (19 + product) (record r.file.opening { prices = slice_set r.file.opening.prices (product - 1) price })
+after_line r (lines.Counter c value bound) =
+    with_opening r (28 + c) (record r.file.opening { counters = slice_set r.file.opening.counters c (value, bound) })
+after_line r (lines.Point n s) = with_opening r 59 (record r.file.opening { points = r.file.opening.points ++ snapshot_state s ∷ [] })
+after_line r (lines.Unpaid n t) =
+    with_opening r r.next
+    (record r.file.opening { points = slice_set r.file.opening.points (n - 1) (with_unpaid (point_at r.file.opening.points n) t) })
+after_line r (lines.Journal entries digest) = record { next = 61; file = record r.file { entries = entries; digest = digest } }
+
+-- The program in a line, if it has one.
+abbrev pub program_in : Line → Option ProgramText
+program_in (lines.Version slot number mask layout bytes) = Some (as_loaded bytes mask layout)
+program_in line = None
+
+-- The verifier refuses the program of the line for this reason.
+abbrev pub IsRefusedIn : Option ProgramText → Refusal → Type 0
+IsRefusedIn None refusal = ⊥
+IsRefusedIn (Some p) refusal = refusal_of p ≡ Some refusal
+
+-- The line was taken, and could stand; or it couldn't stand; or its program is refused; or memory ran out.
+abbrev pub Steps : ReadingValue → Line → Result (Unit {0}) StepFault → ReadingValue → Type 0
+Steps old line (Ok u) new = CanStand old line × (new ≡ after_line old line)
+Steps old line (Err Misplaced) new = CanStand old line → ⊥
+Steps old line (Err (Refused refusal)) new = IsRefusedIn (program_in line) refusal
+Steps old line (Err OutOfMemory) new = Unit {0}
+
+-- The version has the number and the program, which is good and accepted; or the program is refused; or memory ran out.
+abbrev pub Verified : ℕ → ProgramText → Result Version StepFault → Type 0
+Verified number p (Ok v) = (v ≡ record { number = number; program = p }) × IsGood p × (refusal_of p ≡ None)
+Verified number p (Err Misplaced) = ⊥
+Verified number p (Err (Refused refusal)) = refusal_of p ≡ Some refusal
+Verified number p (Err OutOfMemory) = Unit {0}
+
+-- Each of the lines can stand behind those before it.
+abbrev pub AllStand : ReadingValue → List Line → Type 0
+AllStand r [] = Unit {0}
+AllStand r (line ∷ rest) = CanStand r line × AllStand (after_line r line) rest
+
+abbrev pub after_lines : ReadingValue → List Line → ReadingValue
+after_lines r [] = r
+after_lines r (line ∷ rest) = after_lines (after_line r line) rest
+
+-- The line is read back from its own spelling.
+abbrev pub ReadsBack : Line → Type 0
+ReadsBack line = line_read (line_spelling line) ≡ Ok line
+
+-- These bytes are the spelling of the line that was read. If the fault is `Misplaced`, they aren't the spelling of any that is read back.
+abbrev pub LineFound : List ℕ → Result Line StepFault → Type 0
+LineFound bytes (Ok line) = (line_spelling line ≡ bytes) × ReadsBack line
+LineFound bytes (Err Misplaced) = (line : Line) → ReadsBack line → line_spelling line ≡ bytes → ⊥
+LineFound bytes (Err (Refused refusal)) = ⊥
+LineFound bytes (Err OutOfMemory) = Unit {0}
+
+-- The line of this number, whose bytes these are, was taken; or no line that can stand there has these bytes; or its program is refused; or memory ran
+-- out.
+abbrev pub Takes : ℕ → List ℕ → ReadingValue → Result (Unit {0}) OpeningFlaw → ReadingValue → Type 0
+Takes number bytes old (Ok u) new = (line : Line) × (line_spelling line ≡ bytes) × ReadsBack line × CanStand old line × (new ≡ after_line old line)
+Takes number bytes old (Err (flaws.BadLine n)) new =
+    (n ≡ number) × ((line : Line) → ReadsBack line → line_spelling line ≡ bytes → CanStand old line → ⊥)
+Takes number bytes old (Err (flaws.CutLine n)) new = ⊥
+Takes number bytes old (Err (flaws.BadProgram n refusal)) new =
+    (n ≡ number) × ((line : Line) × (line_spelling line ≡ bytes) × ReadsBack line × IsRefusedIn (program_in line) refusal)
+Takes number bytes old (Err flaws.OutOfMemory) new = Unit {0}
+
+-- Lines were read from a text, up to the rest: each is read back and could stand where it stood. The next line has this number, but at most
+-- 4,294,967,295.
+pub record HasRead (text rest : List ℕ) (number : ℕ) (r : ReadingValue) : Type 0 where
+  pub taken : List Line
+  pub split : slice_split (λ b. b == 10) text ≡ map line_spelling taken ++ slice_split (λ b. b == 10) rest
+  pub back : AllByRecursion ReadsBack taken
+  pub stand : AllStand nothing_read taken
+  pub is : r ≡ after_lines nothing_read taken
+  pub number_is : number ≡ min (length taken + 1) 4294967295
+
+-- Lines were read, and then came these bytes, which aren't the spelling of a line that can stand there.
+pub record BadBehind (text : List ℕ) (number : ℕ) : Type 0 where
+  pub rest : List ℕ
+  pub r : ReadingValue
+  pub read : HasRead text rest number r
+  pub line : List ℕ
+  pub behind : List ℕ
+  pub next : slice_split (λ b. b == 10) rest ≡ line ∷ slice_split (λ b. b == 10) behind
+  pub bad : (l : Line) → ReadsBack l → line_spelling l ≡ line → CanStand r l → ⊥
+
+-- The line of this number is cut off: lines were read, and then came bytes without LF.
+pub record CutBehind (text : List ℕ) (number : ℕ) : Type 0 where
+  pub rest : List ℕ
+  pub r : ReadingValue
+  pub read : HasRead text rest number r
+  pub some : 0 < length rest
+  pub line : List ℕ
+  pub cut : slice_split (λ b. b == 10) rest ≡ line ∷ []
+
+-- The program of the line of this number is refused.
+pub record RefusedBehind (text : List ℕ) (number : ℕ) (refusal : Refusal) : Type 0 where
+  pub rest : List ℕ
+  pub r : ReadingValue
+  pub read : HasRead text rest number r
+  pub line : Line
+  pub behind : List ℕ
+  pub next : slice_split (λ b. b == 10) rest ≡ line_spelling line ∷ slice_split (λ b. b == 10) behind
+  pub back : ReadsBack line
+  pub refused : IsRefusedIn (program_in line) refusal
+
+-- What is wrong with a text, for each flaw.
+abbrev pub Flawed : List ℕ → OpeningFlaw → Type 0
+Flawed text (flaws.BadLine n) = BadBehind text n
+Flawed text (flaws.CutLine n) = CutBehind text n
+Flawed text (flaws.BadProgram n refusal) = RefusedBehind text n refusal
+Flawed text flaws.OutOfMemory = Unit {0}

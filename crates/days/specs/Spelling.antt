@@ -1,0 +1,15 @@
+-- Promises: how a line's words are appended to a text.
+use Rattle.std.specs.Prelude.{◌≡◌, ℕ, List, [], ◌∷◌, ◌++◌}
+use Rattle.std.specs.List.{flat_map}
+use Rattle.till_request.specs.Short.{with_words}
+use Rattle.days.specs.declared.line.Line.{Line}
+use Rattle.days.specs.Text.{line_text}
+
+-- The text, then the first word, and then the others with a space before each.
+abbrev pub with_line : List ℕ → List (List ℕ) → List ℕ
+with_line text [] = text
+with_line text (name ∷ words) = with_words (text ++ name) words
+
+-- The second text is the first one and the texts of these lines.
+abbrev pub AddsLines : List ℕ → List ℕ → List Line → Type 0
+AddsLines old new lines = new ≡ old ++ flat_map line_text lines

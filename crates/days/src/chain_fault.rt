@@ -1,0 +1,72 @@
+//! Why days don't follow one another.
+use crate::beginning::Unfit;
+use crate::file::{OpeningFlaw, Uncarried};
+use decision_journal::JournalFault;
+use site_core::{AuditFault, Config};
+
+/// Why a day leaves nothing for the next one.
+#[derive(Clone, Copy, Drop)]
+pub enum Unleft {
+    /// The day has no journal.
+    NoJournal,
+    /// The day's site leaves no opening.
+    Uncarried(Uncarried),
+}
+
+/// Why a day doesn't begin with what the day before left. Each case has the text of the opening that was left.
+#[derive(Drop)]
+pub enum Unfollowed {
+    /// The day has no opening.
+    NoOpening(String),
+    /// The day has another opening, of these bytes.
+    OtherOpening(Vec<u8>, String),
+}
+
+/// Why no site of a day's configuration begins the day.
+#[derive(Drop)]
+pub enum Unbegun {
+    /// The day has no opening, and isn't day 1.
+    NoOpening,
+    /// The day is day 1, and has an opening.
+    HasOpening,
+    /// The bytes of the opening, and why they aren't the text of one.
+    Flawed(Vec<u8>, OpeningFlaw),
+    /// The opening is one for the day of this number.
+    OtherDay(u32),
+    /// No site of the configuration begins with the opening.
+    Unfit(Unfit),
+}
+
+/// Why a day's journal comes to no site.
+#[derive(Drop)]
+pub enum Unclosed<J> {
+    /// The journal's device, and why it isn't the text of a journal.
+    Text(J, JournalFault),
+    /// The configuration that the day's site begins with, and why it can't have the entries of the journal.
+    History(Config, AuditFault),
+    OutOfMemory,
+}
+
+/// Why days don't follow one another.
+#[derive(Drop)]
+pub enum Cause<J> {
+    /// There is no day.
+    NoDays,
+    /// The day couldn't be read.
+    Unread,
+    /// The day leaves nothing for the next one.
+    Unleft(Unleft),
+    /// The day doesn't begin with what the day before left.
+    Unfollowed(Unfollowed),
+    /// No site of the day's configuration begins the day.
+    Unbegun(Unbegun),
+    /// The day's journal comes to no site.
+    Unclosed(Unclosed<J>),
+}
+
+/// The number of the first day that isn't as it should be, and why.
+#[derive(Drop)]
+pub struct DaysFault<J> {
+    pub day: u32,
+    pub cause: Cause<J>,
+}

@@ -1,0 +1,52 @@
+//! The days of a station as they are given.
+use site_core::Config;
+use std::fmt;
+use till_request::LineIn;
+
+/// What there is of a day: its configuration, the bytes of the opening that it begins with, if it has one, and the
+/// device that its journal is read from, if it has one.
+#[derive(Drop)]
+pub struct DayIn<J> {
+    pub config: Config,
+    pub opening: Option<Vec<u8>>,
+    pub journal: Option<J>,
+}
+
+/// The error of a day that couldn't be read. The cause isn't kept.
+#[derive(Clone, Copy, Drop)]
+pub struct NoDay;
+
+/// The days of a station, which are given one after another.
+pub trait DaysIn {
+    /// The device that a day's journal is read from.
+    type Journal: LineIn + Drop;
+
+    ghost use Rattle.std.specs.Prelude.{List, Option, IfOk};
+    ghost use Rattle.days.specs.Chain.{DayText};
+    ghost use Rattle.days.specs.Given.{GivesDay};
+
+    /// All days that will be given, if they are known.
+    ghost remaining: { Self → Option (List DayText) };
+
+    /// Returns the next day, or `None` if there are no more. The error is that the day couldn't be read.
+    fn next_day(&mut self) -> Result<Option<DayIn<Self::Journal>>, NoDay>
+        ensures { IfOk result (GivesDay Self.Journal.remaining (remaining self.old) (remaining self.new)) };
+}
+
+/// How many days were found to follow one another, and how many entries they have together.
+#[derive(Clone, Copy, Drop)]
+pub struct Chained {
+    pub days: u32,
+    pub entries: u64,
+}
+
+impl fmt::Display for Chained {
+    ghost use Rattle.std.specs.Prelude.{Some};
+    ghost use Rattle.days.specs.Given.{chained_text};
+
+    ghost output = { λ c. Some (chained_text c.days c.entries) };
+
+    fn fmt<W: fmt::Write>(&self, f: &mut fmt::Formatter<W>) -> fmt::Result {
+        write!(f, "legal {} {}", self.days, self.entries)
+    }
+}

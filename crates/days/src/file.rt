@@ -1,0 +1,44 @@
+//! What the text of an opening says, and why a text isn't one.
+
+use reg_types::Refusal;
+use site_core::{Opening, OpeningFault};
+use thiserror::Error;
+
+/// What the text of an opening says.
+#[derive(Drop)]
+pub struct OpeningFile {
+    /// The number of the day that begins with the opening: 2 or more.
+    pub day: u32,
+    pub opening: Opening,
+    /// How many entries the journal of the day before has.
+    pub entries: u32,
+    /// The SHA-256 of that journal's bytes.
+    pub digest: [u8; 32],
+}
+
+/// Why bytes aren't the text of an opening. The number is that of a line, counted from 1.
+#[derive(Clone, Copy, Debug, Drop, Error)]
+pub enum OpeningFlaw {
+    /// The first line that can't stand where it stands, or the number behind the last line if one is missing there.
+    #[error("line {0} can't stand there")]
+    BadLine(u32),
+    /// The last line has no LF.
+    #[error("line {0} is cut off")]
+    CutLine(u32),
+    /// The verifier refuses the program of this line.
+    #[error("the program in line {0} is refused: {1}")]
+    BadProgram(u32, Refusal),
+    #[error("out of memory (S31)")]
+    OutOfMemory,
+}
+
+/// Why the site of a day leaves no opening for the next day.
+#[derive(Clone, Copy, Debug, Drop, Error)]
+pub enum Uncarried {
+    /// The number of the day is the greatest one.
+    #[error("no day comes after day 4294967295")]
+    LastDay,
+    /// No site with as many points can begin with what the site leaves, or memory ran out.
+    #[error("{0}")]
+    Fault(OpeningFault),
+}

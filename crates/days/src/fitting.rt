@@ -1,0 +1,144 @@
+//! Whether an opening fits a configuration: it has the same points, each counter is within its bound there, and no till
+//! that isn't there holds a transaction.
+ghost use Rattle.std.specs.Prelude.{◌≡◌, ◌≤◌, ◌<◌, ℕ, All, MatchOption, IfErr, IfOk, OnOk, Some, option_to_list};
+ghost use Rattle.std.specs.List.{Contains};
+ghost use Rattle.bpf_model.specs.Machine.{counter};
+ghost use Rattle.days.specs.Fitting.{AreBounded, AreWithin, Fits, HasTill, HaveTills};
+ghost use Rattle.days.specs.Misfits.{IsAt, IsOver, Misfits};
+
+use counters::Counters;
+use fuelling_point::{Point, Transaction};
+use site_core::{Config, Opening};
+use std::fmt::{self, Display};
+
+/// Why a site of a configuration can't begin with an opening.
+#[derive(Clone, Copy)]
+pub enum Misfit {
+    /// How many points the opening has, and how many the configuration.
+    Points(usize, usize),
+    /// A counter: its number, its value in the opening, and its smaller bound in the configuration.
+    Counter(u32, u64, u64),
+    /// The place of a point, counted from 0, its transaction, and how many tills the configuration has.
+    Till(usize, Transaction, u32),
+}
+
+impl Display for Misfit {
+    fn fmt<W: fmt::Write>(&self, f: &mut fmt::Formatter<W>) -> fmt::Result {
+        match *self {
+            Misfit::Points(points, there) => {
+                write!(
+                    f,
+                    "points: {points} in the opening, {there} in the configuration"
+                )
+            }
+            Misfit::Counter(counter, value, bound) => {
+                write!(
+                    f,
+                    "counter {counter} has the value {value}, its bound in the configuration is {bound}"
+                )
+            }
+            Misfit::Till(at, t, tills) => {
+                let (point, number, till) = (at.saturating_add(1), t.number, t.holder);
+                write!(
+                    f,
+                    "point {point}: transaction {number} is held by till {till}, 'tills' is {tills}"
+                )
+            }
+        }
+    }
+}
+
+/// Returns an opening with the bounds that the counters have in a configuration. The error is why no site of this
+/// configuration can begin with it.
+pub fn fitted(config: &Config, opening: Opening) -> Result<Opening, Misfit>
+    ensures same { IfOk result (λ new. new ≡ record opening { counters = new.counters }) }
+    ensures bounds { IfOk result (λ new. AreBounded opening.counters config.now.counters new.counters) }
+    ensures fits { OnOk result (Fits config.now opening) }
+    ensures misfit { IfErr result (Misfits config.now opening) }
+{
+    let (points, there) = (opening.points.len(), config.points().len());
+    if points != there {
+        return Err(Misfit::Points(points, there));
+    }
+    if let Some((at, transaction)) = held_over(&opening.points, config.tills()) {
+        return Err(Misfit::Till(at, transaction, config.tills()));
+    }
+    match rebounded(&opening.counters, &config.counters()) {
+        Ok(counters) => Ok(Opening {
+            counters,
+            ..opening
+        }),
+        Err((c, value, bound)) => Err(Misfit::Counter(c, value, bound)),
+    }
+}
+
+/// Returns the place of a point and an unpaid transaction there that a till holds whose number is over `tills`. Returns
+/// `None` if there is none.
+fn held_over(points: &[Point], tills: u32) -> Option<(usize, Transaction)>
+    ensures { MatchOption result (HaveTills tills points.now) (λ m. IsAt points.now m.0 m.1 × (tills < m.1.holder)) }
+{
+    for (at, point) in points.iter().enumerate() {
+        if let Some(transaction) = held_at(point, tills) {
+            return Some((at, transaction));
+        }
+    }
+    None
+}
+
+/// Returns an unpaid transaction that a till holds whose number is over `tills`.
+fn held_at(point: &Point, tills: u32) -> Option<Transaction>
+    ensures { MatchOption result (All (HasTill tills) point.now.unpaid)
+        (λ t. Contains point.now.unpaid t × (tills < t.holder)) }
+{
+    let [first, second] = point.transactions();
+    match held(first, tills) {
+        Some(transaction) => Some(transaction),
+        None => held(second, tills),
+    }
+}
+
+/// Returns the transaction if a till holds it whose number is over `tills`.
+fn held(place: Option<Transaction>, tills: u32) -> Option<Transaction>
+    ensures { MatchOption result (All (HasTill tills) (option_to_list place))
+        (λ t. (place ≡ Some t) × (tills < t.holder)) }
+{
+    let transaction = place?;
+    if transaction.holder > tills {
+        Some(transaction)
+    } else {
+        None
+    }
+}
+
+/// Returns the counters with their values, and with these bounds in place of theirs. The error is a counter whose value
+/// is over its bound: its number, its value and its bound.
+fn rebounded(counters: &Counters, bounds: &[(u64, u64); 32]) -> Result<Counters, (u32, u64, u64)>
+    ensures bounds { IfOk result (AreBounded counters.now bounds.now) }
+    ensures within { OnOk result (AreWithin counters.now bounds.now) }
+    ensures over { IfErr result (IsOver counters.now bounds.now) }
+{
+    let cells = bounded(counters, bounds);
+    match over(&cells) {
+        None => Ok(Counters::new(cells)),
+        Some(c) => Err((c as u32, cells[c].0, cells[c].1)),
+    }
+}
+
+/// Returns pairs of the values of counters and these bounds.
+fn bounded(counters: &Counters, bounds: &[(u64, u64); 32]) -> [(u64, u64); 32]
+    ensures { AreBounded counters.now bounds.now result }
+{
+    let mut cells = [(0, 0); 32];
+    for c in 0..32u32 {
+        cells[c as usize] = (counters.get(c), bounds[c as usize].1);
+    }
+    cells
+}
+
+/// Returns the number of a counter whose value is over its bound.
+fn over(cells: &[(u64, u64); 32]) -> Option<usize>
+    ensures { MatchOption result (All (λ (c : ℕ × ℕ). c.0 ≤ c.1) cells.now)
+        (λ c. (c < 32) × ((counter cells.now c).1 < (counter cells.now c).0)) }
+{
+    cells.iter().position(|(value, bound)| value > bound)
+}

@@ -1,0 +1,98 @@
+//! Proofs that the numbers of an opening are in the ranges of their types. These functions do nothing: they are called
+//! for what their contracts state.
+ghost use Rattle.std.specs.Prelude.{◌<◌, ◌^◌, All, option_to_list};
+ghost use Rattle.hex.specs.Hex.{IsBytes};
+ghost use Rattle.days.specs.Ranges.{FileFits, OrderFits, PointFits, VersionFits};
+
+use crate::file::OpeningFile;
+use fuelling_point::{Order, Point, Transaction};
+use program_slots::Version;
+
+/// Proves that each byte is below 256.
+fn bytes_in_range(bytes: &[u8])
+    ensures { IsBytes bytes.now }
+{}
+
+/// Proves that the amount of a pending order is in the range of its type.
+fn order_in_range(order: Option<Order>)
+    ensures { OrderFits order }
+{
+    match order {
+        None => {}
+        Some(Order::Authorise(_amount)) => {}
+        Some(Order::Suspend) => {}
+        Some(Order::Resume) => {}
+        Some(Order::Stop) => {}
+    }
+}
+
+/// Proves that a transaction's holder is in the range of its type.
+fn holder_in_range(place: Option<Transaction>)
+    ensures { All (λ t. t.holder < 2 ^ 32) (option_to_list place) }
+{
+    if let Some(transaction) = place {
+        let _holder = transaction.holder;
+    }
+}
+
+/// Proves that the holders of a point's unpaid transactions are in the range of their type.
+fn holders_in_range(point: &Point)
+    ensures { All (λ t. t.holder < 2 ^ 32) point.now.unpaid }
+{
+    let [first, second] = point.transactions();
+    holder_in_range(first);
+    holder_in_range(second);
+}
+
+/// Proves that a point's numbers are in the ranges of their types.
+fn point_in_range(point: &Point)
+    ensures { PointFits point.now }
+{
+    let _preset = point.preset();
+    let _limit = point.limit();
+    order_in_range(point.snapshot().order);
+    holders_in_range(point);
+}
+
+/// Proves that the numbers of all points are in the ranges of their types.
+fn points_in_range(points: &[Point])
+    ensures { All PointFits points.now }
+{
+    for point in points {
+        point_in_range(point);
+    }
+}
+
+/// Proves that a version's mask and its program's bytes are in the ranges of their types.
+fn version_in_range(rule: &Option<Version>)
+    ensures { VersionFits rule.now }
+{
+    match rule {
+        None => {}
+        Some(version) => {
+            let _mask = version.program.declared();
+            bytes_in_range(version.program.bytes());
+        }
+    }
+}
+
+/// Proves that the masks and bytes of all versions are in the ranges of their types.
+fn versions_in_range(rules: &[Option<Version>])
+    ensures { All VersionFits rules.now }
+{
+    for rule in rules {
+        version_in_range(rule);
+    }
+}
+
+/// Proves that the numbers of an opening's file are in the ranges of their types.
+pub(crate) fn file_in_range(file: &OpeningFile)
+    ensures { FileFits file.now }
+{
+    let _day = file.day;
+    let _entries = file.entries;
+    let _count = file.opening.points.len();
+    bytes_in_range(file.digest.as_slice());
+    points_in_range(&file.opening.points);
+    versions_in_range(&file.opening.rules);
+}

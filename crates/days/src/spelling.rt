@@ -1,0 +1,256 @@
+//! Writes the lines of an opening's text.
+
+ghost use Rattle.std.specs.Prelude.{◌≡◌, ◌∷◌, [], OnOk, decimal, string_bytes};
+ghost use Rattle.hex.specs.Hex.{encode_lower};
+ghost use Rattle.till_request.specs.Short.{with_words};
+ghost use Rattle.till_request.specs.Spelling.{load_word as load_by};
+ghost use Rattle.days.specs.Text.{line_spelling, line_words, order_word, yes_or_no};
+ghost use Rattle.days.specs.Spelling.{AddsLines, with_line};
+
+use crate::line::Line;
+use bpf_model::context::Layout;
+use fuelling_point::{Order, Snapshot, Transaction};
+use itoa::Buffer;
+use std::alloc::{AllocError, Global};
+
+/// Appends a space and a word. The error is that memory ran out.
+fn put_word(text: &mut String, word: &str) -> Result<(), AllocError>
+    ensures { OnOk result (string_bytes text.new ≡ with_words (string_bytes text.old) (word.now ∷ [])) }
+{
+    text.push_str(" ")?;
+    text.push_str(word)
+}
+
+/// Appends a space and a number in decimal digits. The error is that memory ran out.
+fn put_number(text: &mut String, number: u64) -> Result<(), AllocError>
+    ensures { OnOk result (string_bytes text.new ≡ with_words (string_bytes text.old) (decimal number ∷ [])) }
+{
+    let mut digits = Buffer::new();
+    put_word(text, digits.format(number))
+}
+
+/// Appends a space and bytes in lower-case hexadecimal digits. The error is that memory ran out.
+fn put_hex(alloc: Global, text: &mut String, bytes: &[u8]) -> Result<(), AllocError>
+    ensures { OnOk result (string_bytes text.new
+        ≡ with_words (string_bytes text.old) (encode_lower bytes.now ∷ [])) }
+{
+    let digits = hex::encode(alloc, bytes)?;
+    put_word(text, digits.as_str())
+}
+
+/// Returns the word of a load of a program whose contexts have this layout.
+fn load_word(layout: Layout) -> &'static str
+    ensures { result.now ≡ load_by layout }
+{
+    match layout {
+        Layout::One => "load",
+        Layout::Two => "load2",
+    }
+}
+
+/// Appends a space and an order as one word. The error is that memory ran out.
+fn put_order(text: &mut String, order: Option<Order>) -> Result<(), AllocError>
+    ensures { OnOk result (string_bytes text.new ≡ with_words (string_bytes text.old) (order_word order ∷ [])) }
+{
+    match order {
+        None => put_word(text, "none"),
+        Some(Order::Authorise(amount)) => {
+            let mut digits = Buffer::new();
+            text.push_str(" authorise:")?;
+            text.push_str(digits.format(amount))
+        }
+        Some(Order::Suspend) => put_word(text, "suspend"),
+        Some(Order::Resume) => put_word(text, "resume"),
+        Some(Order::Stop) => put_word(text, "stop"),
+    }
+}
+
+/// Appends a space and `yes` or `no`. The error is that memory ran out.
+fn put_answer(text: &mut String, answer: bool) -> Result<(), AllocError>
+    ensures { OnOk result (string_bytes text.new ≡ with_words (string_bytes text.old) (yes_or_no answer ∷ [])) }
+{
+    if answer {
+        put_word(text, "yes")
+    } else {
+        put_word(text, "no")
+    }
+}
+
+/// Appends the words of the first line. The error is that memory ran out.
+fn put_day(text: &mut String, day: u32) -> Result<(), AllocError>
+    ensures { OnOk result (string_bytes text.new ≡ with_line (string_bytes text.old) (line_words (Line.Day day))) }
+{
+    text.push_str("day")?;
+    put_number(text, u64::from(day))
+}
+
+/// Appends the words of the line of what was cleared. The error is that memory ran out.
+fn put_cleared(text: &mut String, total: u64, count: u64) -> Result<(), AllocError>
+    ensures { OnOk result (string_bytes text.new
+        ≡ with_line (string_bytes text.old) (line_words (Line.Cleared total count))) }
+{
+    text.push_str("cleared")?;
+    put_number(text, total)?;
+    put_number(text, count)
+}
+
+/// Appends the words of the line of how many versions there were. The error is that memory ran out.
+fn put_versions(text: &mut String, count: u32) -> Result<(), AllocError>
+    ensures { OnOk result (string_bytes text.new
+        ≡ with_line (string_bytes text.old) (line_words (Line.Versions count))) }
+{
+    text.push_str("versions")?;
+    put_number(text, u64::from(count))
+}
+
+/// Appends the words of a version's line. The error is that memory ran out.
+fn put_version(
+    alloc: Global,
+    text: &mut String,
+    slot: u64,
+    number: u32,
+    mask: u32,
+    layout: Layout,
+    bytes: &[u8],
+) -> Result<(), AllocError>
+    ensures { OnOk result (string_bytes text.new
+        ≡ with_line (string_bytes text.old) (line_words (Line.Version slot number mask layout bytes.now))) }
+{
+    text.push_str("version")?;
+    put_number(text, slot)?;
+    put_number(text, u64::from(number))?;
+    put_number(text, u64::from(mask))?;
+    put_word(text, load_word(layout))?;
+    put_hex(alloc, text, bytes)
+}
+
+/// Appends the words of a point's own line. The error is that memory ran out.
+fn put_point(text: &mut String, point: u64, values: &Snapshot) -> Result<(), AllocError>
+    ensures { OnOk result (string_bytes text.new
+        ≡ with_line (string_bytes text.old) (line_words (Line.Point point values.now))) }
+{
+    text.push_str("point")?;
+    put_number(text, point)?;
+    put_number(text, u64::from(values.state.number()))?;
+    put_number(text, u64::from(values.nozzle))?;
+    put_number(text, values.preset)?;
+    put_number(text, values.limit)?;
+    put_number(text, values.amount)?;
+    put_number(text, values.volume)?;
+    put_order(text, values.order)?;
+    put_answer(text, values.taken)?;
+    put_number(text, u64::from(values.last))
+}
+
+/// Appends the words of a transaction's line. The error is that memory ran out.
+fn put_unpaid(text: &mut String, point: u64, unpaid: &Transaction) -> Result<(), AllocError>
+    ensures { OnOk result (string_bytes text.new
+        ≡ with_line (string_bytes text.old) (line_words (Line.Unpaid point unpaid.now))) }
+{
+    text.push_str("unpaid")?;
+    put_number(text, point)?;
+    put_number(text, u64::from(unpaid.number))?;
+    put_number(text, unpaid.amount)?;
+    put_number(text, unpaid.volume)?;
+    put_number(text, u64::from(unpaid.holder))
+}
+
+/// Appends the words of a product's line. The error is that memory ran out.
+fn put_price(text: &mut String, product: u32, price: u32) -> Result<(), AllocError>
+    ensures { OnOk result (string_bytes text.new
+        ≡ with_line (string_bytes text.old) (line_words (Line.Price product price))) }
+{
+    text.push_str("price")?;
+    put_number(text, u64::from(product))?;
+    put_number(text, u64::from(price))
+}
+
+/// Appends the words of the last line. The error is that memory ran out.
+fn put_journal(
+    alloc: Global,
+    text: &mut String,
+    entries: u32,
+    digest: &[u8; 32],
+) -> Result<(), AllocError>
+    ensures { OnOk result (string_bytes text.new
+        ≡ with_line (string_bytes text.old) (line_words (Line.Journal entries digest.now))) }
+{
+    text.push_str("journal")?;
+    put_number(text, u64::from(entries))?;
+    put_hex(alloc, text, digest)
+}
+
+/// Appends the words of a counter's line. The error is that memory ran out.
+fn put_counter(text: &mut String, counter: u32, value: u64, bound: u64) -> Result<(), AllocError>
+    ensures { OnOk result (string_bytes text.new
+        ≡ with_line (string_bytes text.old) (line_words (Line.Counter counter value bound))) }
+{
+    text.push_str("counter")?;
+    put_number(text, u64::from(counter))?;
+    put_number(text, value)?;
+    put_number(text, bound)
+}
+
+/// Appends the words of a line. The error is that memory ran out.
+fn put_words(alloc: Global, text: &mut String, line: &Line) -> Result<(), AllocError>
+    ensures { OnOk result (string_bytes text.new ≡ with_line (string_bytes text.old) (line_words line.now)) }
+{
+    match line {
+        Line::Day(day) => put_day(text, *day),
+        Line::Cleared(total, count) => put_cleared(text, *total, *count),
+        Line::Versions(count) => put_versions(text, *count),
+        Line::Version {
+            slot,
+            number,
+            mask,
+            layout,
+            bytes,
+        } => put_version(
+            alloc,
+            text,
+            *slot,
+            *number,
+            *mask,
+            *layout,
+            bytes.as_slice(),
+        ),
+        Line::Price(product, price) => put_price(text, *product, *price),
+        Line::Counter(counter, value, bound) => put_counter(text, *counter, *value, *bound),
+        Line::Point(point, values) => put_point(text, *point, values),
+        Line::Unpaid(point, unpaid) => put_unpaid(text, *point, unpaid),
+        Line::Journal(entries, digest) => put_journal(alloc, text, *entries, digest),
+    }
+}
+
+/// Replaces a text by a line without its LF. The error is that memory ran out.
+pub(crate) fn spell_line(alloc: Global, text: &mut String, line: &Line) -> Result<(), AllocError>
+    ensures { OnOk result (string_bytes text.new ≡ line_spelling line.now) }
+{
+    text.clear();
+    put_words(alloc, text, line)
+}
+
+/// Appends a line with its LF. The error is that memory ran out.
+pub(crate) fn put_line(alloc: Global, text: &mut String, line: &Line) -> Result<(), AllocError>
+    ensures { OnOk result (AddsLines (string_bytes text.old) (string_bytes text.new) (line.now ∷ [])) }
+{
+    put_words(alloc, text, line)?;
+    text.push_str("\n")
+}
+
+/// Appends a version's line with its LF. The error is that memory ran out.
+pub(crate) fn put_version_line(
+    alloc: Global,
+    text: &mut String,
+    slot: u64,
+    number: u32,
+    mask: u32,
+    layout: Layout,
+    bytes: &[u8],
+) -> Result<(), AllocError>
+    ensures { OnOk result (AddsLines (string_bytes text.old) (string_bytes text.new)
+        (Line.Version slot number mask layout bytes.now ∷ [])) }
+{
+    put_version(alloc, text, slot, number, mask, layout, bytes)?;
+    text.push_str("\n")
+}

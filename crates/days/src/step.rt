@@ -1,0 +1,366 @@
+//! What has been read of an opening, and which line can stand next.
+
+ghost use Rattle.std.specs.Prelude.{◌≡◌, ◌↔◌, ◌≤◌, ◌∷◌, [], All};
+ghost use Rattle.std.specs.Prelude.{IfOk, IfSome, IsTrue, None, is_some, replicate};
+ghost use Rattle.bpf_model.specs.Program.{as_loaded};
+ghost use Rattle.fuelling_point.specs.Snapshot.{IsPointState};
+ghost use Rattle.days.specs.Reading.{Steps, Verified, nothing_read, with_unpaid};
+
+use crate::file::OpeningFile;
+use crate::line::Line;
+use bpf_model::context::Layout;
+use counters::Counters;
+use fuelling_point::{Point, Snapshot, Transaction};
+use program_slots::Version;
+use reg_types::{Refusal, verify};
+use site_core::{Opening, is_new_number};
+use std::alloc::{AllocError, Global};
+use std::marker::Model;
+use std::sync::Arc;
+
+/// The greatest number that a point's newest transaction may have, and the greatest number of versions.
+const MOST: u32 = 4_290_000_000;
+
+/// The greatest total of cleared amounts in cents, and the greatest number of cleared transactions.
+const MOST_CLEARED: u64 = 1_000_000_000_000_000_000;
+
+/// The place of slot 0, behind the first three lines. Lines of higher slots have the places behind it.
+const SLOTS_AT: u32 = 3;
+
+/// The place of product 1.
+const PRODUCTS_AT: u32 = 19;
+
+/// The place of counter 0.
+const COUNTERS_AT: u32 = 27;
+
+/// The place of all lines of points.
+const POINTS_AT: u32 = 59;
+
+/// The place of the last line.
+const END_AT: u32 = 60;
+
+/// Why a line isn't taken.
+#[derive(Clone, Copy, Drop)]
+pub(crate) enum StepFault {
+    /// The line can't stand there.
+    Misplaced,
+    /// The verifier refuses the line's program.
+    Refused(Refusal),
+    OutOfMemory,
+}
+
+/// What has been read of an opening.
+#[derive(Drop)]
+pub(crate) struct Reading {
+    /// The least place that the next line can have.
+    next: u32,
+    day: u32,
+    points: Vec<Point>,
+    prices: [u32; 8],
+    counters: [(u64, u64); 32],
+    cleared: u64,
+    clears: u64,
+    versions: u32,
+    rules: Vec<Option<Version>>,
+    entries: u32,
+    digest: [u8; 32],
+}
+
+impl Model for Reading {
+    ghost use Rattle.std.specs.Prelude.{◌≡◌, length};
+    ghost use Rattle.days.specs.Reading.{ReadingValue};
+
+    ghost Value = { ReadingValue };
+
+    ghost view = { λ r. record {
+      next = r.next;
+      file = record {
+        day = r.day;
+        opening = record {
+          points = r.points.items;
+          prices = r.prices;
+          counters = r.counters;
+          cleared = r.cleared;
+          clears = r.clears;
+          versions = r.versions;
+          rules = r.rules.items;
+        };
+        entries = r.entries;
+        digest = r.digest;
+      };
+    } };
+
+    ghost invariant = { λ r. length r.rules.items ≡ 16 };
+}
+
+/// Returns a list of 16 slots without a version.
+fn empty_slots(alloc: Global) -> Result<Vec<Option<Version>>, AllocError>
+    ensures { IfOk result (λ rules. rules.items ≡ replicate 16 None) }
+{
+    let mut rules = Vec::with_capacity(alloc, 16)?;
+    for _added in 0..16usize {
+        rules.push(None)?;
+    }
+    Ok(rules)
+}
+
+impl Reading {
+    /// Makes the reading before the first line. The error is that memory ran out.
+    pub(crate) fn new(alloc: Global) -> Result<Reading, AllocError>
+        ensures { IfOk result (λ reading. reading ≡ nothing_read) }
+    {
+        let rules = empty_slots(alloc)?;
+        Ok(Reading {
+            next: 0,
+            day: 0,
+            points: Vec::new(alloc),
+            prices: [0; 8],
+            counters: [(0, 0); 32],
+            cleared: 0,
+            clears: 0,
+            versions: 0,
+            rules,
+            entries: 0,
+            digest: [0; 32],
+        })
+    }
+
+    /// Returns whether the last line was taken.
+    pub(crate) fn is_complete(&self) -> bool
+        ensures { IsTrue result ↔ (self.now.next ≡ 61) }
+    {
+        self.next == END_AT + 1
+    }
+
+    /// Returns what was read.
+    pub(crate) fn finish(self) -> OpeningFile
+        requires { All (λ c. c.0 ≤ c.1) self.file.opening.counters }
+        ensures { result ≡ self.file }
+    {
+        let (prices, counters, digest) = (self.prices, Counters::new(self.counters), self.digest);
+        OpeningFile {
+            day: self.day,
+            opening: Opening {
+                points: self.points,
+                prices,
+                counters,
+                cleared: self.cleared,
+                clears: self.clears,
+                versions: self.versions,
+                rules: self.rules,
+            },
+            entries: self.entries,
+            digest,
+        }
+    }
+
+    fn take_day(&mut self, day: u32) -> Result<(), StepFault>
+        ensures { Steps self.old (Line.Day day) result self.new }
+    {
+        if self.next != 0 || day < 2 {
+            return Err(StepFault::Misplaced);
+        }
+        self.next = 1;
+        self.day = day;
+        Ok(())
+    }
+
+    fn take_cleared(&mut self, total: u64, count: u64) -> Result<(), StepFault>
+        ensures { Steps self.old (Line.Cleared total count) result self.new }
+    {
+        if self.next != 1 || total > MOST_CLEARED || count > MOST_CLEARED {
+            return Err(StepFault::Misplaced);
+        }
+        self.next = 2;
+        self.cleared = total;
+        self.clears = count;
+        Ok(())
+    }
+
+    fn take_versions(&mut self, count: u32) -> Result<(), StepFault>
+        ensures { Steps self.old (Line.Versions count) result self.new }
+    {
+        if self.next != 2 || count > MOST {
+            return Err(StepFault::Misplaced);
+        }
+        self.next = SLOTS_AT;
+        self.versions = count;
+        Ok(())
+    }
+
+    fn take_version(
+        &mut self,
+        alloc: Global,
+        slot: u64,
+        number: u32,
+        mask: u32,
+        layout: Layout,
+        bytes: &[u8],
+    ) -> Result<(), StepFault>
+        ensures { Steps self.old (Line.Version slot number mask layout bytes.now) result self.new }
+    {
+        if self.next < SLOTS_AT || slot > 15 || self.next > SLOTS_AT + slot as u32 {
+            return Err(StepFault::Misplaced);
+        }
+        if number < 1 || number > self.versions || !is_new_number(&self.rules, number) {
+            return Err(StepFault::Misplaced);
+        }
+        let version = verified(alloc, number, mask, layout, bytes)?;
+        self.rules[slot as usize] = Some(version);
+        self.next = SLOTS_AT + slot as u32 + 1;
+        Ok(())
+    }
+
+    fn take_price(&mut self, product: u32, price: u32) -> Result<(), StepFault>
+        ensures { Steps self.old (Line.Price product price) result self.new }
+    {
+        if self.next < SLOTS_AT
+            || product < 1
+            || product > 8
+            || self.next > PRODUCTS_AT + product - 1
+        {
+            return Err(StepFault::Misplaced);
+        }
+        if price < 1 || price > 9_999_999 {
+            return Err(StepFault::Misplaced);
+        }
+        self.prices[product as usize - 1] = price;
+        self.next = PRODUCTS_AT + product;
+        Ok(())
+    }
+
+    fn take_counter(&mut self, counter: u32, value: u64, bound: u64) -> Result<(), StepFault>
+        ensures { Steps self.old (Line.Counter counter value bound) result self.new }
+    {
+        if self.next < SLOTS_AT || counter > 31 || self.next > COUNTERS_AT + counter {
+            return Err(StepFault::Misplaced);
+        }
+        if value > bound || bound < 1 {
+            return Err(StepFault::Misplaced);
+        }
+        self.counters[counter as usize] = (value, bound);
+        self.next = COUNTERS_AT + counter + 1;
+        Ok(())
+    }
+
+    fn take_point(&mut self, number: u64, values: &Snapshot) -> Result<(), StepFault>
+        ensures { Steps self.old (Line.Point number values.now) result self.new }
+    {
+        if self.next < SLOTS_AT || self.next > POINTS_AT || values.last > MOST {
+            return Err(StepFault::Misplaced);
+        }
+        if number as usize != self.points.len() + 1 {
+            return Err(StepFault::Misplaced);
+        }
+        if !has_none(&values.unpaid) {
+            return Err(StepFault::Misplaced);
+        }
+        let Some(point) = Point::restored(*values) else {
+            return Err(StepFault::Misplaced);
+        };
+        if self.points.push(point).is_err() {
+            return Err(StepFault::OutOfMemory);
+        }
+        self.next = POINTS_AT;
+        Ok(())
+    }
+
+    fn take_unpaid(&mut self, number: u64, unpaid: Transaction) -> Result<(), StepFault>
+        ensures { Steps self.old (Line.Unpaid number unpaid) result self.new }
+    {
+        if self.next != POINTS_AT || number < 1 || number as usize != self.points.len() {
+            return Err(StepFault::Misplaced);
+        }
+        let at = number as usize - 1;
+        match owing(&self.points[at], unpaid) {
+            Some(point) => {
+                self.points[at] = point;
+                Ok(())
+            }
+            None => Err(StepFault::Misplaced),
+        }
+    }
+
+    fn take_journal(&mut self, entries: u32, digest: &[u8; 32]) -> Result<(), StepFault>
+        ensures { Steps self.old (Line.Journal entries digest.now) result self.new }
+    {
+        if self.next < SLOTS_AT || self.next > END_AT {
+            return Err(StepFault::Misplaced);
+        }
+        self.next = END_AT + 1;
+        self.entries = entries;
+        self.digest = *digest;
+        Ok(())
+    }
+
+    /// Takes a line, if it can stand next.
+    ///
+    /// The error is `Misplaced` if the line can't stand there, else `Refused` if the verifier refuses its program. It
+    /// can also be that memory ran out.
+    pub(crate) fn take(&mut self, alloc: Global, line: &Line) -> Result<(), StepFault>
+        ensures { Steps self.old line.now result self.new }
+    {
+        match line {
+            Line::Day(day) => self.take_day(*day),
+            Line::Cleared(total, count) => self.take_cleared(*total, *count),
+            Line::Versions(count) => self.take_versions(*count),
+            Line::Version {
+                slot,
+                number,
+                mask,
+                layout,
+                bytes,
+            } => self.take_version(alloc, *slot, *number, *mask, *layout, bytes.as_slice()),
+            Line::Price(product, price) => self.take_price(*product, *price),
+            Line::Counter(counter, value, bound) => self.take_counter(*counter, *value, *bound),
+            Line::Point(number, values) => self.take_point(*number, values),
+            Line::Unpaid(number, unpaid) => self.take_unpaid(*number, *unpaid),
+            Line::Journal(entries, digest) => self.take_journal(*entries, digest),
+        }
+    }
+}
+
+/// Returns whether no unpaid transaction is there.
+fn has_none(unpaid: &[Option<Transaction>; 2]) -> bool
+    ensures { IsTrue result ↔ (unpaid.now ≡ None ∷ None ∷ []) }
+{
+    matches!(unpaid, [None, None])
+}
+
+/// Returns the version of this number with the program of these bytes. The error is that the verifier refuses it, or
+/// that memory ran out.
+fn verified(
+    alloc: Global,
+    number: u32,
+    mask: u32,
+    layout: Layout,
+    bytes: &[u8],
+) -> Result<Version, StepFault>
+    ensures { Verified number (as_loaded bytes.now mask layout) result }
+{
+    let program = match verify(alloc, bytes, mask, layout) {
+        Ok(program) => program,
+        Err(Refusal::OutOfMemory) => return Err(StepFault::OutOfMemory),
+        Err(Refusal::Decode(fault)) => return Err(StepFault::Refused(Refusal::Decode(fault))),
+        Err(Refusal::Flow(fault)) => return Err(StepFault::Refused(Refusal::Flow(fault))),
+        Err(Refusal::Type(fault)) => return Err(StepFault::Refused(Refusal::Type(fault))),
+    };
+    match Arc::new(alloc, program) {
+        Ok(program) => Ok(Version { number, program }),
+        Err(_) => Err(StepFault::OutOfMemory),
+    }
+}
+
+/// Returns the point with one more unpaid transaction, behind those that it has; `None` if no point is so.
+fn owing(point: &Point, unpaid: Transaction) -> Option<Point>
+    ensures state { IfSome result (λ new. new ≡ with_unpaid point.now unpaid) }
+    ensures when { IsTrue (is_some result) ↔ IsPointState (with_unpaid point.now unpaid) }
+{
+    let mut snapshot = point.snapshot();
+    match snapshot.unpaid {
+        [None, _] => snapshot.unpaid = [Some(unpaid), None],
+        [Some(first), None] => snapshot.unpaid = [Some(first), Some(unpaid)],
+        [Some(_), Some(_)] => return None,
+    }
+    Point::restored(snapshot)
+}

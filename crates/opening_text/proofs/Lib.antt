@@ -1,9 +1,0 @@
-pub mod None
-pub mod Numbered
-pub mod OneLine
-pub mod Read
-pub mod ReadBack
-pub mod Spelled
-pub mod Stands
-pub mod Taken
-pub mod Written

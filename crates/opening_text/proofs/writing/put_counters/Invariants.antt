@@ -1,7 +1,0 @@
-use Rattle.std.proofs.Common.{take, string_bytes}
-use Rattle.opening_text.specs.Spelling.{AddsLines}
-use Rattle.opening_text.specs.Text.{numbered_lines, counter_lines}
-use Rattle.opening_text.proofs.writing.put_counters.Given as goal
-
-abbrev pub invariant-loop-counter : goal.invariant-loop-counter
-invariant-loop-counter l = AddsLines (string_bytes l.initial.text) (string_bytes l.text) (numbered_lines counter_lines 0 (take l.counter l.counters))

@@ -1,7 +1,0 @@
-use Rattle.std.proofs.Common.{take, string_bytes}
-use Rattle.opening_text.specs.Spelling.{AddsLines}
-use Rattle.opening_text.specs.Text.{numbered_lines, version_lines}
-use Rattle.opening_text.proofs.writing.put_rules.Given as goal
-
-abbrev pub invariant-loop-slot : goal.invariant-loop-slot
-invariant-loop-slot l = AddsLines (string_bytes l.initial.text) (string_bytes l.text) (numbered_lines version_lines 0 (take l.slot l.rules))
