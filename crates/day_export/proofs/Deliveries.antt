@@ -1,12 +1,13 @@
--- In a legal history the rows are made from the site's own points and prices, and each sale has its delivery.
-use Rattle.std.proofs.Common.{◌≡◌, ◌⊎◌, ℕ, ◌+◌, ◌-◌, Bool, true, false, List, [], ◌∷◌, ◌++◌, zero, suc, length, map, replicate, reverse, Option, Some}
-use Rattle.std.proofs.Common.{None, slice_get, refl, ap, sym, subst, ◌∙◌, inl, inr, All}
-use Rattle.std.specs.Prelude.{◌==◌, ◌&&◌, not, IsSome, nat_le, if◌then◌else◌, option_to_list}
+-- In a legal history the rows are made from the site's own points and prices, and each sale of a transaction that wasn't
+-- carried in has its delivery.
+use Rattle.std.proofs.Common.{◌≡◌, ◌⊎◌, ℕ, ◌+◌, Bool, true, false, List, [], ◌∷◌, ◌++◌, reverse, Option, Some}
+use Rattle.std.proofs.Common.{None, refl, ap, sym, subst, ◌∙◌, inl, inr, All}
+use Rattle.std.specs.Prelude.{◌==◌, ◌&&◌, not, IsSome, is_some, if◌then◌else◌, option_to_list}
 use Rattle.std.proofs.lemmas.Bool.{cases_Bool, eq-eqb, eqb-true}
 use Rattle.std.proofs.lemmas.List.{reverse-append, reverse-reverse}
 use Rattle.std.proofs.lemmas.List.Sums.{fold_push}
 use Rattle.std.proofs.lemmas.List.Elements.{All-nil, All-cons, All-append}
-use Rattle.fuelling_point.specs.Table.{PointState, find_number, fresh_point}
+use Rattle.fuelling_point.specs.Table.{PointState, find_number}
 use Rattle.fuelling_point.specs.declared.kinds.Transaction.{Transaction}
 use Rattle.till_request.specs.declared.act.Request.TheVariants as request
 use Rattle.till_request.specs.declared.act.Act.{Act}
@@ -14,11 +15,10 @@ use Rattle.till_request.specs.declared.act.Act.TheVariants as act
 use Rattle.till_request.specs.declared.act.Reply.TheVariants as reply
 use Rattle.decision_journal.specs.declared.entries.Entry.{Entry}
 use Rattle.site_core.specs.Limits.{ConfigValue}
-use Rattle.site_core.specs.State.{SiteState, at_number, fresh_state}
+use Rattle.site_core.specs.State.{SiteState, at_number, opening_state}
 use Rattle.site_core.specs.Step.{effect, entry_of}
 use Rattle.site_core.specs.Legal.{Legal}
-use Rattle.site_core.proofs.First.{first-state}
-use Rattle.day_report.specs.Walk.{with_act, with_entry, closed_points}
+use Rattle.day_report.specs.Walk.{with_act, with_entry}
 use Rattle.day_report.specs.Sales.{sale_of, unpaid_at}
 use Rattle.day_report.specs.declared.sales.Sale.{Sale}
 use Rattle.day_report.proofs.SiteSteps.{effect-says}
@@ -28,20 +28,18 @@ use Rattle.day_export.specs.declared.standing.Ended.{Ended}
 use Rattle.day_export.specs.Standing.{Stand, became, ended_as, ended_at, ended_between, ended_by, number_cleared, point_named, prices_after}
 use Rattle.day_export.specs.Standing.{stand_after, stand_before, uncleared, without}
 use Rattle.day_export.specs.Rows.{row_of, rows_from, sale_cells, sale_row}
-use Rattle.day_export.specs.Laws.{HasDelivery, RowsTellEachSite}
+use Rattle.day_export.specs.Laws.{HasDelivery, RowsTellEachSite, cell_at, was_unpaid}
 use Rattle.day_export.proofs.More.{rows-push, stands}
 use Rattle.day_export.proofs.Growing.{Grows}
 use Rattle.day_export.proofs.Changing.{Changes, act-changes, at-other, at-same, is-numbered}
 use Rattle.day_export.proofs.Prices.{effect-prices}
 use Rattle.day_export.proofs.Clearing.{Cleared, effect-clears, made-clears}
+use Rattle.day_export.proofs.CarriedIn.{carried-first, carried-told, nothing-there, opened-points, some-same, unpaid-there}
 
 -- ---- one delivery in a list
 
 abbrev IsThere : List Ended → ℕ → ℕ → Type 0
 IsThere us n x = IsSome (ended_as us n x)
-
-nothing-there : {P : Type 0} → ◌≡◌ {A = Bool} false true → P
-nothing-there h = absurd (cc)
 
 here-or-later : (b : Bool) (u : Ended) (o o2 : Option Ended) → IsSome (if b then Some u else o) → (IsSome o → IsSome o2) → IsSome (if b then Some u else o2)
 here-or-later true u o o2 h later = refl
@@ -85,9 +83,14 @@ there-without (u ∷ us) m y n x other h =
 
 -- ---- the deliveries after one more entry
 
--- for each unpaid transaction of a point, the delivery that became it is in the list
-abbrev Kept : List PointState → List Ended → Type 0
-Kept points unpaid = (n x : ℕ) (p : PointState) → at_number points n ≡ Some p → IsSome (find_number x p.unpaid) → IsThere unpaid n x
+-- the transaction x of point n wasn't unpaid when the day began
+abbrev IsOfDay : List PointState → ℕ → ℕ → Type 0
+IsOfDay first n x = is_some (unpaid_at first n x) ≡ false
+
+-- for each unpaid transaction of a point that wasn't unpaid when the day began, the delivery that became it is in the list
+abbrev Kept : List PointState → List PointState → List Ended → Type 0
+Kept first points unpaid =
+    (n x : ℕ) (p : PointState) → at_number points n ≡ Some p → IsSome (find_number x p.unpaid) → IsOfDay first n x → IsThere unpaid n x
 
 -- the transaction that an entry clears is no longer among the unpaid ones of its point
 abbrev Takes : Stand → Entry → Type 0
@@ -116,29 +119,27 @@ ended-there points prices e p q x at later grew is =
 
 -- If the point that an entry changed has an unpaid transaction, then the delivery that became it was in the list
 -- before, or the entry ended it.
-grown-there : (s : Stand) (e : Entry) (x : ℕ) (p q : PointState) (o : Option Transaction) → Kept s.points s.unpaid
+grown-there : (first : List PointState) (s : Stand) (e : Entry) (x : ℕ) (p q : PointState) (o : Option Transaction) → Kept first s.points s.unpaid
+    → IsOfDay first (point_named e.act) x
     → at_number s.points (point_named e.act) ≡ Some p → at_number (with_act s.points e.act e.reply) (point_named e.act) ≡ Some q → Grows p q
     → find_number x p.unpaid ≡ o → IsSome (find_number x q.unpaid)
     → IsThere s.unpaid (point_named e.act) x ⊎ IsThere (option_to_list (ended_by s.points s.prices e)) (point_named e.act) x
-grown-there s e x p q (Some t) kept at later grows is found = inl (kept (point_named e.act) x p at (subst IsSome (sym is) refl))
-grown-there s e x p q None kept at later (inl stays) is found = none-some (find_number x q.unpaid) (stays.1 x is) found
-grown-there s e x p q None kept at later (inr adds) is found = elim (cases_Bool (q.last == x)) [
-  | inl new ↦ inr (ended-there s.points s.prices e p q x at later adds.0 new)
+grown-there first s e x p q (Some t) kept new at later grows is found = inl (kept (point_named e.act) x p at (subst IsSome (sym is) refl) new)
+grown-there first s e x p q None kept new at later (inl stays) is found = none-some (find_number x q.unpaid) (stays.1 x is) found
+grown-there first s e x p q None kept new at later (inr adds) is found = elim (cases_Bool (q.last == x)) [
+  | inl ended ↦ inr (ended-there s.points s.prices e p q x at later adds.0 ended)
   | inr other ↦ none-some (find_number x q.unpaid) (adds.1 x is other) found
 ]
-
-some-same : (a b : PointState) → ◌≡◌ {A = Option PointState} (Some a) (Some b) → a ≡ b
-some-same a b h = cc
 
 not-equal : (n m : ℕ) → (n == m) ≡ false → n ≡ m → ⊥
 not-equal n m other same = cc (sym other ∙ eq-eqb n m same)
 
-old-or-new : (s : Stand) (e : Entry) (n x : ℕ) (q : PointState) → Kept s.points s.unpaid
+old-or-new : (first : List PointState) (s : Stand) (e : Entry) (n x : ℕ) (q : PointState) → Kept first s.points s.unpaid → IsOfDay first n x
     → Changes (point_named e.act) s.points (with_act s.points e.act e.reply)
     → at_number (with_act s.points e.act e.reply) n ≡ Some q → IsSome (find_number x q.unpaid)
     → IsThere s.unpaid n x ⊎ IsThere (option_to_list (ended_by s.points s.prices e)) n x
-old-or-new s e n x q kept (inl same) at found = inl (kept n x q (ap (λ ps. at_number ps n) (sym same) ∙ at) found)
-old-or-new s e n x q kept (inr b) at found =
+old-or-new first s e n x q kept new (inl same) at found = inl (kept n x q (ap (λ ps. at_number ps n) (sym same) ∙ at) found new)
+old-or-new first s e n x q kept new (inr b) at found =
     let m = point_named e.act in
     let later : at_number (with_act s.points e.act e.reply) m ≡ Some b.q = ap (λ ps. at_number ps m) b.is ∙ at-same s.points m b.p b.q b.at in
     elim (cases_Bool (n == m)) [
@@ -146,12 +147,12 @@ old-or-new s e n x q kept (inr b) at found =
           let same : n ≡ m = eqb-true n m here in
           let is : b.q ≡ q = some-same b.q q (sym later ∙ ap (at_number (with_act s.points e.act e.reply)) (sym same) ∙ at) in
           subst (λ k. IsThere s.unpaid k x ⊎ IsThere (option_to_list (ended_by s.points s.prices e)) k x) (sym same)
-          (grown-there s e x b.p b.q (find_number x b.p.unpaid) kept b.at later b.grows refl
+          (grown-there first s e x b.p b.q (find_number x b.p.unpaid) kept (subst (λ k. IsOfDay first k x) same new) b.at later b.grows refl
           (subst (λ (y : PointState). IsSome (find_number x y.unpaid)) (sym is) found))
       | inr other ↦
           let before : at_number s.points n ≡ Some q =
           sym (at-other s.points m n b.q (is-numbered s.points m b.p b.at) (not-equal n m other)) ∙ ap (λ ps. at_number ps n) (sym b.is) ∙ at in
-          inl (kept n x q before found)
+          inl (kept n x q before found new)
     ]
 
 -- If a transaction is still unpaid after an entry, then the delivery that became it is still in the list.
@@ -169,14 +170,15 @@ survives s e n x q (Some sale) takes is at found h = elim (cases_Bool ((sale.poi
   | inr other ↦ there-without s.unpaid sale.point (number_cleared e.act) n x other h
 ]
 
-kept-more : (s : Stand) (e : Entry) → Kept s.points s.unpaid → Takes s e → Kept (stand_after s e).points (stand_after s e).unpaid
+kept-more : (first : List PointState) (s : Stand) (e : Entry) → Kept first s.points s.unpaid → Takes s e
+    → Kept first (stand_after s e).points (stand_after s e).unpaid
 unfolding stand_after with_entry
-kept-more s e kept takes = λ n x q at found.
+kept-more first s e kept takes = λ n x q at found new.
     let left = uncleared s.unpaid (sale_of s.points e) e.act in
-    let new = option_to_list (ended_by s.points s.prices e) in
-    elim (old-or-new s e n x q kept (act-changes s.points e.act e.reply) at found) [
-      | inl old ↦ there-before left new n x (survives s e n x q (sale_of s.points e) takes refl at found old)
-      | inr now ↦ there-behind left new n x now
+    let ended = option_to_list (ended_by s.points s.prices e) in
+    elim (old-or-new first s e n x q kept new (act-changes s.points e.act e.reply) at found) [
+      | inl old ↦ there-before left ended n x (survives s e n x q (sale_of s.points e) takes refl at found old)
+      | inr now ↦ there-behind left ended n x now
     ]
 
 -- ---- sales
@@ -184,13 +186,6 @@ kept-more s e kept takes = λ n x q at found.
 abbrev row-made : (s : Stand) (e : Entry) (o : Option Sale) → Option (List Cell)
 row-made s e o =
     elim o [ None ↦ None | Some sale ↦ Some (sale_cells sale (number_cleared e.act) (ended_as s.unpaid sale.point (number_cleared e.act))) ]
-
-unpaid-there : (points : List PointState) (n x : ℕ) (o : Option PointState) → at_number points n ≡ o → IsSome (unpaid_at points n x)
-    → (p : PointState) × (at_number points n ≡ Some p) × IsSome (find_number x p.unpaid)
-unpaid-there points n x None is h =
-    nothing-there (subst (λ (o : Option PointState). IsSome (elim o as (λ _. Option Transaction) [ None ↦ None | Some p ↦ find_number x p.unpaid ])) is h)
-unpaid-there points n x (Some p) is h =
-    (p, is, subst (λ (o : Option PointState). IsSome (elim o as (λ _. Option Transaction) [ None ↦ None | Some q ↦ find_number x q.unpaid ])) is h)
 
 full-cells : (sale : Sale) (x : ℕ) (o : Option Ended) → IsSome o → HasDelivery (sale_cells sale x o)
 full-cells sale x None h = nothing-there h
@@ -205,17 +200,24 @@ sale-made : (s : Stand) (e : Entry) (sale : Sale) → sale_of s.points e ≡ Som
 unfolding sale_of
 sale-made s e sale h = made-clears s.points e e.act e.reply sale h
 
-rows-made : (s : Stand) (e : Entry) (o : Option Sale) → Kept s.points s.unpaid → sale_of s.points e ≡ o → All HasDelivery (option_to_list (row-made s e o))
-rows-made s e None kept is = All-nil HasDelivery
-rows-made s e (Some sale) kept is =
+-- If the sale of a row clears no transaction that was unpaid when the day began, then the row has its delivery.
+abbrev TellsDelivery : List PointState → List Cell → Type 0
+TellsDelivery first row = was_unpaid first (cell_at row 2) (cell_at row 3) ≡ false → HasDelivery row
+
+rows-made : (first : List PointState) (s : Stand) (e : Entry) (o : Option Sale) → Kept first s.points s.unpaid → sale_of s.points e ≡ o
+    → All (TellsDelivery first) (option_to_list (row-made s e o))
+rows-made first s e None kept is = All-nil (TellsDelivery first)
+rows-made first s e (Some sale) kept is =
     let cleared = sale-made s e sale is in
     let x = number_cleared e.act in
     let at = unpaid-there s.points sale.point x (at_number s.points sale.point) refl cleared.found in
-    All-cons HasDelivery _ [] (full-cells sale x (ended_as s.unpaid sale.point x) (kept sale.point x at.0 at.1 at.2)) (All-nil HasDelivery)
+    All-cons (TellsDelivery first) _ []
+    (λ new. full-cells sale x (ended_as s.unpaid sale.point x) (kept sale.point x at.0 at.1 at.2 new)) (All-nil (TellsDelivery first))
 
-row-told : (s : Stand) (e : Entry) → Kept s.points s.unpaid → All HasDelivery (option_to_list (row_of rows.Sales s e))
+row-told : (first : List PointState) (s : Stand) (e : Entry) → Kept first s.points s.unpaid
+    → All (TellsDelivery first) (option_to_list (row_of rows.Sales s e))
 unfolding sale_row
-row-told s e kept = rows-made s e (sale_of s.points e) kept refl
+row-told first s e kept = rows-made first s e (sale_of s.points e) kept refl
 
 takes : (config : ConfigValue) (past : List Entry) (b : SiteState) (s : Stand) (e : Entry) → Fits config past b s e → Takes s e
 takes config past b s e fits = λ sale q is later.
@@ -236,25 +238,18 @@ takes config past b s e fits = λ sale q is later.
 record Comes (config : ConfigValue) (past : List Entry) (b : SiteState) : Type 0 where
   points : (stands (stand_before config) (reverse past)).points ≡ b.points
   prices : (stands (stand_before config) (reverse past)).prices ≡ b.prices
-  kept : Kept (stands (stand_before config) (reverse past)).points (stands (stand_before config) (reverse past)).unpaid
-  told : All HasDelivery (rows_from rows.Sales (stand_before config) (reverse past))
+  kept : Kept (opening_state config).points (stands (stand_before config) (reverse past)).points (stands (stand_before config) (reverse past)).unpaid
+  told : All (TellsDelivery (opening_state config).points) (rows_from rows.Sales (stand_before config) (reverse past))
 
-same-points : (points : List (ℕ × ℕ)) → replicate (length points) fresh_point ≡ map (λ (_ : ℕ × ℕ). fresh_point) points
-same-points [] = refl
-same-points (p ∷ points) = ap (λ xs. fresh_point ∷ xs) (same-points points)
+not-both-ways : {P : Type 0} (b : Bool) → b ≡ true → b ≡ false → P
+not-both-ways b is isnt = nothing-there (sym isnt ∙ is)
 
-got-fresh : (k i : ℕ) (p : PointState) → slice_get (replicate k fresh_point) i ≡ Some p → fresh_point ≡ p
-got-fresh zero i p h = absurd (let e : ◌≡◌ {A = Option PointState} None (Some p) = h in cc)
-got-fresh (suc k) zero p h = some-same fresh_point p h
-got-fresh (suc k) (suc i) p h = got-fresh k i p h
-
-if-fresh : (b : Bool) (k i : ℕ) (p : PointState) → (if b then slice_get (replicate k fresh_point) i else None) ≡ Some p → fresh_point ≡ p
-if-fresh true k i p h = got-fresh k i p h
-if-fresh false k i p h = absurd (let e : ◌≡◌ {A = Option PointState} None (Some p) = h in cc)
-
-kept-none : (k : ℕ) → Kept (closed_points k) []
-kept-none k = λ n x p at found.
-    nothing-there (subst (λ (q : PointState). IsSome (find_number x q.unpaid)) (sym (if-fresh (nat_le 1 n) k (n - 1) p at)) found)
+-- Each transaction that is unpaid at first was unpaid when the day began.
+kept-first : (first : List PointState) → Kept first first []
+kept-first first = λ n x p at found new.
+    let same : unpaid_at first n x ≡ find_number x p.unpaid =
+    ap (λ (o : Option PointState). elim o as (λ _. Option Transaction) [ None ↦ None | Some q ↦ find_number x q.unpaid ]) at in
+    not-both-ways (is_some (unpaid_at first n x)) (ap is_some same ∙ found) new
 
 reverse-more : (e : Entry) (past : List Entry) → reverse (e ∷ past) ≡ reverse past ++ e ∷ []
 reverse-more e past = reverse-append (e ∷ []) past
@@ -286,27 +281,29 @@ comes-more config past b later e h is leaves =
     record {
       points = ap (λ (x : Stand). x.points) next ∙ entry-points config past b s e fits ∙ ap (λ (x : SiteState). x.points) (sym leaves);
       prices = ap (λ (x : Stand). x.prices) next ∙ entry-prices config past b s e fits h.prices ∙ ap (λ (x : SiteState). x.prices) (sym leaves);
-      kept = subst (λ (x : Stand). Kept x.points x.unpaid) (sym next) (kept-more s e h.kept (takes config past b s e fits));
-      told = subst (All HasDelivery) (sym more) (All-append HasDelivery _ _ h.told (row-told s e h.kept));
+      kept = subst (λ (x : Stand). Kept (opening_state config).points x.points x.unpaid) (sym next)
+          (kept-more (opening_state config).points s e h.kept (takes config past b s e fits));
+      told = subst (All (TellsDelivery (opening_state config).points)) (sym more)
+          (All-append (TellsDelivery (opening_state config).points) _ _ h.told (row-told (opening_state config).points s e h.kept));
     }
 
-comes : (config : ConfigValue) (past : List Entry) (b : SiteState) → config.opening ≡ None → Legal config past b → Comes config past b
-comes config [] b first l =
-    let fresh : b ≡ fresh_state config = l ∙ first-state config first in
-    record {
-      points = same-points config.points ∙ ap (λ (x : SiteState). x.points) (sym fresh);
-      prices = ap (λ (x : SiteState). x.prices) (sym fresh);
-      kept = kept-none (length config.points);
-      told = All-nil HasDelivery;
-    }
-comes config (e ∷ past) b first l = comes-more config past l.0 b e (comes config past l.0 first l.1) l.3.enters l.3.leaves
+comes : (config : ConfigValue) (past : List Entry) (b : SiteState) → Legal config past b → Comes config past b
+comes config [] b l = record {
+  points = ap (λ (x : SiteState). x.points) (sym l);
+  prices = ap (λ (x : SiteState). x.prices) (sym l);
+  kept = kept-first (opening_state config).points;
+  told = All-nil (TellsDelivery (opening_state config).points);
+}
+comes config (e ∷ past) b l = comes-more config past l.0 b e (comes config past l.0 l.1) l.3.enters l.3.leaves
 
 pub telling : RowsTellEachSite
-telling config history state first legal =
-    let c : Comes config (reverse history) state = comes config (reverse history) state first legal in
+telling config history state legal =
+    let c : Comes config (reverse history) state = comes config (reverse history) state legal in
     let same : reverse (reverse history) ≡ history = reverse-reverse history in
     record {
       points = ap (λ h. (stands (stand_before config) h).points) (sym same) ∙ c.points;
       prices = ap (λ h. (stands (stand_before config) h).prices) (sym same) ∙ c.prices;
-      deliveries = subst (λ h. All HasDelivery (rows_from rows.Sales (stand_before config) h)) same c.told;
+      deliveries = subst (λ h. All (TellsDelivery (opening_state config).points) (rows_from rows.Sales (stand_before config) h)) same c.told;
+      carried = λ fits. carried-told (opening_state config).points (opened-points config config.opening refl fits) (stand_before config) history
+          (carried-first (opening_state config).points (opening_state config).prices);
     }

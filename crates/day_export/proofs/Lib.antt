@@ -8,5 +8,6 @@ pub mod Contexts
 pub mod Growing
 pub mod Changing
 pub mod Clearing
+pub mod CarriedIn
 pub mod Deliveries
 pub mod Prices

@@ -1,5 +1,5 @@
 -- Promises: laws about the rows of a day.
-use Rattle.std.specs.Prelude.{◌≡◌, ◌<◌, ℕ, ◌^◌, Bool, List, [], ◌∷◌, ◌++◌, drop, length, map, slice_index_or, Some, None, All}
+use Rattle.std.specs.Prelude.{◌≡◌, ◌<◌, ℕ, ◌^◌, Bool, false, List, [], ◌∷◌, ◌++◌, drop, length, map, slice_index_or, Some, All, IsTrue, IsFalse, is_some}
 use Rattle.std.specs.List.{AllByRecursion, filter_map}
 use Rattle.csv.specs.Reading.{AreRecords, default_config, strip_bom}
 use Rattle.csv.specs.declared.parser.State.TheVariants as state
@@ -10,11 +10,14 @@ use Rattle.decision_journal.specs.declared.entries.Run.{Run}
 use Rattle.site_core.specs.declared.context.Field.{Field}
 use Rattle.site_core.specs.declared.context.Field.TheVariants.{Four, Eight}
 use Rattle.site_core.specs.declared.question.Question.{Question}
-use Rattle.site_core.specs.State.{SiteState, open_points}
+use Rattle.fuelling_point.specs.Table.{PointState}
+use Rattle.fuelling_point.specs.Snapshot.{IsPointState}
+use Rattle.site_core.specs.Opening.{OpeningValue}
+use Rattle.site_core.specs.State.{SiteState, opening_state, open_points}
 use Rattle.site_core.specs.Context.{context, fields, shared_fields}
 use Rattle.site_core.specs.Legal.{LegalHistory}
 use Rattle.site_core.specs.Limits.{ConfigValue}
-use Rattle.day_report.specs.Laws.{sales_of}
+use Rattle.day_report.specs.Sales.{sales_of, unpaid_at}
 use Rattle.day_report.specs.declared.sales.Sale.{Sale}
 use Rattle.day_export.specs.declared.cells.Rows.{Rows}
 use Rattle.day_export.specs.declared.cells.Rows.TheVariants as rows
@@ -57,22 +60,45 @@ abbrev pub IsNumber : Cell → Type 0
 IsNumber (cell.Number n) = Unit {0}
 IsNumber _ = ⊥
 
+-- a cell of a row, or an empty one if the row has no such cell
+abbrev pub cell_at : List Cell → ℕ → Cell
+cell_at row column = slice_index_or row column cell.Nothing
+
 -- The row of a sale has a number in the columns `ended`, `product` and `price`, which its delivery gives.
 abbrev pub HasDelivery : List Cell → Type 0
-HasDelivery row =
-    IsNumber (slice_index_or row 0 cell.Nothing) × IsNumber (slice_index_or row 4 cell.Nothing) × IsNumber (slice_index_or row 5 cell.Nothing)
+HasDelivery row = IsNumber (cell_at row 0) × IsNumber (cell_at row 4) × IsNumber (cell_at row 5)
 
--- The points and the prices after the history are those of the site's state, and each row of a sale has its delivery.
+-- The columns `ended`, `product` and `price` are empty in the row of a sale.
+abbrev pub HasNoDelivery : List Cell → Type 0
+HasNoDelivery row = (cell_at row 0 ≡ cell.Nothing) × (cell_at row 4 ≡ cell.Nothing) × (cell_at row 5 ≡ cell.Nothing)
+
+-- Whether point n had an unpaid transaction of this number among these points, n and the number being those of the cells.
+abbrev pub was_unpaid : List PointState → Cell → Cell → Bool
+was_unpaid points (cell.Number n) (cell.Number transaction) = is_some (unpaid_at points n transaction)
+was_unpaid points _ _ = false
+
+-- Whether the sale of a row clears a transaction that was unpaid when the day began, by its columns `point` and
+-- `transaction`.
+abbrev pub is_carried_in : ConfigValue → List Cell → Bool
+is_carried_in config row = was_unpaid (opening_state config).points (cell_at row 2) (cell_at row 3)
+
+-- The points of an opening have the values that points can have: their unpaid transactions have numbers that they gave out.
+abbrev pub OpensWithPoints : ConfigValue → Type 0
+OpensWithPoints config = (o : OpeningValue) → config.opening ≡ Some o → All IsPointState o.points
+
+-- The points and the prices after the history are those of the site's state. Each row of a sale has its delivery, unless
+-- it clears a transaction that was unpaid when the day began. Such a row has none, if the opening's points have the
+-- values that points can have.
 pub record RowsTellTheSite (config : ConfigValue) (history : List Entry) (state : SiteState) : Type 0 where
   pub points : (stand_at config history).points ≡ state.points
   pub prices : (stand_at config history).prices ≡ state.prices
-  pub deliveries : All HasDelivery (rows_of rows.Sales config history)
+  pub deliveries : All (λ (row : List Cell). IsFalse (is_carried_in config row) → HasDelivery row) (rows_of rows.Sales config history)
+  pub carried : OpensWithPoints config → All (λ (row : List Cell). IsTrue (is_carried_in config row) → HasNoDelivery row) (rows_of rows.Sales config history)
 
--- `RowsTellTheSite` holds for every legal history of a site that has no day behind it.
+-- `RowsTellTheSite` holds for every legal history.
 abbrev pub RowsTellEachSite : Type 0
 RowsTellEachSite =
-    (config : ConfigValue) (history : List Entry) (state : SiteState) → config.opening ≡ None → LegalHistory config history state
-    → RowsTellTheSite config history state
+    (config : ConfigValue) (history : List Entry) (state : SiteState) → LegalHistory config history state → RowsTellTheSite config history state
 
 -- ---- contexts
 

@@ -11,16 +11,16 @@ use Rattle.till_request.specs.declared.act.Reply.{Reply}
 use Rattle.till_request.specs.declared.act.Reply.TheVariants as reply
 use Rattle.decision_journal.specs.declared.entries.Entry.{Entry}
 use Rattle.site_core.specs.Limits.{ConfigValue}
-use Rattle.site_core.specs.State.{at_number}
-use Rattle.day_report.specs.Walk.{with_entry, closed_points}
+use Rattle.site_core.specs.State.{at_number, opening_state}
+use Rattle.day_report.specs.Walk.{with_entry}
 use Rattle.day_report.specs.Sales.{sale_of}
 use Rattle.day_report.specs.Following.{AreWithin}
 use Rattle.day_report.specs.declared.sales.Sale.{Sale}
 use Rattle.day_export.specs.declared.standing.Ended.{Ended}
 use Rattle.day_export.specs.declared.standing.Standing.{Standing}
 
--- The state of a day: the points, and the prices of the products in thousandths. `unpaid` are the deliveries that ended
--- and weren't cleared yet, oldest first.
+-- The state of a day: the points, and the prices of the products in thousandths. `unpaid` are the deliveries of the day
+-- that ended and weren't cleared yet, oldest first.
 pub record Stand : Type 0 where
   pub points : List PointState
   pub prices : List ℕ
@@ -114,10 +114,9 @@ stand_after s entry =
       unpaid = uncleared s.unpaid (sale_of s.points entry) entry.act ++ option_to_list (ended_by s.points s.prices entry);
     }
 
--- The state at the start of a day: the points are closed, the prices are those of the configuration, and no delivery
--- has ended.
+-- The state at the start of a day: points and prices are those that the site starts with, and no delivery has ended.
 abbrev pub stand_before : ConfigValue → Stand
-stand_before config = record { points = closed_points (length config.points); prices = config.prices; unpaid = [] }
+stand_before config = record { points = (opening_state config).points; prices = (opening_state config).prices; unpaid = [] }
 
 -- the state of a day after the history of a site of this configuration
 abbrev pub stand_at : ConfigValue → List Entry → Stand

@@ -15,8 +15,9 @@ pub fn law_of_contexts()
     ensures { RowsTellContexts }
 {}
 
-/// A law: in a legal history of a site that has no day behind it, the points and the prices that the rows are made of are
-/// the site's. Each row of a sale has a number under `ended`, `product` and `price`.
+/// A law: in a legal history the points and the prices that the rows are made of are the site's. Each row of a sale has
+/// a number under `ended`, `product` and `price`, unless its transaction was unpaid when the day began: then these
+/// cells are empty.
 pub fn law_of_sites()
     ensures { RowsTellEachSite }
 {}

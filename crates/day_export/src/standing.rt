@@ -3,14 +3,13 @@
 ghost use Rattle.std.specs.Prelude.{◌≡◌, ◌<◌, ◌≤◌, ◌+◌, ◌++◌, ℕ, All, IfOk, OnOk, length, option_to_list};
 ghost use Rattle.fuelling_point.specs.Table.{PointState};
 ghost use Rattle.site_core.specs.State.{at_number};
-ghost use Rattle.site_core.specs.declared.site.TheConstants.{ENTRIES};
 ghost use Rattle.day_report.specs.Walk.{with_entry};
-ghost use Rattle.day_report.specs.Following.{Follows};
+ghost use Rattle.day_report.specs.Following.{AreWithin, Follows};
 ghost use Rattle.day_export.specs.Standing.{became, ended_as, ended_at, ended_by, number_cleared, point_asked, point_named};
 ghost use Rattle.day_export.specs.Standing.{price_of, prices_after, stand_before, uncleared, with_price, without};
 ghost use Rattle.day_export.specs.Standing.{Moves, stand_of};
 
-use day_report::{Sale, closed_points, follow, sale_of};
+use day_report::{Sale, follow, opening_points, opening_prices, sale_of};
 use decision_journal::Entry;
 use fuelling_point::Point;
 use site_core::Config;
@@ -29,7 +28,7 @@ pub(crate) struct Ended {
 }
 
 /// The state of a day between two entries: the points, and the prices of the products in thousandths. `unpaid` are the
-/// deliveries that ended and weren't cleared yet, oldest first.
+/// deliveries of the day that ended and weren't cleared yet, oldest first.
 #[derive(Drop)]
 pub(crate) struct Standing {
     pub(crate) points: Vec<Point>,
@@ -109,7 +108,7 @@ fn point_at(points: &[Point], n: u32) -> Option<Point>
 /// Returns the delivery that ended at point `n` with entry `number`, or `None` if none ended. `before` and `after` are
 /// the point before and after the entry.
 fn ended_at(prices: &[u64], number: u32, n: u32, before: &Point, after: &Point) -> Option<Ended>
-    requires { before.now.last < ENTRIES }
+    requires { before.now.last < u32.MAX }
     ensures { result ≡ ended_at prices.now number n before.now after.now }
 {
     if after.last() != before.last() + 1 {
@@ -128,7 +127,7 @@ fn ended_at(prices: &[u64], number: u32, n: u32, before: &Point, after: &Point) 
 /// ended none. `prices` are those before the entry.
 #[tactic(auto, unfolding(crate::specs::Standing::ended_by))]
 fn follow_points(points: &mut [Point], prices: &[u64], entry: &Entry) -> Option<Ended>
-    requires { All (λ (p : PointState). p.last < ENTRIES) points.old }
+    requires { All (λ (p : PointState). p.last < u32.MAX) points.old }
     ensures follows { Follows points.old (with_entry points.old entry.now) points.new }
     ensures ended { result ≡ ended_by points.old prices.now entry.now }
 {
@@ -215,11 +214,11 @@ fn add_ended(unpaid: &mut Vec<Ended>, ended: Option<Ended>) -> Result<(), AllocE
 impl Standing {
     /// Returns the state at the start of a day. The error is that memory ran out.
     pub(crate) fn start(alloc: Global, config: &Config) -> Result<Standing, AllocError>
-        ensures { IfOk result (λ standing. stand_of standing ≡ stand_before config.now) }
+        ensures stand { IfOk result (λ standing. stand_of standing ≡ stand_before config.now) }
+        ensures within { IfOk result (λ standing. AreWithin 4290000000 standing.points.items) }
     {
-        let points = closed_points(alloc, config.points().len())?;
-        let prices = config
-            .prices()
+        let points = opening_points(alloc, config)?;
+        let prices = opening_prices(config)
             .iter()
             .map(|price| u64::from(*price))
             .collect(alloc)?;
@@ -233,7 +232,7 @@ impl Standing {
     /// Changes the state in the way that an entry changed it. The error is that memory ran out.
     #[tactic(auto, unfolding(crate::specs::Standing::stand_after))]
     pub(crate) fn follow(&mut self, alloc: Global, entry: &Entry) -> Result<(), AllocError>
-        requires { All (λ (p : PointState). p.last < ENTRIES) self.old.points.items }
+        requires { All (λ (p : PointState). p.last < u32.MAX) self.old.points.items }
         ensures { OnOk result (Moves self.old entry.now self.new) }
     {
         let sale = sale_of(&self.points, entry);

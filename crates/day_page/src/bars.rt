@@ -5,8 +5,8 @@ ghost use Rattle.std.specs.Prelude.{◌<◌};
 use crate::pictures::{COLUMNS_END, END, add_head, add_label, add_rect};
 use crate::sheet::Sheet;
 use crate::tables::outcome_of;
-use crate::texts::{Text, number, numbered, scaled};
-use day_report::{FIRST_REFUSAL, Load, REFUSALS, Sum, Totals};
+use crate::texts::{Text, number, scaled};
+use day_report::{FIRST_REFUSAL, REFUSALS, Sum, Totals};
 
 /// The distance from the top of a bar to the top of the next.
 const APART: usize = 28;
@@ -147,7 +147,7 @@ fn add_hour(sheet: &mut Sheet, hour: usize, height: usize) {
 /// are fewer columns than this.
 const COLUMNS: usize = 1000;
 
-/// Adds the picture of decisions by version, in the order of their loads. Each version has a column of two parts,
+/// Adds the picture of decisions by version, by place. Each version has a column of two parts,
 /// granted and denied. If there are 1,000 versions or more, neighbouring versions share a column.
 pub(crate) fn add_versions(sheet: &mut Sheet, totals: &Totals) {
     add_head(
@@ -160,7 +160,7 @@ pub(crate) fn add_versions(sheet: &mut Sheet, totals: &Totals) {
     add_columns(
         sheet,
         totals,
-        (totals.loads.len() / COLUMNS).saturating_add(1),
+        (totals.versions.len() / COLUMNS).saturating_add(1),
     );
     sheet.add(COLUMNS_END);
 }
@@ -169,12 +169,16 @@ pub(crate) fn add_versions(sheet: &mut Sheet, totals: &Totals) {
 fn add_columns(sheet: &mut Sheet, totals: &Totals, together: usize)
     requires { 0 < together }
 {
-    let columns = totals.loads.len().div_ceil(together);
+    let columns = totals.versions.len().div_ceil(together);
     let most = most_decided(totals, together);
-    for (place, chunk) in totals.loads.chunks(together).enumerate() {
-        let (granted, denied) = decided(totals, chunk);
+    for (place, chunk) in totals.versions.chunks(together).enumerate() {
+        let (granted, denied) = decided(totals, place.saturating_mul(together), chunk.len());
         let (low, high) = (scaled(granted, most, 190), scaled(denied, most, 190));
         add_column(sheet, place, columns, low, high);
+        if let Some(version) = chunk.first() {
+            add_name(sheet, place, columns, *version);
+        }
+        sheet.add("\n");
     }
 }
 
@@ -183,29 +187,29 @@ fn most_decided(totals: &Totals, together: usize) -> u128
     requires { 0 < together }
 {
     let mut most = 0u128;
-    for chunk in totals.loads.chunks(together) {
-        let (granted, denied) = decided(totals, chunk);
+    for (place, chunk) in totals.versions.chunks(together).enumerate() {
+        let (granted, denied) = decided(totals, place.saturating_mul(together), chunk.len());
         most = most.max(granted.saturating_add(denied));
     }
     most
 }
 
-/// Returns how many requests a version granted, and how many it denied.
-fn decided_by(totals: &Totals, version: u32) -> (u128, u128) {
-    let releases = outcome_of(&totals.releases, version);
-    let presets = outcome_of(&totals.presets, version);
-    let prices = outcome_of(&totals.price_requests, version);
+/// Returns how many requests the version at a place granted, and how many it denied.
+fn decided_at(totals: &Totals, place: usize) -> (u128, u128) {
+    let releases = outcome_of(&totals.releases, place);
+    let presets = outcome_of(&totals.presets, place);
+    let prices = outcome_of(&totals.price_requests, place);
     (
         releases.0 as u128 + presets.0 as u128 + prices.0 as u128,
         releases.1 as u128 + presets.1 as u128 + prices.1 as u128,
     )
 }
 
-/// Returns how many requests the versions of these loads granted together, and how many they denied.
-fn decided(totals: &Totals, loads: &[Load]) -> (u128, u128) {
+/// Returns how many requests the `count` versions from a place on granted together, and how many they denied.
+fn decided(totals: &Totals, place: usize, count: usize) -> (u128, u128) {
     let (mut granted, mut denied) = (0u128, 0u128);
-    for load in loads {
-        let outcome = decided_by(totals, load.version);
+    for more in 0..count {
+        let outcome = decided_at(totals, place.saturating_add(more));
         granted = granted.saturating_add(outcome.0);
         denied = denied.saturating_add(outcome.1);
     }
@@ -232,9 +236,14 @@ fn add_column(sheet: &mut Sheet, place: usize, columns: usize, low: usize, high:
     sheet.add("/>");
     add_rect(sheet, "denied", left, top.saturating_sub(high), width, high);
     sheet.add("/>");
+}
+
+/// Adds the number of a version below its column, if there are at most 24 columns.
+fn add_name(sheet: &mut Sheet, place: usize, columns: usize, version: u32) {
     if columns <= 24 {
+        let (left, width) = column_at(place, columns);
         let middle = left.saturating_add(width / 2);
-        add_label(sheet, middle, 224, "middle", numbered(place, 1));
+        let name = Text::Number(version as u64);
+        add_label(sheet, middle, 224, "middle", name);
     }
-    sheet.add("\n");
 }

@@ -4,7 +4,10 @@ use crate::sheet::Sheet;
 use crate::style::START;
 use crate::texts::Text;
 use crate::{bars, drawn, prices, tables};
-use day_report::{Axis, Bands, PriceChange, Sum, Totals, Unpaid, add_up, axis_of, follow_states};
+use day_report::{
+    Axis, Bands, CarriedIn, PriceChange, Sum, Totals, Unpaid, add_up, axis_of, carried_in,
+    follow_states, opening_prices,
+};
 use site_core::Site;
 use std::alloc::{AllocError, Global};
 use std::fmt;
@@ -34,9 +37,11 @@ impl fmt::Display for Page {
 #[derive(Drop)]
 struct Day {
     totals: Totals,
+    /// What was carried in from the day before, if there was one.
+    carried: Option<CarriedIn>,
     /// The value and the bound of each counter after the last entry.
     counters: [(u64, u64); 32],
-    /// The prices of the eight products in the configuration, in thousandths.
+    /// The prices of the eight products before the first entry, in thousandths.
     opening: [u32; 8],
     axis: Axis,
     bands: Bands,
@@ -55,14 +60,15 @@ fn counters_of(site: &Site) -> [(u64, u64); 32] {
 
 impl Day {
     fn of(alloc: Global, site: &Site) -> Result<Day, AllocError> {
+        let config = site.config();
         let entries = site.history();
-        let points = site.config().points().len();
         let axis = axis_of(entries);
-        let bands = follow_states(alloc, points, entries, axis)?;
+        let bands = follow_states(alloc, config, entries, axis)?;
         Ok(Day {
-            totals: add_up(alloc, points, entries)?,
+            totals: add_up(alloc, config, entries)?,
+            carried: carried_in(alloc, config)?,
             counters: counters_of(site),
-            opening: site.config().prices(),
+            opening: opening_prices(config),
             axis,
             bands,
         })
@@ -81,6 +87,9 @@ fn page_of(alloc: Global, day: &Day) -> Result<Page, AllocError> {
 fn add_day(sheet: &mut Sheet, day: &Day) {
     sheet.add(START);
     add_headline(sheet, &day.totals, day.axis);
+    if let Some(carried) = day.carried {
+        add_carried(sheet, carried);
+    }
     add_sales(sheet, &day.totals);
     add_rules(sheet, &day.totals, &day.counters);
     add_points(sheet, &day.bands, day.axis);
@@ -140,6 +149,35 @@ fn add_figure(sheet: &mut Sheet, name: &'static str, value: Text) {
         "<li><span>{}</span> <b>{}</b></li>\n",
         &[Text::Words(name), value],
     );
+}
+
+/// Adds what was carried in from the day before.
+fn add_carried(sheet: &mut Sheet, carried: CarriedIn) {
+    sheet.add(
+        "<section id=\"carried\"><h2>Carried in from the day before</h2>\n<ul class=\"figures\">\n",
+    );
+    add_figure(
+        sheet,
+        "Unpaid transactions",
+        Text::Thousands(carried.unpaid as u128),
+    );
+    add_figure(
+        sheet,
+        "Unpaid at the start",
+        Text::Hundredths(carried.unpaid_cents),
+    );
+    add_figure(
+        sheet,
+        "Rules in force",
+        Text::Thousands(carried.rules as u128),
+    );
+    add_figure(
+        sheet,
+        "Cleared before",
+        Text::Hundredths(carried.cleared as u128),
+    );
+    sheet.add("</ul>\n");
+    sheet.add(SECTION_END);
 }
 
 fn add_sales(sheet: &mut Sheet, totals: &Totals) {
@@ -205,7 +243,7 @@ fn has_bound(counters: &[(u64, u64)]) -> bool {
 
 fn add_rules(sheet: &mut Sheet, totals: &Totals, counters: &[(u64, u64)]) {
     sheet.add("<section id=\"rules\"><h2>Rules</h2>\n");
-    if totals.loads.is_empty() {
+    if totals.versions.is_empty() {
         sheet.add("<p class=\"note\">No rule was loaded.</p>\n");
     } else {
         add_versions(sheet, totals);

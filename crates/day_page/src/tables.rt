@@ -2,7 +2,7 @@
 use crate::names::state_name;
 use crate::sheet::Sheet;
 use crate::texts::{Text, number, numbered};
-use day_report::{Load, Outcomes, PriceChange, Sum, Totals, Unpaid};
+use day_report::{CarriedRule, Load, Outcomes, PriceChange, Sum, Totals, Unpaid};
 use fuelling_point::Point;
 
 /// The most rows of the tables of price changes and of decisions by version and till. Further rows are left out.
@@ -129,28 +129,36 @@ pub(crate) fn add_unpaid(sheet: &mut Sheet, unpaid: &[Unpaid]) {
     sheet.add(FOOT);
 }
 
-/// Returns the count for a version: the number at the version's place in the list, or 0 if the list ends before.
-fn count_at(counts: &[u64], version: u32) -> u64 {
-    counts.get(version as usize).copied().unwrap_or(0)
+/// Returns the count at a place, or 0 if the list ends before.
+fn count_at(counts: &[u64], place: usize) -> u64 {
+    counts.get(place).copied().unwrap_or(0)
 }
 
-/// Returns how many requests a version granted, and how many it denied.
-pub(crate) fn outcome_of(outcomes: &Outcomes, version: u32) -> (u64, u64) {
+/// Returns how many requests the version at a place granted, and how many it denied.
+pub(crate) fn outcome_of(outcomes: &Outcomes, place: usize) -> (u64, u64) {
     (
-        count_at(&outcomes.granted, version),
-        count_at(&outcomes.denied, version),
+        count_at(&outcomes.granted, place),
+        count_at(&outcomes.denied, place),
     )
 }
 
-/// Adds the row of a version, with how many requests it granted and denied.
-fn add_version(sheet: &mut Sheet, totals: &Totals, load: &Load) {
-    let releases = outcome_of(&totals.releases, load.version);
-    let presets = outcome_of(&totals.presets, load.version);
-    let prices = outcome_of(&totals.price_requests, load.version);
+/// Adds the row of the version at a place, with how many requests it granted and denied. `slot` is its slot, `entry`
+/// says which entry loaded it, and `loaded` when.
+fn add_version(
+    sheet: &mut Sheet,
+    totals: &Totals,
+    place: usize,
+    rule: CarriedRule,
+    entry: Text,
+    loaded: Text,
+) {
+    let releases = outcome_of(&totals.releases, place);
+    let presets = outcome_of(&totals.presets, place);
+    let prices = outcome_of(&totals.price_requests, place);
     let cells = [
-        Text::Number(load.slot as u64),
-        Text::Number(load.number as u64),
-        Text::Moment(load.moment),
+        Text::Number(rule.slot as u64),
+        entry,
+        loaded,
         Text::Number(releases.0),
         Text::Number(releases.1),
         Text::Number(presets.0),
@@ -158,7 +166,23 @@ fn add_version(sheet: &mut Sheet, totals: &Totals, load: &Load) {
         Text::Number(prices.0),
         Text::Number(prices.1),
     ];
-    add_row(sheet, Text::Number(load.version as u64), &cells);
+    add_row(sheet, Text::Number(rule.version as u64), &cells);
+}
+
+/// Adds the row of a version that was loaded. `place` is its place among the loads.
+fn add_load(sheet: &mut Sheet, totals: &Totals, place: usize, load: &Load) {
+    let rule = CarriedRule {
+        slot: load.slot,
+        version: load.version,
+    };
+    add_version(
+        sheet,
+        totals,
+        totals.carried.len().saturating_add(place),
+        rule,
+        Text::Number(load.number as u64),
+        Text::Moment(load.moment),
+    );
 }
 
 const VERSIONS: &str = head!(
@@ -167,21 +191,26 @@ const VERSIONS: &str = head!(
     "Prices granted", "denied"
 );
 
-/// Adds the table of the versions, with how many requests each granted and denied.
+/// Adds the table of the versions, with how many requests each granted and denied: those that were carried in, and then
+/// those of the loads.
 pub(crate) fn add_versions(sheet: &mut Sheet, totals: &Totals) {
     sheet.add(VERSIONS);
-    for load in &totals.loads {
-        add_version(sheet, totals, load);
+    for (place, rule) in totals.carried.iter().enumerate() {
+        let (entry, loaded) = (Text::Words("carried in"), Text::Words(""));
+        add_version(sheet, totals, place, *rule, entry, loaded);
+    }
+    for (place, load) in totals.loads.iter().enumerate() {
+        add_load(sheet, totals, place, load);
     }
     sheet.add(FOOT);
 }
 
-/// Adds a row for each till whose requests a version decided, after `rows` rows. Returns the number of rows after that.
-/// Rows beyond `ROWS` are counted but left out.
-fn add_tills(sheet: &mut Sheet, tills: &[Outcomes], version: u32, rows: usize) -> usize {
+/// Adds a row for each till whose requests the version at place `at` decided, after `rows` rows. Returns the number of
+/// rows after that. Rows beyond `ROWS` are counted but left out.
+fn add_tills(sheet: &mut Sheet, tills: &[Outcomes], at: usize, version: u32, rows: usize) -> usize {
     let mut rows = rows;
     for (place, outcomes) in tills.iter().enumerate() {
-        let (granted, denied) = outcome_of(outcomes, version);
+        let (granted, denied) = outcome_of(outcomes, at);
         if granted > 0 || denied > 0 {
             if rows < ROWS {
                 let cells = [
@@ -203,8 +232,8 @@ const BY_VERSION_AND_TILL: &str = head!("versions-by-till"; "Version", "Till", "
 pub(crate) fn add_versions_by_till(sheet: &mut Sheet, totals: &Totals) {
     sheet.add(BY_VERSION_AND_TILL);
     let mut rows = 0;
-    for load in &totals.loads {
-        rows = add_tills(sheet, &totals.tills, load.version, rows);
+    for (place, version) in totals.versions.iter().enumerate() {
+        rows = add_tills(sheet, &totals.tills, place, *version, rows);
     }
     sheet.add(FOOT);
     let remark = "<p class=\"note\">The first {} rows; {} more are left out.</p>\n";

@@ -2,17 +2,16 @@
 use Rattle.std.proofs.Common.{◌≡◌, ℕ, ◌+◌, ◌<◌, List, [], ◌∷◌, ◌++◌, length, map, take, append_assoc, arith, Option, Some, None, refl, ap, ◌∙◌, sym, get_or}
 use Rattle.std.specs.Prelude.{fold, option_to_list}
 use Rattle.std.specs.List.{cons_option}
-use Rattle.std.specs.Prelude.{option_map}
+use Rattle.std.specs.Prelude.{option_map, replicate}
 use Rattle.std.proofs.lemmas.Grind.{common_steps}
 use Rattle.std.proofs.lemmas.List.{take_more, map-append, append-nil}
 use Rattle.fuelling_point.specs.declared.kinds.Transaction.{Transaction}
 use Rattle.day_report.specs.declared.adding.Unpaid.{Unpaid}
-use Rattle.std.specs.Prelude.{Bool, ◌&&◌, ◌==◌, if◌then◌else◌}
-use Rattle.std.proofs.lemmas.List.Sums.{fold_push, sum_by_more}
-use Rattle.day_report.specs.Totals.{is_wanted, decided_by, unpaid_transaction, unpaid_from, unpaid_of}
-use Rattle.day_report.specs.declared.counting.Deciding.{Deciding}
-use Rattle.day_report.specs.declared.rulings.Decision.{Decision}
-use Rattle.fuelling_point.specs.Table.{PointState}
+use Rattle.std.proofs.lemmas.List.Sums.{fold_push}
+use Rattle.day_report.specs.Totals.{unpaid_transaction, unpaid_from, unpaid_of}
+use Rattle.program_slots.specs.Value.{Version}
+use Rattle.day_report.specs.Carried.{carried_at, carried_from}
+use Rattle.fuelling_point.specs.Table.{PointState, fresh_point}
 use Rattle.decision_journal.specs.declared.entries.Entry.{Entry}
 use Rattle.day_report.specs.Walk.{with_entry, stand}
 use Rattle.day_report.specs.Sales.{sale_of, sales}
@@ -67,12 +66,26 @@ moment-more moment entries i entry h is =
     ap (λ es. fold moment_after moment es) (take_more entries i entry h ∙ ap (λ e. take i entries ++ e ∷ []) (sym is))
     ∙ fold_push moment_after moment (take i entries) entry
 
-pub decided-more : (part : Deciding) (granted : Bool) (v : ℕ) (decisions : List Decision) (i : ℕ) (d : Decision) → i < length decisions
-    → d ≡ get_or decisions i d → decided_by part granted v (take (i + 1) decisions) ≡ decided_by part granted v (take i decisions)
-    + (if is_wanted part granted d && d.version == v then 1 else 0)
-decided-more part granted v decisions i d h is =
-    let one : Decision → ℕ = λ (x : Decision). if is_wanted part granted x && x.version == v then 1 else 0 in
-    sum_by_more one decisions i d h ∙ ap (λ x. decided_by part granted v (take i decisions) + one x) (sym is)
+-- ---- rules that are carried in
+
+carried-push : (slot : ℕ) (rules : List (Option Version)) (rule : Option Version) → carried_from slot (rules ++ rule ∷ []) ≡ carried_from slot rules
+    ++ option_to_list (carried_at (slot + length rules) rule)
+carried-push slot [] rule = cons-nil (carried_at slot rule) ∙ ap (λ n. option_to_list (carried_at n rule)) (omega arith)
+carried-push slot (r ∷ rules) rule =
+    let same : slot + 1 + length rules ≡ slot + length (r ∷ rules) = omega arith in
+    ap (λ xs. cons_option (carried_at slot r) xs) (carried-push (slot + 1) rules rule ∙ ap
+    (λ n. carried_from (slot + 1) rules ++ option_to_list (carried_at n rule)) same)
+    ∙ cons-append (carried_at slot r) (carried_from (slot + 1) rules) (option_to_list (carried_at (slot + length (r ∷ rules)) rule))
+
+-- The rules of the first i + 1 slots are those of the first i, and then that of slot i, if it has one.
+pub carried-more : (rules : List (Option Version)) (i : ℕ) (rule : Option Version) → i < length rules → rule ≡ get_or rules i rule
+    → carried_from 0 (take (i + 1) rules) ≡ carried_from 0 (take i rules) ++ option_to_list (carried_at i rule)
+carried-more rules i rule h is =
+    let long : length (take i rules) ≡ i = grind (arith, common_steps) in
+    let place : 0 + length (take i rules) ≡ i = omega (arith, long) in
+    ap (carried_from 0) (take_more rules i rule h ∙ ap (λ x. take i rules ++ x ∷ []) (sym is))
+    ∙ carried-push 0 (take i rules) rule
+    ∙ ap (λ n. carried_from 0 (take i rules) ++ option_to_list (carried_at n rule)) place
 
 -- ---- unpaid transactions
 
@@ -111,3 +124,13 @@ unpaid-more points i p first second h is both =
     ∙ ap (λ xs. unpaid_from 1 (take i points) ++ xs) (map-append f (option_to_list first) (option_to_list second)
     ∙ (λ j. map-option f first j ++ map-option f second j))
     ∙ sym (append_assoc (unpaid_from 1 (take i points)) (option_to_list (option_map f first)) (option_to_list (option_map f second)))
+
+-- ---- closed points
+
+same-points : (points : List (ℕ × ℕ)) → replicate (length points) fresh_point ≡ map (λ (_ : ℕ × ℕ). fresh_point) points
+same-points [] = refl
+same-points (p ∷ points) = ap (λ xs. fresh_point ∷ xs) (same-points points)
+
+-- As many closed points as there are pairs are those that a site with these pairs starts with.
+pub closed-is : (pairs want : List (ℕ × ℕ)) → pairs ≡ want → replicate (length pairs) fresh_point ≡ map (λ (_ : ℕ × ℕ). fresh_point) want
+closed-is pairs want same = same-points pairs ∙ ap (map (λ (_ : ℕ × ℕ). fresh_point)) same

@@ -1,10 +1,13 @@
 -- The grants and denials of all versions together are as many as the decisions of the history.
-use Rattle.std.proofs.Common.{◌≡◌, ℕ, ◌+◌, ◌≤◌, ◌&&◌, Bool, true, false, not, List, [], ◌∷◌, ◌++◌, length, reverse, Option, Some, None, Result, Ok, Err, refl}
-use Rattle.std.proofs.Common.{arith, ap, ◌∙◌, sym, subst}
-use Rattle.std.specs.Prelude.{if◌then◌else◌, ◌==◌, nat_le, nat_lt, sum_by, count_by, option_to_list, fold}
-use Rattle.std.specs.List.{range_with_len, filter_map}
-use Rattle.std.proofs.lemmas.List.{reverse-append, reverse-reverse, length-append}
-use Rattle.std.proofs.lemmas.List.Elements.{filter_map-append}
+use Rattle.std.proofs.Common.{◌≡◌, ◌⊎◌, ℕ, zero, suc, ◌+◌, ◌≤◌, ◌<◌, ◌&&◌, Bool, true, false, not, List, [], ◌∷◌, ◌++◌, length, map, reverse, All, Option, Some, None, Result, Ok}
+use Rattle.std.proofs.Common.{Err, refl, arith, ap, ◌∙◌, sym, subst, inl, inr}
+use Rattle.std.specs.Prelude.{if◌then◌else◌, ◌==◌, nat_le, nat_lt, sum_by, count_by, option_to_list, fold, slice_index_or}
+use Rattle.std.specs.List.{range_with_len, filter_map, AllByRecursion, IsDistinct}
+use Rattle.std.proofs.lemmas.Bool.{eq-eqb}
+use Rattle.std.proofs.lemmas.Bool.Decides.{nat_tests}
+use Rattle.std.proofs.lemmas.Map.Keys.{IsDistinct-head, IsDistinct-tail}
+use Rattle.std.proofs.lemmas.List.{reverse-append, reverse-reverse, length-append, append-nil, map-append}
+use Rattle.std.proofs.lemmas.List.Elements.{filter_map-append, All-head, All-tail}
 use Rattle.std.proofs.lemmas.List.Sums.{sum_by-cons, sum_by-append}
 use Rattle.fuelling_point.specs.Table.{PointState, Answer, command_step, event_step}
 use Rattle.fuelling_point.specs.declared.kinds.Command.{Command}
@@ -23,31 +26,36 @@ use Rattle.decision_journal.specs.declared.entries.Entry.{Entry}
 use Rattle.bpf_model.specs.Machine.{Counters}
 use Rattle.bpf_model.specs.Program.{ProgramText, outcome}
 use Rattle.bpf_model.specs.Layouts.{bytes_of}
+use Rattle.bpf_model.specs.declared.context.Layout.{Layout}
 use Rattle.program_slots.specs.Value.{Version}
+use Rattle.program_slots.specs.Slots.{IsRule}
+use Rattle.site_core.specs.Opening.{OpeningValue, IsOpening, rule_numbers}
 use Rattle.site_core.specs.declared.question.Question.{Question}
 use Rattle.site_core.specs.Limits.{ConfigValue}
 use Rattle.site_core.specs.State.{SiteState, at_number, first_busy, view_of}
 use Rattle.site_core.specs.Context.{context}
-use Rattle.site_core.specs.History.{loaded, in_force, versions, versions_before}
+use Rattle.site_core.specs.History.{loaded, in_force, versions, versions_before, opening_rule}
 use Rattle.site_core.specs.Decide.{Effect, replied, refused, denied, no_such_till, is_decided, is_till, release_question, preset_question, price_question}
 use Rattle.site_core.specs.Decide.{decided, verdict, ran, grant}
 use Rattle.site_core.specs.Step.{effect, asked, commanded, command_effect, reported, event_effect, order_reply, fault_reply, show_reply}
 use Rattle.site_core.specs.Legal.{Legal}
-use Rattle.site_core.proofs.First.{first-rule, first-versions}
 use Rattle.site_core.proofs.Points.{commanded-none, commanded-some, reported-none, reported-some}
 use Rattle.site_core.proofs.Decisions.{decided-refused, decided-none, decided-some}
 use Rattle.site_core.proofs.Grants.{verdict-deny, verdict-grant}
 use Rattle.site_core.proofs.Undecided.{refuses, release-no, preset-no, price-no}
 use Rattle.day_report.specs.Decisions as told
 use Rattle.day_report.specs.Decisions.{asked_by, verdict_of, decision_of, loaded_at, load_of, loads, moment_after}
-use Rattle.day_report.specs.Totals.{is_release, is_preset, is_price, is_wanted}
+use Rattle.day_report.specs.Carried.{carried_from, carried_rules, OpensRightly}
+use Rattle.day_report.specs.Totals.{is_release, is_preset, is_price, is_wanted, versions_of}
 use Rattle.day_report.specs.Laws.{decided_in_all, VersionsTellAllDecisions}
+use Rattle.day_report.specs.declared.loading.Load.{Load}
+use Rattle.day_report.specs.declared.opening.CarriedRule.{CarriedRule}
 use Rattle.day_report.specs.declared.rulings.Asked.{Asked}
 use Rattle.day_report.specs.declared.rulings.Asked.TheVariants as kinds
 use Rattle.day_report.specs.declared.rulings.Decision.{Decision}
 use Rattle.day_report.specs.declared.counting.Deciding.TheVariants as deciding
 use Rattle.day_report.proofs.OneMore.{loads-push}
-use Rattle.day_report.proofs.SiteSales.{one-key, add-keys, no-keys}
+use Rattle.day_report.proofs.SiteSales.{none-key, one-key, add-keys, no-keys}
 
 -- ---- the six counts of one version
 
@@ -82,67 +90,190 @@ six v (d ∷ ds) =
     let all = sum_by-cons (λ (x : Decision). if x.version == v then 1 else 0) d ds in
     omega (arith, here, rest, a, b, e, f, g, h, all)
 
--- ---- decisions by versions from 1 to n
+-- ---- how often a number is in a list
 
-abbrev VersionsFit : ℕ → List Decision → Type 0
-VersionsFit n [] = Unit {0}
-VersionsFit n (d ∷ ds) = ((1 ≤ d.version) × (d.version ≤ n)) × VersionsFit n ds
+abbrev times : ℕ → List ℕ → ℕ
+times v ns = sum_by (λ k. if v == k then 1 else 0) ns
 
-fit-append : (n : ℕ) (xs ys : List Decision) → VersionsFit n xs → VersionsFit n ys → VersionsFit n (xs ++ ys)
-fit-append n [] ys f g = g
-fit-append n (x ∷ xs) ys f g = (f.0, fit-append n xs ys f.1 g)
+some-is : (u v : Version) → ◌≡◌ {A = Option Version} (Some u) (Some v) → u ≡ v
+some-is u v h = cc
 
-fit-more : (n m : ℕ) (xs : List Decision) → n ≤ m → VersionsFit n xs → VersionsFit m xs
-fit-more n m [] le f = tt
-fit-more n m (x ∷ xs) le f = let l : x.version ≤ n = f.0.1 in ((f.0.0, omega (arith, l, le)), fit-more n m xs le f.1)
+none-is : {P : Type 0} (v : Version) → ◌≡◌ {A = Option Version} None (Some v) → P
+none-is v h = absurd (cc)
 
-all-versions : (n : ℕ) (ds : List Decision) → VersionsFit n ds → sum_by (λ v. count_by (λ (d : Decision). d.version == v) ds) (range_with_len 1 n) ≡ length ds
-all-versions n [] fits = no-keys (range_with_len 1 n)
-all-versions n (d ∷ ds) fits =
+apart-none : (v : ℕ) (ns : List ℕ) → AllByRecursion (λ n. (v == n) ≡ false) ns → times v ns ≡ 0
+apart-none v [] h = refl
+apart-none v (n ∷ ns) h = sum_by-cons (λ k. if v == k then 1 else 0) n ns ∙ (λ i. (if h.0 i then 1 else 0) + apart-none v ns h.1 i)
+
+above-none : (v m : ℕ) (ns : List ℕ) → AllByRecursion (λ n. n ≤ m) ns → m < v → times v ns ≡ 0
+above-none v m [] h lt = refl
+above-none v m (n ∷ ns) h lt =
+    let le : n ≤ m = h.0 in
+    let no : (v == n) ≡ false = grind (arith, nat_tests, le, lt) in
+    sum_by-cons (λ k. if v == k then 1 else 0) n ns ∙ (λ i. (if no i then 1 else 0) + above-none v m ns h.1 lt i)
+
+first-once : (n : ℕ) (ns : List ℕ) → AllByRecursion (λ k. (n == k) ≡ false) ns → times n (n ∷ ns) ≡ 1
+first-once n ns h = sum_by-cons (λ k. if n == k then 1 else 0) n ns ∙ (λ i. (if eq-eqb n n refl i then 1 else 0) + apart-none n ns h i)
+
+-- ---- the versions that are carried in
+
+-- What is true of each number is true of the number of the version in any slot.
+at-slot : (P : ℕ → Type 0) (rules : List (Option Version)) (slot : ℕ) (v : Version) → AllByRecursion P (rule_numbers rules)
+    → slice_index_or rules slot None ≡ Some v → P v.number
+at-slot P [] slot v h is = none-is v is
+at-slot P (None ∷ rules) zero v h is = none-is v is
+at-slot P (None ∷ rules) (suc slot) v h is = at-slot P rules slot v h is
+at-slot P (Some u ∷ rules) zero v h is = subst (λ (x : Version). P x.number) (some-is u v is) h.0
+at-slot P (Some u ∷ rules) (suc slot) v h is = at-slot P rules slot v h.1 is
+
+-- If no two slots have versions of one number, then the number of the version in a slot is there once.
+once-at : (rules : List (Option Version)) (slot : ℕ) (v : Version) → IsDistinct (λ a b. a == b) (rule_numbers rules)
+    → slice_index_or rules slot None ≡ Some v → times v.number (rule_numbers rules) ≡ 1
+once-at [] slot v d is = none-is v is
+once-at (None ∷ rules) zero v d is = none-is v is
+once-at (None ∷ rules) (suc slot) v d is = once-at rules slot v d is
+once-at (Some u ∷ rules) zero v d is =
+    subst (λ (x : Version). times x.number (u.number ∷ rule_numbers rules) ≡ 1) (some-is u v is)
+    (first-once u.number (rule_numbers rules) (IsDistinct-head (λ a b. a == b) u.number (rule_numbers rules) d))
+once-at (Some u ∷ rules) (suc slot) v d is =
+    let apart : (u.number == v.number) ≡ false =
+    at-slot (λ n. (u.number == n) ≡ false) rules slot v (IsDistinct-head (λ a b. a == b) u.number (rule_numbers rules) d) is in
+    let other : (v.number == u.number) ≡ false = grind (arith, nat_tests, apart) in
+    let rest = once-at rules slot v (IsDistinct-tail (λ a b. a == b) u.number (rule_numbers rules) d) is in
+    sum_by-cons (λ k. if v.number == k then 1 else 0) u.number (rule_numbers rules) ∙ (λ i. (if other i then 1 else 0) + rest i)
+
+low-numbers : (m : ℕ) (rules : List (Option Version)) → All (IsRule m) rules → AllByRecursion (λ n. n ≤ m) (rule_numbers rules)
+low-numbers m [] h = tt
+low-numbers m (None ∷ rules) h = low-numbers m rules (All-tail (IsRule m) None rules h)
+low-numbers m (Some v ∷ rules) h =
+    ((All-head (IsRule m) (Some v) rules h).1, low-numbers m rules (All-tail (IsRule m) (Some v) rules h))
+
+-- the numbers of the versions that are carried in
+abbrev olds : ConfigValue → List ℕ
+olds config = map (λ (rule : CarriedRule). rule.version) (carried_rules config)
+
+are-numbers : (slot : ℕ) (rules : List (Option Version)) → map (λ (rule : CarriedRule). rule.version) (carried_from slot rules) ≡ rule_numbers rules
+are-numbers slot [] = refl
+are-numbers slot (None ∷ rules) = are-numbers (slot + 1) rules
+are-numbers slot (Some v ∷ rules) = ap (λ ns. v.number ∷ ns) (are-numbers (slot + 1) rules)
+
+-- The number of each version in force at first is there once, and is at most the number of versions before.
+abbrev Opens : ConfigValue → Type 0
+Opens config = (slot : ℕ) (v : Version) → opening_rule config slot ≡ Some v → (times v.number (olds config) ≡ 1) × (v.number ≤ versions_before config)
+
+opens : (config : ConfigValue) (o : Option OpeningValue) → OpensRightly config → config.opening ≡ o → Opens config
+opens config None good is = λ slot v h.
+    none-is v (sym (ap (λ x. elim x as (λ _. Option Version) [ None ↦ None | Some y ↦ slice_index_or y.rules slot None ]) is) ∙ h)
+opens config (Some o) good is = λ slot v h.
+    let fits : IsOpening (length config.points) o = good o is in
+    let at : slice_index_or o.rules slot None ≡ Some v =
+    sym (ap (λ x. elim x as (λ _. Option Version) [ None ↦ None | Some y ↦ slice_index_or y.rules slot None ]) is) ∙ h in
+    let numbers : olds config ≡ rule_numbers o.rules =
+    ap (λ x. map (λ (rule : CarriedRule). rule.version) (elim x as (λ _. List CarriedRule) [ None ↦ [] | Some y ↦ carried_from 0 y.rules ])) is
+    ∙ are-numbers 0 o.rules in
+    let before : versions_before config ≡ o.versions = ap (λ x. elim x as (λ _. ℕ) [ None ↦ 0 | Some y ↦ y.versions ]) is in (
+      ap (times v.number) numbers ∙ once-at o.rules slot v fits.distinct at,
+      subst (λ n. v.number ≤ n) (sym before) (at-slot (λ n. n ≤ o.versions) o.rules slot v (low-numbers o.versions o.rules fits.rules) at),
+    )
+
+lows : (config : ConfigValue) (o : Option OpeningValue) → OpensRightly config → config.opening ≡ o
+    → AllByRecursion (λ n. n ≤ versions_before config) (olds config)
+lows config None good is =
+    subst (λ x. AllByRecursion (λ n. n ≤ versions_before config)
+    (map (λ (rule : CarriedRule). rule.version) (elim x as (λ _. List CarriedRule) [ None ↦ [] | Some y ↦ carried_from 0 y.rules ]))) (sym is) tt
+lows config (Some o) good is =
+    let fits : IsOpening (length config.points) o = good o is in
+    let numbers : olds config ≡ rule_numbers o.rules =
+    ap (λ x. map (λ (rule : CarriedRule). rule.version) (elim x as (λ _. List CarriedRule) [ None ↦ [] | Some y ↦ carried_from 0 y.rules ])) is
+    ∙ are-numbers 0 o.rules in
+    let before : versions_before config ≡ o.versions = ap (λ x. elim x as (λ _. ℕ) [ None ↦ 0 | Some y ↦ y.versions ]) is in
+    subst (λ ns. AllByRecursion (λ n. n ≤ versions_before config) ns) (sym numbers)
+    (subst (λ m. AllByRecursion (λ n. n ≤ m) (rule_numbers o.rules)) (sym before) (low-numbers o.versions o.rules fits.rules))
+
+-- ---- decisions by versions of the day
+
+-- The number is that of a version that was carried in, or of one of the first n loads.
+abbrev IsVersion : ConfigValue → ℕ → ℕ → Type 0
+IsVersion config n v =
+    ((times v (olds config) ≡ 1) × (v ≤ versions_before config)) ⊎ ((versions_before config < v) × (v ≤ versions_before config + n))
+
+version-more : (config : ConfigValue) (n m v : ℕ) → n ≤ m → IsVersion config n v → IsVersion config m v
+version-more config n m v le (inl old) = inl old
+version-more config n m v le (inr new) = let l : v ≤ versions_before config + n = new.1 in inr (new.0, omega (arith, l, le))
+
+abbrev VersionsFit : ConfigValue → ℕ → List Decision → Type 0
+VersionsFit config n [] = Unit {0}
+VersionsFit config n (d ∷ ds) = IsVersion config n d.version × VersionsFit config n ds
+
+fit-append : (config : ConfigValue) (n : ℕ) (xs ys : List Decision) → VersionsFit config n xs → VersionsFit config n ys → VersionsFit config n (xs ++ ys)
+fit-append config n [] ys f g = g
+fit-append config n (x ∷ xs) ys f g = (f.0, fit-append config n xs ys f.1 g)
+
+fit-more : (config : ConfigValue) (n m : ℕ) (xs : List Decision) → n ≤ m → VersionsFit config n xs → VersionsFit config m xs
+fit-more config n m [] le f = tt
+fit-more config n m (x ∷ xs) le f = (version-more config n m x.version le f.0, fit-more config n m xs le f.1)
+
+-- the numbers of the versions of a day with n loads
+abbrev numbers_with : ConfigValue → ℕ → List ℕ
+numbers_with config n = olds config ++ range_with_len (versions_before config + 1) n
+
+once-of : (config : ConfigValue) (n v : ℕ) → AllByRecursion (λ k. k ≤ versions_before config) (olds config) → IsVersion config n v
+    → times v (numbers_with config n) ≡ 1
+once-of config n v low (inl old) =
+    let le : v ≤ versions_before config = old.1 in
+    sum_by-append (λ k. if v == k then 1 else 0) (olds config) (range_with_len (versions_before config + 1) n)
+    ∙ (λ i. old.0 i + none-key (versions_before config + 1) n v 1 (omega (arith, le)) i)
+once-of config n v low (inr new) =
+    let lt : versions_before config < v = new.0 in
+    let le : v ≤ versions_before config + n = new.1 in
+    sum_by-append (λ k. if v == k then 1 else 0) (olds config) (range_with_len (versions_before config + 1) n)
+    ∙ (λ i. above-none v (versions_before config) (olds config) low lt i
+    + one-key (versions_before config + 1) n v 1 (omega (arith, lt)) (omega (arith, le)) i)
+
+all-versions : (config : ConfigValue) (n : ℕ) (ds : List Decision) → AllByRecursion (λ k. k ≤ versions_before config) (olds config) → VersionsFit config n ds
+    → sum_by (λ v. count_by (λ (d : Decision). d.version == v) ds) (numbers_with config n) ≡ length ds
+all-versions config n [] low fits = no-keys (numbers_with config n)
+all-versions config n (d ∷ ds) low fits =
     let one : ℕ → ℕ = λ v. if d.version == v then 1 else 0 in
     let rest : ℕ → ℕ = λ v. count_by (λ (x : Decision). x.version == v) ds in
-    let most : d.version ≤ n = fits.0.1 in
-    let sums = add-keys one rest (range_with_len 1 n) in
-    let first = one-key 1 n d.version 1 fits.0.0 (omega (arith, most)) in
-    let later = all-versions n ds fits.1 in
-    (λ i. sum_by (λ v. sum_by-cons (λ (x : Decision). if x.version == v then 1 else 0) d ds i) (range_with_len 1 n)) ∙ omega (arith, sums, first, later)
+    let sums = add-keys one rest (numbers_with config n) in
+    let first = once-of config n d.version low fits.0 in
+    let later = all-versions config n ds low fits.1 in
+    (λ i. sum_by (λ v. sum_by-cons (λ (x : Decision). if x.version == v then 1 else 0) d ds i) (numbers_with config n)) ∙ omega (arith, sums, first, later)
 
--- ---- the version in force among those that were loaded
+-- ---- the version in force among those of the day
 
-abbrev InRange : Version → ℕ → Type 0
-InRange v n = (1 ≤ v.number) × (v.number ≤ n)
+if-force : (config : ConfigValue) (b : Bool) (n : ℕ) (p : ProgramText) (o : Option Version) (v : Version) → (o ≡ Some v → IsVersion config n v.number)
+    → (if b then Some (record { number = versions_before config + n + 1; program = p }) else o) ≡ Some v → IsVersion config (n + 1) v.number
+if-force config true n p o v earlier h =
+    let e : ◌≡◌ {A = Version} (record { number = versions_before config + n + 1; program = p }) v = cc in
+    let is : versions_before config + n + 1 ≡ v.number = ap (λ (x : Version). x.number) e in
+    inr (omega (arith, is), omega (arith, is))
+if-force config false n p o v earlier h = version-more config n (n + 1) v.number (omega arith) (earlier h)
 
-if-force : (b : Bool) (before n : ℕ) (p : ProgramText) (o : Option Version) (v : Version) → before ≡ 0 → (o ≡ Some v → InRange v n)
-    → (if b then Some (record { number = before + n + 1; program = p }) else o) ≡ Some v → InRange v (n + 1)
-if-force true before n p o v none earlier h =
-    let e : ◌≡◌ {A = Version} (record { number = before + n + 1; program = p }) v = cc in
-    let is : before + n + 1 ≡ v.number = ap (λ (x : Version). x.number) e in
-    (omega (arith, is, none), omega (arith, is, none))
-if-force false before n p o v none earlier h = let r = earlier h in let l : v.number ≤ n = r.1 in (r.0, omega (arith, l))
-
-force-more : (config : ConfigValue) (slot : ℕ) (earlier : List Entry) (v : Version) (o : Option (ℕ × ProgramText)) → versions_before config ≡ 0
-    → (in_force config slot earlier ≡ Some v → InRange v (versions earlier))
+force-more : (config : ConfigValue) (slot : ℕ) (earlier : List Entry) (v : Version) (o : Option (ℕ × ProgramText))
+    → (in_force config slot earlier ≡ Some v → IsVersion config (versions earlier) v.number)
     → (elim o as (λ _. Option Version) [
       | Some l ↦ if l.0 == slot then Some (record { number = versions_before config + versions earlier + 1; program = l.1 })
           else in_force config slot earlier
       | None ↦ in_force config slot earlier
     ]) ≡ Some v
-    → InRange v (elim o as (λ _. ℕ) [ Some _ ↦ versions earlier + 1 | None ↦ versions earlier ])
-force-more config slot earlier v None none h is = h is
-force-more config slot earlier v (Some l) none h is =
-    if-force (l.0 == slot) (versions_before config) (versions earlier) l.1 (in_force config slot earlier) v none h is
+    → IsVersion config (elim o as (λ _. ℕ) [ Some _ ↦ versions earlier + 1 | None ↦ versions earlier ]) v.number
+force-more config slot earlier v None h is = h is
+force-more config slot earlier v (Some l) h is =
+    if-force config (l.0 == slot) (versions earlier) l.1 (in_force config slot earlier) v h is
 
-in-range : (config : ConfigValue) (first : config.opening ≡ None) (slot : ℕ) (past : List Entry) (v : Version) → in_force config slot past ≡ Some v
-    → InRange v (versions past)
-in-range config first slot [] v h = absurd (let e : ◌≡◌ {A = Option Version} None (Some v) = sym (first-rule config slot first) ∙ h in cc)
+in-range : (config : ConfigValue) (first : Opens config) (slot : ℕ) (past : List Entry) (v : Version) → in_force config slot past ≡ Some v
+    → IsVersion config (versions past) v.number
+in-range config first slot [] v h = inl (first slot v h)
 in-range config first slot (entry ∷ earlier) v h =
-    force-more config slot earlier v (loaded entry.act entry.reply) (first-versions config first) (in-range config first slot earlier v) h
+    force-more config slot earlier v (loaded entry.act entry.reply) (in-range config first slot earlier v) h
 
 -- ---- the decision in each act and its reply
 
-record DecidesOne (past : List Entry) (a : Act) (r : Reply) : Type 0 where
+record DecidesOne (config : ConfigValue) (past : List Entry) (a : Act) (r : Reply) : Type 0 where
   count : length (option_to_list (told.decided a r)) ≡ (if is_decided r then 1 else 0)
-  fits : VersionsFit (versions past) (option_to_list (told.decided a r))
+  fits : VersionsFit config (versions past) (option_to_list (told.decided a r))
 
 verdict-none : (r : Reply) → is_decided r ≡ false → verdict_of r ≡ None
 verdict-none (reply.Granted g v) h = absurd (cc)
@@ -183,18 +314,18 @@ act-none (act.Till till q) r h = ask-none till (asked_by q) (verdict_of r) (verd
 act-none (act.Dispenser n event) r h = refl
 act-none (act.Load slot mask layout bytes) r h = refl
 
-quiet : (past : List Entry) (a : Act) (r : Reply) → is_decided r ≡ false → DecidesOne past a r
-quiet past a r h =
+quiet : (config : ConfigValue) (past : List Entry) (a : Act) (r : Reply) → is_decided r ≡ false → DecidesOne config past a r
+quiet config past a r h =
     let none = act-none a r h in
     record {
       count = ap (λ o. length (option_to_list o)) none ∙ ap (λ (b : Bool). if b then 1 else 0) (sym h);
-      fits = subst (λ o. VersionsFit (versions past) (option_to_list o)) (sym none) tt;
+      fits = subst (λ o. VersionsFit config (versions past) (option_to_list o)) (sym none) tt;
     }
 
 -- If a version in force replies to a request that a rule decides, then this reply counts as exactly one decision.
-says : (past : List Entry) (till : ℕ) (q : Request) (x : Asked) (r : Reply) (v : Version) (g : Bool) → asked_by q ≡ Some x → verdict_of r ≡ Some (v.number, g)
-    → is_decided r ≡ true → InRange v (versions past) → DecidesOne past (act.Till till q) r
-says past till q x r v g asks gives is range =
+says : (config : ConfigValue) (past : List Entry) (till : ℕ) (q : Request) (x : Asked) (r : Reply) (v : Version) (g : Bool) → asked_by q ≡ Some x → verdict_of r ≡ Some (v.number, g)
+    → is_decided r ≡ true → IsVersion config (versions past) v.number → DecidesOne config past (act.Till till q) r
+says config past till q x r v g asks gives is range =
     let made : told.decided (act.Till till q) r ≡ Some (record { till = till; asked = x; version = v.number; is_granted = g }) =
     (λ i. elim (asks i) as (λ _. Option Decision) [
       | None ↦ None
@@ -210,32 +341,32 @@ says past till q x r v g asks gives is range =
     ]) in
     record {
       count = ap (λ o. length (option_to_list o)) made ∙ ap (λ (b : Bool). if b then 1 else 0) (sym is);
-      fits = subst (λ o. VersionsFit (versions past) (option_to_list o)) (sym made) (range, tt);
+      fits = subst (λ o. VersionsFit config (versions past) (option_to_list o)) (sym made) (range, tt);
     }
 
-verdict-says : (past : List Entry) (s : SiteState) (till moment : ℕ) (q : Question) (v : Version) (n : ℕ) (c : Counters) (r : Request) (x : Asked) (b : Bool)
-    → (n == 0) ≡ b → asked_by r ≡ Some x → InRange v (versions past) → DecidesOne past (act.Till till r) (verdict s till moment q v n c).reply
-verdict-says past s till moment q v n c r x true is asks range =
-    subst (λ e. DecidesOne past (act.Till till r) e.reply) (sym (verdict-deny s till moment n q v c is))
-    (says past till r x (denied v.number) v false asks refl refl range)
-verdict-says past s till moment q v n c r x false is asks range =
+verdict-says : (config : ConfigValue) (past : List Entry) (s : SiteState) (till moment : ℕ) (q : Question) (v : Version) (n : ℕ) (c : Counters) (r : Request) (x : Asked) (b : Bool)
+    → (n == 0) ≡ b → asked_by r ≡ Some x → IsVersion config (versions past) v.number → DecidesOne config past (act.Till till r) (verdict s till moment q v n c).reply
+verdict-says config past s till moment q v n c r x true is asks range =
+    subst (λ e. DecidesOne config past (act.Till till r) e.reply) (sym (verdict-deny s till moment n q v c is))
+    (says config past till r x (denied v.number) v false asks refl refl range)
+verdict-says config past s till moment q v n c r x false is asks range =
     let g = grant (record s { counters = c }) till q n in
-    subst (λ e. DecidesOne past (act.Till till r) e.reply) (sym (verdict-grant s till moment n g.0 q v c g.1 is refl))
-    (says past till r x (reply.Granted g.0 v.number) v true asks refl refl range)
+    subst (λ e. DecidesOne config past (act.Till till r) e.reply) (sym (verdict-grant s till moment n g.0 q v c g.1 is refl))
+    (says config past till r x (reply.Granted g.0 v.number) v true asks refl refl range)
 
-version-says : (config : ConfigValue) (first : config.opening ≡ None) (past : List Entry) (s : SiteState) (till moment : ℕ) (q : Question) (r : Request) (x : Asked) (o : Option Version) → in_force config q.slot past ≡ o
-    → asked_by r ≡ Some x → DecidesOne past (act.Till till r) (decided config past s till moment (Ok q)).reply
+version-says : (config : ConfigValue) (first : Opens config) (past : List Entry) (s : SiteState) (till moment : ℕ) (q : Question) (r : Request) (x : Asked) (o : Option Version) → in_force config q.slot past ≡ o
+    → asked_by r ≡ Some x → DecidesOne config past (act.Till till r) (decided config past s till moment (Ok q)).reply
 version-says config first past s till moment q r x None none asks =
-    subst (λ e. DecidesOne past (act.Till till r) e.reply) (sym (decided-none config past s till moment q none)) (quiet past (act.Till till r) _ refl)
+    subst (λ e. DecidesOne config past (act.Till till r) e.reply) (sym (decided-none config past s till moment q none)) (quiet config past (act.Till till r) _ refl)
 version-says config first past s till moment q r x (Some v) some asks =
     let y : ℕ × Counters = ran (outcome v.program (bytes_of (context v.program.layout s till moment q)) (view_of s) s.counters) s.counters in
-    subst (λ e. DecidesOne past (act.Till till r) e.reply) (sym (decided-some config past s till moment q v some))
-    (verdict-says past s till moment q v y.0 y.1 r x (y.0 == 0) refl asks (in-range config first q.slot past v some))
+    subst (λ e. DecidesOne config past (act.Till till r) e.reply) (sym (decided-some config past s till moment q v some))
+    (verdict-says config past s till moment q v y.0 y.1 r x (y.0 == 0) refl asks (in-range config first q.slot past v some))
 
-question-says : (config : ConfigValue) (first : config.opening ≡ None) (past : List Entry) (s : SiteState) (till moment : ℕ) (r : Request) (x : Asked) (y : Result Question Reply) → asked_by r ≡ Some x
-    → refuses y ≡ false → DecidesOne past (act.Till till r) (decided config past s till moment y).reply
+question-says : (config : ConfigValue) (first : Opens config) (past : List Entry) (s : SiteState) (till moment : ℕ) (r : Request) (x : Asked) (y : Result Question Reply) → asked_by r ≡ Some x
+    → refuses y ≡ false → DecidesOne config past (act.Till till r) (decided config past s till moment y).reply
 question-says config first past s till moment r x (Err f) asks silent =
-    subst (λ e. DecidesOne past (act.Till till r) e.reply) (sym (decided-refused config past s till moment f)) (quiet past (act.Till till r) f silent)
+    subst (λ e. DecidesOne config past (act.Till till r) e.reply) (sym (decided-refused config past s till moment f)) (quiet config past (act.Till till r) f silent)
 question-says config first past s till moment r x (Ok q) asks silent = version-says config first past s till moment q r x (in_force config q.slot past) refl asks
 
 -- ---- requests and replies without a decision
@@ -281,8 +412,8 @@ load-no false more v = refl
 
 -- ---- the decision of any act
 
-asked-decides : (config : ConfigValue) (first : config.opening ≡ None) (past : List Entry) (s : SiteState) (till moment : ℕ) (r : Request)
-    → DecidesOne past (act.Till till r) (asked config past s till moment r).reply
+asked-decides : (config : ConfigValue) (first : Opens config) (past : List Entry) (s : SiteState) (till moment : ℕ) (r : Request)
+    → DecidesOne config past (act.Till till r) (asked config past s till moment r).reply
 asked-decides config first past s till moment (request.Release n a) = question-says config first past s till moment (request.Release n a) kinds.Release
     (release_question config s n a) refl (release-no config s n a (at_number s.points n) refl)
 asked-decides config first past s till moment (request.Preset n a) =
@@ -290,70 +421,110 @@ asked-decides config first past s till moment (request.Preset n a) =
 asked-decides config first past s till moment (request.Price n a) =
     question-says config first past s till moment (request.Price n a) kinds.Price (price_question config s n a) refl (price-no (first_busy s) n a config.price_slot)
 asked-decides config first past s till moment (request.OpenPoint n) =
-    quiet past (act.Till till (request.OpenPoint n)) _ (commanded-no s till n command.OpenPoint (at_number s.points n) refl)
+    quiet config past (act.Till till (request.OpenPoint n)) _ (commanded-no s till n command.OpenPoint (at_number s.points n) refl)
 asked-decides config first past s till moment (request.ClosePoint n) =
-    quiet past (act.Till till (request.ClosePoint n)) _ (commanded-no s till n command.ClosePoint (at_number s.points n) refl)
+    quiet config past (act.Till till (request.ClosePoint n)) _ (commanded-no s till n command.ClosePoint (at_number s.points n) refl)
 asked-decides config first past s till moment (request.Suspend n) =
-    quiet past (act.Till till (request.Suspend n)) _ (commanded-no s till n command.Suspend (at_number s.points n) refl)
+    quiet config past (act.Till till (request.Suspend n)) _ (commanded-no s till n command.Suspend (at_number s.points n) refl)
 asked-decides config first past s till moment (request.Resume n) =
-    quiet past (act.Till till (request.Resume n)) _ (commanded-no s till n command.Resume (at_number s.points n) refl)
+    quiet config past (act.Till till (request.Resume n)) _ (commanded-no s till n command.Resume (at_number s.points n) refl)
 asked-decides config first past s till moment (request.Stop n) =
-    quiet past (act.Till till (request.Stop n)) _ (commanded-no s till n command.Stop (at_number s.points n) refl)
+    quiet config past (act.Till till (request.Stop n)) _ (commanded-no s till n command.Stop (at_number s.points n) refl)
 asked-decides config first past s till moment (request.Lock n x) =
-    quiet past (act.Till till (request.Lock n x)) _ (commanded-no s till n (command.Lock x) (at_number s.points n) refl)
+    quiet config past (act.Till till (request.Lock n x)) _ (commanded-no s till n (command.Lock x) (at_number s.points n) refl)
 asked-decides config first past s till moment (request.Unlock n x) =
-    quiet past (act.Till till (request.Unlock n x)) _ (commanded-no s till n (command.Unlock x) (at_number s.points n) refl)
+    quiet config past (act.Till till (request.Unlock n x)) _ (commanded-no s till n (command.Unlock x) (at_number s.points n) refl)
 asked-decides config first past s till moment (request.Clear n x) =
-    quiet past (act.Till till (request.Clear n x)) _ (commanded-no s till n (command.Clear x) (at_number s.points n) refl)
-asked-decides config first past s till moment (request.Show n) = quiet past (act.Till till (request.Show n)) _ (show-no s n (at_number s.points n) refl)
+    quiet config past (act.Till till (request.Clear n x)) _ (commanded-no s till n (command.Clear x) (at_number s.points n) refl)
+asked-decides config first past s till moment (request.Show n) = quiet config past (act.Till till (request.Show n)) _ (show-no s n (at_number s.points n) refl)
 
-till-decides : (config : ConfigValue) (first : config.opening ≡ None) (past : List Entry) (s : SiteState) (till moment : ℕ) (r : Request) (b : Bool)
-    → DecidesOne past (act.Till till r) (if b then asked config past s till moment r else replied no_such_till s).reply
+till-decides : (config : ConfigValue) (first : Opens config) (past : List Entry) (s : SiteState) (till moment : ℕ) (r : Request) (b : Bool)
+    → DecidesOne config past (act.Till till r) (if b then asked config past s till moment r else replied no_such_till s).reply
 till-decides config first past s till moment r true = asked-decides config first past s till moment r
-till-decides config first past s till moment r false = quiet past (act.Till till r) no_such_till refl
+till-decides config first past s till moment r false = quiet config past (act.Till till r) no_such_till refl
 
-effect-decides : (config : ConfigValue) (first : config.opening ≡ None) (past : List Entry) (s : SiteState) (moment : ℕ) (a : Act) → DecidesOne past a (effect config past s moment a).reply
+effect-decides : (config : ConfigValue) (first : Opens config) (past : List Entry) (s : SiteState) (moment : ℕ) (a : Act) → DecidesOne config past a (effect config past s moment a).reply
 effect-decides config first past s moment (act.Till till r) = till-decides config first past s till moment r (is_till config till)
-effect-decides config first past s moment (act.Dispenser n event) = quiet past (act.Dispenser n event) _ (reported-no s n event (at_number s.points n) refl)
+effect-decides config first past s moment (act.Dispenser n event) = quiet config past (act.Dispenser n event) _ (reported-no s n event (at_number s.points n) refl)
 effect-decides config first past s moment (act.Load slot mask layout bytes) =
-    quiet past (act.Load slot mask layout bytes) _ (load-no (nat_le slot 15) (nat_lt (versions past) 4096) (versions_before config + versions past + 1))
+    quiet config past (act.Load slot mask layout bytes) _ (load-no (nat_le slot 15) (nat_lt (versions past) 4096) (versions_before config + versions past + 1))
 
 -- ---- induction over the entries of a history
 
-entry-decides : (past : List Entry) (entry : Entry) → DecidesOne past entry.act entry.reply
+entry-decides : (config : ConfigValue) (past : List Entry) (entry : Entry) → DecidesOne config past entry.act entry.reply
     → (length (option_to_list (decision_of entry)) ≡ (if is_decided entry.reply then 1 else 0))
-    × VersionsFit (versions past) (option_to_list (decision_of entry))
+    × VersionsFit config (versions past) (option_to_list (decision_of entry))
 unfolding decision_of
-entry-decides past entry d = (d.count, d.fits)
+entry-decides config past entry d = (d.count, d.fits)
 
 one-decision : (entry : Entry) (o : Option Decision) → decision_of entry ≡ o → filter_map decision_of (entry ∷ []) ≡ option_to_list o
 one-decision entry None is = rw is refl
 one-decision entry (Some d) is = rw is refl
 
-loaded-long : (number moment : ℕ) (a : Act) (r : Reply) (n : ℕ) → n + length (option_to_list (loaded_at number moment a r))
-    ≡ (elim (loaded a r) as (λ _. ℕ) [ Some _ ↦ n + 1 | None ↦ n ])
-loaded-long number moment (act.Load slot mask layout bytes) (reply.Version v) n = refl
-loaded-long number moment (act.Load slot mask layout bytes) reply.Done n = omega arith
-loaded-long number moment (act.Load slot mask layout bytes) (reply.Granted g v) n = omega arith
-loaded-long number moment (act.Load slot mask layout bytes) (reply.Order o) n = omega arith
-loaded-long number moment (act.Load slot mask layout bytes) (reply.Point b c d e f g h) n = omega arith
-loaded-long number moment (act.Load slot mask layout bytes) (reply.Refused m v) n = omega arith
-loaded-long number moment (act.Till till q) r n = omega arith
-loaded-long number moment (act.Dispenser k event) r n = omega arith
+-- ---- the numbers of the versions that are loaded
 
-load-long : (moment : ℕ) (entry : Entry) (past : List Entry) → versions past + length (option_to_list (load_of moment entry)) ≡ versions (entry ∷ past)
+abbrev numbers : List Load → List ℕ
+numbers ls = map (λ (load : Load). load.version) ls
+
+range-push : (a n : ℕ) → range_with_len a (n + 1) ≡ range_with_len a n ++ (a + n) ∷ []
+range-push a zero = ap (λ k. k ∷ []) (omega arith)
+range-push a (suc n) =
+    let one : suc n + 1 ≡ suc (n + 1) = omega arith in
+    let same : a + 1 + n ≡ a + suc n = omega arith in
+    ap (range_with_len a) one
+    ∙ ap (λ l. a ∷ l) (range-push (a + 1) n ∙ ap (λ k. range_with_len (a + 1) n ++ k ∷ []) same)
+
+-- the number of the next version, if the act with this reply is a load that was accepted
+abbrev Numbers : ConfigValue → List Entry → Act → Reply → Type 0
+Numbers config past a r =
+    (number moment : ℕ) → numbers (option_to_list (loaded_at number moment a r))
+    ≡ (elim (loaded a r) as (λ _. List ℕ) [ Some _ ↦ (versions_before config + versions past + 1) ∷ [] | None ↦ [] ])
+
+load-numbers : (config : ConfigValue) (past : List Entry) (slot mask : ℕ) (layout : Layout) (bytes : List ℕ) (b c : Bool)
+    → Numbers config past (act.Load slot mask layout bytes)
+    (if b then if c then reply.Version (versions_before config + versions past + 1) else refused 30 else refused 32)
+load-numbers config past slot mask layout bytes true true = λ number moment. refl
+load-numbers config past slot mask layout bytes true false = λ number moment. refl
+load-numbers config past slot mask layout bytes false c = λ number moment. refl
+
+effect-numbers : (config : ConfigValue) (past : List Entry) (s : SiteState) (moment : ℕ) (a : Act) → Numbers config past a (effect config past s moment a).reply
+effect-numbers config past s moment (act.Till till r) = λ number moment. refl
+effect-numbers config past s moment (act.Dispenser n event) = λ number moment. refl
+effect-numbers config past s moment (act.Load slot mask layout bytes) =
+    load-numbers config past slot mask layout bytes (nat_le slot 15) (nat_lt (versions past) 4096)
+
+numbers-more : (before n : ℕ) (o : Option (ℕ × ProgramText))
+    → range_with_len (before + 1) n ++ (elim o as (λ _. List ℕ) [ Some _ ↦ (before + n + 1) ∷ [] | None ↦ [] ])
+    ≡ range_with_len (before + 1) (elim o as (λ _. ℕ) [ Some _ ↦ n + 1 | None ↦ n ])
+numbers-more before n None = append-nil (range_with_len (before + 1) n)
+numbers-more before n (Some l) =
+    let same : before + n + 1 ≡ before + 1 + n = omega arith in
+    ap (λ k. range_with_len (before + 1) n ++ k ∷ []) same ∙ sym (range-push (before + 1) n)
+
+entry-numbers : (config : ConfigValue) (past : List Entry) (moment : ℕ) (entry : Entry) → Numbers config past entry.act entry.reply
+    → range_with_len (versions_before config + 1) (versions past) ++ numbers (option_to_list (load_of moment entry))
+    ≡ range_with_len (versions_before config + 1) (versions (entry ∷ past))
 unfolding load_of
-load-long moment entry past = loaded-long entry.number moment entry.act entry.reply (versions past)
+entry-numbers config past moment entry one =
+    ap (λ ns. range_with_len (versions_before config + 1) (versions past) ++ ns) (one entry.number moment)
+    ∙ numbers-more (versions_before config) (versions past) (loaded entry.act entry.reply)
 
-record Comes (past : List Entry) : Type 0 where
+versions-more : (n : ℕ) (o : Option (ℕ × ProgramText)) → n ≤ (elim o as (λ _. ℕ) [ Some _ ↦ n + 1 | None ↦ n ])
+versions-more n None = omega arith
+versions-more n (Some l) = omega arith
+
+-- ---- a history with one more entry
+
+record Comes (config : ConfigValue) (past : List Entry) : Type 0 where
   count : length (filter_map decision_of (reverse past)) ≡ count_by (λ (e : Entry). is_decided e.reply) (reverse past)
-  fits : VersionsFit (versions past) (filter_map decision_of (reverse past))
-  loaded : length (loads 0 (reverse past)) ≡ versions past
+  fits : VersionsFit config (versions past) (filter_map decision_of (reverse past))
+  loaded : numbers (loads 0 (reverse past)) ≡ range_with_len (versions_before config + 1) (versions past)
 
-comes-more : (past : List Entry) (entry : Entry) → DecidesOne past entry.act entry.reply → Comes past → Comes (entry ∷ past)
-comes-more past entry one h =
+comes-more : (config : ConfigValue) (past : List Entry) (entry : Entry) → DecidesOne config past entry.act entry.reply
+    → Numbers config past entry.act entry.reply → Comes config past → Comes config (entry ∷ past)
+comes-more config past entry one numbered h =
     let turned : reverse (entry ∷ past) ≡ reverse past ++ entry ∷ [] = reverse-append (entry ∷ []) past in
-    let e = entry-decides past entry one in
+    let e = entry-decides config past entry one in
     let last : filter_map decision_of (entry ∷ []) ≡ option_to_list (decision_of entry) = one-decision entry (decision_of entry) refl in
     let split : filter_map decision_of (reverse (entry ∷ past)) ≡ filter_map decision_of (reverse past) ++ option_to_list (decision_of entry) =
     ap (filter_map decision_of) turned ∙ filter_map-append decision_of (reverse past) (entry ∷ []) ∙ ap
@@ -365,34 +536,38 @@ comes-more past entry one h =
     let long = ap length split ∙ length-append (filter_map decision_of (reverse past)) (option_to_list (decision_of entry)) in
     let first = e.0 in
     let none : sum_by (λ (x : Entry). if is_decided x.reply then 1 else 0) [] ≡ 0 = refl in
-    let loading = load-long (fold moment_after 0 (reverse past)) entry past in
-    let pushed = ap (λ h. length (loads 0 h)) turned ∙ ap length (loads-push 0 (reverse past) entry)
-    ∙ length-append (loads 0 (reverse past)) (option_to_list (load_of (fold moment_after 0 (reverse past)) entry)) in
-    let were = h.loaded in
-    let more : versions past ≤ versions (entry ∷ past) = omega (arith, loading) in
+    let moment : ℕ = fold moment_after 0 (reverse past) in
+    let pushed : numbers (loads 0 (reverse (entry ∷ past))) ≡ numbers (loads 0 (reverse past)) ++ numbers (option_to_list (load_of moment entry)) =
+    ap (λ h. numbers (loads 0 h)) turned ∙ ap numbers (loads-push 0 (reverse past) entry)
+    ∙ map-append (λ (load : Load). load.version) (loads 0 (reverse past)) (option_to_list (load_of moment entry)) in
+    let more : versions past ≤ versions (entry ∷ past) = versions-more (versions past) (loaded entry.act entry.reply) in
     record {
       count = omega (arith, counts, single, before, long, first, none);
-      fits = subst (VersionsFit (versions (entry ∷ past))) (sym split)
-          (fit-more (versions past) (versions (entry ∷ past)) _ more
-          (fit-append (versions past) (filter_map decision_of (reverse past)) (option_to_list (decision_of entry)) h.fits e.1));
-      loaded = omega (arith, pushed, were, loading);
+      fits = subst (VersionsFit config (versions (entry ∷ past))) (sym split)
+          (fit-more config (versions past) (versions (entry ∷ past)) _ more
+          (fit-append config (versions past) (filter_map decision_of (reverse past)) (option_to_list (decision_of entry)) h.fits e.1));
+      loaded = pushed ∙ ap (λ ns. ns ++ numbers (option_to_list (load_of moment entry))) h.loaded ∙ entry-numbers config past moment entry numbered;
     }
 
-comes : (config : ConfigValue) (first : config.opening ≡ None) (past : List Entry) (s : SiteState) → Legal config past s → Comes past
+comes : (config : ConfigValue) (first : Opens config) (past : List Entry) (s : SiteState) → Legal config past s → Comes config past
 comes config first [] s l = record { count = refl; fits = tt; loaded = refl }
 comes config first (entry ∷ past) s l =
     let e : Effect = effect config past l.0 entry.moment entry.act in
     let answered : entry.reply ≡ e.reply = ap (λ (x : Entry). x.reply) l.3.enters in
-    comes-more past entry (subst (DecidesOne past entry.act) (sym answered) (effect-decides config first past l.0 entry.moment entry.act)) (comes config first past l.0 l.1)
+    comes-more config past entry (subst (DecidesOne config past entry.act) (sym answered) (effect-decides config first past l.0 entry.moment entry.act))
+    (subst (Numbers config past entry.act) (sym answered) (effect-numbers config past l.0 entry.moment entry.act)) (comes config first past l.0 l.1)
 
 pub tells : VersionsTellAllDecisions
-tells config history state first legal =
-    let c : Comes (reverse history) = comes config first (reverse history) state legal in
+tells config history state good legal =
+    let first : Opens config = opens config config.opening good refl in
+    let low = lows config config.opening good refl in
+    let c : Comes config (reverse history) = comes config first (reverse history) state legal in
     let same : reverse (reverse history) ≡ history = reverse-reverse history in
+    let n : ℕ = versions (reverse history) in
     let ds = filter_map decision_of history in
-    let loaded : length (loads 0 history) ≡ versions (reverse history) = ap (λ h. length (loads 0 h)) (sym same) ∙ c.loaded in
-    let fits : VersionsFit (length (loads 0 history)) ds =
-    subst (λ n. VersionsFit n ds) (sym loaded) (subst (λ h. VersionsFit (versions (reverse history)) (filter_map decision_of h)) same c.fits) in
+    let all : versions_of config history ≡ numbers_with config n =
+    ap (λ ns. olds config ++ ns) (ap (λ h. numbers (loads 0 h)) (sym same) ∙ c.loaded) in
+    let fits : VersionsFit config n ds = subst (λ h. VersionsFit config n (filter_map decision_of h)) same c.fits in
     let count : length ds ≡ count_by (λ (x : Entry). is_decided x.reply) history =
     subst (λ h. length (filter_map decision_of h) ≡ count_by (λ (x : Entry). is_decided x.reply) h) same c.count in
-    (λ i. sum_by (λ v. six v ds i) (range_with_len 1 (length (loads 0 history)))) ∙ all-versions (length (loads 0 history)) ds fits ∙ count
+    (λ i. sum_by (λ v. six v ds i) (all i)) ∙ all-versions config n ds low fits ∙ count

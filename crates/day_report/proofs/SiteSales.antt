@@ -1,12 +1,12 @@
 -- The number and the total of the sales in a journal are those that the state of its site has, and so are its points.
-use Rattle.std.proofs.Common.{◌≡◌, ℕ, zero, suc, ◌+◌, ◌-◌, ◌<◌, ◌≤◌, Bool, true, false, List, [], ◌∷◌, ◌++◌, length, map, replicate, reverse, Option, Some}
+use Rattle.std.proofs.Common.{◌≡◌, ℕ, zero, suc, ◌+◌, ◌-◌, ◌<◌, ◌≤◌, Bool, true, false, List, [], ◌∷◌, ◌++◌, length, reverse, Option, Some}
 use Rattle.std.proofs.Common.{None, slice_get, refl, arith, ap, ◌∙◌, sym, subst}
 use Rattle.std.specs.Prelude.{if◌then◌else◌, ◌==◌, nat_le, nat_lt, sum_by, option_to_list}
 use Rattle.std.specs.List.{range_with_len}
 use Rattle.std.proofs.lemmas.Bool.Decides.{nat_tests}
 use Rattle.std.proofs.lemmas.List.{reverse-append, reverse-reverse}
 use Rattle.std.proofs.lemmas.List.Sums.{sum_by-cons, sum_by-append}
-use Rattle.fuelling_point.specs.Table.{PointState, fresh_point, find_number}
+use Rattle.fuelling_point.specs.Table.{PointState, find_number}
 use Rattle.fuelling_point.specs.declared.kinds.Transaction.{Transaction}
 use Rattle.decision_journal.specs.declared.entries.Entry.{Entry}
 use Rattle.till_request.specs.declared.act.Act.{Act}
@@ -16,15 +16,14 @@ use Rattle.till_request.specs.declared.act.Act.TheVariants as act
 use Rattle.till_request.specs.declared.act.Request.{Request}
 use Rattle.till_request.specs.declared.act.Request.TheVariants as request
 use Rattle.site_core.specs.Limits.{ConfigValue}
-use Rattle.site_core.specs.State.{SiteState, at_number, fresh_state}
+use Rattle.site_core.specs.State.{SiteState, at_number, opening_state}
 use Rattle.site_core.specs.Decide.{Effect, is_till, after_command, replied, no_such_till}
 use Rattle.site_core.specs.Step.{effect, entry_of, asked}
 use Rattle.site_core.specs.Legal.{Legal}
-use Rattle.site_core.proofs.First.{first-state}
-use Rattle.day_report.specs.Walk.{with_changed, with_command, with_entry, with_act, after_event, command_told, stand, closed_points}
-use Rattle.day_report.specs.Sales.{cleared_by, clearing_of, unpaid_at, sale_of, sales}
+use Rattle.day_report.specs.Walk.{with_changed, with_command, with_entry, with_act, after_event, command_told, stand, points_after}
+use Rattle.day_report.specs.Sales.{cleared_by, clearing_of, unpaid_at, sale_of, sales, sales_of}
 use Rattle.day_report.specs.Totals.{count_in, cents_in}
-use Rattle.day_report.specs.Laws.{SalesTellTheSite, sales_of}
+use Rattle.day_report.specs.Laws.{SalesTellTheSite}
 use Rattle.day_report.specs.declared.sales.Sale.{Sale}
 use Rattle.day_report.specs.declared.sales.Clearing.{Clearing}
 use Rattle.day_report.specs.declared.sales.Part.TheVariants as part
@@ -71,10 +70,10 @@ sale-of-paid points entry =
 
 -- ---- the point and the till of a sale
 
--- the sale is at a point and by a till that the configuration has
+-- the sale is at a point that the site has at its start, and by a till that the configuration has
 record FitsOne (config : ConfigValue) (sale : Sale) : Type 0 where
   some_point : 1 ≤ sale.point
-  point : sale.point ≤ length config.points
+  point : sale.point ≤ length (opening_state config).points
   some_till : 1 ≤ sale.till
   till : sale.till ≤ config.tills
 
@@ -159,16 +158,12 @@ within points n p is = in-bounds points n p (nat_le 1 n) refl is
 
 -- ---- the totals with one more entry
 
-same-points : (points : List (ℕ × ℕ)) → replicate (length points) fresh_point ≡ map (λ (_ : ℕ × ℕ). fresh_point) points
-same-points [] = refl
-same-points (p ∷ points) = ap (λ xs. fresh_point ∷ xs) (same-points points)
-
 -- The points and the sales of a history, which is given newest entry first, agree with the state of its site.
 record Comes (config : ConfigValue) (past : List Entry) (s : SiteState) : Type 0 where
-  points : stand (closed_points (length config.points)) (reverse past) ≡ s.points
-  count : count_in part.All (sales_of config (reverse past)) ≡ s.clears
-  cents : cents_in part.All (sales_of config (reverse past)) ≡ s.cleared
-  long : length s.points ≡ length config.points
+  points : points_after config (reverse past) ≡ s.points
+  count : (opening_state config).clears + count_in part.All (sales_of config (reverse past)) ≡ s.clears
+  cents : (opening_state config).cleared + cents_in part.All (sales_of config (reverse past)) ≡ s.cleared
+  long : length s.points ≡ length (opening_state config).points
   fits : Fit config (sales_of config (reverse past))
 
 reverse-more : (entry : Entry) (past : List Entry) → reverse (entry ∷ past) ≡ reverse past ++ entry ∷ []
@@ -185,11 +180,6 @@ entry-tells config past b entry e is tells =
       tells.cleared ∙ ap (λ r. b.cleared + cents_of (paid b.points (clearing_of entry.act r))) (sym answered),
       tells.clears ∙ ap (λ r. b.clears + one_of (paid b.points (clearing_of entry.act r))) (sym answered),
     )
-
--- A site starts with as many points as its configuration has.
-opening-long : (points : List (ℕ × ℕ)) → length (map (λ (_ : ℕ × ℕ). fresh_point) points) ≡ length points
-opening-long [] = refl
-opening-long (p ∷ points) = ap suc (opening-long points)
 
 changed-long : (points : List PointState) (n : ℕ) (becomes : PointState → PointState) (o : Option PointState) → at_number points n ≡ o
     → length (with_changed points n becomes) ≡ length points
@@ -215,9 +205,9 @@ entry-long : (points : List PointState) (entry : Entry) → length (with_entry p
 unfolding with_entry
 entry-long points entry = act-long points entry.act entry.reply
 
--- The sale of an entry is at a point and by a till that the configuration has.
+-- The sale of an entry is at a point that the site has at its start, and by a till that the configuration has.
 sold-fits : (config : ConfigValue) (points : List PointState) (entry : Entry) (o : Option Clearing) (t : Option Transaction)
-    → length points ≡ length config.points → ((c : Clearing) → o ≡ Some c → is_till config c.till ≡ true) → paid points o ≡ t
+    → length points ≡ length (opening_state config).points → ((c : Clearing) → o ≡ Some c → is_till config c.till ≡ true) → paid points o ≡ t
     → Fit config (option_to_list (sold entry o t))
 unfolding sold
 sold-fits config points entry None t long tills pays = tt
@@ -233,7 +223,7 @@ sold-fits config points entry (Some c) (Some t) long tills pays =
     (record { some_point = some; point = omega (arith, few, long); some_till = least; till = most }, tt)
 
 sale-fits : (config : ConfigValue) (past : List Entry) (b : SiteState) (entry : Entry) (o : Option Clearing) (t : Option Transaction)
-    → length b.points ≡ length config.points → entry ≡ entry_of past entry.pass entry.moment entry.act (effect config past b entry.moment entry.act)
+    → length b.points ≡ length (opening_state config).points → entry ≡ entry_of past entry.pass entry.moment entry.act (effect config past b entry.moment entry.act)
     → clearing_of entry.act entry.reply ≡ o → paid b.points o ≡ t → Fit config (option_to_list (sale_of b.points entry))
 sale-fits config past b entry o t long is clears pays =
     let answered : entry.reply ≡ (effect config past b entry.moment entry.act).reply = ap (λ (x : Entry). x.reply) is in
@@ -246,7 +236,7 @@ comes-more : (config : ConfigValue) (past : List Entry) (b s : SiteState) (entry
     → s ≡ (effect config past b entry.moment entry.act).after → Comes config (entry ∷ past) s
 comes-more config past b s entry h is leaves =
     let e : Effect = effect config past b entry.moment entry.act in
-    let start : List PointState = closed_points (length config.points) in
+    let start : List PointState = (opening_state config).points in
     let told = entry-tells config past b entry e is (effect-says config past b entry.moment entry.act) in
     let stands : stand start (reverse (entry ∷ past)) ≡ with_entry b.points entry =
     ap (stand start) (reverse-more entry past) ∙ stand-push start (reverse past) entry ∙ ap (λ p. with_entry p entry) h.points in
@@ -254,32 +244,42 @@ comes-more config past b s entry h is leaves =
     ap (sales start) (reverse-more entry past) ∙ sales-push start (reverse past) entry ∙ ap
     (λ p. sales start (reverse past) ++ option_to_list (sale_of p entry)) h.points in
     let pays = sale-of-paid b.points entry in
+    let more = ap (count_in part.All) sells ∙ sum_by-append _ (sales start (reverse past)) (option_to_list (sale_of b.points entry)) in
+    let sum = ap (cents_in part.All) sells ∙ sum_by-append _ (sales start (reverse past)) (option_to_list (sale_of b.points entry)) in
+    let clears : s.clears ≡ e.after.clears = ap (λ (x : SiteState). x.clears) leaves in
+    let cleared : s.cleared ≡ e.after.cleared = ap (λ (x : SiteState). x.cleared) leaves in
+    let counted = h.count in
+    let summed = h.cents in
+    let one = pays.1 in
+    let paid_now = pays.0 in
+    let by_clears = told.2 in
+    let by_cleared = told.1 in
     record {
       points = stands ∙ told.0 ∙ ap (λ (x : SiteState). x.points) (sym leaves);
-      count = ap (count_in part.All) sells ∙ sum_by-append _ (sales start (reverse past)) (option_to_list (sale_of b.points entry))
-          ∙ (λ i. h.count i + pays.1 i) ∙ sym told.2 ∙ ap (λ (x : SiteState). x.clears) (sym leaves);
-      cents = ap (cents_in part.All) sells ∙ sum_by-append _ (sales start (reverse past)) (option_to_list (sale_of b.points entry))
-          ∙ (λ i. h.cents i + pays.0 i) ∙ sym told.1 ∙ ap (λ (x : SiteState). x.cleared) (sym leaves);
+      count = omega (arith, more, clears, counted, one, by_clears);
+      cents = omega (arith, sum, cleared, summed, paid_now, by_cleared);
       long = ap (λ (x : SiteState). length x.points) leaves ∙ ap length (sym told.0) ∙ entry-long b.points entry ∙ h.long;
       fits = subst (Fit config) (sym sells) (fit-append config (sales start (reverse past)) (option_to_list (sale_of b.points entry)) h.fits
           (sale-fits config past b entry (clearing_of entry.act entry.reply) (paid b.points (clearing_of entry.act entry.reply)) h.long is refl refl));
     }
 
-comes : (config : ConfigValue) (past : List Entry) (s : SiteState) → config.opening ≡ None → Legal config past s → Comes config past s
-comes config [] s first l =
-    let fresh : s ≡ fresh_state config = l ∙ first-state config first in
+comes : (config : ConfigValue) (past : List Entry) (s : SiteState) → Legal config past s → Comes config past s
+comes config [] s l =
+    let clears : s.clears ≡ (opening_state config).clears = ap (λ (x : SiteState). x.clears) l in
+    let cleared : s.cleared ≡ (opening_state config).cleared = ap (λ (x : SiteState). x.cleared) l in
     record {
-      points = same-points config.points ∙ ap (λ (x : SiteState). x.points) (sym fresh);
-      count = ap (λ (x : SiteState). x.clears) (sym fresh);
-      cents = ap (λ (x : SiteState). x.cleared) (sym fresh);
-      long = ap (λ (x : SiteState). length x.points) fresh ∙ opening-long config.points;
+      points = ap (λ (x : SiteState). x.points) (sym l);
+      count = omega (arith, clears);
+      cents = omega (arith, cleared);
+      long = ap (λ (x : SiteState). length x.points) l;
       fits = tt;
     }
-comes config (entry ∷ past) s first l = comes-more config past l.0 s entry (comes config past l.0 first l.1) l.3.enters l.3.leaves
+comes config (entry ∷ past) s l = comes-more config past l.0 s entry (comes config past l.0 l.1) l.3.enters l.3.leaves
 
 -- ---- sums by a key
 
-none-key : (a n x v : ℕ) → x < a → sum_by (λ k. if x == k then v else 0) (range_with_len a n) ≡ 0
+-- If x is below a, then no number from a on equals it.
+pub none-key : (a n x v : ℕ) → x < a → sum_by (λ k. if x == k then v else 0) (range_with_len a n) ≡ 0
 none-key a zero x v below = refl
 none-key a (suc n) x v below =
     let no : (x == a) ≡ false = grind (arith, nat_tests, below) in
@@ -331,9 +331,12 @@ all-keys key a n (s ∷ sales) fits =
     ∙ (λ i. one-key a n (key s) s.amount fits.0.0 fits.0.1 i + all-keys key a n sales fits.1 i)
     ∙ sym (sum_by-cons (λ (sale : Sale). sale.amount) s sales)
 
-point-keys : (config : ConfigValue) (sales : List Sale) → Fit config sales → KeysFit (λ (s : Sale). s.point) 1 (length config.points) sales
-point-keys config [] f = tt
-point-keys config (s ∷ sales) f = let l : s.point ≤ length config.points = f.0.point in ((f.0.some_point, omega (arith, l)), point-keys config sales f.1)
+point-keys : (config : ConfigValue) (sales : List Sale) → length (opening_state config).points ≡ length config.points → Fit config sales
+    → KeysFit (λ (s : Sale). s.point) 1 (length config.points) sales
+point-keys config [] same f = tt
+point-keys config (s ∷ sales) same f =
+    let l : s.point ≤ length (opening_state config).points = f.0.point in
+    ((f.0.some_point, omega (arith, l, same)), point-keys config sales same f.1)
 
 till-keys : (config : ConfigValue) (tills : ℕ) (sales : List Sale) → config.tills ≤ tills → Fit config sales → KeysFit (λ (s : Sale). s.till) 1 tills sales
 till-keys config tills [] most f = tt
@@ -341,16 +344,19 @@ till-keys config tills (s ∷ sales) most f = let l : s.till ≤ config.tills =
     f.0.till in ((f.0.some_till, omega (arith, l, most)), till-keys config tills sales most f.1)
 
 pub tells : SalesTellTheSite
-tells config history state first legal =
-    let c : Comes config (reverse history) state = comes config (reverse history) state first legal in
+tells config history state legal =
+    let c : Comes config (reverse history) state = comes config (reverse history) state legal in
     let same : reverse (reverse history) ≡ history = reverse-reverse history in
-    let cents : cents_in part.All (sales_of config history) ≡ state.cleared = ap (λ h. cents_in part.All (sales_of config h)) (sym same) ∙ c.cents in
+    let before : ℕ = (opening_state config).cleared in
+    let cents : before + cents_in part.All (sales_of config history) ≡ state.cleared =
+    ap (λ h. before + cents_in part.All (sales_of config h)) (sym same) ∙ c.cents in
     let fits : Fit config (sales_of config history) = subst (λ h. Fit config (sales_of config h)) same c.fits in
     record {
-      points = ap (stand (closed_points (length config.points))) (sym same) ∙ c.points;
-      count = ap (λ h. count_in part.All (sales_of config h)) (sym same) ∙ c.count;
+      points = ap (points_after config) (sym same) ∙ c.points;
+      count = ap (λ h. (opening_state config).clears + count_in part.All (sales_of config h)) (sym same) ∙ c.count;
       cents = cents;
-      by_point = all-keys (λ (s : Sale). s.point) 1 (length config.points) (sales_of config history) (point-keys config (sales_of config history) fits) ∙ cents;
-      by_till = λ tills most. all-keys (λ (s : Sale). s.till) 1 tills (sales_of config history) (till-keys config tills (sales_of config history) most fits)
-          ∙ cents;
+      by_point = λ long. ap (λ x. before + x)
+          (all-keys (λ (s : Sale). s.point) 1 (length config.points) (sales_of config history) (point-keys config (sales_of config history) long fits)) ∙ cents;
+      by_till = λ tills most. ap (λ x. before + x)
+          (all-keys (λ (s : Sale). s.till) 1 tills (sales_of config history) (till-keys config tills (sales_of config history) most fits)) ∙ cents;
     }

@@ -1,39 +1,36 @@
 -- Promises: laws about what a history adds up to.
-use Rattle.std.specs.Prelude.{◌≡◌, ◌≤◌, ℕ, ◌+◌, true, false, List, length, sum_by, count_by, None}
+use Rattle.std.specs.Prelude.{◌≡◌, ◌≤◌, ℕ, ◌+◌, true, false, List, length, sum_by, count_by}
 use Rattle.std.specs.List.{range_with_len, filter_map}
 use Rattle.decision_journal.specs.declared.entries.Entry.{Entry}
 use Rattle.site_core.specs.Limits.{ConfigValue}
-use Rattle.site_core.specs.State.{SiteState}
+use Rattle.site_core.specs.State.{SiteState, opening_state}
 use Rattle.site_core.specs.Decide.{is_decided}
 use Rattle.site_core.specs.Legal.{LegalHistory}
-use Rattle.day_report.specs.Walk.{stand, closed_points}
-use Rattle.day_report.specs.Sales.{sales}
-use Rattle.day_report.specs.Decisions.{decision_of, loads}
-use Rattle.day_report.specs.Totals.{count_in, cents_in, decided_by}
+use Rattle.day_report.specs.Walk.{points_after}
+use Rattle.day_report.specs.Carried.{OpensRightly}
+use Rattle.day_report.specs.Sales.{sales_of}
+use Rattle.day_report.specs.Decisions.{decision_of}
+use Rattle.day_report.specs.Totals.{count_in, cents_in, decided_by, versions_of}
 use Rattle.day_report.specs.declared.rulings.Decision.{Decision}
 use Rattle.day_report.specs.declared.counting.Deciding.TheVariants as deciding
-use Rattle.day_report.specs.declared.sales.Sale.{Sale}
 use Rattle.day_report.specs.declared.sales.Part.TheVariants as part
 
--- The sales of a history of a site of this configuration.
-abbrev pub sales_of : ConfigValue → List Entry → List Sale
-sales_of config history = sales (closed_points (length config.points)) history
-
--- The sales in a journal agree with the state of its site. The points are the site's points, and there are as many
--- sales as the site cleared transactions. The totals of all sales, of all points, and of all tills are the site's
--- cleared total. The tills that are added up must be at least those of the site.
+-- The sales in a journal agree with the state of its site. The points are the site's points. What was cleared before the
+-- day and the sales together are what the site cleared: their number, and their total over all sales, over all points and
+-- over all tills. It is so over all points of the configuration if the opening has as many. The tills that are added up
+-- must be at least those of the site.
 pub record TellsItsSite (config : ConfigValue) (history : List Entry) (state : SiteState) : Type 0 where
-  pub points : stand (closed_points (length config.points)) history ≡ state.points
-  pub count : count_in part.All (sales_of config history) ≡ state.clears
-  pub cents : cents_in part.All (sales_of config history) ≡ state.cleared
-  pub by_point : sum_by (λ n. cents_in (part.Point n) (sales_of config history)) (range_with_len 1 (length config.points)) ≡ state.cleared
-  pub by_till : (tills : ℕ) → config.tills ≤ tills → sum_by (λ t. cents_in (part.Till t) (sales_of config history)) (range_with_len 1 tills) ≡ state.cleared
+  pub points : points_after config history ≡ state.points
+  pub count : (opening_state config).clears + count_in part.All (sales_of config history) ≡ state.clears
+  pub cents : (opening_state config).cleared + cents_in part.All (sales_of config history) ≡ state.cleared
+  pub by_point : length (opening_state config).points ≡ length config.points
+      → (opening_state config).cleared + sum_by (λ n. cents_in (part.Point n) (sales_of config history)) (range_with_len 1 (length config.points)) ≡ state.cleared
+  pub by_till : (tills : ℕ) → config.tills ≤ tills
+      → (opening_state config).cleared + sum_by (λ t. cents_in (part.Till t) (sales_of config history)) (range_with_len 1 tills) ≡ state.cleared
 
--- The sales in the journal of any legal history agree with the state that the history leads to, if the site has no day
--- behind it.
+-- The sales in the journal of any legal history agree with the state that the history leads to.
 abbrev pub SalesTellTheSite : Type 0
-SalesTellTheSite = (config : ConfigValue) (history : List Entry) (state : SiteState) → config.opening ≡ None → LegalHistory config history state
-    → TellsItsSite config history state
+SalesTellTheSite = (config : ConfigValue) (history : List Entry) (state : SiteState) → LegalHistory config history state → TellsItsSite config history state
 
 -- how many decisions a version made in all: on releases, presets and prices, granted and denied
 abbrev pub decided_in_all : ℕ → List Decision → ℕ
@@ -41,10 +38,11 @@ decided_in_all v ds =
     decided_by deciding.Releases true v ds + decided_by deciding.Releases false v ds + decided_by deciding.Presets true v ds
     + decided_by deciding.Presets false v ds + decided_by deciding.Prices true v ds + decided_by deciding.Prices false v ds
 
--- The grants and denials of all loaded versions together are as many as the entries whose reply only a rule can lead
--- to, if the site has no day behind it.
+-- The grants and denials of all versions together, those that were carried in and those that were loaded, are as many as
+-- the entries whose reply only a rule can lead to. By `OpensRightly` no version is carried in twice, and each that
+-- is carried in has a number below those of the day's loads.
 abbrev pub VersionsTellAllDecisions : Type 0
 VersionsTellAllDecisions =
-    (config : ConfigValue) (history : List Entry) (state : SiteState) → config.opening ≡ None → LegalHistory config history state →
-    sum_by (λ v. decided_in_all v (filter_map decision_of history)) (range_with_len 1 (length (loads 0 history))) ≡ count_by
+    (config : ConfigValue) (history : List Entry) (state : SiteState) → OpensRightly config → LegalHistory config history state →
+    sum_by (λ v. decided_in_all v (filter_map decision_of history)) (versions_of config history) ≡ count_by
     (λ (entry : Entry). is_decided entry.reply) history

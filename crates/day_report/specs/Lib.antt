@@ -1,5 +1,6 @@
 pub mod Walk
 pub mod Following
+pub mod Carried
 pub mod Sales
 pub mod Decisions
 pub mod Totals

@@ -9,7 +9,8 @@ use Rattle.till_request.specs.declared.act.Act.{Act}
 use Rattle.till_request.specs.declared.act.Act.TheVariants as act
 use Rattle.till_request.specs.declared.act.Reply.{Reply}
 use Rattle.till_request.specs.declared.act.Reply.TheVariants as reply
-use Rattle.site_core.specs.State.{at_number}
+use Rattle.site_core.specs.Limits.{ConfigValue}
+use Rattle.site_core.specs.State.{at_number, opening_state}
 use Rattle.day_report.specs.Walk.{with_entry}
 use Rattle.day_report.specs.declared.sales.Clearing.{Clearing}
 use Rattle.day_report.specs.declared.sales.Sale.{Sale}
@@ -44,3 +45,7 @@ sale_of points entry =
 abbrev pub sales : List PointState → List Entry → List Sale
 sales points [] = []
 sales points (entry ∷ entries) = cons_option (sale_of points entry) (sales (with_entry points entry) entries)
+
+-- The sales of a history of a site of this configuration. The points before it are those that the site starts with.
+abbrev pub sales_of : ConfigValue → List Entry → List Sale
+sales_of config history = sales (opening_state config).points history

@@ -1,6 +1,8 @@
 -- Definitions: what is added up and what is counted in a history.
 use Rattle.std.specs.Prelude.{◌≡◌, ◌<◌, ℕ, ◌+◌, ◌/◌, ◌%◌, ◌==◌, ◌&&◌, not, List, [], ◌∷◌, ◌++◌, map, length, slice_index, slice_index_or, sum_by, count_by}
-use Rattle.std.specs.Prelude.{if◌then◌else◌, Bool, true, false}
+use Rattle.std.specs.Prelude.{if◌then◌else◌, Bool, true, false, nat_eq, unwrap_or}
+use Rattle.std.specs.HashMap as hash
+use Rattle.std.specs.HashMap.{HashMap}
 use Rattle.day_report.specs.declared.sales.Sale.{Sale}
 use Rattle.day_report.specs.declared.sales.Sum.{Sum}
 use Rattle.day_report.specs.declared.sales.Part.{Part}
@@ -12,7 +14,13 @@ use Rattle.day_report.specs.declared.rulings.Asked.TheVariants as asked
 use Rattle.day_report.specs.declared.rulings.Decision.{Decision}
 use Rattle.day_report.specs.declared.counting.Outcomes.{Outcomes}
 use Rattle.decision_journal.specs.declared.entries.Entry.{Entry}
+use Rattle.site_core.specs.Opening.{OpeningValue}
+use Rattle.site_core.specs.Limits.{ConfigValue}
+use Rattle.day_report.specs.Carried.{carried_from, carried_rules}
 use Rattle.day_report.specs.Decisions.{loads}
+use Rattle.day_report.specs.declared.loading.Load.{Load}
+use Rattle.day_report.specs.declared.opening.CarriedRule.{CarriedRule}
+use Rattle.day_report.specs.declared.adding.CarriedIn.{CarriedIn}
 use Rattle.day_report.specs.declared.adding.Unpaid.{Unpaid}
 use Rattle.fuelling_point.specs.declared.kinds.Transaction.{Transaction}
 use Rattle.fuelling_point.specs.Table.{PointState}
@@ -110,20 +118,20 @@ CountsNumbers long counts numbers =
 abbrev pub CountsRefusals : List ℕ → List ℕ → Type 0
 CountsRefusals counts numbers = CountsNumbers 15 counts numbers
 
--- Both lists have a count for each version below `versions`, at the place of its number. They count how many decisions
--- in the part the version granted, and how many it denied.
-pub record HasOutcomes (part : Deciding) (versions : ℕ) (decisions : List Decision) (found : Outcomes) : Type 0 where
-  pub granted_long : length found.granted.items ≡ versions
-  pub denied_long : length found.denied.items ≡ versions
-  pub granted : (v : ℕ) → v < versions → slice_index found.granted.items v ≡ decided_by part true v decisions
-  pub denied : (v : ℕ) → v < versions → slice_index found.denied.items v ≡ decided_by part false v decisions
+-- The numbers of the versions of a day: those that the opening carries in, in the order of their slots, and then those
+-- of the day's loads, oldest first. A version's place is its place in this list.
+abbrev pub versions_of : ConfigValue → List Entry → List ℕ
+versions_of config entries =
+    map (λ (rule : CarriedRule). rule.version) (carried_rules config) ++ map (λ (load : Load). load.version) (loads 0 entries)
 
--- the number of versions in a history, and one more, since versions are numbered from 1
-abbrev pub versions_of : List Entry → ℕ
-versions_of entries = length (loads 0 entries) + 1
+-- Both lists have a count for each version, at its place: how many decisions in the part it granted, and how many it
+-- denied.
+pub record HasOutcomes (part : Deciding) (versions : List ℕ) (decisions : List Decision) (found : Outcomes) : Type 0 where
+  pub granted : found.granted.items ≡ map (λ v. decided_by part true v decisions) versions
+  pub denied : found.denied.items ≡ map (λ v. decided_by part false v decisions) versions
 
 -- For each till from 1 to `tills`: how often each version granted and denied its requests.
-pub record DecidedByTills (tills versions : ℕ) (decisions : List Decision) (found : List Outcomes) : Type 0 where
+pub record DecidedByTills (tills : ℕ) (versions : List ℕ) (decisions : List Decision) (found : List Outcomes) : Type 0 where
   pub long : length found ≡ tills
   pub each : (k : ℕ) (d : Outcomes) → k < length found → HasOutcomes (deciding.Till (k + 1)) versions decisions (slice_index_or found k d)
 
@@ -138,3 +146,23 @@ unpaid_from n (p ∷ points) = map (unpaid_transaction n) p.unpaid ++ unpaid_fro
 
 unfoldable pub unpaid_of : List PointState → List Unpaid
 unpaid_of points = unpaid_from 1 points
+
+-- What an opening carries in: how many unpaid transactions, and their total in cents; how many rules; and the total that
+-- was cleared before, in cents.
+abbrev pub carried_in : OpeningValue → CarriedIn
+carried_in o = record {
+  unpaid = length (unpaid_of o.points);
+  unpaid_cents = sum_by (λ (u : Unpaid). u.amount) (unpaid_of o.points);
+  rules = length (carried_from 0 o.rules);
+  cleared = o.cleared;
+}
+
+-- ---- promises of private functions
+
+-- the count that a map has for a version; 0 if it has none
+abbrev pub count_for : {S : Type 0} → HashMap ℕ ℕ S → ℕ → ℕ
+count_for counts v = unwrap_or (hash.get nat_eq counts v) 0
+
+-- The map has for each version how many of the decisions are by it, in the part, and grants if `granted` is true.
+abbrev pub CountsVersions : {S : Type 0} → Deciding → Bool → List Decision → HashMap ℕ ℕ S → Type 0
+CountsVersions part granted decisions counts = (v : ℕ) → count_for counts v ≡ decided_by part granted v decisions

@@ -1,7 +1,7 @@
 -- Definitions: the states of a site's points, as they follow from its journal (this profile). Entries are oldest first.
 -- The table of fuelling points defines what a command or an event does at a point.
-use Rattle.std.specs.Prelude.{ℕ, ◌-◌, nat_lt, if◌then◌else◌, List, replicate, fold, slice_set, Option, Some, None, Ok, Err}
-use Rattle.fuelling_point.specs.Table.{PointState, fresh_point, event_step}
+use Rattle.std.specs.Prelude.{ℕ, ◌-◌, nat_lt, if◌then◌else◌, List, fold, slice_set, Option, Some, None, Ok, Err}
+use Rattle.fuelling_point.specs.Table.{PointState, event_step}
 use Rattle.fuelling_point.specs.declared.kinds.Command.{Command}
 use Rattle.fuelling_point.specs.declared.kinds.Command.TheVariants as command
 use Rattle.fuelling_point.specs.declared.kinds.DispenserEvent.{DispenserEvent}
@@ -12,7 +12,8 @@ use Rattle.till_request.specs.declared.act.Act.{Act}
 use Rattle.till_request.specs.declared.act.Act.TheVariants as act
 use Rattle.till_request.specs.declared.act.Reply.{Reply}
 use Rattle.till_request.specs.declared.act.Reply.TheVariants as reply
-use Rattle.site_core.specs.State.{at_number}
+use Rattle.site_core.specs.Limits.{ConfigValue}
+use Rattle.site_core.specs.State.{at_number, opening_state}
 use Rattle.site_core.specs.Decide.{after_command}
 
 -- The point and the command of a granted release or preset, with the granted amount; None for any other request.
@@ -70,6 +71,6 @@ with_entry points entry = with_act points entry.act entry.reply
 abbrev pub stand : List PointState → List Entry → List PointState
 stand points entries = fold with_entry points entries
 
--- a list of this many closed points, as a site has them at its start
-abbrev pub closed_points : ℕ → List PointState
-closed_points count = replicate count fresh_point
+-- The points of a site of this configuration after these entries, which are the first of its history.
+abbrev pub points_after : ConfigValue → List Entry → List PointState
+points_after config entries = stand (opening_state config).points entries

@@ -1,27 +1,32 @@
 //! The totals of a history: what its sales, decisions, refusals and prices add up to.
 
-ghost use Rattle.std.specs.Prelude.{◌≡◌, ◌+◌, ◌≤◌, IfOk, length, not, sum_by, count_by, option_map};
+ghost use Rattle.std.specs.Prelude.{◌≡◌, ◌+◌, ◌++◌, ◌≤◌, IfOk};
+ghost use Rattle.std.specs.Prelude.{length, map, not, sum_by, count_by, option_map};
 ghost use Rattle.std.specs.List.{filter_map};
 ghost use Rattle.site_core.specs.declared.site.TheConstants.{ENTRIES};
-ghost use Rattle.day_report.specs.Walk.{stand, closed_points};
-ghost use Rattle.day_report.specs.Sales.{sales};
+ghost use Rattle.day_report.specs.Walk.{points_after};
+ghost use Rattle.day_report.specs.Carried.{carried_rules};
+ghost use Rattle.day_report.specs.Sales.{sales_of};
 ghost use Rattle.day_report.specs.Decisions.{decision_of, refusal_of, price_change_of, loads};
 ghost use Rattle.day_report.specs.Totals.{IsSum, SumsUp, CountsRefusals, HasOutcomes, DecidedByTills, versions_of};
 ghost use Rattle.day_report.specs.Totals.{unpaid_transaction, unpaid_of, part_by, part_of_point, part_of_till, part_of_hour};
+ghost use Rattle.day_report.specs.Totals.{carried_in};
 ghost use Rattle.day_report.specs.declared.sales.Part.TheVariants as part;
 ghost use Rattle.day_report.specs.declared.counting.Deciding.TheVariants as deciding;
 
 use crate::counting::{Deciding, Outcomes, count_of, count_outcome, tally};
 use crate::loading::{Load, loads};
+use crate::opening::{CarriedRule, carried_rules, rules_in};
 use crate::pushing::push_some;
 use crate::rulings::{Decision, PriceChange, decisions, price_changes, refusals};
 use crate::sales::{Part, Sale, Sum, find_sales, sum_of};
 use decision_journal::Entry;
 use fuelling_point::{Point, Transaction};
+use site_core::{Config, Opening};
 use std::alloc::{AllocError, Global};
 
-/// The most points of a site whose history can be added up.
-pub const MOST_POINTS: usize = 1000;
+/// The most parts into which sales are divided at once.
+const MOST_PARTS: usize = 64;
 
 /// The most tills that a site can have.
 pub const TILLS: u32 = 64;
@@ -51,7 +56,11 @@ pub struct Totals {
     pub points: Vec<Point>,
     /// How often each of the refusals S20 to S34 was the reply.
     pub refused: Vec<usize>,
+    /// The rules that were carried in from the day before, in the order of their slots.
+    pub carried: Vec<CarriedRule>,
     pub loads: Vec<Load>,
+    /// The numbers of the versions: those that were carried in, and then those of the loads.
+    pub versions: Vec<u32>,
     pub prices: Vec<PriceChange>,
     /// The transactions that are unpaid after the last entry, point by point.
     pub unpaid: Vec<Unpaid>,
@@ -64,6 +73,16 @@ pub struct Totals {
     pub price_requests: Outcomes,
     /// For each of the tills 1 to 64, how often each version granted and denied its requests.
     pub tills: Vec<Outcomes>,
+}
+
+/// What was carried in from the day before: how many unpaid transactions and their total in cents, how many rules, and
+/// the total that was cleared before, in cents.
+#[derive(Clone, Copy, Drop)]
+pub struct CarriedIn {
+    pub unpaid: usize,
+    pub unpaid_cents: u128,
+    pub rules: usize,
+    pub cleared: u64,
 }
 
 /// An unpaid transaction: its point, its number there, its amount in cents, its volume in centilitres, and the till
@@ -87,7 +106,7 @@ enum By {
 
 /// Returns the part of the sales that is at this place in the list of the parts, counted from 0.
 fn part_at(by: By, place: usize) -> Part
-    requires { place ≤ MOST_POINTS }
+    requires { place ≤ MOST_PARTS }
     ensures { result ≡ part_by by place }
 {
     match by {
@@ -99,7 +118,7 @@ fn part_at(by: By, place: usize) -> Part
 
 /// Returns the totals of the first `count` parts of the sales.
 fn sums_by(alloc: Global, sales: &[Sale], by: By, count: usize) -> Result<Vec<Sum>, AllocError>
-    requires { count ≤ MOST_POINTS }
+    requires { count ≤ MOST_PARTS }
     ensures { IfOk result (λ sums. SumsUp (part_by by) count sums.items sales.now) }
 {
     let mut sums = Vec::new(alloc);
@@ -128,14 +147,14 @@ fn refused_in(alloc: Global, entries: &[Entry]) -> Result<Vec<usize>, AllocError
     by_number(alloc, &numbers)
 }
 
-/// Returns how often each version below `versions` granted and denied, among the decisions in one part.
+/// Returns how often each of these versions granted and denied, among the decisions in one part.
 fn outcomes(
     alloc: Global,
     decisions: &[Decision],
-    versions: usize,
+    versions: &[u32],
     part: Deciding,
 ) -> Result<Outcomes, AllocError>
-    ensures { IfOk result (λ found. HasOutcomes part versions decisions.now found) }
+    ensures { IfOk result (λ found. HasOutcomes part versions.now decisions.now found) }
 {
     Ok(Outcomes {
         granted: tally(alloc, decisions, versions, part, true)?,
@@ -147,9 +166,9 @@ fn outcomes(
 fn by_till_asked(
     alloc: Global,
     decisions: &[Decision],
-    versions: usize,
+    versions: &[u32],
 ) -> Result<Vec<Outcomes>, AllocError>
-    ensures { IfOk result (λ found. DecidedByTills TILLS versions decisions.now found.items) }
+    ensures { IfOk result (λ found. DecidedByTills TILLS versions.now decisions.now found.items) }
 {
     let mut found = Vec::new(alloc);
     for till in 0..TILLS {
@@ -206,7 +225,7 @@ struct Sums {
 }
 
 fn sums_of(alloc: Global, sales: &[Sale], points: usize) -> Result<Sums, AllocError>
-    requires { points ≤ MOST_POINTS }
+    requires { points ≤ MOST_PARTS }
     ensures points { IfOk result (λ s. SumsUp part_of_point points s.points.items sales.now) }
     ensures tills { IfOk result (λ s. SumsUp part_of_till TILLS s.tills.items sales.now) }
     ensures hours { IfOk result (λ s. SumsUp part_of_hour HOURS s.hours.items sales.now) }
@@ -230,12 +249,12 @@ struct Verdicts {
 fn verdicts_of(
     alloc: Global,
     decisions: &[Decision],
-    versions: usize,
+    versions: &[u32],
 ) -> Result<Verdicts, AllocError>
-    ensures releases { IfOk result (λ v. HasOutcomes deciding.Releases versions decisions.now v.releases) }
-    ensures presets { IfOk result (λ v. HasOutcomes deciding.Presets versions decisions.now v.presets) }
-    ensures prices { IfOk result (λ v. HasOutcomes deciding.Prices versions decisions.now v.prices) }
-    ensures tills { IfOk result (λ v. DecidedByTills TILLS versions decisions.now v.tills.items) }
+    ensures releases { IfOk result (λ v. HasOutcomes deciding.Releases versions.now decisions.now v.releases) }
+    ensures presets { IfOk result (λ v. HasOutcomes deciding.Presets versions.now decisions.now v.presets) }
+    ensures prices { IfOk result (λ v. HasOutcomes deciding.Prices versions.now decisions.now v.prices) }
+    ensures tills { IfOk result (λ v. DecidedByTills TILLS versions.now decisions.now v.tills.items) }
 {
     Ok(Verdicts {
         releases: outcomes(alloc, decisions, versions, Deciding::Releases)?,
@@ -255,24 +274,24 @@ struct Takings {
     unpaid_cents: u128,
 }
 
-fn takings_of(alloc: Global, points: usize, entries: &[Entry]) -> Result<Takings, AllocError>
-    requires few { length entries.now ≤ ENTRIES }
-    requires points { points ≤ MOST_POINTS }
-    ensures sold { IfOk result (λ t. IsSum t.sold part.All (sales (closed_points points) entries.now)) }
+fn takings_of(alloc: Global, config: &Config, entries: &[Entry]) -> Result<Takings, AllocError>
+    requires { length entries.now ≤ ENTRIES }
+    ensures sold { IfOk result (λ t. IsSum t.sold part.All (sales_of config.now entries.now)) }
     ensures by_point { IfOk result
-        (λ t. SumsUp part_of_point points t.sums.points.items (sales (closed_points points) entries.now)) }
+        (λ t. SumsUp part_of_point (length config.now.points) t.sums.points.items
+        (sales_of config.now entries.now)) }
     ensures by_till { IfOk result
-        (λ t. SumsUp part_of_till TILLS t.sums.tills.items (sales (closed_points points) entries.now)) }
+        (λ t. SumsUp part_of_till TILLS t.sums.tills.items (sales_of config.now entries.now)) }
     ensures by_hour { IfOk result
-        (λ t. SumsUp part_of_hour HOURS t.sums.hours.items (sales (closed_points points) entries.now)) }
-    ensures points { IfOk result (λ t. t.points.items ≡ stand (closed_points points) entries.now) }
-    ensures unpaid { IfOk result (λ t. t.unpaid.items ≡ unpaid_of (stand (closed_points points) entries.now)) }
+        (λ t. SumsUp part_of_hour HOURS t.sums.hours.items (sales_of config.now entries.now)) }
+    ensures points { IfOk result (λ t. t.points.items ≡ points_after config.now entries.now) }
+    ensures unpaid { IfOk result (λ t. t.unpaid.items ≡ unpaid_of (points_after config.now entries.now)) }
     ensures unpaid_cents { IfOk result
         (λ t. t.unpaid_cents
-        ≡ sum_by (λ (u : Unpaid). u.amount) (unpaid_of (stand (closed_points points) entries.now))) }
+        ≡ sum_by (λ (u : Unpaid). u.amount) (unpaid_of (points_after config.now entries.now))) }
 {
-    let found = find_sales(alloc, points, entries)?;
-    let sums = sums_of(alloc, &found.sales, points)?;
+    let found = find_sales(alloc, config, entries)?;
+    let sums = sums_of(alloc, &found.sales, config.points().len())?;
     let unpaid = unpaid_of(alloc, &found.points)?;
     Ok(Takings {
         sold: sum_of(&found.sales, Part::All),
@@ -283,85 +302,123 @@ fn takings_of(alloc: Global, points: usize, entries: &[Entry]) -> Result<Takings
     })
 }
 
-/// The loads of rules in a history, and how often rules granted and denied what tills asked. `verdicts` divides these
-/// by version.
+/// The versions of a day: the rules that were carried in, the loads, and the numbers of both.
+#[derive(Drop)]
+struct Versions {
+    carried: Vec<CarriedRule>,
+    loads: Vec<Load>,
+    numbers: Vec<u32>,
+}
+
+/// Returns the numbers of the versions: those that were carried in, and then those of the loads. The error is that
+/// memory ran out.
+fn numbers_of(
+    alloc: Global,
+    carried: &[CarriedRule],
+    loads: &[Load],
+) -> Result<Vec<u32>, AllocError>
+    ensures { IfOk result
+        (λ numbers. numbers.items ≡ map (λ (rule : CarriedRule). rule.version) carried.now
+        ++ map (λ (load : Load). load.version) loads.now) }
+{
+    carried
+        .iter()
+        .map(|rule| rule.version)
+        .chain(loads.iter().map(|load| load.version))
+        .collect(alloc)
+}
+
+fn versions_in(alloc: Global, config: &Config, entries: &[Entry]) -> Result<Versions, AllocError>
+    ensures carried { IfOk result (λ v. v.carried.items ≡ carried_rules config.now) }
+    ensures loads { IfOk result (λ v. v.loads.items ≡ loads 0 entries.now) }
+    ensures numbers { IfOk result (λ v. v.numbers.items ≡ versions_of config.now entries.now) }
+{
+    let carried = carried_rules(alloc, config)?;
+    let loads = loads(alloc, entries)?;
+    let numbers = numbers_of(alloc, &carried, &loads)?;
+    Ok(Versions {
+        carried,
+        loads,
+        numbers,
+    })
+}
+
+/// How often rules granted and denied what tills asked. `verdicts` divides this by version.
 #[derive(Drop)]
 struct Decided {
-    loads: Vec<Load>,
     granted: usize,
     denied: usize,
     verdicts: Verdicts,
 }
 
-fn decided_in(alloc: Global, entries: &[Entry]) -> Result<Decided, AllocError>
+fn decided_in(alloc: Global, versions: &[u32], entries: &[Entry]) -> Result<Decided, AllocError>
     requires { length entries.now ≤ ENTRIES }
-    ensures loads { IfOk result (λ d. d.loads.items ≡ loads 0 entries.now) }
     ensures granted { IfOk result
         (λ d. d.granted ≡ count_by (λ (d : Decision). d.is_granted) (filter_map decision_of entries.now)) }
     ensures denied { IfOk result
         (λ d. d.denied ≡ count_by (λ (d : Decision). not d.is_granted) (filter_map decision_of entries.now)) }
     ensures releases { IfOk result
-        (λ d. HasOutcomes deciding.Releases (versions_of entries.now) (filter_map decision_of entries.now)
-        d.verdicts.releases) }
+        (λ d. HasOutcomes deciding.Releases versions.now (filter_map decision_of entries.now) d.verdicts.releases) }
     ensures presets { IfOk result
-        (λ d. HasOutcomes deciding.Presets (versions_of entries.now) (filter_map decision_of entries.now)
-        d.verdicts.presets) }
+        (λ d. HasOutcomes deciding.Presets versions.now (filter_map decision_of entries.now) d.verdicts.presets) }
     ensures prices { IfOk result
-        (λ d. HasOutcomes deciding.Prices (versions_of entries.now) (filter_map decision_of entries.now)
-        d.verdicts.prices) }
+        (λ d. HasOutcomes deciding.Prices versions.now (filter_map decision_of entries.now) d.verdicts.prices) }
     ensures tills { IfOk result
-        (λ d. DecidedByTills TILLS (versions_of entries.now) (filter_map decision_of entries.now)
-        d.verdicts.tills.items) }
+        (λ d. DecidedByTills TILLS versions.now (filter_map decision_of entries.now) d.verdicts.tills.items) }
 {
-    let loads = loads(alloc, entries)?;
     let decisions = decisions(alloc, entries)?;
-    let verdicts = verdicts_of(alloc, &decisions, loads.len() + 1)?;
+    let verdicts = verdicts_of(alloc, &decisions, versions)?;
     Ok(Decided {
-        loads,
         granted: count_outcome(&decisions, true),
         denied: count_outcome(&decisions, false),
         verdicts,
     })
 }
 
-/// Adds up the history of a site of `points` points. The error is that memory ran out.
-pub fn add_up(alloc: Global, points: usize, entries: &[Entry]) -> Result<Totals, AllocError>
-    requires few { length entries.now ≤ ENTRIES }
-    requires points { points ≤ MOST_POINTS }
+/// Adds up the history of a site of this configuration. The error is that memory ran out.
+pub fn add_up(alloc: Global, config: &Config, entries: &[Entry]) -> Result<Totals, AllocError>
+    requires { length entries.now ≤ ENTRIES }
     ensures entries { IfOk result (λ t. t.entries ≡ length entries.now) }
-    ensures sold { IfOk result (λ t. IsSum t.sold part.All (sales (closed_points points) entries.now)) }
+    ensures sold { IfOk result (λ t. IsSum t.sold part.All (sales_of config.now entries.now)) }
     ensures by_point { IfOk result
-        (λ t. SumsUp part_of_point points t.by_point.items (sales (closed_points points) entries.now)) }
+        (λ t. SumsUp part_of_point (length config.now.points) t.by_point.items
+        (sales_of config.now entries.now)) }
     ensures by_till { IfOk result
-        (λ t. SumsUp part_of_till TILLS t.by_till.items (sales (closed_points points) entries.now)) }
+        (λ t. SumsUp part_of_till TILLS t.by_till.items (sales_of config.now entries.now)) }
     ensures by_hour { IfOk result
-        (λ t. SumsUp part_of_hour HOURS t.by_hour.items (sales (closed_points points) entries.now)) }
-    ensures points { IfOk result (λ t. t.points.items ≡ stand (closed_points points) entries.now) }
+        (λ t. SumsUp part_of_hour HOURS t.by_hour.items (sales_of config.now entries.now)) }
+    ensures points { IfOk result (λ t. t.points.items ≡ points_after config.now entries.now) }
     ensures refused { IfOk result (λ t. CountsRefusals t.refused.items (filter_map refusal_of entries.now)) }
+    ensures carried { IfOk result (λ t. t.carried.items ≡ carried_rules config.now) }
     ensures loads { IfOk result (λ t. t.loads.items ≡ loads 0 entries.now) }
+    ensures versions { IfOk result (λ t. t.versions.items ≡ versions_of config.now entries.now) }
     ensures prices { IfOk result (λ t. t.prices.items ≡ filter_map price_change_of entries.now) }
-    ensures unpaid { IfOk result (λ t. t.unpaid.items ≡ unpaid_of (stand (closed_points points) entries.now)) }
+    ensures unpaid { IfOk result (λ t. t.unpaid.items ≡ unpaid_of (points_after config.now entries.now)) }
     ensures unpaid_cents { IfOk result
         (λ t. t.unpaid_cents
-        ≡ sum_by (λ (u : Unpaid). u.amount) (unpaid_of (stand (closed_points points) entries.now))) }
+        ≡ sum_by (λ (u : Unpaid). u.amount) (unpaid_of (points_after config.now entries.now))) }
     ensures granted { IfOk result
         (λ t. t.granted ≡ count_by (λ (d : Decision). d.is_granted) (filter_map decision_of entries.now)) }
     ensures denied { IfOk result
         (λ t. t.denied ≡ count_by (λ (d : Decision). not d.is_granted) (filter_map decision_of entries.now)) }
     ensures tills { IfOk result
-        (λ t. DecidedByTills TILLS (versions_of entries.now) (filter_map decision_of entries.now) t.tills.items) }
+        (λ t. DecidedByTills TILLS (versions_of config.now entries.now) (filter_map decision_of entries.now)
+        t.tills.items) }
     ensures releases { IfOk result
-        (λ t. HasOutcomes deciding.Releases (versions_of entries.now) (filter_map decision_of entries.now) t.releases) }
+        (λ t. HasOutcomes deciding.Releases (versions_of config.now entries.now)
+        (filter_map decision_of entries.now) t.releases) }
     ensures presets { IfOk result
-        (λ t. HasOutcomes deciding.Presets (versions_of entries.now) (filter_map decision_of entries.now) t.presets) }
+        (λ t. HasOutcomes deciding.Presets (versions_of config.now entries.now)
+        (filter_map decision_of entries.now) t.presets) }
     ensures price_requests { IfOk result
-        (λ t. HasOutcomes deciding.Prices (versions_of entries.now) (filter_map decision_of entries.now)
-        t.price_requests) }
+        (λ t. HasOutcomes deciding.Prices (versions_of config.now entries.now)
+        (filter_map decision_of entries.now) t.price_requests) }
 {
     let prices = price_changes(alloc, entries)?;
     let refused = refused_in(alloc, entries)?;
-    let takings = takings_of(alloc, points, entries)?;
-    let decided = decided_in(alloc, entries)?;
+    let takings = takings_of(alloc, config, entries)?;
+    let versions = versions_in(alloc, config, entries)?;
+    let decided = decided_in(alloc, &versions.numbers, entries)?;
     Ok(Totals {
         entries: entries.len(),
         sold: takings.sold,
@@ -370,7 +427,9 @@ pub fn add_up(alloc: Global, points: usize, entries: &[Entry]) -> Result<Totals,
         by_hour: takings.sums.hours,
         points: takings.points,
         refused,
-        loads: decided.loads,
+        carried: versions.carried,
+        loads: versions.loads,
+        versions: versions.numbers,
         prices,
         unpaid: takings.unpaid,
         unpaid_cents: takings.unpaid_cents,
@@ -381,4 +440,30 @@ pub fn add_up(alloc: Global, points: usize, entries: &[Entry]) -> Result<Totals,
         price_requests: decided.verdicts.prices,
         tills: decided.verdicts.tills,
     })
+}
+
+/// Returns what an opening carries in. The error is that memory ran out.
+fn carried_by(alloc: Global, opening: &Opening) -> Result<CarriedIn, AllocError>
+    requires { length opening.now.rules ≤ 16 }
+    ensures { IfOk result (λ found. found ≡ carried_in opening.now) }
+{
+    let unpaid = unpaid_of(alloc, &opening.points)?;
+    let rules = rules_in(alloc, &opening.rules)?;
+    Ok(CarriedIn {
+        unpaid: unpaid.len(),
+        unpaid_cents: cents_of(&unpaid),
+        rules: rules.len(),
+        cleared: opening.cleared,
+    })
+}
+
+/// Returns what the opening of this configuration carries in, or `None` if it has no opening. The error is that memory
+/// ran out.
+pub fn carried_in(alloc: Global, config: &Config) -> Result<Option<CarriedIn>, AllocError>
+    ensures { IfOk result (λ found. found ≡ option_map carried_in config.now.opening) }
+{
+    match config.opening() {
+        None => Ok(None),
+        Some(opening) => Ok(Some(carried_by(alloc, opening)?)),
+    }
 }

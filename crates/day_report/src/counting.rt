@@ -1,11 +1,12 @@
 //! Counts how often each version granted and denied, and how often each refusal was the reply.
 
-ghost use Rattle.std.specs.Prelude.{◌≡◌, ◌==◌, ◌&&◌, ◌+◌, ◌-◌, ◌^◌, ◌<◌, ◌≤◌, ℕ};
-ghost use Rattle.std.specs.Prelude.{if◌then◌else◌, All, IfOk, count_by, length, slice_index};
-ghost use Rattle.day_report.specs.Totals.{is_among, has_outcome, is_wanted, decided_by};
+ghost use Rattle.std.specs.Prelude.{◌≡◌, ◌==◌, ◌&&◌, ◌+◌, ◌-◌, ◌^◌, ◌≤◌, ℕ};
+ghost use Rattle.std.specs.Prelude.{if◌then◌else◌, IfOk, OnOk, count_by, map};
+ghost use Rattle.day_report.specs.Totals.{is_among, has_outcome, is_wanted, decided_by, count_for, CountsVersions};
 
 use crate::rulings::{Asked, Decision};
 use std::alloc::{AllocError, Global};
+use std::collections::HashMap;
 
 /// A part of the decisions that is counted: those on releases, on presets or on prices, or those on one till's
 /// requests.
@@ -43,37 +44,66 @@ fn is_wanted(part: Deciding, granted: bool, decision: &Decision) -> bool
     is_among(part, decision) && has_outcome(granted, decision)
 }
 
-/// Adds one to the count at place `at`, if `wanted` is true and there is such a place.
-fn count_if(counts: &mut [u64], at: usize, wanted: bool)
-    requires { All (λ n. n ≤ 2 ^ 64 - 2) counts.old }
-    ensures length { length counts.new ≡ length counts.old }
-    ensures each { (v : ℕ) → v < length counts.old → slice_index counts.new v ≡ slice_index counts.old v
-        + (if wanted && at == v then 1 else 0) }
+/// Counts one more decision of a version, if `wanted` is true. The error is that memory ran out.
+fn count_if(counts: &mut HashMap<u32, u64>, version: u32, wanted: bool) -> Result<(), AllocError>
+    requires { (v : ℕ) → count_for counts.old v ≤ 2 ^ 64 - 2 }
+    ensures { OnOk result ((v : ℕ) → count_for counts.new v ≡ count_for counts.old v
+        + (if wanted && version == v then 1 else 0)) }
 {
-    if wanted && at < counts.len() {
-        counts[at] += 1;
+    if wanted {
+        let count = counts.get(&version).copied().unwrap_or(0);
+        counts.insert(version, count + 1)?;
     }
+    Ok(())
 }
 
-/// Returns for each version below `versions` how many decisions in this part it granted, if `granted` is true, or
-/// denied, if it is false. The error is that memory ran out.
+/// Returns for each version how many of the decisions in this part it granted, if `granted` is true, or denied, if it
+/// is false. The error is that memory ran out.
+fn by_version(
+    alloc: Global,
+    decisions: &[Decision],
+    part: Deciding,
+    granted: bool,
+) -> Result<HashMap<u32, u64>, AllocError>
+    ensures { IfOk result (CountsVersions part granted decisions.now) }
+{
+    let mut counts = HashMap::new(alloc);
+    for decision in decisions {
+        let wanted = is_wanted(part, granted, decision);
+        count_if(&mut counts, decision.version, wanted)?;
+    }
+    Ok(counts)
+}
+
+/// Returns the count of each of these versions, at its place in the list; 0 for a version that the map doesn't have.
+/// The error is that memory ran out.
+fn counts_of(
+    alloc: Global,
+    counts: &HashMap<u32, u64>,
+    versions: &[u32],
+) -> Result<Vec<u64>, AllocError>
+    ensures { IfOk result (λ found. found.items ≡ map (count_for counts.now) versions.now) }
+{
+    versions
+        .iter()
+        .map(|version| counts.get(version).copied().unwrap_or(0))
+        .collect(alloc)
+}
+
+/// Returns for each of these versions, at its place in the list, how many decisions in this part it granted, if
+/// `granted` is true, or denied, if it is false. The error is that memory ran out.
 pub fn tally(
     alloc: Global,
     decisions: &[Decision],
-    versions: usize,
+    versions: &[u32],
     part: Deciding,
     granted: bool,
 ) -> Result<Vec<u64>, AllocError>
-    ensures length { IfOk result (λ counts. length counts.items ≡ versions) }
-    ensures counts { IfOk result
-        (λ counts. (v : ℕ) → v < versions → slice_index counts.items v ≡ decided_by part granted v decisions.now) }
+    ensures { IfOk result
+        (λ counts. counts.items ≡ map (λ v. decided_by part granted v decisions.now) versions.now) }
 {
-    let mut counts = vec![in alloc; 0u64; versions]?;
-    for decision in decisions {
-        let wanted = is_wanted(part, granted, decision);
-        count_if(&mut counts, decision.version as usize, wanted);
-    }
-    Ok(counts)
+    let counts = by_version(alloc, decisions, part, granted)?;
+    counts_of(alloc, &counts, versions)
 }
 
 /// Returns how many decisions were grants, or denials if `granted` is false.
@@ -89,8 +119,7 @@ pub(crate) fn count_outcome(decisions: &[Decision], granted: bool) -> usize
     count
 }
 
-/// How often each version granted and denied in one part of the decisions. A version's number is its place in both
-/// lists.
+/// How often each version granted and denied in one part of the decisions. A version has the same place in both lists.
 #[derive(Drop)]
 pub struct Outcomes {
     pub granted: Vec<u64>,

@@ -2,15 +2,15 @@
 
 ghost use Rattle.day_report.specs.Laws.{SalesTellTheSite, VersionsTellAllDecisions};
 
-/// A law: the sales in the journal of a site that has no day behind it agree with the site's own state. The points are
-/// the site's points, and there are as many sales as the site cleared transactions. The totals of all sales, of all
-/// points and of all tills are the site's cleared total.
+/// A law: the sales in the journal of a site agree with the site's own state. The points are the site's points. What
+/// was cleared before the day and the sales together are what the site cleared: their number, and their total over all
+/// sales, over all points and over all tills.
 pub fn law_of_sales()
     ensures { SalesTellTheSite }
 {}
 
-/// A law: if the site has no day behind it, the grants and denials of all versions together are as many as the decisions
-/// of the history.
+/// A law: the grants and denials of all versions together, those that were carried in and those that were loaded, are
+/// as many as the decisions of the history.
 pub fn law_of_decisions()
     ensures { VersionsTellAllDecisions }
 {}

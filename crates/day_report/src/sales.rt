@@ -1,16 +1,18 @@
 //! The sales of a history: the transactions that tills cleared when they were paid.
 
-ghost use Rattle.std.specs.Prelude.{◌≡◌, ◌≤◌, ℕ, All, IfOk, length};
-ghost use Rattle.fuelling_point.specs.Table.{PointState};
+ghost use Rattle.std.specs.Prelude.{◌≡◌, ◌≤◌, IfOk, length};
 ghost use Rattle.site_core.specs.declared.site.TheConstants.{ENTRIES};
-ghost use Rattle.day_report.specs.Walk.{stand, closed_points};
-ghost use Rattle.day_report.specs.Sales.{clearing_of, unpaid_at, sale_of, sales};
+ghost use Rattle.day_report.specs.Walk.{stand, points_after};
+ghost use Rattle.day_report.specs.Following.{HaveRoom};
+ghost use Rattle.day_report.specs.Sales.{clearing_of, unpaid_at, sale_of, sales, sales_of};
 ghost use Rattle.day_report.specs.Totals.{is_in, count_in, cents_in, centilitres_in};
 
+use crate::opening::opening_points;
 use crate::pushing::push_some;
-use crate::walk::{closed_points, follow};
+use crate::walk::follow;
 use decision_journal::Entry;
 use fuelling_point::{Point, Transaction};
+use site_core::Config;
 use std::alloc::{AllocError, Global};
 use till_request::{Act, Reply, Request};
 
@@ -94,8 +96,7 @@ fn follow_sales(
     points: &mut [Point],
     entries: &[Entry],
 ) -> Result<Vec<Sale>, AllocError>
-    requires numbered { All (λ (p : PointState). p.last ≤ 0) points.old }
-    requires few { length entries.now ≤ ENTRIES }
+    requires few { HaveRoom points.old (length entries.now) }
     ensures sales { IfOk result (λ found. found.items ≡ sales points.old entries.now) }
     ensures points { IfOk result (λ found. points.new ≡ stand points.old entries.now) }
 {
@@ -107,14 +108,14 @@ fn follow_sales(
     Ok(sales)
 }
 
-/// Returns the sales of the history of a site of `points` points, and the points after it. The error is that memory ran
-/// out.
-pub fn find_sales(alloc: Global, points: usize, entries: &[Entry]) -> Result<Sold, AllocError>
+/// Returns the sales in the history of a site of this configuration, and the points after it. The error is that memory
+/// ran out.
+pub fn find_sales(alloc: Global, config: &Config, entries: &[Entry]) -> Result<Sold, AllocError>
     requires { length entries.now ≤ ENTRIES }
-    ensures sales { IfOk result (λ sold. sold.sales.items ≡ sales (closed_points points) entries.now) }
-    ensures points { IfOk result (λ sold. sold.points.items ≡ stand (closed_points points) entries.now) }
+    ensures sales { IfOk result (λ sold. sold.sales.items ≡ sales_of config.now entries.now) }
+    ensures points { IfOk result (λ sold. sold.points.items ≡ points_after config.now entries.now) }
 {
-    let mut points = closed_points(alloc, points)?;
+    let mut points = opening_points(alloc, config)?;
     let sales = follow_sales(alloc, &mut points, entries)?;
     Ok(Sold { sales, points })
 }

@@ -5,9 +5,11 @@ ghost use Rattle.site_core.specs.declared.site.TheConstants.{ENTRIES};
 ghost use Rattle.day_report.specs.Following.{AreWithin, HaveRoom};
 ghost use Rattle.day_report.specs.Walk.{stand};
 
-use crate::walk::{closed_points, follow};
+use crate::opening::opening_points;
+use crate::walk::follow;
 use decision_journal::Entry;
 use fuelling_point::{Point, State};
+use site_core::Config;
 use std::alloc::{AllocError, Global};
 use till_request::{Act, Request};
 
@@ -174,11 +176,11 @@ fn step_states(
     Ok(states)
 }
 
-/// Returns for each step and each point the state with the greatest number that the point has in the step. The error is
-/// that memory ran out.
+/// Returns for each step and each point the state with the greatest number that the point has in the step. The entries
+/// are those of a site of this configuration. The error is that memory ran out.
 pub fn follow_states(
     alloc: Global,
-    points: usize,
+    config: &Config,
     entries: &[Entry],
     axis: Axis,
 ) -> Result<Bands, AllocError>
@@ -186,7 +188,8 @@ pub fn follow_states(
 {
     let steps = steps_of(axis);
     let cuts = cuts(alloc, entries, axis, steps)?;
-    let mut stand = closed_points(alloc, points)?;
+    let mut stand = opening_points(alloc, config)?;
+    let points = stand.len();
     let stand = stand.as_mut_slice();
     let mut states = Vec::new(alloc);
     let mut done = 0;

@@ -1,6 +1,7 @@
-use Rattle.std.proofs.Common.{◌≡◌, ◌<◌, ◌++◌, length, arith, ap, ◌∙◌, sym}
+use Rattle.std.proofs.Common.{◌≡◌, ℕ, ◌+◌, ◌<◌, ◌++◌, length, arith, ap, subst, ◌∙◌, sym}
 use Rattle.std.specs.Prelude.{option_to_list}
 use Rattle.std.proofs.lemmas.Grind.{common_steps}
+use Rattle.day_report.specs.Following.{AreWithin}
 use Rattle.day_report.specs.Walk.{with_entry}
 use Rattle.day_report.specs.Sales.{sale_of}
 use Rattle.day_report.proofs.OneMore.{stand-more, sales-more}
@@ -15,9 +16,17 @@ loop-entry-preserved c =
     let stands = stand-more c.args.points.now entries i e lt c.entry-item.is in
     let sold = sales-more c.args.points.now entries i e lt c.entry-item.is in
     let pushed : c.push_some.new.items.items ≡ c.loop-entry.sales.items ++ option_to_list c.sale_of.result = grind (arith, common_steps) in
-    let found = c.sale_of.ensures ∙ ap (λ p. sale_of p e) c.loop-entry.invariant.0 in (
+    let found = c.sale_of.ensures ∙ ap (λ p. sale_of p e) c.loop-entry.invariant.0 in
+    let same : (n : ℕ) → n + i + 1 ≡ n + (i + 1) = λ n. omega arith in (
       c.follow.ensures.is ∙ ap (λ p. with_entry p e) c.loop-entry.invariant.0 ∙ sym stands,
       pushed
           ∙ (λ j. c.loop-entry.invariant.1 j ++ option_to_list (found j)) ∙ sym sold,
-      c.follow.ensures.bounded i c.loop-entry.invariant.2,
+      λ n within.
+          subst (λ m. AreWithin m c.follow.new.points) (same n) (c.follow.ensures.bounded (n + i) (c.loop-entry.invariant.2 n within)),
     )
+
+pub follow-requires : goal.follow-requires
+follow-requires c = λ k d within.
+    let lt : c.loop-entry.entry-index < length c.args.entries.now = grind (arith, common_steps) in
+    let few = c.requires.few in
+    let most = c.loop-entry.invariant.2 few.0 few.1 k d within in omega (arith, most, few.2, lt)

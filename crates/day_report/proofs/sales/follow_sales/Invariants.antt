@@ -1,5 +1,5 @@
-use Rattle.std.proofs.Common.{◌≡◌, ◌≤◌, take, All}
-use Rattle.fuelling_point.specs.Table.{PointState}
+use Rattle.std.proofs.Common.{◌≡◌, ℕ, ◌+◌, take}
+use Rattle.day_report.specs.Following.{AreWithin}
 use Rattle.day_report.specs.Walk.{stand}
 use Rattle.day_report.specs.Sales.{sales}
 use Rattle.day_report.proofs.sales.follow_sales.Given as goal
@@ -8,4 +8,4 @@ abbrev pub invariant-loop-entry : goal.invariant-loop-entry
 invariant-loop-entry l =
     (l.points ≡ stand l.initial.points (take l.entry-index l.entries))
     × (l.sales.items ≡ sales l.initial.points (take l.entry-index l.entries))
-    × All (λ (p : PointState). p.last ≤ l.entry-index) l.points
+    × ((n : ℕ) → AreWithin n l.initial.points → AreWithin (n + l.entry-index) l.points)

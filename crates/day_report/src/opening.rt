@@ -1,0 +1,105 @@
+//! What a day begins with: the points, the prices, and the rules that are carried in from the day before.
+
+ghost use Rattle.std.specs.Prelude.{◌≡◌, ◌≤◌, IfOk, length, replicate};
+ghost use Rattle.fuelling_point.specs.Table.{fresh_point};
+ghost use Rattle.site_core.specs.State.{opening_state, opened_state, fresh_state};
+ghost use Rattle.day_report.specs.Following.{AreWithin};
+ghost use Rattle.day_report.specs.Carried.{carried_at, carried_from, carried_rules};
+
+use crate::pushing::push_some;
+use fuelling_point::Point;
+use program_slots::Version;
+use site_core::{Config, Opening};
+use std::alloc::{AllocError, Global};
+
+/// Returns the points that a site of this configuration starts with: those of its opening, or closed ones. The error is
+/// that memory ran out.
+pub fn opening_points(alloc: Global, config: &Config) -> Result<Vec<Point>, AllocError>
+    ensures points { IfOk result (λ points. points.items ≡ (opening_state config.now).points) }
+    ensures within { IfOk result (λ points. AreWithin 4290000000 points.items) }
+{
+    match config.opening() {
+        None => closed_points(alloc, config),
+        Some(opening) => points_in(alloc, opening),
+    }
+}
+
+/// Returns as many closed points as the configuration has. The error is that memory ran out.
+fn closed_points(alloc: Global, config: &Config) -> Result<Vec<Point>, AllocError>
+    ensures points { IfOk result (λ points. points.items ≡ (fresh_state config.now).points) }
+    ensures within { IfOk result (λ points. AreWithin 4290000000 points.items) }
+{
+    new_points(alloc, config.points().len())
+}
+
+fn new_points(alloc: Global, count: usize) -> Result<Vec<Point>, AllocError>
+    ensures { IfOk result (λ points. points.items ≡ replicate count fresh_point) }
+{
+    vec![in alloc; Point::new(); count]
+}
+
+/// Returns a copy of an opening's points. The error is that memory ran out.
+fn points_in(alloc: Global, opening: &Opening) -> Result<Vec<Point>, AllocError>
+    requires { AreWithin 4290000000 opening.now.points }
+    ensures points { IfOk result (λ points. points.items ≡ (opened_state opening.now).points) }
+    ensures within { IfOk result (λ points. AreWithin 4290000000 points.items) }
+{
+    Vec::from_slice(alloc, opening.points.as_slice())
+}
+
+/// Returns the prices that a site of this configuration starts with, in thousandths: those of its opening, or those of
+/// the configuration.
+pub fn opening_prices(config: &Config) -> [u32; 8]
+    ensures { result ≡ (opening_state config.now).prices }
+{
+    match config.opening() {
+        None => config.prices(),
+        Some(opening) => opening.prices,
+    }
+}
+
+/// A rule that is carried in from the day before: its slot, 0 to 15, and the number of its version.
+#[derive(Clone, Copy, Drop)]
+pub struct CarriedRule {
+    pub slot: u32,
+    pub version: u32,
+}
+
+fn carried_at(slot: u32, rule: &Option<Version>) -> Option<CarriedRule>
+    ensures { result ≡ carried_at slot rule.now }
+{
+    match rule {
+        None => None,
+        Some(version) => Some(CarriedRule {
+            slot,
+            version: version.number,
+        }),
+    }
+}
+
+/// Returns the rules of slots 0, 1, and so on, in the order of the slots, without the empty slots. The error is that
+/// memory ran out.
+pub(crate) fn rules_in(
+    alloc: Global,
+    rules: &[Option<Version>],
+) -> Result<Vec<CarriedRule>, AllocError>
+    requires { length rules.now ≤ 16 }
+    ensures { IfOk result (λ found. found.items ≡ carried_from 0 rules.now) }
+{
+    let mut found = Vec::new(alloc);
+    for (slot, rule) in rules.iter().enumerate() {
+        push_some(&mut found, carried_at(slot as u32, rule))?;
+    }
+    Ok(found)
+}
+
+/// Returns the rules that a site of this configuration begins with, in the order of the slots. The error is that memory
+/// ran out.
+pub fn carried_rules(alloc: Global, config: &Config) -> Result<Vec<CarriedRule>, AllocError>
+    ensures { IfOk result (λ found. found.items ≡ carried_rules config.now) }
+{
+    match config.opening() {
+        None => Ok(Vec::new(alloc)),
+        Some(opening) => rules_in(alloc, &opening.rules),
+    }
+}
