@@ -1,5 +1,5 @@
 -- Definitions: the line or the label that the message of an assembler fault shows (this profile).
-use Rattle.std.specs.Prelude.{◌≡◌, ℕ, ◌-◌, ◌&&◌, nat_eq, Bool, true, false, List, [], ◌∷◌, Option, Some, None, slice_get, unwrap_or, ⊤}
+use Rattle.std.specs.Prelude.{◌≡◌, ℕ, ◌-◌, ◌&&◌, nat_eq, Bool, true, false, [], ◌∷◌, Option, Some, None, slice_get, unwrap_or, ⊤}
 use Rattle.std.specs.List.{starts_with, ends_with}
 use Rattle.bpf_asm.specs.declared.AsmFault.{AsmFault}
 use Rattle.bpf_asm.specs.declared.AsmFault.TheVariants as fault

@@ -6,6 +6,7 @@ pub mod Grammar
 pub mod Program
 pub mod ProgramFile
 pub mod Flaws
+pub mod Messages
 pub mod Tables
 pub mod Sound
 pub mod RoundTrip

@@ -1,8 +1,10 @@
 // Flaws: the faults of an assembler text with their words, for people to read.
 
-ghost use Rattle.std.specs.Prelude.{◌≡◌, ◌-◌, [], IfOk, slice_get, unwrap_or};
+ghost use Rattle.std.specs.Prelude.{◌≡◌, ◌-◌, [], IfOk, slice_get, unwrap_or, take};
 ghost use Rattle.bpf_asm.specs.Program as spec;
 ghost use Rattle.bpf_asm.specs.Flaws.{line_at, begins_with_mark, ends_with_return, Explains};
+ghost use Rattle.std.specs.Fmt.{WritesOnOk};
+ghost use Rattle.bpf_asm.specs.Messages.{ending, shown_byte};
 
 use crate::AsmFault;
 use crate::grammar::Line;
@@ -30,50 +32,68 @@ pub enum AsmFlaw<'a> {
 }
 
 impl fmt::Display for AsmFlaw<'_> {
-    fn fmt<W: fmt::Write>(&self, f: &mut fmt::Formatter<W>) -> fmt::Result {
-        let (before, shown, after) = parts_of(*self);
-        f.write_str(before)?;
-        write_beginning(f, shown)?;
-        f.write_str(after)
-    }
-}
+    ghost use Rattle.std.specs.Prelude.{Some};
+    ghost use Rattle.bpf_asm.specs.Messages.{flaw_text};
 
-/// Returns the words before the line or the label that a flaw's message shows, that line or label, and the words after
-/// it. If the message shows neither a line nor a label, the part in the middle is empty.
-fn parts_of(flaw: AsmFlaw<'_>) -> (&'static str, &[u8], &'static str) {
-    match flaw {
-        AsmFlaw::ByteOrderMark => ("the text begins with a byte order mark", &[], ""),
-        AsmFlaw::CarriageReturn => (
-            "the line ends with CR LF, and LF alone ends a line",
-            &[],
-            "",
-        ),
-        AsmFlaw::NoForm(line) => ("no such form: ", line, ""),
-        AsmFlaw::LabelAgain(name) => ("the label '", name, "' stands on a line before"),
-        AsmFlaw::LabelMissing(name) => ("no line has the label '", name, "'"),
-        AsmFlaw::OutOfRange(line) => ("a number out of range: ", line, ""),
-        AsmFlaw::Length => ("a program has 1 to 512 units", &[], ""),
+    ghost output = { λ flaw. Some (flaw_text flaw) };
+
+    fn fmt<W: fmt::Write>(&self, f: &mut fmt::Formatter<W>) -> fmt::Result {
+        match *self {
+            AsmFlaw::ByteOrderMark => f.write_str("the text begins with a byte order mark"),
+            AsmFlaw::CarriageReturn => {
+                f.write_str("the line ends with CR LF, and LF alone ends a line")
+            }
+            AsmFlaw::NoForm(line) => write!(f, "no such form: {}", Beginning(line)),
+            AsmFlaw::LabelAgain(name) => {
+                write!(f, "the label '{}' stands on a line before", Beginning(name))
+            }
+            AsmFlaw::LabelMissing(name) => write!(f, "no line has the label '{}'", Beginning(name)),
+            AsmFlaw::OutOfRange(line) => write!(f, "a number out of range: {}", Beginning(line)),
+            AsmFlaw::Length => f.write_str("a program has 1 to 512 units"),
+        }
     }
 }
 
 /// The most bytes of a line that a message shows.
 const MOST_SHOWN: usize = 80;
 
-/// Writes the first 80 bytes of a line, each as a terminal can show it, and ` ..` if there are more.
-fn write_beginning<W: fmt::Write>(f: &mut fmt::Formatter<W>, line: &[u8]) -> fmt::Result {
-    let shown = &line[..line.len().min(MOST_SHOWN)];
-    for byte in shown {
-        write_byte(f, *byte)?;
-    }
-    if shown.len() < line.len() {
-        f.write_str(" ..")
-    } else {
-        Ok(())
+/// A line or a label, of which the first 80 bytes are written, and ` ..` if there are more.
+#[derive(Clone, Copy, Drop)]
+struct Beginning<'a>(&'a [u8]);
+
+impl fmt::Display for Beginning<'_> {
+    ghost use Rattle.std.specs.Prelude.{Some};
+    ghost use Rattle.bpf_asm.specs.Messages.{shown};
+
+    ghost output = { λ b. Some (shown b.0.now) };
+
+    fn fmt<W: fmt::Write>(&self, f: &mut fmt::Formatter<W>) -> fmt::Result {
+        let first = first_bytes(self.0);
+        for byte in first {
+            write_byte(f, *byte)?;
+        }
+        f.write_str(ending(self.0))
     }
 }
 
+/// Returns the first 80 bytes of a line, or all of them if it has fewer.
+fn first_bytes(line: &[u8]) -> &[u8]
+    ensures { result.now ≡ take 80 line.now }
+{
+    &line[..MOST_SHOWN.min(line.len())]
+}
+
+/// Returns what is written after the first 80 bytes of a line: ` ..` if it has more.
+fn ending(line: &[u8]) -> &'static str
+    ensures { result.now ≡ ending line.now }
+{
+    if line.len() > MOST_SHOWN { " .." } else { "" }
+}
+
 /// Writes a printable ASCII character as it is, and any other byte as in `\x0d`.
-fn write_byte<W: fmt::Write>(f: &mut fmt::Formatter<W>, byte: u8) -> fmt::Result {
+fn write_byte<W: fmt::Write>(f: &mut fmt::Formatter<W>, byte: u8) -> fmt::Result
+    ensures { WritesOnOk W.write_str_gives f.old result (shown_byte byte) f.new }
+{
     if (b' '..=b'~').contains(&byte) {
         f.write_char(char::from(byte))
     } else {

@@ -34,6 +34,10 @@ pub enum JournalFlaw {
 }
 
 impl fmt::Display for JournalFlaw {
+    ghost use Rattle.job_texts.specs.Words.{flaw_text};
+
+    ghost output = { λ flaw. flaw_text flaw };
+
     fn fmt<W: fmt::Write>(&self, f: &mut fmt::Formatter<W>) -> fmt::Result {
         match self {
             JournalFlaw::Text(fault) => write!(f, "{fault}"),
