@@ -20,6 +20,8 @@ use Rattle.command_line.specs.declared.job.Format.{Format}
 use Rattle.command_line.specs.declared.job.Format.TheVariants as formats
 use Rattle.command_line.specs.declared.job.Job.{Job}
 use Rattle.command_line.specs.declared.job.Job.TheVariants as job
+use Rattle.command_line.specs.declared.job.ServeJob.{ServeJob}
+use Rattle.command_line.specs.declared.job.ServeJob.TheVariants as served
 use Rattle.command_line.specs.declared.job.CommandFault.{CommandFault}
 use Rattle.command_line.specs.declared.job.CommandFault.TheVariants as refusal
 
@@ -28,6 +30,10 @@ use Rattle.command_line.specs.declared.job.CommandFault.TheVariants as refusal
 -- a file that must be given
 abbrev pub file_rule : Text → Rule
 file_rule name = record (new_rule name) { required = true }
+
+-- a file that may be left out
+abbrev pub spare_rule : Text → Rule
+spare_rule name = new_rule name
 
 -- KIND, the argument that says which rows are to be printed
 abbrev pub kind_rule : Rule
@@ -79,30 +85,33 @@ abbrev pub play_app : App
 play_app = of_day (codes "play") (codes "config") (codes "script")
 
 abbrev pub audit_app : App
-audit_app = of_day (codes "audit") (codes "config") (codes "journal")
+audit_app =
+    with_rule (with_rule (with_rule (of_file (codes "audit") (codes "config")) (spare_rule (codes "journal"))) (option_rule (codes "opening")))
+    (option_rule (codes "days"))
 
 abbrev pub carry_app : App
 carry_app = of_day (codes "carry") (codes "config") (codes "journal")
 
 abbrev pub report_app : App
-report_app = of_files (codes "report") (codes "config") (codes "journal")
+report_app = of_day (codes "report") (codes "config") (codes "journal")
 
 abbrev pub export_app : App
 export_app =
-    with_rule (with_rule (with_rule (with_rule (new_app (codes "export")) kind_rule) (file_rule (codes "config"))) (file_rule (codes "journal")))
-    (flag_rule (codes "json"))
+    with_rule (with_rule (with_rule (with_rule (with_rule (new_app (codes "export")) kind_rule) (file_rule (codes "config")))
+    (file_rule (codes "journal"))) (flag_rule (codes "json"))) (option_rule (codes "opening"))
 
 abbrev pub serve_app : App
 serve_app =
-    with_rule (with_rule (with_rule (of_file (codes "serve") (codes "config")) (option_rule (codes "journal"))) (flag_rule (codes "sync")))
-    (option_rule (codes "opening"))
+    with_rule (with_rule (with_rule (with_rule (with_rule (of_file (codes "serve") (codes "config")) (option_rule (codes "journal")))
+    (flag_rule (codes "sync"))) (option_rule (codes "opening"))) (option_rule (codes "days"))) (flag_rule (codes "new-day"))
 
 abbrev pub top_app : App
 top_app = record (new_app (codes "fc")) { top = record (new_app (codes "fc")).top { has_version = true } }
 
 -- All subcommands: asm FILE, dis [--units] FILE, verify [--counters MASK] [--context LAYOUT] FILE, play [--opening FILE]
--- CONFIG SCRIPT, audit [--opening FILE] CONFIG JOURNAL, carry [--opening FILE] CONFIG JOURNAL, report CONFIG JOURNAL,
--- export [--json] KIND CONFIG JOURNAL, and serve [--journal FILE [--sync]] [--opening FILE] CONFIG.
+-- CONFIG SCRIPT, audit [--opening FILE] CONFIG JOURNAL, audit --days FOLDER CONFIG, carry [--opening FILE] CONFIG
+-- JOURNAL, report [--opening FILE] CONFIG JOURNAL, export [--json] [--opening FILE] KIND CONFIG JOURNAL, serve
+-- [--journal FILE [--sync]] [--opening FILE] CONFIG, and serve --days FOLDER [--sync] [--new-day] CONFIG.
 abbrev pub fc_app : App
 fc_app =
     with_subcommand (with_subcommand (with_subcommand (with_subcommand (with_subcommand (with_subcommand (with_subcommand (with_subcommand
@@ -112,7 +121,7 @@ fc_app =
 -- ---- jobs
 
 -- What can be asked for. Where a site may begin with an opening, the first text is the file of --opening, if that is
--- given.
+-- given. `serve_days` says first whether answers wait for syncs, and then whether a new day begins.
 pub data Asked : Type 0 where
   nothing : Asked
   asm : Text → Asked
@@ -121,12 +130,14 @@ pub data Asked : Type 0 where
   verify : ℕ → Layout → Text → Asked
   play : Option Text → Text → Text → Asked
   audit : Option Text → Text → Text → Asked
+  audit_days : Text → Text → Asked
   carry : Option Text → Text → Text → Asked
-  report : Text → Text → Asked
-  export : Rows → Format → Text → Text → Asked
+  report : Option Text → Text → Text → Asked
+  export : Rows → Format → Option Text → Text → Text → Asked
   serve : Option Text → Text → Asked
   serve_kept : Option Text → Text → Text → Asked
   serve_synced : Option Text → Text → Text → Asked
+  serve_days : Bool → Bool → Text → Text → Asked
 
 abbrev pub file_in : Text → (Text → Asked) → List Row → Option Asked
 file_in id ask rows = option_map ask (first_of id rows)
@@ -138,6 +149,10 @@ files_in first second ask rows =
 -- the file of the opening that the site begins with; None if --opening isn't given
 abbrev pub opening_in : List Row → Option Text
 opening_in rows = first_of (codes "opening") rows
+
+-- the folder of --days; None if it isn't given
+abbrev pub days_in : List Row → Option Text
+days_in rows = first_of (codes "days") rows
 
 -- whether an option without a value, such as --units, is given
 abbrev pub is_set : Text → List Row → Bool
@@ -180,7 +195,19 @@ format_in rows = if is_set (codes "json") rows then formats.Json else formats.Cs
 
 abbrev pub export_in : List Row → Option Asked
 export_in rows =
-    option_and_then (λ (kind : Rows). files_in (codes "config") (codes "journal") (export kind (format_in rows)) rows) (kind_in rows)
+    option_and_then (λ (kind : Rows). files_in (codes "config") (codes "journal") (export kind (format_in rows) (opening_in rows)) rows) (kind_in rows)
+
+-- What `audit` asks for, by the folder of --days, by the file of --opening, and by JOURNAL. --days takes neither of the
+-- other two.
+abbrev pub audit_by : Option Text → Option Text → Option Text → Text → Option Asked
+audit_by None opening None config = None
+audit_by None opening (Some journal) config = Some (audit opening config journal)
+audit_by (Some folder) None None config = Some (audit_days folder config)
+audit_by (Some folder) opening journal config = None
+
+abbrev pub audit_in : List Row → Option Asked
+audit_in rows =
+    option_and_then (audit_by (days_in rows) (opening_in rows) (first_of (codes "journal") rows)) (first_of (codes "config") rows)
 
 -- What `serve` asks for, by the file of --opening, by whether --sync is given, and by the file of --journal. --sync
 -- without --journal asks for nothing.
@@ -190,9 +217,24 @@ serve_by opening false (Some journal) config = Some (serve_kept opening config j
 serve_by opening true None config = None
 serve_by opening true (Some journal) config = Some (serve_synced opening config journal)
 
+-- What `serve --days` asks for, by the files of --opening and --journal, neither of which it takes, and by whether --sync
+-- and --new-day are given.
+abbrev pub serve_days_by : Option Text → Option Text → Bool → Bool → Text → Text → Option Asked
+serve_days_by None None synced new_day folder config = Some (serve_days synced new_day folder config)
+serve_days_by opening journal synced new_day folder config = None
+
+-- What `serve` asks for. --new-day without --days asks for nothing.
+abbrev pub served_in : List Row → Text → Option Asked
+served_in rows config =
+    elim (days_in rows) [
+      | Some folder ↦ serve_days_by (opening_in rows) (first_of (codes "journal") rows) (is_set (codes "sync") rows) (is_set (codes "new-day") rows) folder config
+      | None ↦
+          if is_set (codes "new-day") rows then None
+          else serve_by (opening_in rows) (is_set (codes "sync") rows) (first_of (codes "journal") rows) config
+    ]
+
 abbrev pub serve_in : List Row → Option Asked
-serve_in rows =
-    option_and_then (serve_by (opening_in rows) (is_set (codes "sync") rows) (first_of (codes "journal") rows)) (first_of (codes "config") rows)
+serve_in rows = option_and_then (served_in rows) (first_of (codes "config") rows)
 
 -- what a subcommand asks for, by its name and its values
 abbrev pub asked_by : Text → List Row → Option Asked
@@ -201,9 +243,9 @@ asked_by name rows =
     else if bytes_eq name (codes "dis") then dis_in rows
     else if bytes_eq name (codes "verify") then verify_in rows
     else if bytes_eq name (codes "play") then files_in (codes "config") (codes "script") (play (opening_in rows)) rows
-    else if bytes_eq name (codes "audit") then files_in (codes "config") (codes "journal") (audit (opening_in rows)) rows
+    else if bytes_eq name (codes "audit") then audit_in rows
     else if bytes_eq name (codes "carry") then files_in (codes "config") (codes "journal") (carry (opening_in rows)) rows
-    else if bytes_eq name (codes "report") then files_in (codes "config") (codes "journal") report rows
+    else if bytes_eq name (codes "report") then files_in (codes "config") (codes "journal") (report (opening_in rows)) rows
     else if bytes_eq name (codes "export") then export_in rows
     else if bytes_eq name (codes "serve") then serve_in rows
     else None
@@ -216,6 +258,13 @@ asked_of (Some p) = asked_by p.0 p.1
 abbrev pub named : Option (String Global) → Option Text
 named file = option_map string_bytes file
 
+-- What a job of serving is a request for.
+abbrev pub asked_served : ServeJob → Asked
+asked_served (served.Printed opening config) = serve (named opening) (string_bytes config)
+asked_served (served.Kept opening config journal) = serve_kept (named opening) (string_bytes config) (string_bytes journal)
+asked_served (served.Synced opening config journal) = serve_synced (named opening) (string_bytes config) (string_bytes journal)
+asked_served (served.Days folder config is_synced is_new_day) = serve_days is_synced is_new_day (string_bytes folder) (string_bytes config)
+
 -- What a job is a request for. The help or the version is a text to show, and counts as no request.
 abbrev pub asked : Job → Option Asked
 asked job.NoWords = Some nothing
@@ -226,11 +275,10 @@ asked (job.Verify counters context file) = Some (verify counters context (string
 asked (job.Play opening config script) = Some (play (named opening) (string_bytes config) (string_bytes script))
 asked (job.Audit opening config journal) = Some (audit (named opening) (string_bytes config) (string_bytes journal))
 asked (job.Carry opening config journal) = Some (carry (named opening) (string_bytes config) (string_bytes journal))
-asked (job.Report config journal) = Some (report (string_bytes config) (string_bytes journal))
-asked (job.Export rows format config journal) = Some (export rows format (string_bytes config) (string_bytes journal))
-asked (job.Serve opening config) = Some (serve (named opening) (string_bytes config))
-asked (job.ServeKept opening config journal) = Some (serve_kept (named opening) (string_bytes config) (string_bytes journal))
-asked (job.ServeSynced opening config journal) = Some (serve_synced (named opening) (string_bytes config) (string_bytes journal))
+asked (job.AuditDays folder config) = Some (audit_days (string_bytes folder) (string_bytes config))
+asked (job.Report opening config journal) = Some (report (named opening) (string_bytes config) (string_bytes journal))
+asked (job.Export rows format opening config journal) = Some (export rows format (named opening) (string_bytes config) (string_bytes journal))
+asked (job.Serve served) = Some (asked_served served)
 asked (job.Show text) = None
 
 -- ---- refusals
@@ -261,16 +309,40 @@ IsNothing found = (asked_of found ≡ None) ⊎ ((p : Text × List Row) × (foun
 abbrev pub further : Text
 further = codes "For more information, try '--help'." ++ 10 ∷ []
 
--- the message for a command line that `clap` accepts, but that asks for no job
-abbrev pub unasked_by : Text → Text
-unasked_by name =
-    if bytes_eq name (codes "serve") then codes "error: --sync wants --journal FILE" ++ 10 ∷ 10 ∷ further
-    else if bytes_eq name (codes "export") then codes "error: export takes sales, decisions or events" ++ 10 ∷ 10 ∷ further
-    else codes "error: --context takes 1 or 2" ++ 10 ∷ 10 ∷ further
+-- what is wrong with the values of `audit` that ask for no job
+abbrev pub unaudited_by : List Row → Text
+unaudited_by rows =
+    elim (days_in rows) [
+      | Some _ ↦ codes "error: --days takes neither --opening nor JOURNAL"
+      | None ↦ codes "error: audit wants JOURNAL, or --days FOLDER"
+    ]
 
+-- what is wrong with the values of `serve` that ask for no job
+abbrev pub unserved_by : List Row → Text
+unserved_by rows =
+    elim (days_in rows) [
+      | Some _ ↦ codes "error: --days takes neither --opening nor --journal"
+      | None ↦
+          if is_set (codes "new-day") rows then codes "error: --new-day wants --days FOLDER"
+          else codes "error: --sync wants --journal FILE or --days FOLDER"
+    ]
+
+-- what is wrong with the values of a subcommand that ask for no job
+abbrev pub unasked_by : Text → List Row → Text
+unasked_by name rows =
+    if bytes_eq name (codes "serve") then unserved_by rows
+    else if bytes_eq name (codes "audit") then unaudited_by rows
+    else if bytes_eq name (codes "export") then codes "error: export takes sales, decisions or events"
+    else codes "error: --context takes 1 or 2"
+
+-- what is wrong with a command line that `clap` accepts, but that asks for no job
+abbrev pub unasked_words : Option (Text × List Row) → Text
+unasked_words None = codes "error: --context takes 1 or 2"
+unasked_words (Some p) = unasked_by p.0 p.1
+
+-- the message for a command line that `clap` accepts, but that asks for no job
 abbrev pub unasked_text : Option (Text × List Row) → Text
-unasked_text None = unasked_by []
-unasked_text (Some p) = unasked_by p.0
+unasked_text found = unasked_words found ++ 10 ∷ 10 ∷ further
 
 -- A usage message is returned only in two cases. Either `clap` may refuse the arguments. Or it accepts them but they
 -- ask for no job, and the message is the one for this case.

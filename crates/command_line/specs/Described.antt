@@ -1,17 +1,19 @@
 -- Promises: the commands that a table of subcommands describes to `clap`.
-use Rattle.std.specs.Prelude.{List, [], ◌∷◌, Some}
+use Rattle.std.specs.Prelude.{List, [], ◌∷◌, Some, codes}
 use Rattle.clap.specs.Words.{App, Rule, Text, new_app, new_rule, with_rule, with_subcommand}
-use Rattle.command_line.specs.Asked.{context_rule, file_rule, flag_rule, kind_rule, mask_rule, option_rule}
+use Rattle.command_line.specs.Asked.{context_rule, file_rule, flag_rule, kind_rule, mask_rule, option_rule, spare_rule}
 use Rattle.command_line.specs.declared.app.Argument.{Argument}
 use Rattle.command_line.specs.declared.app.Argument.TheVariants as argument
 use Rattle.command_line.specs.declared.app.Word.{Word}
 
 abbrev pub rule_for : Argument → Rule
 rule_for (argument.File name help) = file_rule name.now
+rule_for (argument.SpareFile name help) = spare_rule name.now
 rule_for argument.Kind = kind_rule
 rule_for argument.Mask = mask_rule
 rule_for argument.Context = context_rule
 rule_for (argument.FileOption name help) = option_rule name.now
+rule_for (argument.Days help) = option_rule (codes "days")
 rule_for (argument.Flag name help) = flag_rule name.now
 
 -- adds these arguments to a command, in their order

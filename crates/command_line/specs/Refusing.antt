@@ -21,6 +21,11 @@ FindsFiles first second rows (Some p) =
     (ask : Text → Text → Asked) → files_in first second ask rows ≡ Some (ask (string_bytes p.0) (string_bytes p.1))
 FindsFiles first second rows None = (ask : Text → Text → Asked) → files_in first second ask rows ≡ None
 
+-- the result is the job that is asked for; None only if none is
+abbrev pub Asks : Option Asked → Option Job → Type 0
+Asks wanted (Some job) = (wanted ≡ asked job) × IsSome (asked job)
+Asks wanted None = wanted ≡ None
+
 -- the result is the job that a subcommand's values ask for; None only if they ask for no job or --counters is no mask
 abbrev pub Finds : Text → List Row → Option Job → Type 0
 Finds name rows (Some job) = (asked_by name rows ≡ asked job) × IsSome (asked job)

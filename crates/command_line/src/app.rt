@@ -3,7 +3,7 @@ ghost use Rattle.std.specs.Prelude.{◌≡◌, false, IfOk, codes};
 ghost use Rattle.clap.specs.Words.{app_of, new_app, rule_of, with_subcommand};
 ghost use Rattle.clap.specs.declared.builder.command.Command.TheViews.{out-Command};
 ghost use Rattle.command_line.specs.Asked.{context_rule, file_rule, flag_rule, kind_rule, mask_rule};
-ghost use Rattle.command_line.specs.Asked.{option_rule};
+ghost use Rattle.command_line.specs.Asked.{option_rule, spare_rule};
 ghost use Rattle.command_line.specs.Asked.{fc_app, top_app};
 ghost use Rattle.command_line.specs.Described.{app_for, rule_for, with_words};
 
@@ -15,6 +15,8 @@ use std::alloc::{AllocError, Global};
 enum Argument {
     /// A file that must be given: its name, and its help text.
     File(&'static str, &'static str),
+    /// A file that may be left out: its name, and its help text.
+    SpareFile(&'static str, &'static str),
     /// The argument that says which rows `export` prints.
     Kind,
     /// The option `--counters MASK`.
@@ -23,6 +25,8 @@ enum Argument {
     Context,
     /// An option `--NAME FILE`: its name, and its help text.
     FileOption(&'static str, &'static str),
+    /// The option `--days FOLDER`: its help text.
+    Days(&'static str),
     /// An option without a value: its name, and its help text.
     Flag(&'static str, &'static str),
 }
@@ -42,6 +46,14 @@ fn file_arg<'a>(alloc: Global, name: &'a str, help: &'a str) -> Arg<'a>
     ensures local { result.global ≡ false }
 {
     Arg::new(alloc, name).help(help).required(true)
+}
+
+/// Makes the argument for a file that may be left out.
+fn spare_arg<'a>(alloc: Global, name: &'a str, help: &'a str) -> Arg<'a>
+    ensures rule { rule_of result ≡ spare_rule name.entry.now }
+    ensures local { result.global ≡ false }
+{
+    Arg::new(alloc, name).help(help)
 }
 
 /// Makes the argument that says which rows `export` prints.
@@ -148,11 +160,12 @@ const WORDS: [Word; 9] = [
     Word {
         name: "audit",
         about: "Tells whether a journal is a legal history",
-        example: "Example: fc audit site.toml day.journal",
+        example: "Examples: fc audit site.toml day.journal, fc audit --days days site.toml",
         arguments: &[
             Argument::File("config", CONFIG),
-            Argument::File("journal", AUDITED),
+            Argument::SpareFile("journal", AUDITED),
             OPENING,
+            Argument::Days("audit all days of this folder, in place of JOURNAL"),
         ],
     },
     Word {
@@ -172,6 +185,7 @@ const WORDS: [Word; 9] = [
         arguments: &[
             Argument::File("config", CONFIG),
             Argument::File("journal", JOURNAL),
+            OPENING,
         ],
     },
     Word {
@@ -183,12 +197,13 @@ const WORDS: [Word; 9] = [
             Argument::File("config", CONFIG),
             Argument::File("journal", JOURNAL),
             Argument::Flag("json", "print a line of JSON for each row, in place of CSV"),
+            OPENING,
         ],
     },
     Word {
         name: "serve",
         about: "Serves a site at ports and local sockets, then prints its journal",
-        example: "Examples: fc serve site.toml > day.journal, fc serve --journal day.journal site.toml",
+        example: "Examples: fc serve --journal day.journal site.toml, fc serve --days days --new-day site.toml",
         arguments: &[
             Argument::File("config", CONFIG),
             Argument::FileOption(
@@ -197,9 +212,14 @@ const WORDS: [Word; 9] = [
             ),
             Argument::Flag(
                 "sync",
-                "with --journal: answer only what the system says is on the disk",
+                "with --journal or --days: answer only what the system says is on the disk",
             ),
             OPENING,
+            Argument::Days("serve the newest day of this folder, and keep its journal there"),
+            Argument::Flag(
+                "new-day",
+                "with --days: close the newest day first, and serve the next one",
+            ),
         ],
     },
 ];
@@ -221,10 +241,12 @@ fn argument_of<'a>(alloc: Global, argument: Argument) -> Arg<'a>
 {
     match argument {
         Argument::File(name, help) => file_arg(alloc, name, help),
+        Argument::SpareFile(name, help) => spare_arg(alloc, name, help),
         Argument::Kind => kind_arg(alloc),
         Argument::Mask => mask_arg(alloc),
         Argument::Context => context_arg(alloc),
         Argument::FileOption(name, help) => option_arg(alloc, name, "FILE", help),
+        Argument::Days(help) => option_arg(alloc, "days", "FOLDER", help),
         Argument::Flag(name, help) => flag_arg(alloc, name, help),
     }
 }

@@ -24,7 +24,8 @@ pub enum Format {
 }
 
 /// The job that a command line asks for. Each `String` is the name of a file, as it was given. Only the `String` of
-/// `Show` is a text to print. An `opening` is the file of the opening that the site begins with, if one is given.
+/// `Show` is a text to print. An `opening` is the file of the opening that the site begins with, if one is given. A
+/// `folder` has the files of a station's days.
 #[derive(Drop)]
 pub enum Job {
     /// No argument was given: play a configuration and then a script, both read from standard input.
@@ -53,6 +54,11 @@ pub enum Job {
         config: String,
         journal: String,
     },
+    /// Audit all days of a station against a configuration.
+    AuditDays {
+        folder: String,
+        config: String,
+    },
     /// Audit a journal against a configuration, and print the opening of the next day.
     Carry {
         opening: Option<String>,
@@ -61,6 +67,7 @@ pub enum Job {
     },
     /// Audit a journal against a configuration, and print it as a page of pictures and tables.
     Report {
+        opening: Option<String>,
         config: String,
         journal: String,
     },
@@ -68,28 +75,44 @@ pub enum Job {
     Export {
         rows: Rows,
         format: Format,
-        config: String,
-        journal: String,
-    },
-    /// Serve a site of this configuration, and print its journal at the end.
-    Serve {
-        opening: Option<String>,
-        config: String,
-    },
-    /// Serve a site of this configuration, and write its journal to a file as it grows.
-    ServeKept {
         opening: Option<String>,
         config: String,
         journal: String,
     },
-    /// Serve a site like `ServeKept`, and send an answer only after its line in the journal is synced.
-    ServeSynced {
-        opening: Option<String>,
-        config: String,
-        journal: String,
-    },
+    /// Serve a site.
+    Serve(ServeJob),
     /// Print this text, which is the help or the version.
     Show(String),
+}
+
+/// How a site is served, and what becomes of its journal.
+#[derive(Drop)]
+pub enum ServeJob {
+    /// Print the journal at the end.
+    Printed {
+        opening: Option<String>,
+        config: String,
+    },
+    /// Write the journal to a file as it grows.
+    Kept {
+        opening: Option<String>,
+        config: String,
+        journal: String,
+    },
+    /// The same, and send an answer only after its line in the journal is synced.
+    Synced {
+        opening: Option<String>,
+        config: String,
+        journal: String,
+    },
+    /// Serve the newest day of a station, and keep its journal in the folder of the days. If `is_synced`, send an answer
+    /// only after its line is synced. If `is_new_day`, close the newest day first, and serve the next one.
+    Days {
+        folder: String,
+        config: String,
+        is_synced: bool,
+        is_new_day: bool,
+    },
 }
 
 /// Why a command line gives no job.

@@ -5,5 +5,5 @@ mod app;
 mod job;
 mod words;
 
-pub use job::{CommandFault, Format, Job, Rows};
+pub use job::{CommandFault, Format, Job, Rows, ServeJob};
 pub use words::command;

@@ -1,14 +1,15 @@
 //! The parsing of a command line.
 ghost use Rattle.std.specs.Prelude.{◌≡◌, IsTrue, IsSome, None, false, [], IfOk, IfErr, IsOkAnd, OnOk};
-ghost use Rattle.std.specs.Prelude.{map, codes, option_map, string_bytes, ◌↔◌};
+ghost use Rattle.std.specs.Prelude.{map, codes, is_some, option_map, string_bytes, ◌↔◌};
 ghost use Rattle.clap.specs.Words.{first_of, rows_of, found_of, subcommand_of, subcommand_rows_of, takes, fault_of};
 ghost use Rattle.command_line.specs.Asked.{fc_app, asked, asked_of, is_set, layout_in, layout_named, IsShown, MayShow};
-ghost use Rattle.command_line.specs.Asked.{RefusesBy, format_in, kind_in, named, opening_in, rows_named};
-ghost use Rattle.command_line.specs.Asked.{unasked_by, unasked_text};
-ghost use Rattle.command_line.specs.Refusing.{Finds, FindsFiles, FindsIn, ReadsMask, IsUnasked, IsRefusalOf};
+ghost use Rattle.command_line.specs.Asked.{RefusesBy, audit_by, days_in, format_in, kind_in, named, opening_in};
+ghost use Rattle.command_line.specs.Asked.{rows_named, serve_by, serve_days_by, unasked_by, unasked_text, unasked_words};
+ghost use Rattle.command_line.specs.Asked.{unaudited_by, unserved_by};
+ghost use Rattle.command_line.specs.Refusing.{Asks, Finds, FindsFiles, FindsIn, ReadsMask, IsUnasked, IsRefusalOf};
 
 use crate::app::fc;
-use crate::job::{CommandFault, Format, Job, Rows};
+use crate::job::{CommandFault, Format, Job, Rows, ServeJob};
 use bpf_model::context::Layout;
 use clap::ArgMatches;
 use clap::error::ErrorKind;
@@ -133,6 +134,20 @@ fn opening_of(alloc: Global, matches: &ArgMatches) -> Result<Option<String>, All
     file_of(alloc, matches, "opening")
 }
 
+/// Returns the name of the folder that `--days` gives; `None` if it isn't given.
+fn days_of(alloc: Global, matches: &ArgMatches) -> Result<Option<String>, AllocError>
+    ensures { IfOk result (λ folder. days_in (rows_of (found_of matches.now)) ≡ named folder) }
+{
+    file_of(alloc, matches, "days")
+}
+
+/// Returns the name of the file of a journal, if one is given.
+fn journal_of(alloc: Global, matches: &ArgMatches) -> Result<Option<String>, AllocError>
+    ensures { IfOk result (λ file. first_of (codes "journal") (rows_of (found_of matches.now)) ≡ named file) }
+{
+    file_of(alloc, matches, "journal")
+}
+
 fn play_of(alloc: Global, matches: &ArgMatches) -> Result<Option<Job>, AllocError>
     ensures { IfOk result (Finds (codes "play") (rows_of (found_of matches.now))) }
 {
@@ -150,14 +165,36 @@ fn play_of(alloc: Global, matches: &ArgMatches) -> Result<Option<Job>, AllocErro
 fn audit_of(alloc: Global, matches: &ArgMatches) -> Result<Option<Job>, AllocError>
     ensures { IfOk result (Finds (codes "audit") (rows_of (found_of matches.now))) }
 {
+    let Some(config) = file_of(alloc, matches, "config")? else {
+        return Ok(None);
+    };
     let opening = opening_of(alloc, matches)?;
-    match files_of(alloc, matches, "config", "journal")? {
-        Some((config, journal)) => Ok(Some(Job::Audit {
+    let journal = journal_of(alloc, matches)?;
+    let days = days_of(alloc, matches)?;
+    Ok(audit_by(days, opening, journal, config))
+}
+
+/// Returns the audit that the values of `--days`, `--opening` and JOURNAL ask for, or `None` if they ask for none.
+fn audit_by(
+    days: Option<String>,
+    opening: Option<String>,
+    journal: Option<String>,
+    config: String,
+) -> Option<Job>
+    ensures { Asks (audit_by (named days) (named opening) (named journal) (string_bytes config)) result }
+{
+    match (days, journal) {
+        (None, None) => None,
+        (None, Some(journal)) => Some(Job::Audit {
             opening,
             config,
             journal,
-        })),
-        None => Ok(None),
+        }),
+        (Some(_folder), Some(_journal)) => None,
+        (Some(folder), None) => match opening {
+            None => Some(Job::AuditDays { folder, config }),
+            Some(_opening) => None,
+        },
     }
 }
 
@@ -178,8 +215,13 @@ fn carry_of(alloc: Global, matches: &ArgMatches) -> Result<Option<Job>, AllocErr
 fn report_of(alloc: Global, matches: &ArgMatches) -> Result<Option<Job>, AllocError>
     ensures { IfOk result (Finds (codes "report") (rows_of (found_of matches.now))) }
 {
+    let opening = opening_of(alloc, matches)?;
     match files_of(alloc, matches, "config", "journal")? {
-        Some((config, journal)) => Ok(Some(Job::Report { config, journal })),
+        Some((config, journal)) => Ok(Some(Job::Report {
+            opening,
+            config,
+            journal,
+        })),
         None => Ok(None),
     }
 }
@@ -228,10 +270,12 @@ fn export_of(alloc: Global, matches: &ArgMatches) -> Result<Option<Job>, AllocEr
         return Ok(None);
     };
     let format = format_asked(matches);
+    let opening = opening_of(alloc, matches)?;
     match files_of(alloc, matches, "config", "journal")? {
         Some((config, journal)) => Ok(Some(Job::Export {
             rows,
             format,
+            opening,
             config,
             journal,
         })),
@@ -239,28 +283,73 @@ fn export_of(alloc: Global, matches: &ArgMatches) -> Result<Option<Job>, AllocEr
     }
 }
 
-/// Returns the job of `fc serve`, or `None` for `--sync` without `--journal` or if CONFIG isn't given.
+/// Returns the job of `fc serve` without `--days`, or `None` for `--sync` without `--journal`.
+fn serve_by(
+    opening: Option<String>,
+    is_synced: bool,
+    journal: Option<String>,
+    config: String,
+) -> Option<Job>
+    ensures { Asks (serve_by (named opening) is_synced (named journal) (string_bytes config)) result }
+{
+    match (is_synced, journal) {
+        (false, None) => Some(Job::Serve(ServeJob::Printed { opening, config })),
+        (false, Some(journal)) => Some(Job::Serve(ServeJob::Kept {
+            opening,
+            config,
+            journal,
+        })),
+        (true, None) => None,
+        (true, Some(journal)) => Some(Job::Serve(ServeJob::Synced {
+            opening,
+            config,
+            journal,
+        })),
+    }
+}
+
+/// Returns the job of `fc serve --days`, or `None` if an opening or a journal is given too.
+fn serve_days_by(
+    opening: Option<String>,
+    journal: Option<String>,
+    is_synced: bool,
+    is_new_day: bool,
+    folder: String,
+    config: String,
+) -> Option<Job>
+    ensures { Asks
+        (serve_days_by (named opening) (named journal) is_synced is_new_day (string_bytes folder) (string_bytes config))
+        result }
+{
+    match opening {
+        None => match journal {
+            None => Some(Job::Serve(ServeJob::Days {
+                folder,
+                config,
+                is_synced,
+                is_new_day,
+            })),
+            Some(_journal) => None,
+        },
+        Some(_opening) => None,
+    }
+}
+
+/// Returns the job of `fc serve`, or `None` if CONFIG isn't given or the options ask for none.
 fn serve_of(alloc: Global, matches: &ArgMatches) -> Result<Option<Job>, AllocError>
     ensures { IfOk result (Finds (codes "serve") (rows_of (found_of matches.now))) }
 {
     let Some(config) = file_of(alloc, matches, "config")? else {
         return Ok(None);
     };
-    let journal = file_of(alloc, matches, "journal")?;
     let opening = opening_of(alloc, matches)?;
-    match (is_set(matches, "sync"), journal) {
-        (false, None) => Ok(Some(Job::Serve { opening, config })),
-        (false, Some(journal)) => Ok(Some(Job::ServeKept {
-            opening,
-            config,
-            journal,
-        })),
-        (true, None) => Ok(None),
-        (true, Some(journal)) => Ok(Some(Job::ServeSynced {
-            opening,
-            config,
-            journal,
-        })),
+    let journal = journal_of(alloc, matches)?;
+    let is_synced = is_set(matches, "sync");
+    let is_new_day = is_set(matches, "new-day");
+    match days_of(alloc, matches)? {
+        Some(folder) => Ok(serve_days_by(opening, journal, is_synced, is_new_day, folder, config)),
+        None if is_new_day => Ok(None),
+        None => Ok(serve_by(opening, is_synced, journal, config)),
     }
 }
 
@@ -292,45 +381,69 @@ fn job_of(alloc: Global, matches: &ArgMatches) -> Result<Option<Job>, AllocError
     }
 }
 
-/// The message for a command line that `clap` accepts, but that has `--sync` without `--journal`.
-const UNKEPT: &str = "error: --sync wants --journal FILE
-
-For more information, try '--help'.
-";
-
-/// The message for a command line that `clap` accepts, but that has an unknown KIND of rows after `export`.
-const KINDS: &str = "error: export takes sales, decisions or events
-
-For more information, try '--help'.
-";
-
-/// The message for a command line that `clap` accepts, but whose `--context` is neither 1 nor 2.
-const LAYOUTS: &str = "error: --context takes 1 or 2
-
-For more information, try '--help'.
-";
-
-/// Returns the message for arguments of this subcommand that `clap` accepts, but that ask for no job.
-fn unasked_by(name: &str) -> &'static str
-    ensures { result.now ≡ unasked_by name.now }
+/// Returns whether the option `--days` is given.
+fn has_days(matches: &ArgMatches) -> bool
+    ensures { result ≡ is_some (days_in (rows_of (found_of matches.now))) }
 {
-    if name == "serve" {
-        UNKEPT
-    } else if name == "export" {
-        KINDS
-    } else {
-        LAYOUTS
+    match matches.get_str("days") {
+        Some(_) => true,
+        None => false,
     }
 }
 
-/// Returns the message for a command line that `clap` accepts, but that asks for no job.
+/// Returns what is wrong with the values of `audit` that ask for no job.
+fn unaudited_by(matches: &ArgMatches) -> &'static str
+    ensures { result.now ≡ unaudited_by (rows_of (found_of matches.now)) }
+{
+    if has_days(matches) {
+        "error: --days takes neither --opening nor JOURNAL"
+    } else {
+        "error: audit wants JOURNAL, or --days FOLDER"
+    }
+}
+
+/// Returns what is wrong with the values of `serve` that ask for no job.
+fn unserved_by(matches: &ArgMatches) -> &'static str
+    ensures { result.now ≡ unserved_by (rows_of (found_of matches.now)) }
+{
+    if has_days(matches) {
+        "error: --days takes neither --opening nor --journal"
+    } else if is_set(matches, "new-day") {
+        "error: --new-day wants --days FOLDER"
+    } else {
+        "error: --sync wants --journal FILE or --days FOLDER"
+    }
+}
+
+/// Returns what is wrong with the values of a subcommand that `clap` accepts, but that ask for no job.
+fn unasked_by(name: &str, matches: &ArgMatches) -> &'static str
+    ensures { result.now ≡ unasked_by name.now (rows_of (found_of matches.now)) }
+{
+    match name {
+        "serve" => unserved_by(matches),
+        "audit" => unaudited_by(matches),
+        "export" => "error: export takes sales, decisions or events",
+        _ => "error: --context takes 1 or 2",
+    }
+}
+
+/// Returns what is wrong with a command line that `clap` accepts, but that asks for no job.
 fn unasked(matches: &ArgMatches) -> &'static str
-    ensures { result.now ≡ unasked_text (subcommand_rows_of matches.now) }
+    ensures { result.now ≡ unasked_words (subcommand_rows_of matches.now) }
 {
     match matches.subcommand() {
-        Some((name, _)) => unasked_by(name),
-        None => unasked_by(""),
+        Some((name, rest)) => unasked_by(name, rest),
+        None => "error: --context takes 1 or 2",
     }
+}
+
+/// Returns the message for a command line that `clap` accepts, but that asks for no job. The error is that memory ran
+/// out.
+fn unasked_text(alloc: Global, matches: &ArgMatches) -> Result<String, AllocError>
+    ensures { IfOk result (λ text. string_bytes text ≡ unasked_text (subcommand_rows_of matches.now)) }
+{
+    let words = unasked(matches);
+    format!(in alloc; "{words}\n\nFor more information, try '--help'.\n")
 }
 
 /// Returns the job of a parsed command line. The error is the message for one that asks for no job, or that memory ran
@@ -342,7 +455,7 @@ fn found_job(alloc: Global, matches: &ArgMatches) -> Result<Job, CommandFault>
 {
     match job_of(alloc, matches)? {
         Some(job) => Ok(job),
-        None => Err(CommandFault::Usage(String::from_str(alloc, unasked(matches))?)),
+        None => Err(CommandFault::Usage(unasked_text(alloc, matches)?)),
     }
 }
 

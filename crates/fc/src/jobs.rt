@@ -1,10 +1,10 @@
 //! The jobs of the program, and the function that does each of them.
-use crate::kept::{After, serve_kept};
+use crate::kept::{After, serve_days, serve_kept};
 use crate::printed::serve_printed;
-use command_line::Job;
+use command_line::{Job, ServeJob};
 use file_jobs::{
-    DONE, SiteFiles, Stop, Tell, audit_files, carry_files, export_files, play_files, play_input,
-    report_files, say, tell_file,
+    DONE, Folder, SiteFiles, Stop, Tell, audit_files, audit_folder, carry_files, export_files,
+    play_files, play_input, report_files, say, tell_file,
 };
 use std::fs::Files;
 use std::net::{Net, TcpListener, TcpStream};
@@ -40,30 +40,60 @@ pub fn do_job<
             config,
             journal,
         } => audit_files(rt, site_files(config, opening), journal),
+        Job::AuditDays { folder, config } => audit_folder(rt, folder, config),
         Job::Carry {
             opening,
             config,
             journal,
         } => carry_files(rt, site_files(config, opening), journal),
-        Job::Report { config, journal } => report_files(rt, config, journal),
+        Job::Report {
+            opening,
+            config,
+            journal,
+        } => report_files(rt, site_files(config, opening), journal),
         Job::Export {
             rows,
             format,
+            opening,
             config,
             journal,
-        } => export_files(rt, *rows, *format, config, journal),
-        Job::Serve { opening, config } => serve_printed(rt, host, site_files(config, opening)),
-        Job::ServeKept {
+        } => export_files(rt, *rows, *format, site_files(config, opening), journal),
+        Job::Serve(job) => serve(rt, host, job),
+    }
+}
+
+/// Serves a site, and returns the exit status.
+fn serve<
+    H: Files + Net<Listener = TcpListener, Stream = TcpStream> + Threads + Wait + Clock + Sync,
+>(rt: &HostRuntime, host: &H, job: &ServeJob) -> Result<u8, Stop> {
+    match job {
+        ServeJob::Printed { opening, config } => {
+            serve_printed(rt, host, site_files(config, opening))
+        }
+        ServeJob::Kept {
             opening,
             config,
             journal,
         } => serve_kept(rt, host, site_files(config, opening), journal, After::Write),
-        Job::ServeSynced {
+        ServeJob::Synced {
             opening,
             config,
             journal,
         } => serve_kept(rt, host, site_files(config, opening), journal, After::Sync),
+        ServeJob::Days {
+            folder,
+            config,
+            is_synced,
+            is_new_day,
+        } => {
+            let folder = Folder::named(rt, folder)?;
+            serve_days(rt, host, folder, config, *is_new_day, after(*is_synced))
+        }
     }
+}
+
+fn after(is_synced: bool) -> After {
+    if is_synced { After::Sync } else { After::Write }
 }
 
 fn site_files<'a>(config: &'a String, opening: &'a Option<String>) -> SiteFiles<'a> {

@@ -1,6 +1,7 @@
 //! The rows of an audited journal, for other programs.
 use crate::audited::audited_site;
 use crate::faults::{once_printed, out_of_memory};
+use crate::settings::SiteFiles;
 use crate::statuses::DONE;
 use crate::stop::Stop;
 use command_line::{Format, Rows};
@@ -8,16 +9,16 @@ use day_export::{RowsFault, write_rows};
 use site_core::Site;
 use std::io::{self, BufWriter, Write};
 
-/// Audits the journal in one file against the configuration in another, prints the rows that are asked for, and returns
-/// the exit status. If the journal is refused, prints what its audit prints, and no rows.
+/// Audits the journal in a file as one of this site, prints the rows that are asked for, and returns the exit status.
+/// If the journal is refused, prints what its audit prints, and no rows.
 pub fn export_files(
     rt: &HostRuntime,
     rows: Rows,
     format: Format,
-    config: &str,
+    site: SiteFiles<'_>,
     journal: &str,
 ) -> Result<u8, Stop> {
-    let site = audited_site(rt, config, journal)?;
+    let site = audited_site(rt, site, journal)?;
     print_rows(rt, &site, rows_of(rows), format_of(format))
 }
 

@@ -124,8 +124,8 @@ pub fn refuse_length(rt: &HostRuntime, word: &str) -> u8 {
     refuse(rt, "L1")
 }
 
-/// Prints on standard error why a file can't be read, and returns the exit status, which is `FAILED`.
-pub fn cannot_read(rt: &HostRuntime, word: &str, error: &io::Error) -> u8 {
+/// Prints on standard error why a file can't be opened, read or written, and returns the exit status, which is `FAILED`.
+pub fn cannot_use(rt: &HostRuntime, word: &str, error: &io::Error) -> u8 {
     if error.kind() == ErrorKind::OutOfMemory && error.raw_os_error().is_none() {
         return out_of_memory(rt);
     }

@@ -1,17 +1,16 @@
 //! The opening that a site begins with: its file is read, and compared with the configuration.
 ghost use Rattle.std.specs.Prelude.{IfOk};
-ghost use Rattle.file_jobs.specs.Fitting.{BeginsWith};
+ghost use Rattle.days.specs.Fitting.{BeginsWith};
 
 use crate::faults::{
     Place, complain, once_printed, out_of_memory, refuse, say, tell_at, tell_journal,
 };
 use crate::files::bytes_of;
-use crate::fitting::fitted;
 use crate::statuses::REFUSED;
 use crate::stop::Stop;
-use console::{Serve, Settings};
+use console::Serve;
+use days::{OpeningFile, OpeningFlaw, Unfit, begun, read_opening};
 use job_texts::{JournalFlaw, explain_refusal, told_audit_fault};
-use opening_text::{OpeningFile, OpeningFlaw, read_opening};
 use reg_types::Refusal;
 use site_core::{AuditFault, Config, Opening, OpeningFault};
 use std::alloc::{AllocError, Global};
@@ -30,18 +29,33 @@ pub struct Day {
     pub number: u32,
 }
 
-/// Returns the day that begins with the opening in the file that an argument names, for a site of these settings. If
-/// the opening can't be read, is refused or doesn't fit the configuration, prints why; the error has the exit status.
-pub fn day_from(rt: &HostRuntime, word: &str, settings: Settings) -> Result<Day, Stop> {
+/// The configuration of a site that begins a day with an opening, and the day's number.
+#[derive(Drop)]
+pub struct Begun {
+    pub config: Config,
+    pub number: u32,
+}
+
+/// Returns the configuration of a site that begins with the opening in the file that an argument names. If the opening
+/// can't be read, is refused or doesn't fit the configuration, prints why; the error has the exit status.
+pub fn begin_with(rt: &HostRuntime, word: &str, config: Config) -> Result<Begun, Stop> {
     let file = opening_in(rt, word)?;
-    let Settings { config, serve } = settings;
     let number = file.day;
     match opened(rt, word, config, file.opening) {
-        Ok(config) => Ok(Day {
-            config,
-            serve,
-            number,
-        }),
+        Ok(config) => Ok(Begun { config, number }),
+        Err(stop) => Err(stop),
+    }
+}
+
+/// Returns the bytes of an opening in the file that an argument names. If they can't be read or are too many, prints
+/// why; the error has the exit status.
+pub fn opening_bytes(rt: &HostRuntime, word: &str) -> Result<Vec<u8>, Stop> {
+    match bytes_of(rt, word, MOST_OPENING) {
+        Ok(Some(bytes)) => Ok(bytes),
+        Ok(None) => {
+            complain(rt, Place::of(word), &"over 262,144 bytes", "L1");
+            Err(Stop::Said(refuse(rt, "L1")))
+        }
         Err(stop) => Err(stop),
     }
 }
@@ -49,10 +63,7 @@ pub fn day_from(rt: &HostRuntime, word: &str, settings: Settings) -> Result<Day,
 /// Reads the opening in the file that an argument names. If it can't be read or is refused, prints why; the error has
 /// the exit status.
 fn opening_in(rt: &HostRuntime, word: &str) -> Result<OpeningFile, Stop> {
-    let Some(bytes) = bytes_of(rt, word, MOST_OPENING)? else {
-        complain(rt, Place::of(word), &"over 262,144 bytes", "L1");
-        return Err(Stop::Said(refuse(rt, "L1")));
-    };
+    let bytes = opening_bytes(rt, word)?;
     match read_opening(rt.alloc(), &bytes) {
         Ok(file) => Ok(file),
         Err(flaw) => Err(refuse_opening(rt, word, &bytes, flaw)),
@@ -61,7 +72,7 @@ fn opening_in(rt: &HostRuntime, word: &str) -> Result<OpeningFile, Stop> {
 
 /// Prints why the text of an opening is refused: the words on standard error, the number (J1, J2 or F2) and the line
 /// on standard output.
-fn refuse_opening(rt: &HostRuntime, word: &str, text: &[u8], flaw: OpeningFlaw) -> Stop {
+pub fn refuse_opening(rt: &HostRuntime, word: &str, text: &[u8], flaw: OpeningFlaw) -> Stop {
     match flaw {
         OpeningFlaw::BadLine(line) => refuse_line(rt, word, line, bad_line(text, line), "J1"),
         OpeningFlaw::CutLine(line) => refuse_line(rt, word, line, "the last line has no LF", "J2"),
@@ -135,19 +146,23 @@ fn rule_in(alloc: Global, line: &[u8]) -> Option<(u32, Vec<u8>)> {
 fn opened(rt: &HostRuntime, word: &str, config: Config, opening: Opening) -> Result<Config, Stop>
     ensures { IfOk result (BeginsWith config opening) }
 {
-    let opening = match fitted(&config, opening) {
-        Ok(opening) => opening,
-        Err(misfit) => return Err(refuse_words(rt, word, &misfit)),
-    };
-    match config.opened(rt.alloc(), opening) {
+    match begun(rt.alloc(), config, opening) {
         Ok(config) => Ok(config),
-        Err(OpeningFault::OutOfMemory) => Err(Stop::Said(out_of_memory(rt))),
-        Err(fault) => Err(refuse_words(rt, word, &fault)),
+        Err(unfit) => Err(refuse_unfit(rt, word, unfit)),
     }
 }
 
-/// Prints why an opening doesn't fit a configuration. There is no number, and nothing on standard output.
-fn refuse_words<D: Display>(rt: &HostRuntime, word: &str, words: &D) -> Stop {
+/// Prints why an opening doesn't fit a configuration.
+pub fn refuse_unfit(rt: &HostRuntime, word: &str, unfit: Unfit) -> Stop {
+    match unfit {
+        Unfit::Misfit(misfit) => refuse_words(rt, word, &misfit),
+        Unfit::Fault(OpeningFault::OutOfMemory) => Stop::Said(out_of_memory(rt)),
+        Unfit::Fault(fault) => refuse_words(rt, word, &fault),
+    }
+}
+
+/// Prints what is wrong with a file. There is no number, and nothing on standard output.
+pub fn refuse_words<D: Display>(rt: &HostRuntime, word: &str, words: &D) -> Stop {
     tell_at(rt, Place::of(word), words);
     Stop::Said(REFUSED)
 }

@@ -13,8 +13,8 @@ const STEP: u64 = 8192;
 /// The terminal's codes that move to the start of the line and erase it.
 const RENEW: &str = "\r\x1b[K";
 
-/// The progress line of a job, and the counts that it shows. It appears after `STEP` lines are read.
-#[derive(Drop)]
+/// The progress line of a job, and the counts that it shows. It appears after `STEP` lines are read, and is erased when
+/// this is dropped.
 pub struct Progress<'a> {
     rt: &'a HostRuntime,
     is_shown: bool,
@@ -84,10 +84,11 @@ impl<'a> Progress<'a> {
         }
     }
 
-    /// Erases the progress line, if it was shown.
+    /// Erases the progress line, if it is shown.
     pub fn clear(&self) {
         if self.is_shown && self.lines.get() >= STEP {
             let _ = eprint!(self.rt; "{RENEW}");
+            self.lines.set(0);
         }
     }
 
@@ -101,6 +102,20 @@ impl<'a> Progress<'a> {
         let elapsed = self.begun?.elapsed(self.rt).ok()?.as_secs();
         let left = self.size?.saturating_sub(self.bytes.get());
         elapsed.saturating_mul(left).checked_div(self.bytes.get())
+    }
+}
+
+impl Drop for Progress<'_> {
+    fn drop(self) {
+        self.clear();
+        let Progress {
+            rt: _,
+            is_shown: _,
+            size: _,
+            begun: _,
+            bytes: _,
+            lines: _,
+        } = self;
     }
 }
 

@@ -1,16 +1,17 @@
 //! The page of HTML that shows an audited journal.
 use crate::audited::audited_site;
 use crate::faults::once_printed;
+use crate::settings::SiteFiles;
 use crate::statuses::DONE;
 use crate::stop::Stop;
 use day_page::Page;
 use site_core::Site;
 use std::io::{self, BufWriter, Write};
 
-/// Audits the journal in one file against the configuration in another, prints its page of HTML, and returns the exit
-/// status. If the journal is refused, prints what its audit prints, and no page.
-pub fn report_files(rt: &HostRuntime, config: &str, journal: &str) -> Result<u8, Stop> {
-    let site = audited_site(rt, config, journal)?;
+/// Audits the journal in a file as one of this site, prints its page of HTML, and returns the exit status. If the
+/// journal is refused, prints what its audit prints, and no page.
+pub fn report_files(rt: &HostRuntime, site: SiteFiles<'_>, journal: &str) -> Result<u8, Stop> {
+    let site = audited_site(rt, site, journal)?;
     print_page(rt, &site)
 }
 

@@ -1,10 +1,11 @@
 //! Reading of the files that say what a site begins with: its configuration, and its opening.
 use crate::faults::{refuse_config, tell};
 use crate::files::{Source, is_input, source_of, text_of};
-use crate::opening::{Day, day_from};
+use crate::opening::{Begun, Day, begin_with};
 use crate::statuses::USAGE;
 use crate::stop::Stop;
 use console::{Settings, read_settings};
+use site_core::Config;
 
 /// The arguments that name the files of a site: its configuration, and the opening that it begins with, if there is
 /// one.
@@ -39,20 +40,22 @@ pub fn day_of(rt: &HostRuntime, site: SiteFiles<'_>) -> Result<Day, Stop> {
         return Err(refuse_twice(rt));
     }
     let text = text_of(rt, site.config)?;
-    let settings = settings_in(rt, site.config, &text)?;
-    match site.opening {
-        Some(opening) => day_from(rt, opening, settings),
-        None => Ok(first_day(settings)),
+    let Settings { config, serve } = settings_in(rt, site.config, &text)?;
+    match begun_by(rt, site, config) {
+        Ok(Begun { config, number }) => Ok(Day {
+            config,
+            serve,
+            number,
+        }),
+        Err(stop) => Err(stop),
     }
 }
 
-/// Returns the day that a site of these settings begins with if it has no opening.
-fn first_day(settings: Settings) -> Day {
-    let Settings { config, serve } = settings;
-    Day {
-        config,
-        serve,
-        number: 1,
+/// Returns the configuration with the site's opening, if it has one. Without an opening it is the first day.
+fn begun_by(rt: &HostRuntime, site: SiteFiles<'_>, config: Config) -> Result<Begun, Stop> {
+    match site.opening {
+        Some(opening) => begin_with(rt, opening, config),
+        None => Ok(Begun { config, number: 1 }),
     }
 }
 

@@ -1,6 +1,0 @@
-use Rattle.std.proofs.Common.{take}
-use Rattle.file_jobs.specs.Fitting.{HaveTills}
-use Rattle.file_jobs.proofs.fitting.held_over.Given as goal
-
-abbrev pub invariant-loop-at : goal.invariant-loop-at
-invariant-loop-at l = HaveTills l.tills (take l.at l.points)

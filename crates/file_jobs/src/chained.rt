@@ -1,0 +1,237 @@
+//! The audit of all days of a station.
+use crate::audited::refused;
+use crate::audits::{explain_journal, tell_journal_fault};
+use crate::faults::{Place, cannot_use, complain, once_printed, out_of_memory, tell_at};
+use crate::files::{Source, text_of};
+use crate::folder::{Folder, Part};
+use crate::newest::{OfDay, UNOPENED, kept_config, refuse_link, refuse_uncarried};
+use crate::opening::{opening_bytes, refuse_opening, refuse_unfit};
+use crate::progress::{Watched, watch};
+use crate::settings::settings_in;
+use crate::statuses::{DONE, FAILED, REFUSED};
+use crate::stop::Stop;
+use days::{
+    Cause, DayIn, DaysFault, DaysIn, NoDay, Unbegun, Unclosed, Unfollowed, Unleft, audit_days,
+};
+use site_core::Config;
+use std::fmt::{self, Display};
+use std::io::ErrorKind;
+use std::str;
+use till_request::devices::StreamIn;
+use till_request::first_part;
+
+/// The journal of a day, as it is read.
+type Journal<'a> = Watched<'a, StreamIn<Source>>;
+
+/// The days of a folder, read one after another.
+#[derive(Drop)]
+struct FolderIn<'a> {
+    rt: &'a HostRuntime,
+    folder: Folder<'a>,
+    /// The configuration of each day of which the folder has none.
+    config: Config,
+    /// The next day, or `None` after the newest.
+    next: Option<u32>,
+    newest: u32,
+    /// Why a day couldn't be read.
+    stop: Option<Stop>,
+}
+
+impl<'a> FolderIn<'a> {
+    fn day(&self, number: u32) -> Result<DayIn<Journal<'a>>, Stop> {
+        let config = match kept_config(self.rt, self.folder, number)? {
+            Some(kept) => kept,
+            None => self.config.copied(self.rt.alloc())?,
+        };
+        let opening = self.opening(number)?;
+        let journal = self.journal(number)?;
+        Ok(DayIn {
+            config,
+            opening,
+            journal,
+        })
+    }
+
+    fn opening(&self, number: u32) -> Result<Option<Vec<u8>>, Stop> {
+        if !self.folder.has(self.rt, number, Part::Opening)? {
+            return Ok(None);
+        }
+        let path = self.folder.file(self.rt, number, Part::Opening)?;
+        match opening_bytes(self.rt, &path) {
+            Ok(bytes) => Ok(Some(bytes)),
+            Err(stop) => Err(stop),
+        }
+    }
+
+    fn journal(&self, number: u32) -> Result<Option<Journal<'a>>, Stop> {
+        let path = self.folder.file(self.rt, number, Part::Journal)?;
+        match Source::open(self.rt, &path) {
+            Ok(source) => {
+                let size = source.size();
+                Ok(Some(watch(self.rt, source, size)))
+            }
+            Err(error) if error.kind() == ErrorKind::NotFound => Ok(None),
+            Err(error) => Err(Stop::Said(cannot_use(self.rt, &path, &error))),
+        }
+    }
+}
+
+impl<'a> DaysIn for FolderIn<'a> {
+    type Journal = Journal<'a>;
+
+    ghost use Rattle.std.specs.Prelude.{None};
+
+    /// No contract knows what the files of a folder hold.
+    ghost remaining = { λ _. None };
+
+    fn next_day(&mut self) -> Result<Option<DayIn<Journal<'a>>>, NoDay> {
+        let Some(number) = self.next else {
+            return Ok(None);
+        };
+        self.next = if number < self.newest {
+            Some(number + 1)
+        } else {
+            None
+        };
+        match self.day(number) {
+            Ok(day) => Ok(Some(day)),
+            Err(stop) => {
+                self.stop = Some(stop);
+                Err(NoDay)
+            }
+        }
+    }
+}
+
+/// Audits all days of a folder, prints the result, and returns the exit status. `word` names the configuration of each
+/// day of which the folder has none.
+pub fn audit_folder(rt: &HostRuntime, path: &str, word: &str) -> Result<u8, Stop> {
+    let folder = Folder::named(rt, path)?;
+    let text = text_of(rt, word)?;
+    let settings = settings_in(rt, word, &text)?;
+    let Some(span) = folder.span(rt)? else {
+        return Ok(refuse_folder(rt, folder));
+    };
+    if span.oldest > 1 {
+        let oldest = span.oldest;
+        let _ = eprintln!(rt;
+            "fc: {path}: the oldest day is {oldest}, and what it begins with is not compared"
+        );
+    }
+    let mut days = FolderIn {
+        rt,
+        folder,
+        config: settings.config,
+        next: Some(span.oldest),
+        newest: span.newest,
+        stop: None,
+    };
+    match audit_days(rt.alloc(), span.oldest, &mut days) {
+        Ok(chained) => Ok(once_printed(rt, println!(rt; "{chained}"), DONE)),
+        Err(fault) => refuse_days(rt, days, fault),
+    }
+}
+
+/// Prints why the days of a folder are refused, and returns the exit status.
+fn refuse_days(
+    rt: &HostRuntime,
+    days: FolderIn<'_>,
+    fault: DaysFault<Journal<'_>>,
+) -> Result<u8, Stop> {
+    let DaysFault { day, cause } = fault;
+    let opening = days.folder.file(rt, day, Part::Opening)?;
+    let journal = days.folder.file(rt, day, Part::Journal)?;
+    match cause {
+        // There was a day as the folder was read first.
+        Cause::NoDays => Ok(refuse_folder(rt, days.folder)),
+        Cause::Unread => Err(days.stop.unwrap_or(Stop::Said(FAILED))),
+        Cause::Unleft(Unleft::NoJournal) => {
+            Ok(refuse_link(rt, Place::of(&journal), day, &"the day has no journal"))
+        }
+        Cause::Unleft(Unleft::Uncarried(why)) => Err(refuse_uncarried(rt, &journal, why)),
+        Cause::Unfollowed(why) => Ok(refuse_unfollowed(rt, &opening, day, why)),
+        Cause::Unbegun(why) => Err(refuse_unbegun(rt, &opening, day, why)),
+        Cause::Unclosed(why) => Err(refuse_unclosed(rt, &journal, why)),
+    }
+}
+
+fn refuse_folder(rt: &HostRuntime, folder: Folder<'_>) -> u8 {
+    tell_at(rt, Place::of(folder.path), &"no day is here");
+    REFUSED
+}
+
+/// Prints why a day doesn't begin with what the day before left, and returns the exit status.
+fn refuse_unfollowed(rt: &HostRuntime, opening: &str, day: u32, why: Unfollowed) -> u8 {
+    match why {
+        Unfollowed::NoOpening(_left) => { refuse_link(rt, Place::of(opening), day, &UNOPENED) }
+        Unfollowed::OtherOpening(bytes, left) => {
+            let (number, line) = other_line(&bytes, left.as_bytes());
+            let place = Place::of(opening).line(number);
+            match str::from_utf8(line) {
+                Ok(line) if !line.is_empty() => {
+                    refuse_link(rt, place, day, &Left(day.saturating_sub(1), line))
+                }
+                _ => refuse_link(rt, place, day, &"the day before left no such line"),
+            }
+        }
+    }
+}
+
+/// What a day left, as a line of the next one's opening.
+#[derive(Drop)]
+struct Left<'a>(u32, &'a str);
+
+impl Display for Left<'_> {
+    fn fmt<W: fmt::Write>(&self, f: &mut fmt::Formatter<W>) -> fmt::Result {
+        write!(f, "day {} left '{}' here", self.0, self.1)
+    }
+}
+
+/// Returns the number of the first line, counted from 1, that isn't the same in both texts, its LF included, and that
+/// line of `left` without its LF. It is empty if `left` has no such line.
+fn other_line<'a>(text: &[u8], left: &'a [u8]) -> (u64, &'a [u8]) {
+    let (mut number, mut line_at) = (1u64, 0);
+    for (at, byte) in left.iter().enumerate() {
+        if text.get(at) != Some(byte) {
+            break;
+        }
+        if *byte == b'\n' {
+            number = number.saturating_add(1);
+            line_at = at.saturating_add(1);
+        }
+    }
+    let line = match left.get(line_at..) {
+        Some(rest) => first_part(rest, b'\n').0,
+        None => &[],
+    };
+    (number, line)
+}
+
+/// Prints why a day can't begin with its opening. The result has the exit status.
+fn refuse_unbegun(rt: &HostRuntime, opening: &str, day: u32, why: Unbegun) -> Stop {
+    let place = Place::of(opening);
+    match why {
+        Unbegun::NoOpening => Stop::Said(refuse_link(rt, place, day, &UNOPENED)),
+        Unbegun::HasOpening => {
+            Stop::Said(refuse_link(rt, place, day, &"the first day has no opening"))
+        }
+        Unbegun::Flawed(bytes, flaw) => refuse_opening(rt, opening, &bytes, flaw),
+        Unbegun::OtherDay(other) => Stop::Said(refuse_link(rt, place, day, &OfDay(other))),
+        Unbegun::Unfit(unfit) => refuse_unfit(rt, opening, unfit),
+    }
+}
+
+/// Prints why a day's journal is refused, or why it can't be read. The result has the exit status.
+fn refuse_unclosed(rt: &HostRuntime, path: &str, why: Unclosed<Journal<'_>>) -> Stop {
+    match why {
+        Unclosed::Text(journal, fault) => {
+            journal.progress.clear();
+            tell_journal_fault(rt, path, fault, journal.input.reader.failure())
+        }
+        Unclosed::History(config, fault) => {
+            explain_journal(rt, path, config);
+            refused(rt, fault)
+        }
+        Unclosed::OutOfMemory => Stop::Said(out_of_memory(rt)),
+    }
+}

@@ -1,0 +1,245 @@
+//! The newest day of a station: closing it, and going on with it.
+use crate::faults::{Place, cannot_use, complain, once_printed, out_of_memory};
+use crate::files::text_of;
+use crate::folder::{Folder, Part};
+use crate::kept::{Closing, close_journal};
+use crate::opening::{Day, begin_with, refuse_words};
+use crate::settings::settings_in;
+use crate::statuses::{FAILED, REFUSED};
+use crate::stop::Stop;
+use console::Settings;
+use days::{Closed, Uncarried, opening_text};
+use site_core::{Config, OpeningFault};
+use std::fmt::{self, Display};
+use std::fs;
+
+/// The newest day of a folder, the path of its journal, and the text of its configuration if the folder hasn't it yet.
+#[derive(Drop)]
+pub struct Newest {
+    pub day: Day,
+    pub journal: String,
+    pub unkept: Option<Vec<u8>>,
+}
+
+/// The configuration that an argument names: its text, and what it says.
+#[derive(Drop)]
+pub struct Given<'a> {
+    pub word: &'a str,
+    pub text: Vec<u8>,
+    pub settings: Settings,
+}
+
+/// Reads the configuration that an argument names. If it can't be read or is refused, prints why; the error has the exit
+/// status.
+pub fn read_given<'a>(rt: &HostRuntime, word: &'a str) -> Result<Given<'a>, Stop> {
+    let text = text_of(rt, word)?;
+    match settings_in(rt, word, &text) {
+        Ok(settings) => Ok(Given {
+            word,
+            text,
+            settings,
+        }),
+        Err(stop) => Err(stop),
+    }
+}
+
+/// Returns the newest day of a folder, or the first if it has none, for a site of this configuration. If `is_new_day`,
+/// closes that day first, unless it has no entry, and returns the next one. If a file can't be used or is refused,
+/// prints why; the error has the exit status.
+pub fn newest_day(
+    rt: &HostRuntime,
+    folder: Folder<'_>,
+    given: Given<'_>,
+    is_new_day: bool,
+) -> Result<Newest, Stop> {
+    let Given {
+        word,
+        text,
+        settings: Settings { config, serve },
+    } = given;
+    let number = number_of(rt, folder, &config, &text, is_new_day)?;
+    let (config, unkept) = match settled_config(rt, folder, number)? {
+        None => (config, Some(text)),
+        Some(kept) => {
+            tell_other(rt, folder, number, word, kept.is_same(&config))?;
+            (kept, None)
+        }
+    };
+    let config = begin_day(rt, folder, number, config)?;
+    let journal = folder.file(rt, number, Part::Journal)?;
+    Ok(Newest {
+        day: Day {
+            config,
+            serve,
+            number,
+        },
+        journal,
+        unkept,
+    })
+}
+
+/// Prints that a day goes on with the configuration of its folder, if that isn't the one that `word` names.
+fn tell_other(
+    rt: &HostRuntime,
+    folder: Folder<'_>,
+    day: u32,
+    word: &str,
+    is_same: bool,
+) -> Result<(), Stop> {
+    if !is_same {
+        let path = folder.file(rt, day, Part::Config)?;
+        let _ = eprintln!(rt;
+            "fc: day {day} goes on with {path}: tills, slots and bounds of {word} count from the next day on"
+        );
+    }
+    Ok(())
+}
+
+/// Returns the number of the newest day of a folder, or 1 if it has none. If `is_new_day`, closes that day first, unless
+/// it has no entry, and returns the number of the next one. `config` is the configuration of a day of which the folder
+/// has none, and `text` is its text.
+fn number_of(
+    rt: &HostRuntime,
+    folder: Folder<'_>,
+    config: &Config,
+    text: &[u8],
+    is_new_day: bool,
+) -> Result<u32, Stop> {
+    let newest = match folder.span(rt)? {
+        Some(span) => span.newest,
+        None => return Ok(1),
+    };
+    if !is_new_day {
+        return Ok(newest);
+    }
+    match settled_config(rt, folder, newest)? {
+        Some(kept) => close_day(rt, folder, newest, kept, None),
+        None => close_day(rt, folder, newest, config.copied(rt.alloc())?, Some(text)),
+    }
+}
+
+/// Returns the configuration that a folder has of a day, or `None` if it has none.
+pub fn kept_config(rt: &HostRuntime, folder: Folder<'_>, day: u32) -> Result<Option<Config>, Stop> {
+    if !folder.has(rt, day, Part::Config)? {
+        return Ok(None);
+    }
+    let path = folder.file(rt, day, Part::Config)?;
+    let text = text_of(rt, &path)?;
+    match settings_in(rt, &path, &text) {
+        Ok(settings) => Ok(Some(settings.config)),
+        Err(stop) => Err(stop),
+    }
+}
+
+/// Returns the configuration with which a day goes on, or `None` if it can still begin with another: its folder has none
+/// of it, or the day has no entry.
+fn settled_config(rt: &HostRuntime, folder: Folder<'_>, day: u32) -> Result<Option<Config>, Stop> {
+    if folder.has_bytes(rt, day, Part::Journal)? {
+        kept_config(rt, folder, day)
+    } else {
+        Ok(None)
+    }
+}
+
+/// Returns the configuration of a site that begins a day with the opening in its folder. The first day has none.
+fn begin_day(
+    rt: &HostRuntime,
+    folder: Folder<'_>,
+    number: u32,
+    config: Config,
+) -> Result<Config, Stop> {
+    if number == 1 {
+        return Ok(config);
+    }
+    let path = folder.file(rt, number, Part::Opening)?;
+    if !folder.has(rt, number, Part::Opening)? {
+        return Err(Stop::Said(refuse_link(rt, Place::of(&path), number, &UNOPENED)));
+    }
+    let begun = begin_with(rt, &path, config)?;
+    if begun.number != number {
+        let status = refuse_link(rt, Place::of(&path), number, &OfDay(begun.number));
+        return Err(Stop::Said(status));
+    }
+    Ok(begun.config)
+}
+
+/// What is said of a day that has no opening.
+pub const UNOPENED: &str = "the day has no opening";
+
+/// Prints that a day doesn't follow the one before (O1): why on standard error, and the day on standard output. Returns
+/// the exit status.
+pub fn refuse_link<D: Display>(rt: &HostRuntime, place: Place<'_>, day: u32, words: &D) -> u8 {
+    complain(rt, place, words, "O1");
+    once_printed(rt, println!(rt; "O1 {day}"), REFUSED)
+}
+
+/// That an opening is that of another day.
+#[derive(Drop)]
+pub struct OfDay(pub u32);
+
+impl Display for OfDay {
+    fn fmt<W: fmt::Write>(&self, f: &mut fmt::Formatter<W>) -> fmt::Result {
+        write!(f, "this is the opening of day {}", self.0)
+    }
+}
+
+/// Closes a day, unless it has no entry: syncs its journal, and writes the opening of the next one. Returns the number
+/// of the newest day then. `config` is the configuration of the day's site, and `unkept` its text if the folder hasn't
+/// it yet.
+fn close_day(
+    rt: &HostRuntime,
+    folder: Folder<'_>,
+    number: u32,
+    config: Config,
+    unkept: Option<&[u8]>,
+) -> Result<u32, Stop> {
+    let path = folder.file(rt, number, Part::Journal)?;
+    let config = begin_day(rt, folder, number, config)?;
+    // The file is locked until the opening is there.
+    let Closing { closed, file } = close_journal(rt, &config, &path)?;
+    if closed.site.history().is_empty() {
+        return Ok(number);
+    }
+    check_newest(rt, folder, number)?;
+    if let Some(text) = unkept {
+        folder.put(rt, number, Part::Config, text)?;
+    }
+    if let Err(error) = file.sync_all() {
+        return Err(Stop::Said(cannot_use(rt, &path, &error)));
+    }
+    leave(rt, folder, number, &closed)
+}
+
+/// Writes the opening that a day leaves for the next one, and returns the next one's number.
+fn leave(rt: &HostRuntime, folder: Folder<'_>, number: u32, closed: &Closed) -> Result<u32, Stop> {
+    let opening = match closed.opening(number) {
+        Ok(opening) => opening,
+        Err(why) => {
+            let path = folder.file(rt, number, Part::Journal)?;
+            return Err(refuse_uncarried(rt, &path, why));
+        }
+    };
+    let text = opening_text(rt.alloc(), &opening)?;
+    folder.put(rt, opening.day, Part::Opening, text.as_bytes())?;
+    Ok(opening.day)
+}
+
+/// Returns an error if the day after this one has begun, and prints that. A caller that has locked this day's journal
+/// knows then that this day is the newest, and stays it: who begins the next one locks the same journal.
+pub fn check_newest(rt: &HostRuntime, folder: Folder<'_>, number: u32) -> Result<(), Stop> {
+    let next = number.saturating_add(1);
+    if next == number || !folder.has(rt, next, Part::Opening)? {
+        return Ok(());
+    }
+    let path = folder.file(rt, number, Part::Journal)?;
+    let _ = eprintln!(rt; "fc: {path}: day {next} has begun");
+    Err(Stop::Said(FAILED))
+}
+
+/// Prints why a day can't be closed. `journal` names the file of its journal.
+pub fn refuse_uncarried(rt: &HostRuntime, journal: &str, why: Uncarried) -> Stop {
+    match why {
+        Uncarried::Fault(OpeningFault::OutOfMemory) => Stop::Said(out_of_memory(rt)),
+        Uncarried::Fault(_) | Uncarried::LastDay => refuse_words(rt, journal, &why),
+    }
+}
