@@ -12,6 +12,7 @@ refused. This has to hold:
 - with status 3, a line on standard error says why. Each line there begins with 'fc: ' and has no debug text, or is the
   beginning of a line that the unhindered run prints there;
 - the file of a kept journal has each answered line, and its whole lines are legal;
+- a folder of days has its journals as they were, and of a new day each file whole or not at all; its audit is legal;
 - a served site leaves no local socket, and no folder in which it makes one;
 - if each read and write is cut to one byte, all is as in the unhindered run.
 If there is no C compiler (CC, or cc), nothing is tried, and that is printed. The last line is 'N passed, M failed': it
@@ -245,6 +246,37 @@ class Start(Call):
         return super().ill(shim, told, plain)
 
 
+class NewDay(Call):
+    """The start of a new day, in a folder whose first day has this journal. The site can't open its ports, since
+    another process has them."""
+
+    def __init__(self, name, journal, *words):
+        super().__init__(name, "serve", "--days", "days", "--new-day", *words, "../taken.toml")
+        self.before = {"000001.journal": journal}
+
+    def run(self, shim, fault=UNHINDERED):
+        folder = shim.path("days")
+        days = os.path.join(folder, "days")
+        os.makedirs(days)
+        for name, text in self.before.items():
+            write(os.path.join(days, name), text)
+        told = shim.run(self.words, "", fault, folder)
+        told.days = {name: text_of(os.path.join(days, name)) for name in os.listdir(days) if not name.endswith(".new")}
+        whole = told.days["000001.journal"]
+        write(os.path.join(days, "000001.journal"), whole[: whole.rfind("\n") + 1])
+        told.audited = shim.run(("audit", "--days", "days", "../taken.toml"), folder=folder)
+        shutil.rmtree(folder)
+        return told
+
+    def ill(self, shim, told, plain):
+        for name, text in told.days.items():
+            if text not in (self.before.get(name), plain.days.get(name)):
+                return f"{name} is then {text[-300:]!r}"
+        if told.audited.status != 0:
+            return f"an audit of the folder says {told.audited.printed!r}"
+        return super().ill(shim, told, plain)
+
+
 class Peer:
     """A connection of a served site, to a port or to a path, until it isn't answered any more."""
 
@@ -294,7 +326,8 @@ class Served(Call):
 
     def __init__(self, name, *words, at_sockets=False):
         super().__init__(name, "serve", *words, "site.toml")
-        self.is_kept, self.at_sockets = "--journal" in words, at_sockets
+        self.kept = {"--journal": "day.journal", "--days": "days/000001.journal"}.get("".join(words[:1]))
+        self.at_sockets = at_sockets
 
     def doors(self, folder):
         """The part of the configuration that names the doors, and where a peer finds them."""
@@ -305,8 +338,8 @@ class Served(Call):
 
     def run(self, shim, fault=UNHINDERED):
         folder, counts = shim.path("served"), shim.path("counts")
-        os.mkdir(folder)
-        journal, said = (os.path.join(folder, name) for name in ("day.journal" if self.is_kept else "printed", "said"))
+        os.makedirs(os.path.join(folder, "days"))
+        journal, said = (os.path.join(folder, name) for name in (self.kept or "printed", "said"))
         for _ in range(5):
             serve, doors = self.doors(folder)
             write(os.path.join(folder, "site.toml"), SITE + serve)
@@ -324,7 +357,7 @@ class Served(Call):
             program.kill()
             program.wait()
             status = "none: it doesn't end"
-        printed = "" if not self.is_kept else text_of(os.path.join(folder, "printed"))
+        printed = "" if not self.kept else text_of(os.path.join(folder, "printed"))
         kept = text_of(journal) if os.path.exists(journal) else ""
         told = Told(status, printed, text_of(said), shim.counted(counts), kept, answers)
         told.left = sorted(name for name in os.listdir(folder) if name.endswith(".socket"))
@@ -351,7 +384,7 @@ class Served(Call):
 
     def ill(self, shim, told, plain):
         whole = told.journal[: told.journal.rfind("\n") + 1]
-        if (self.is_kept or told.status == 0) and (ill := self.missing(told, whole)):
+        if (self.kept or told.status == 0) and (ill := self.missing(told, whole)):
             return ill
         audited = shim.run(("audit", "site.toml", "-"), whole)
         if audited.status != 0 or (told.status == 0 and whole != told.journal):
@@ -416,10 +449,13 @@ def calls_of_files(shim):
     yield Call("carry", "carry", "site.toml", "day.journal")
     yield Call("carry from an opening", "carry", "--opening", "day.opening", "site.toml", "-")
     yield Call("carry of another reply", "carry", "site.toml", "told.journal")
+    yield from calls_of_days(shim, journal, opening)
     yield Call("report", "report", "site.toml", "day.journal")
+    yield Call("report from an opening", "report", "--opening", "day.opening", "site.toml", "-")
     yield Call("report of another reply", "report", "site.toml", "told.journal")
     yield Call("export of sales", "export", "sales", "site.toml", "day.journal")
     yield Call("export of decisions in JSON", "export", "--json", "decisions", "site.toml", "day.journal")
+    yield Call("export from an opening", "export", "--opening", "day.opening", "events", "site.toml", "second.journal")
     yield Call("export of entries from standard input", "export", "events", "site.toml", "-", stdin=journal)
     yield Call("export of another reply", "export", "sales", "site.toml", "told.journal")
     yield Call("export of no rows", "export", "prices", "site.toml", "day.journal")
@@ -435,6 +471,35 @@ def calls_of_files(shim):
     yield Call("words of no job", "asm", "--mask")
 
 
+def calls_of_days(shim, journal, opening):
+    """Audits of folders with two days, some accepted and some refused. Makes their files."""
+    script = shim.path("script")
+    write(script, "till 1 show 1\ntill 1 stop 1\njournal\n")
+    played = shim.run(("play", "--opening", "day.opening", "site.toml", script)).printed
+    second = "".join(played.splitlines(True)[2:])
+    write(os.path.join(shim.folder, "second.journal"), second)
+    days = {
+        "days": (journal, opening, second),
+        "differing": (journal, re.sub(r"versions \d+", "versions 9", opening), second),
+        "told": (journal, opening, re.sub("= .*", "= S20", second, count=1)),
+        "bad": (journal.replace(" = done", " = don", 1), opening, second),
+        "without": (journal, "", second),
+        "older": ("", opening.replace("cleared ", "cleared 0", 1), second),
+    }
+    for folder, texts in days.items():
+        os.mkdir(os.path.join(shim.folder, folder))
+        for name, text in zip(("000001.journal", "000002.opening", "000002.journal"), texts):
+            if text:
+                write(os.path.join(shim.folder, folder, name), text)
+    write(os.path.join(shim.folder, "days", "000002.toml"), SITE)
+    yield Call("audit of days", "audit", "--days", "days", "site.toml")
+    yield Call("audit of days with another opening", "audit", "--days", "differing", "site.toml")
+    yield Call("audit of days with another reply", "audit", "--days", "told", "site.toml")
+    yield Call("audit of days with no entry", "audit", "--days", "bad", "site.toml")
+    yield Call("audit of days without an opening", "audit", "--days", "without", "site.toml")
+    yield Call("audit of later days from no opening", "audit", "--days", "older", "site.toml")
+
+
 def calls_of_sites(shim, taken):
     """Starts of a site that goes on from a journal, at a port that another process has, and days that are served."""
     journal = text_of(os.path.join(shim.folder, "day.journal"))
@@ -442,9 +507,12 @@ def calls_of_sites(shim, taken):
     yield Start("start with a line that is cut, synced", journal + "21 1 0 ti", "--sync")
     yield Start("start with another reply", journal.replace("granted 8000", "granted 8001", 1))
     yield Start("start with no entry", journal.replace(" = done", " = don", 1))
+    yield NewDay("start of a new day", journal + "21 1 0 ti")
+    yield NewDay("start of a new day, synced", journal, "--sync")
     yield Served("served day, printed")
     yield Served("served day, kept", "--journal", "day.journal")
     yield Served("served day, synced", "--journal", "day.journal", "--sync")
+    yield Served("served day in a folder", "--days", "days")
     yield Served("served day over sockets", at_sockets=True)
 
 

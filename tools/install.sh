@@ -1,8 +1,9 @@
 #!/bin/sh
-# Installs the proved program below PREFIX, with its systemd unit, its manual page and its completions for bash:
-#   bin/fc  lib/systemd/system/fc.service  share/man/man1/fc.1  share/bash-completion/completions/fc
-# With --uninstall it removes exactly these four files; folders stay. If DESTDIR is set, all four are below DESTDIR, but
-# the unit names the program by its path below PREFIX. An older file of fc in one of these places is replaced. If
+# Installs the proved program below PREFIX, with its systemd units, its manual page and its completions for bash:
+#   bin/fc  lib/systemd/system/fc.service  lib/systemd/system/fc-new-day.service  lib/systemd/system/fc-new-day.timer
+#   share/man/man1/fc.1  share/bash-completion/completions/fc
+# With --uninstall it removes exactly these six files; folders stay. If DESTDIR is set, all six are below DESTDIR, but
+# the units name the program by its path below PREFIX. An older file of fc in one of these places is replaced. If
 # something else is there (also a link), that is printed, and nothing is changed.
 # usage: tools/install.sh [--uninstall] PREFIX
 # Status: 0 done, 1 it can't be done, 2 the arguments are wrong.
@@ -11,8 +12,9 @@ umask 022
 here=$(CDPATH='' cd -P -- "$(dirname -- "$0")/.." && pwd) || exit 1
 program=$here/out/fc
 system=$here/examples/system
-places='bin/fc lib/systemd/system/fc.service share/man/man1/fc.1 share/bash-completion/completions/fc'
-# These words are in each of the four files, and in the program as a part of its help. A file without them isn't ours.
+units='lib/systemd/system/fc.service lib/systemd/system/fc-new-day.service lib/systemd/system/fc-new-day.timer'
+places="bin/fc $units share/man/man1/fc.1 share/bash-completion/completions/fc"
+# These words are in each of the six files, and in the program as a part of its help. A file without them isn't ours.
 ours="a petrol station's site"
 
 say() { printf 'install.sh: %s\n' "$*" >&2; }
@@ -58,9 +60,8 @@ make_folders() {
 text_of() {
     case $1 in
         bin/fc) cat "$program" ;;
-        *.service) sed "s|/usr/bin/fc|$prefix/bin/fc|" "$system/fc.service" ;;
-        *.1) cat "$system/fc.1" ;;
-        *) cat "$system/fc.bash" ;;
+        */completions/fc) cat "$system/fc.bash" ;;
+        *) sed "s|=/usr/bin/fc |=$prefix/bin/fc |" "$system/${1##*/}" ;;
     esac
 }
 
@@ -70,7 +71,7 @@ take_new_away() {
     for place in $places; do rm -f -- "$root/$place.new$$"; done
 }
 
-# Writes all four files beside their places first, and then renames them. A program that is running goes on as it was.
+# Writes all six files beside their places first, and then renames them. A program that is running goes on as it was.
 put_in_place() {
     trap take_new_away EXIT
     trap 'exit 1' HUP INT TERM
