@@ -10,16 +10,21 @@ _fc_command() {
         asm) takes=1 ;;
         dis) takes=1 options='--units' ;;
         verify) takes=1 options='--counters --context' ;;
-        play | audit | carry) takes=2 options='--opening' ;;
-        report) takes=2 ;;
-        export) takes=3 kinds='sales decisions events' options='--json' ;;
-        serve) takes=1 options='--journal --sync --opening' ;;
+        play | carry | report) takes=2 options='--opening' ;;
+        audit) takes=2 options='--opening --days' ;;
+        export) takes=3 kinds='sales decisions events' options='--json --opening' ;;
+        serve) takes=1 options='--journal --sync --opening --days --new-day' ;;
     esac
 }
 
 _fc_files() {
     compopt -o filenames 2>/dev/null
     mapfile -t COMPREPLY < <(compgen -f -- "$1")
+}
+
+_fc_folders() {
+    compopt -o filenames 2>/dev/null
+    mapfile -t COMPREPLY < <(compgen -d -- "$1")
 }
 
 _fc_words() { mapfile -t COMPREPLY < <(compgen -W "$1" -- "$2"); }
@@ -29,6 +34,7 @@ _fc_value() {
     case $1 in
         --context) _fc_words '1 2' "$2" ;;
         --journal | --opening) _fc_files "$2" ;;
+        --days) _fc_folders "$2" ;;
     esac
 }
 
@@ -53,7 +59,7 @@ _fc() {
         return
     fi
     case $before in
-        --counters | --context | --journal | --opening)
+        --counters | --context | --journal | --opening | --days)
             _fc_value "$before" "$word"
             return
             ;;
@@ -63,7 +69,9 @@ _fc() {
     _fc_command "$name"
     for ((at = 2; at < COMP_CWORD; at++)); do
         case ${COMP_WORDS[at]} in
-            --counters | --context | --journal | --opening)
+            --counters | --context | --journal | --opening | --days)
+                # All days of a folder are audited without a journal.
+                [ "$name ${COMP_WORDS[at]}" != 'audit --days' ] || takes=1
                 options=${options/${COMP_WORDS[at]}/}
                 at=$((at + 1))
                 [ "${COMP_WORDS[at]}" != = ] || at=$((at + 1))
