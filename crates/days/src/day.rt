@@ -21,16 +21,20 @@ pub trait DaysIn {
     /// The device that a day's journal is read from.
     type Journal: LineIn + Drop;
 
-    ghost use Rattle.std.specs.Prelude.{List, Option, IfOk};
+    ghost use Rattle.std.specs.Prelude.{List, Option, IfErr, IfOk};
     ghost use Rattle.days.specs.Chain.{DayText};
     ghost use Rattle.days.specs.Given.{GivesDay};
 
     /// All days that will be given, if they are known.
     ghost remaining: { Self → Option (List DayText) };
 
+    /// States that a day couldn't be read.
+    ghost failed: { Self → Type 0 };
+
     /// Returns the next day, or `None` if there are no more. The error is that the day couldn't be read.
     fn next_day(&mut self) -> Result<Option<DayIn<Self::Journal>>, NoDay>
-        ensures { IfOk result (GivesDay Self.Journal.remaining (remaining self.old) (remaining self.new)) };
+        ensures gives { IfOk result (GivesDay Self.Journal.remaining (remaining self.old) (remaining self.new)) }
+        ensures failed { IfErr result (λ _. failed self.new) };
 }
 
 /// How many days were found to follow one another, and how many entries they have together.

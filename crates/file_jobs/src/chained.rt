@@ -79,10 +79,12 @@ impl<'a> FolderIn<'a> {
 impl<'a> DaysIn for FolderIn<'a> {
     type Journal = Journal<'a>;
 
-    ghost use Rattle.std.specs.Prelude.{None};
+    ghost use Rattle.std.specs.Prelude.{IsSome, None};
 
     /// No contract knows what the files of a folder hold.
     ghost remaining = { λ _. None };
+
+    ghost failed = { λ s. IsSome s.stop };
 
     fn next_day(&mut self) -> Result<Option<DayIn<Journal<'a>>>, NoDay> {
         let Some(number) = self.next else {
@@ -163,7 +165,7 @@ fn refuse_folder(rt: &HostRuntime, folder: Folder<'_>) -> u8 {
 /// Prints why a day doesn't begin with what the day before left, and returns the exit status.
 fn refuse_unfollowed(rt: &HostRuntime, opening: &str, day: u32, why: Unfollowed) -> u8 {
     match why {
-        Unfollowed::NoOpening(_left) => { refuse_link(rt, Place::of(opening), day, &UNOPENED) }
+        Unfollowed::NoOpening(_left) => refuse_link(rt, Place::of(opening), day, &UNOPENED),
         Unfollowed::OtherOpening(bytes, left) => {
             let (number, line) = other_line(&bytes, left.as_bytes());
             let place = Place::of(opening).line(number);

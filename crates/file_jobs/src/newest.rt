@@ -11,7 +11,6 @@ use console::Settings;
 use days::{Closed, Uncarried, opening_text};
 use site_core::{Config, OpeningFault};
 use std::fmt::{self, Display};
-use std::fs;
 
 /// The newest day of a folder, the path of its journal, and the text of its configuration if the folder hasn't it yet.
 #[derive(Drop)]
