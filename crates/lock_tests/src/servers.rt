@@ -2,8 +2,8 @@
 use line_session::Doors;
 use site_core::{Config, Site};
 use site_server::{
-    AtOnce, Crew, Listener, NoJournal, Notices, OpenDoor, Serving, SessionFailure, SocketDoors,
-    Stream,
+    AtOnce, Crew, Listener, NoJournal, NoWatcher, Notices, OpenDoor, Outside, Serving,
+    SessionFailure, SocketDoors, Stream,
 };
 use std::alloc::{AllocError, Global};
 use std::io;
@@ -25,6 +25,12 @@ impl Notices for Silent {
     fn session_failed(&self, _role: Role, _pass: u32, _breach: SessionFailure) {}
 
     fn fell_silent(&self, _role: Role, _pass: u32, _seconds: u32) {}
+
+    fn connected(&self, _role: Role, _pass: u32) {}
+
+    fn disconnected(&self, _role: Role, _pass: u32) {}
+
+    fn left(&self, _role: Role, _pass: u32) {}
 }
 
 /// Opens a free port.
@@ -155,9 +161,14 @@ fn one_of_each<R: Net<Listener = TcpListener, Stream = TcpStream> + Threads + Wa
     serving: Serving,
     at: Addresses,
 ) -> Result<(u64, usize, String), Fail> {
+    let outside = Outside {
+        notices: &Silent,
+        release: &AtOnce,
+        watcher: &NoWatcher,
+    };
     let (served, heard) = join(
         rt,
-        || serving.run(rt, alloc, &Silent, &AtOnce),
+        || serving.run(rt, alloc, outside),
         || in_turn(rt, alloc, at),
     );
     match served {

@@ -3,6 +3,7 @@ use Rattle.std.specs.Prelude.{◌≡◌, ℕ, ◌+◌, ◌<◌, List, [], ◌∷
 use Rattle.site_core.specs.Limits.{ConfigValue}
 use Rattle.site_lock.specs.Passes.{PassView, new_pass}
 use Rattle.site_server.specs.declared.crew.Worker.{Worker}
+use Rattle.site_server.specs.Crews.{IsCrew}
 use Rattle.site_server.specs.Tasks.{Worked}
 
 -- task k, counted from 0, holds the pass with the number k + 1, without receipts, and the worker at place k
@@ -11,6 +12,10 @@ AreWaiting workers tasks =
     (length tasks ≡ length workers)
     × ((k : ℕ) (d : Option (PassView × Worker)) → k < length workers
     → (worker : Worker) × (slice_get workers k ≡ Some worker) × (slice_index_or tasks k d ≡ Some (new_pass (k + 1), worker)))
+
+-- the tasks wait for the workers of some crew
+abbrev pub HasCrew : List (Option (PassView × Worker)) → Type 0
+HasCrew tasks = (workers : List Worker) × IsCrew (length workers) × AreWaiting workers tasks
 
 -- the task now holds the pass that it held before, which has served its connections in the role of the task's worker
 abbrev pub RunsWorker : ConfigValue → Type 0 → ℕ → Option (PassView × Worker) → Option (PassView × ℕ) → Type 0

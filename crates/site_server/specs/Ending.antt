@@ -6,6 +6,9 @@ use Rattle.site_lock.specs.declared.close.CloseRefusal.{CloseRefusal}
 use Rattle.site_lock.specs.Passes.{PassView, Opened, new_pass}
 use Rattle.site_lock.specs.Closing.{ClosesSince, HaltedValue, IsHalted, RefusesSince}
 use Rattle.site_lock.specs.Merge.{AreAll}
+use Rattle.site_server.specs.declared.crew.Worker.{Worker}
+use Rattle.site_server.specs.Collecting.{AreWaiting}
+use Rattle.site_server.specs.Crews.{roles_of}
 use Rattle.site_server.specs.Plans.{Plan}
 use Rattle.site_server.specs.Tasks.{Worked}
 use Rattle.site_server.specs.declared.serving.ServeFault.{ServeFault}
@@ -33,6 +36,13 @@ pub record HaveWorked (plan : Plan) (passes : List PassView) (clean : ℕ) : Typ
   pub passes_are : passes ≡ map (λ (d : PassView × ℕ). d.0) done
   pub each : HandsBack plan done
   pub counted : clean ≡ all_clean done
+
+-- What the tasks of some workers come to: these are all passes of a forecourt with this opening, each after its work.
+abbrev pub WorksOff : Opened → Type 0 → ℕ → List (Option (PassView × Worker)) → List PassView → ℕ → Type 0
+WorksOff from may_fail connections tasks passes clean =
+    (workers : List Worker) → AreWaiting workers tasks
+    → HaveWorked (record { from = from; may_fail = may_fail; roles = roles_of workers; connections = connections }) passes clean
+    × AreAll (length workers) passes
 
 -- What is left after serving. The site's history is the one at the start, followed by the entries that the passes got
 -- as answers. The journal took exactly the text of these entries.

@@ -143,6 +143,7 @@ impl<'a, R: Clock, N: Notices> Doors for SocketDoors<'a, R, N> {
         match self.connect() {
             Ok(connection) => {
                 self.pause = 0;
+                self.notices.connected(self.role, self.pass);
                 Ok(connection)
             }
             Err(error) => {
@@ -161,5 +162,6 @@ impl<'a, R: Clock, N: Notices> Doors for SocketDoors<'a, R, N> {
         if let Some(failure) = failure_of(outcome) {
             self.notices.session_failed(self.role, self.pass, failure);
         }
+        self.notices.disconnected(self.role, self.pass);
     }
 }

@@ -12,6 +12,7 @@ mod serving;
 mod silence;
 mod stream;
 mod tasks;
+mod watcher;
 mod workers;
 
 pub use clock::MachineClock;
@@ -22,7 +23,8 @@ pub use limiter::Limiter;
 pub use line_session::SessionFault;
 pub use listener::Listener;
 pub use notices::{Notices, SessionFailure};
-pub use serving::{ServeFault, Served, Serving, Unclosed};
+pub use serving::{Outside, ServeFault, Served, Serving, Unclosed};
 pub use silence::Hearing;
-pub use site_lock::{CloseRefusal, Journal, LineJournal, NoJournal};
+pub use site_lock::{CloseRefusal, Forecourt, Journal, LineJournal, Look, NoJournal, SiteLedger};
 pub use stream::Stream;
+pub use watcher::{NoWatcher, Watcher};

@@ -25,7 +25,8 @@ impl fmt::Display for SessionFailure {
     }
 }
 
-/// Reports to an operator what went wrong. All workers share one reporter, and none waits until a report is read.
+/// Is told by the workers of a site what happens: an operator reads what went wrong, and connections may be counted.
+/// All workers share one reporter, and none waits until a report is read.
 pub trait Notices {
     /// Reports that a connection couldn't be opened for the worker with this role and this pass.
     fn accept_failed(&self, role: Role, pass: u32, error: &io::Error);
@@ -36,4 +37,13 @@ pub trait Notices {
     /// Reports that a peer of the worker with this role and this pass sent nothing for this many seconds, so its input
     /// ended.
     fn fell_silent(&self, role: Role, pass: u32, seconds: u32);
+
+    /// Reports that a connection was opened for the worker with this role and this pass.
+    fn connected(&self, role: Role, pass: u32);
+
+    /// Reports that the session of a connection of this worker ended, with or without a fault.
+    fn disconnected(&self, role: Role, pass: u32);
+
+    /// Reports that the worker with this role and this pass has served its last connection.
+    fn left(&self, role: Role, pass: u32);
 }

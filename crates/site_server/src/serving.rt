@@ -2,12 +2,13 @@
 ghost use Rattle.std.specs.Prelude.{◌≡◌, ◌<◌, ◌≤◌, ◌^◌, [], IfErr, IfOk, Some, length, map, vec_capacity};
 ghost use Rattle.site_lock.specs.Closing.{ClosesSince};
 ghost use Rattle.site_server.specs.Plans.{plan_of};
-ghost use Rattle.site_server.specs.Ending.{Leaves, Refuses, Spoils, fault_of_close};
-ghost use Rattle.site_server.specs.Collecting.{AreWaiting, RunsWorker};
+ghost use Rattle.site_server.specs.Ending.{Leaves, Refuses, Spoils, WorksOff, fault_of_close};
+ghost use Rattle.site_server.specs.Collecting.{AreWaiting, HasCrew, RunsWorker};
 
 use crate::crew::Crew;
 use crate::notices::Notices;
 use crate::tasks::{WorkerTask, collect_passes, tasks_of};
+use crate::watcher::Watcher;
 use crate::workers::Workers;
 use group_sync::Release;
 use site_core::{Config, Site};
@@ -31,6 +32,15 @@ pub struct Serving<J: Journal = NoJournal> {
     pub connections: u32,
     /// The most seconds that a peer may send nothing, or take no bytes of an answer; 0 is no limit.
     pub idle_seconds: u32,
+}
+
+/// Those outside a site that is served: who is told what happens, who decides when an answer may be sent, and who looks
+/// at the site meanwhile.
+#[derive(Clone, Copy)]
+pub struct Outside<'a, N: Notices, A: Release, W: Watcher> {
+    pub notices: &'a N,
+    pub release: &'a A,
+    pub watcher: &'a W,
 }
 
 /// The result of serving a site to its end.
@@ -152,19 +162,64 @@ fn prove_few(connections: u32)
     ensures { connections < 2 ^ 32 }
 {}
 
+/// What all workers gave back: their passes, and the number of connections that ended without fault.
+#[derive(Drop)]
+struct Returned<L: SiteLedger> {
+    passes: Vec<Pass<L>>,
+    clean: u64,
+}
+
+/// Runs the tasks of all workers at once, moves their passes into `passes`, which has room for them, and tells the
+/// watcher that all of them ended.
+fn work_all<
+    L: SiteLedger + Send + Sync,
+    J: Journal + Send,
+    N: Notices + Sync,
+    A: Release + Sync,
+    W: Watcher,
+    R: Threads + Wait + Clock + Sync,
+>(
+    workers: &Workers<'_, L, J, N, A, R>,
+    mut tasks: Vec<WorkerTask<L>>,
+    mut passes: Vec<Pass<L>>,
+    watcher: &W,
+) -> Returned<L>
+    requires waiting { HasCrew (map (λ p. p.waiting) tasks.items) }
+    requires room { (passes.items ≡ []) × (length tasks.items ≤ vec_capacity passes) }
+    requires config { workers.now.forecourt.config ≡ L.config }
+    ensures { WorksOff workers.now.forecourt J.may_fail workers.now.connections (map (λ p. p.waiting) tasks.items)
+        result.passes.items result.clean }
+{
+    prove_few(workers.connections);
+    let most = tasks.len().max(1);
+    let all = tasks.as_mut_slice();
+    thread::for_each_mut(
+        workers.rt,
+        all,
+        most,
+        &|_: usize, task: &mut WorkerTask<L>|
+            ensures { RunsWorker L.config J.may_fail workers.entry.now.connections
+                task.entry.now.waiting task.exit.now.done }
+        { workers.work(task) },
+    );
+    let clean = collect_passes(all, &mut passes);
+    watcher.leave();
+    Returned { passes, clean }
+}
+
 impl<J: Journal + Send> Serving<J> {
     /// Serves the site: each worker of the crew serves its connections, one after another, and then the site is closed.
     /// Each entry's line is passed to the journal before the entry is answered, and the answer is sent once `release`
-    /// allows it. A listener is closed when the last worker with a share of it ends.
+    /// allows it. A listener is closed when the last worker with a share of it ends. Beside the workers the watcher looks
+    /// at the site, until the last of them has ended.
     ///
     /// The fault `OutOfMemory` comes only before anything is served, and gives the site and the journal back.
-    pub fn run<N: Notices + Sync, A: Release + Sync, R: Threads + Wait + Clock + Sync>(
-        self,
-        rt: &R,
-        alloc: Global,
-        notices: &N,
-        release: &A,
-    ) -> Result<Served<J>, Unclosed<J>>
+    pub fn run<
+        N: Notices + Sync,
+        A: Release + Sync,
+        W: Watcher + Sync,
+        R: Threads + Wait + Clock + Sync,
+    >(self, rt: &R, alloc: Global, outside: Outside<'_, N, A, W>) -> Result<Served<J>, Unclosed<J>>
         ensures ok { IfOk result
             (λ served. Leaves (plan_of J.written J.may_fail self) served.clean served.site (J.written served.journal)) }
         ensures err { IfErr result (λ unclosed. Spoils (plan_of J.written J.may_fail self) unclosed.why) }
@@ -172,7 +227,7 @@ impl<J: Journal + Send> Serving<J> {
             (λ unclosed. unclosed.why ≡ ServeFault.OutOfMemory → unclosed.back ≡ Some (self.site, self.journal)) }
     {
         let blank = Blank::new(u64::from(self.crew.passes()));
-        self.run_on::<Brand, N, A, R>(rt, alloc, blank, notices, release)
+        self.run_on::<Brand, N, A, W, R>(rt, alloc, blank, outside)
     }
 
     /// Serves the site like `run`, with a ledger made from `blank`. Once everything is prepared, this allocates no
@@ -181,14 +236,14 @@ impl<J: Journal + Send> Serving<J> {
         L: SiteLedger + Send + Sync,
         N: Notices + Sync,
         A: Release + Sync,
+        W: Watcher + Sync,
         R: Threads + Wait + Clock + Sync,
     >(
         self,
         rt: &R,
         alloc: Global,
         blank: Blank,
-        notices: &N,
-        release: &A,
+        outside: Outside<'_, N, A, W>,
     ) -> Result<Served<J>, Unclosed<J>>
         requires name { blank.name ≡ L.name }
         requires parts { blank.parts ≡ L.parts }
@@ -215,7 +270,12 @@ impl<J: Journal + Send> Serving<J> {
                 back: Some((site, journal)),
             });
         };
-        let (mut tasks, mut passes) = (prepared.tasks, prepared.room);
+        let Outside {
+            notices,
+            release,
+            watcher,
+        } = outside;
+        let (tasks, room) = (prepared.tasks, prepared.room);
         let workers = Workers {
             rt,
             alloc,
@@ -225,19 +285,17 @@ impl<J: Journal + Send> Serving<J> {
             connections,
             idle_seconds,
         };
-        prove_few(connections);
-        let most = tasks.len().max(1);
-        let all = tasks.as_mut_slice();
-        thread::for_each_mut(
+        let (_, returned) = thread::join(
             rt,
-            all,
-            most,
-            &|_: usize, task: &mut WorkerTask<L>|
-                ensures { RunsWorker L.config J.may_fail workers.entry.connections
-                    task.entry.now.waiting task.exit.now.done }
-            { workers.work(task) },
+            || watcher.watch(rt, &workers.forecourt),
+            ||
+                requires waiting { HasCrew (map (λ p. p.waiting) tasks.items) }
+                requires room { (room.items ≡ []) × (length tasks.items ≤ vec_capacity room) }
+                requires config { workers.forecourt.config ≡ L.config }
+                ensures { WorksOff workers.entry.forecourt J.may_fail workers.entry.connections
+                    (map (λ p. p.waiting) tasks.items) result.passes.items result.clean }
+            { work_all(&workers, tasks, room, watcher) },
         );
-        let clean = collect_passes(all, &mut passes);
-        close(rt, workers.forecourt, passes, clean)
+        close(rt, workers.forecourt, returned.passes, returned.clean)
     }
 }

@@ -57,6 +57,7 @@ impl<L: SiteLedger, J: Journal, N: Notices, A: Release, R: Wait + Clock> Workers
             self.idle_seconds,
         );
         task.done = Some(self.serve_held(pass, role, doors));
+        self.notices.left(role, number);
     }
 
     /// Serves the connections of a role with one pass. Each answer waits until `release` allows it to be sent.
