@@ -41,12 +41,13 @@ pub record DoorValue : Type 0 where
   pub role : Role
   pub workers : ℕ
 
--- Where and how to serve: the doors in their order, how many connections, and after how many seconds without a byte a
--- connection ends (0 for never).
+-- Where and how to serve: the doors in their order, how many connections, after how many seconds without a byte a
+-- connection ends (0 for never), and the port of the page on which the site is shown, if there is one.
 pub record ServeValue : Type 0 where
   pub doors : List DoorValue
   pub connections : ℕ
   pub idle_seconds : ℕ
+  pub page_port : Option ℕ
 
 -- The place of `key` in the table that has the key at `place`. If `place` isn't a key's, the result is `place` itself.
 abbrev pub beside : Place → Key → Place
@@ -141,6 +142,19 @@ abbrev pub clash_among : List RawDoor → Option ConfigFlaw
 clash_among [] = None
 clash_among (d ∷ ds) = first_of (clash_with d ds) (clash_among ds)
 
+-- The flaw of the first door whose port is the page's port `z`. None if no door has it.
+abbrev pub page_clash : ℤ → List RawDoor → Option ConfigFlaw
+page_clash z [] = None
+page_clash z (d ∷ ds) = first_of (address_clash d.place (At OfServe key.PagePort) d.address (Port z)) (page_clash z ds)
+
+-- The page's port, or None if there is no page. It must be 1 to 65,535, which is checked first, and no door's port.
+unfoldable pub page_of : List RawDoor → Option ℤ → Result (Option ℕ) ConfigFlaw
+page_of ds None = Ok None
+page_of ds (Some z) = do
+  n ← ranged (At OfServe key.PagePort) 1 65535 z
+  apart ← without (page_clash z ds)
+  Ok (Some n)
+
 -- How many workers a shared door has: the value of `key`, which must be from 1 to `most`, or 0 if there is no such
 -- door.
 abbrev pub shared_workers : Key → ℕ → Option ℤ → Result ℕ ConfigFlaw
@@ -205,7 +219,9 @@ each_door one (d ∷ ds) = do
   xs ← each_door one ds
   Ok (x ∷ xs)
 
--- Where and how to serve a site of this many tills and points.
+-- Where and how to serve a site of this many tills and points. The flaw is that of the first step that fails: the
+-- doors' addresses and roles, clashes among them, the numbers of `[serve]`, the page's port, and last whether each till
+-- and each point has a door.
 unfoldable pub serve_of : ℕ → ℕ → TypedServe → Result ServeValue ConfigFlaw
 serve_of tills points s = do
   fit ← doors_fit tills points s.doors
@@ -214,10 +230,11 @@ serve_of tills points s = do
   w ← shared_workers key.DispenserWorkers 31 s.dispenser_workers
   n ← ranged (At OfServe key.Connections) 1 1000000 s.connections
   i ← ranged (At OfServe key.IdleSeconds) 0 86400 s.idle_seconds
+  p ← page_of s.doors s.page_port
   of_tills ← side_fits sides.Tills t 64 tills s.doors
   of_dispensers ← side_fits sides.Dispensers w 31 points s.doors
   doors ← each_door (door_of tills points t w) s.doors
-  Ok (record { doors = doors; connections = n; idle_seconds = i })
+  Ok (record { doors = doors; connections = n; idle_seconds = i; page_port = p })
 
 -- Converts a value of the code to the value that these definitions have for it.
 abbrev pub address_seen : Address → AddressValue
@@ -228,4 +245,9 @@ abbrev pub door_seen : Door → DoorValue
 door_seen d = record { place = d.place; address = address_seen d.address; role = d.role; workers = d.workers }
 
 abbrev pub serve_seen : Serve → ServeValue
-serve_seen s = record { doors = map door_seen s.doors.items; connections = s.connections; idle_seconds = s.idle_seconds }
+serve_seen s = record {
+  doors = map door_seen s.doors.items;
+  connections = s.connections;
+  idle_seconds = s.idle_seconds;
+  page_port = s.page_port;
+}

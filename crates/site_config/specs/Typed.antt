@@ -39,7 +39,9 @@ unfoldable pub is_counter_key : List ℕ → Bool
 is_counter_key k = bytes_eq k (codes "value") || bytes_eq k (codes "bound")
 
 unfoldable pub is_port_key : List ℕ → Bool
-is_port_key k = bytes_eq k (codes "till_port") || (bytes_eq k (codes "dispenser_port") || bytes_eq k (codes "owner_port"))
+is_port_key k =
+    bytes_eq k (codes "till_port")
+    || (bytes_eq k (codes "dispenser_port") || (bytes_eq k (codes "owner_port") || bytes_eq k (codes "page_port")))
 
 unfoldable pub is_socket_key : List ℕ → Bool
 is_socket_key k = bytes_eq k (codes "till_socket") || (bytes_eq k (codes "dispenser_socket") || bytes_eq k (codes "owner_socket"))
@@ -247,13 +249,22 @@ abbrev pub idle_from : Option Data → Result ℤ ConfigFlaw
 idle_from None = Ok (pos 0)
 idle_from (Some d) = integer_of (At Serve key.IdleSeconds) d
 
--- The values of the keys of `[serve]`. If a shared door isn't given, its number of workers is None.
+-- The port of the page on which the site is shown while it is served, or None if the key is left out.
+abbrev pub page_from : Option Data → Result (Option ℤ) ConfigFlaw
+page_from None = Ok None
+page_from (Some d) = do
+  z ← integer_of (At Serve key.PagePort) d
+  Ok (Some z)
+
+-- The values of the keys of `[serve]`. If a shared door isn't given, its number of workers is None, and so is the
+-- page's port if there is no page.
 pub record TypedServe : Type 0 where
   pub doors : List RawDoor
   pub till_workers : Option ℤ
   pub dispenser_workers : Option ℤ
   pub connections : ℤ
   pub idle_seconds : ℤ
+  pub page_port : Option ℤ
 
 unfoldable pub served_in : Data → Result TypedServe ConfigFlaw
 served_in d = do
@@ -264,7 +275,8 @@ served_in d = do
   w ← workers_at (key.DispenserPort, key.DispenserSocket) key.DispenserWorkers ms
   n ← integer_at Serve key.Connections ms
   i ← idle_from (get_member (codes "idle_seconds") ms)
-  Ok (record { doors = doors; till_workers = t; dispenser_workers = w; connections = n; idle_seconds = i })
+  p ← page_from (get_member (codes "page_port") ms)
+  Ok (record { doors = doors; till_workers = t; dispenser_workers = w; connections = n; idle_seconds = i; page_port = p })
 
 abbrev pub served_from : Option Data → Result (Option TypedServe) ConfigFlaw
 served_from None = Ok None
@@ -304,6 +316,7 @@ seen_serve s = record {
   dispenser_workers = s.dispenser_workers;
   connections = s.connections;
   idle_seconds = s.idle_seconds;
+  page_port = s.page_port;
 }
 
 abbrev pub seen : Raw → Typed

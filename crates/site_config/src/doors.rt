@@ -6,8 +6,8 @@ ghost use Rattle.site_config.specs.Typed.{seen_serve};
 ghost use Rattle.site_config.specs.Document.{without};
 ghost use Rattle.site_config.specs.Doors.{beside, item_of, address_of, with_point, with_points, bits_of, role_of};
 ghost use Rattle.site_config.specs.Doors.{door_fits, doors_fit, address_clash, till_clash, pair_clash, clash_with};
-ghost use Rattle.site_config.specs.Doors.{clash_among, shared_workers, workers_of, is_single, count_single, takes};
-ghost use Rattle.site_config.specs.Doors.{is_taken, first_left, side_fits, door_of};
+ghost use Rattle.site_config.specs.Doors.{clash_among, page_clash, page_of, shared_workers, workers_of, is_single};
+ghost use Rattle.site_config.specs.Doors.{count_single, takes, is_taken, first_left, side_fits, door_of};
 ghost use Rattle.site_config.specs.Doors.{each_door, serve_of, address_seen, door_seen, serve_seen};
 ghost use Rattle.site_config.specs.Laws.{DoorsTakeOwnLines};
 ghost use Rattle.bpf_model.specs.declared.limits.TheConstants.{POINTS};
@@ -221,6 +221,38 @@ fn check_apart(doors: &[RawDoor]) -> Result<(), ConfigFlaw>
     Ok(())
 }
 
+/// Returns the flaw of the first door whose port is the page's, or `None` if no door has it.
+fn page_clash(port: i64, doors: &[RawDoor]) -> Option<ConfigFlaw>
+    ensures { result ≡ page_clash port doors.now }
+{
+    for door in doors {
+        match &door.address {
+            RawAddress::Port(other) if *other == port => {
+                let page = Place::At(Section::Serve, Key::PagePort);
+                return Some(ConfigFlaw::SamePort(door.place, page, port));
+            }
+            _ => {}
+        }
+    }
+    None
+}
+
+/// Checks the port of the page, and returns it, or `None` if there is no page. The error is `OutOfRange`, or `SamePort`
+/// if a door has the same port.
+#[tactic(auto, unfolding(crate::specs::Doors::page_of))]
+fn page_of(doors: &[RawDoor], port: Option<i64>) -> Result<Option<u32>, ConfigFlaw>
+    ensures { Finds (λ x. x) result (page_of doors.now port) }
+{
+    let Some(port) = port else {
+        return Ok(None);
+    };
+    let number = value_of!(number_of(Key::PagePort, port, 1, 65_535));
+    match page_clash(port, doors) {
+        Some(flaw) => Err(flaw),
+        None => Ok(Some(number)),
+    }
+}
+
 /// Returns how many workers a shared door has, or 0 if there is no such door. The error is `OutOfRange`.
 fn shared_of(key: Key, value: Option<i64>, most: u32) -> Result<u32, ConfigFlaw>
     ensures read { Finds (λ x. x) result (shared_workers key most value) }
@@ -398,6 +430,7 @@ pub fn make_serve(
     let connections = value_of!(number_of(Key::Connections, served.connections, 1, 1_000_000));
     let idle_seconds = value_of!(number_of(Key::IdleSeconds, served.idle_seconds, 0, 86_400));
     let doors = &served.doors;
+    let page_port = value_of!(page_of(doors, served.page_port));
     value_of!(check_side(Side::Tills, till_workers, MOST_OF_TILLS, tills, doors));
     value_of!(check_side(Side::Dispensers, dispenser_workers, most, points, doors));
     let counts = Counts {
@@ -410,5 +443,6 @@ pub fn make_serve(
         doors: value_of!(make_doors(alloc, counts, doors)),
         connections,
         idle_seconds,
+        page_port,
     })
 }

@@ -6,7 +6,7 @@ ghost use Rattle.site_config.specs.Document.{Finds, with_front};
 ghost use Rattle.site_config.specs.Keys.{name_of};
 ghost use Rattle.site_config.specs.Typed.{text_of, has_shared, door_at, shared_at, workers_at, till_in};
 ghost use Rattle.site_config.specs.Typed.{dispenser_in, single_in, each_in, tables_from, owner_at, doors_at};
-ghost use Rattle.site_config.specs.Typed.{idle_from, served_in, served_at, seen_serve};
+ghost use Rattle.site_config.specs.Typed.{idle_from, page_from, served_in, served_at, seen_serve};
 
 use crate::flaw::{ConfigFlaw, Key, Place, Section, Side};
 use crate::raw::{Numbers, RawAddress, RawDoor, RawRole, Served};
@@ -242,6 +242,19 @@ fn read_idle(table: &Table) -> Result<i64, ConfigFlaw>
     }
 }
 
+/// Reads the port of the page, or `None` if the key is left out. The error is `WrongType`.
+fn read_page(table: &Table) -> Result<Option<i64>, ConfigFlaw>
+    ensures { Finds (λ x. x) result (page_from (get_member (name_of Key.PagePort) (table_view table.now))) }
+{
+    match find_value(table, Key::PagePort.name()) {
+        Some(value) => {
+            let place = Place::At(Section::Serve, Key::PagePort);
+            Ok(Some(value_of!(integer_of(value, place))))
+        }
+        None => Ok(None),
+    }
+}
+
 #[tactic(auto, unfolding(crate::specs::Typed::served_in))]
 fn read_served(alloc: Global, value: &Value) -> Result<Served, ConfigFlaw>
     ensures { Finds seen_serve result (served_in (view value.now)) }
@@ -253,12 +266,14 @@ fn read_served(alloc: Global, value: &Value) -> Result<Served, ConfigFlaw>
     let dispenser_workers = value_of!(read_workers(table, DISPENSER_KEYS, Key::DispenserWorkers));
     let connections = value_of!(read_integer(table, Section::Serve, Key::Connections));
     let idle_seconds = value_of!(read_idle(table));
+    let page_port = value_of!(read_page(table));
     Ok(Served {
         doors,
         till_workers,
         dispenser_workers,
         connections,
         idle_seconds,
+        page_port,
     })
 }
 

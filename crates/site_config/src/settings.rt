@@ -22,16 +22,18 @@ pub struct Door {
     pub workers: u32,
 }
 
-/// Where and how to serve the site: its doors, how many connections, and after how many seconds without a byte a
-/// connection ends (0 for never). The doors are in the order in which workers get their passes: the tills' shared one,
-/// those of one till each, the dispensers' shared one, those of some points each, the owner's. All doors have different
-/// addresses, and each till has at most one door of its own. Tills have 1 to 64 workers in all, dispensers 1 to 31, and
-/// the owner has one.
+/// Where and how to serve the site: its doors, how many connections, after how many seconds without a byte a connection
+/// ends (0 for never), and the port of the page on which the site is shown while it is served, if it has one: 1 to
+/// 65,535. The doors are in the order in which workers get their passes: the tills' shared one, those of one till each,
+/// the dispensers' shared one, those of some points each, the owner's. All doors have different addresses, and none has
+/// the page's port. Each till has at most one door of its own. Tills have 1 to 64 workers in all, dispensers 1 to 31,
+/// and the owner has one.
 #[derive(Drop)]
 pub struct Serve {
     pub doors: Vec<Door>,
     pub connections: u32,
     pub idle_seconds: u32,
+    pub page_port: Option<u32>,
 }
 
 /// The settings that a configuration gives: the site, and where and how to serve it, if `[serve]` is given.

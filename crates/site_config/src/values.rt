@@ -136,7 +136,7 @@ fn is_counter(key: &str) -> bool
 fn is_port(key: &str) -> bool
     ensures { result ≡ is_port_key key.now }
 {
-    key == "till_port" || key == "dispenser_port" || key == "owner_port"
+    key == "till_port" || key == "dispenser_port" || key == "owner_port" || key == "page_port"
 }
 
 #[tactic(auto, unfolding(crate::specs::Typed::is_socket_key))]
