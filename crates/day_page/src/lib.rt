@@ -1,4 +1,5 @@
-//! A page of HTML that shows what a site's history adds up to, in tables and pictures.
+//! A page of HTML that shows what a site's history adds up to, in tables and pictures; and the pieces of which another
+//! page is made as well.
 #![tactic(auto)]
 
 mod bars;
@@ -13,4 +14,9 @@ mod tables;
 mod texts;
 
 pub use html_text::Escaped;
-pub use page::Page;
+pub use names::{STATES, state_name};
+pub use page::{Page, add_figure};
+pub use sheet::Sheet;
+pub use style::{HEAD, STYLE};
+pub use tables::add_row;
+pub use texts::{Text, number, numbered};

@@ -2,7 +2,7 @@
 use fuelling_point::State;
 
 /// Returns the name of a state in words.
-pub(crate) fn state_name(state: State) -> &'static str {
+pub fn state_name(state: State) -> &'static str {
     match state {
         State::Inoperative => "inoperative",
         State::Closed => "closed",
@@ -17,7 +17,7 @@ pub(crate) fn state_name(state: State) -> &'static str {
 }
 
 /// All states, in the order of their numbers (1 to 9).
-pub(crate) const STATES: [State; 9] = [
+pub const STATES: [State; 9] = [
     State::Inoperative,
     State::Closed,
     State::Idle,

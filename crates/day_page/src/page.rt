@@ -1,7 +1,7 @@
 //! The page and its sections.
 
 use crate::sheet::Sheet;
-use crate::style::START;
+use crate::style::{HEAD, STYLE};
 use crate::texts::Text;
 use crate::{bars, drawn, prices, tables};
 use day_report::{
@@ -85,7 +85,9 @@ fn page_of(alloc: Global, day: &Day) -> Result<Page, AllocError> {
 }
 
 fn add_day(sheet: &mut Sheet, day: &Day) {
-    sheet.add(START);
+    sheet.add(HEAD);
+    sheet.add("<title>The day in a picture</title>\n");
+    sheet.add(STYLE);
     add_headline(sheet, &day.totals, day.axis);
     if let Some(carried) = day.carried {
         add_carried(sheet, carried);
@@ -144,7 +146,7 @@ fn add_figures(sheet: &mut Sheet, totals: &Totals) {
 }
 
 /// Adds one of the main totals: its name and its value.
-fn add_figure(sheet: &mut Sheet, name: &'static str, value: Text) {
+pub fn add_figure(sheet: &mut Sheet, name: &'static str, value: Text) {
     sheet.fill(
         "<li><span>{}</span> <b>{}</b></li>\n",
         &[Text::Words(name), value],

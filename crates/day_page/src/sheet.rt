@@ -6,7 +6,7 @@ use std::alloc::{AllocError, Global};
 
 /// A text to which pieces are added. If memory runs out, it remembers that, and only `finish` returns the error.
 #[derive(Drop)]
-pub(crate) struct Sheet {
+pub struct Sheet {
     text: String,
     /// Whether memory ran out when a piece was added.
     is_short: bool,

@@ -1,12 +1,14 @@
 //! The start of a page, with its style sheet.
 
-/// The HTML before the page's body. The colours of the style also differ in lightness, for people who can't tell red
-/// from green.
-pub(crate) const START: &str = "<!DOCTYPE html>
+/// The first lines of a page's HTML. The page's title follows, and then `STYLE`.
+pub const HEAD: &str = "<!DOCTYPE html>
 <html lang=\"en\"><head><meta charset=\"utf-8\">
 <meta name=\"viewport\" content=\"width=device-width, initial-scale=1\">
-<title>The day in a picture</title>
-<style>\
+";
+
+/// The style sheet of a page, and the start of its body. The colours also differ in lightness, for people who can't
+/// tell red from green.
+pub const STYLE: &str = "<style>\
 :root{--back:#fff;--text:#1d2733;--soft:#5b6875;--line:#d5dce3;--panel:#f5f7f9;\
 --sold:#0072b2;--granted:#0072b2;--denied:#e69f00;\
 --s1:#3d3d3d;--s2:#c3cad1;--s3:#9fb3c4;--s4:#e8c400;--s5:#8ccbf2;--s6:#4aa3df;--s7:#cc79a7;--s8:#0072b2;--s9:#d55e00;\

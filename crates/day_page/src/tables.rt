@@ -19,8 +19,8 @@ macro_rules! head {
     };
 }
 
-/// Adds a row: its name, then its other cells.
-fn add_row(sheet: &mut Sheet, name: Text, cells: &[Text]) {
+/// Adds a row of a table: its name, then its other cells.
+pub fn add_row(sheet: &mut Sheet, name: Text, cells: &[Text]) {
     sheet.fill("<tr><th scope=\"row\">{}</th>", &[name]);
     for cell in cells {
         sheet.fill("<td>{}</td>", &[*cell]);

@@ -4,7 +4,7 @@ ghost use Rattle.std.specs.Prelude.{◌≤◌};
 
 /// A text of a page, and the form in which it is written.
 #[derive(Clone, Copy, Drop)]
-pub(crate) enum Text {
+pub enum Text {
     /// A number in plain digits, as in 1234567.
     Number(u64),
     /// A number with commas between groups of three digits, as in 1,234,567.
@@ -23,16 +23,17 @@ pub(crate) enum Text {
     Entry(u64),
     /// A refusal's number, as in S20, and what it means in words.
     Refusal(u32),
+    /// Words, written with the special characters of HTML escaped.
     Words(&'static str),
 }
 
 /// Returns a length, or another `usize`, as a number in plain digits.
-pub(crate) fn number(length: usize) -> Text {
+pub fn number(length: usize) -> Text {
     Text::Number(length as u64)
 }
 
 /// Returns `first + place` as a number in plain digits.
-pub(crate) fn numbered(place: usize, first: u64) -> Text {
+pub fn numbered(place: usize, first: u64) -> Text {
     Text::Number((place as u64).saturating_add(first))
 }
 

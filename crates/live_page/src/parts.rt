@@ -1,0 +1,23 @@
+//! Pieces that the page and the metrics are made of.
+use day_page::Text;
+
+/// The number of entries that a journal can have.
+pub(crate) const ENTRIES: u64 = 1_048_576;
+
+/// A text of no words.
+pub(crate) const NONE: Text = Text::Words("");
+
+/// Returns a number in plain digits.
+pub(crate) fn digits(number: u32) -> Text {
+    Text::Number(u64::from(number))
+}
+
+/// Returns a number with commas between groups of three digits.
+pub(crate) fn thousands(number: u64) -> Text {
+    Text::Thousands(u128::from(number))
+}
+
+/// Returns cents as money, or centilitres as litres: with two decimals.
+pub(crate) fn hundredths(number: u64) -> Text {
+    Text::Hundredths(u128::from(number))
+}

@@ -1,0 +1,74 @@
+//! What is shown of a station.
+use crate::tally::Tally;
+use decision_journal::Entry;
+use site_core::{Config, Opening};
+use std::fmt;
+use till_request::Role;
+
+/// What is shown of a station at one moment.
+#[derive(Clone, Copy, Drop)]
+pub struct Station<'a> {
+    pub config: &'a Config,
+    /// The number of entries.
+    pub entries: u32,
+    /// What the site would leave for the next day: its points, prices, counters, totals and versions in force.
+    pub left: &'a Opening,
+    /// Whether the journal failed.
+    pub has_failed: bool,
+    /// What the entries came to.
+    pub tally: &'a Tally,
+    /// The last entries, at most 20 of them, the oldest first.
+    pub last: &'a [Entry],
+    /// Connections and workers, for each kind of role that the site has.
+    pub peers: &'a [Peers],
+    /// The moment, in seconds since the start of 1970.
+    pub moment: u64,
+    /// The bytes of memory that the process uses, if they are known.
+    pub memory: Option<u64>,
+}
+
+/// Connections and workers of one kind of role: tills, dispensers or the owner.
+#[derive(Clone, Copy, Drop)]
+pub struct Peers {
+    /// `Role::Till`, `Role::Dispenser` or `Role::Owner`.
+    pub role: Role,
+    /// The number of workers that still serve this role.
+    pub workers: u32,
+    /// The number of connections that are open.
+    pub open: u64,
+    /// The number of connections since the site is served.
+    pub total: u64,
+}
+
+/// Whether all is well with a station, or the first thing that isn't. `Display` writes it in a few words.
+#[derive(Clone, Copy, Drop)]
+pub enum Health {
+    Well,
+    /// The journal failed, so the site takes no further event.
+    JournalFailed,
+    /// The journal has 1,000,000 entries or more, of the 1,048,576 that it can have.
+    NearlyFull,
+    /// No worker is left that serves this role.
+    NoWorker(Role),
+}
+
+impl Health {
+    /// Returns the few words for it: `ok` if all is well.
+    pub(crate) fn words(self) -> &'static str {
+        match self {
+            Health::Well => "ok",
+            Health::JournalFailed => "the journal failed",
+            Health::NearlyFull => "the journal is nearly full",
+            Health::NoWorker(Role::Till | Role::OneTill(_)) => "no worker is left for tills",
+            Health::NoWorker(Role::Dispenser | Role::SomePoints(_)) =>
+                "no worker is left for dispensers",
+            Health::NoWorker(Role::Owner | Role::All) => "no worker is left for the owner",
+        }
+    }
+}
+
+impl fmt::Display for Health {
+    fn fmt<W: fmt::Write>(&self, f: &mut fmt::Formatter<W>) -> fmt::Result {
+        f.write_str(self.words())
+    }
+}

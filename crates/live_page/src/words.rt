@@ -1,0 +1,203 @@
+//! Entries in words.
+use crate::parts::{NONE, digits, hundredths};
+use day_page::{STATES, Sheet, Text, state_name};
+use decision_journal::Entry;
+use fuelling_point::{DispenserEvent, Order};
+use till_request::{Act, Reply, Request, Role};
+
+/// A form with a place for two texts at most, and these texts. A text without a place is `NONE`.
+#[derive(Clone, Copy, Drop)]
+struct Phrase(&'static str, Text, Text);
+
+/// Returns a phrase of a number.
+fn of_number(form: &'static str, number: u32) -> Phrase {
+    Phrase(form, digits(number), NONE)
+}
+
+/// Returns a phrase of two numbers.
+fn of_numbers(form: &'static str, first: u32, second: u32) -> Phrase {
+    Phrase(form, digits(first), digits(second))
+}
+
+/// Returns a phrase of a number and an amount in cents.
+fn of_amount(form: &'static str, number: u32, amount: u64) -> Phrase {
+    Phrase(form, digits(number), hundredths(amount))
+}
+
+/// Returns a phrase of no number.
+fn plain(form: &'static str) -> Phrase {
+    Phrase(form, NONE, NONE)
+}
+
+/// Adds a phrase.
+fn add_phrase(sheet: &mut Sheet, phrase: Phrase) {
+    let Phrase(form, first, second) = phrase;
+    sheet.fill(form, &[first, second]);
+}
+
+/// Returns the words for the kind of a role, in the singular.
+pub(crate) fn role_name(role: Role) -> &'static str {
+    match role {
+        Role::Till | Role::OneTill(_) => "till",
+        Role::Dispenser | Role::SomePoints(_) => "dispenser",
+        Role::Owner | Role::All => "owner",
+    }
+}
+
+/// Returns what a till asks for.
+fn request_words(request: &Request) -> Phrase {
+    match *request {
+        Request::Release(point, amount) => of_amount("release point {} up to {}", point, amount),
+        Request::Preset(point, amount) => of_amount("preset point {} to {}", point, amount),
+        Request::Price(product, price) => Phrase(
+            "price of product {} to {}",
+            digits(product),
+            Text::Thousandths(price),
+        ),
+        Request::OpenPoint(point) => of_number("open point {}", point),
+        Request::ClosePoint(point) => of_number("close point {}", point),
+        Request::Suspend(point) => of_number("suspend point {}", point),
+        Request::Resume(point) => of_number("resume point {}", point),
+        Request::Stop(point) => of_number("stop point {}", point),
+        Request::Lock(point, number) => of_numbers(
+            "lock at point {} transaction {}",
+            point,
+            number,
+        ),
+        Request::Unlock(point, number) => of_numbers(
+            "unlock at point {} transaction {}",
+            point,
+            number,
+        ),
+        Request::Clear(point, number) => of_numbers(
+            "clear at point {} transaction {}",
+            point,
+            number,
+        ),
+        Request::Show(point) => of_number("show point {}", point),
+    }
+}
+
+/// Returns what a dispenser reports.
+fn event_words(event: &DispenserEvent) -> Phrase {
+    match *event {
+        DispenserEvent::Up(nozzle) => of_number("nozzle {} is up", nozzle),
+        DispenserEvent::Down => plain("the nozzle is down"),
+        DispenserEvent::Started => plain("the delivery began"),
+        DispenserEvent::Flowed(amount, volume) => Phrase(
+            "{} so far, {} litres",
+            hundredths(amount),
+            hundredths(volume),
+        ),
+        DispenserEvent::Fault => plain("fault"),
+        DispenserEvent::Repaired => plain("repaired"),
+        DispenserEvent::TakeOrder => plain("which order is pending?"),
+    }
+}
+
+/// Returns who sent an act, and what it is.
+fn act_words(act: &Act) -> (Phrase, Phrase) {
+    match act {
+        Act::Till { till, request } => (of_number("till {}", *till), request_words(request)),
+        Act::Dispenser { point, event } => (
+            of_number("dispenser of point {}", *point),
+            event_words(event),
+        ),
+        Act::Load { slot, .. } => (plain("owner"), of_number("load a rule into slot {}", *slot)),
+    }
+}
+
+/// Returns an order in words.
+fn order_words(order: Order) -> Phrase {
+    match order {
+        Order::Authorise(amount) => Phrase("order: deliver up to {}", hundredths(amount), NONE),
+        Order::Suspend => plain("order: suspend"),
+        Order::Resume => plain("order: resume"),
+        Order::Stop => plain("order: stop"),
+    }
+}
+
+/// Returns the name of the order that is pending at a point, or no words.
+pub(crate) fn order_name(order: Option<Order>) -> &'static str {
+    match order {
+        None => "",
+        Some(Order::Authorise(_)) => "authorise",
+        Some(Order::Suspend) => "suspend",
+        Some(Order::Resume) => "resume",
+        Some(Order::Stop) => "stop",
+    }
+}
+
+/// Returns the name of the state with this number.
+fn state_numbered(number: u32) -> &'static str {
+    match STATES.get((number as usize).saturating_sub(1)) {
+        None => "unknown",
+        Some(state) => state_name(*state),
+    }
+}
+
+/// Returns whether an act asks for a price.
+fn asks_price(act: &Act) -> bool {
+    matches!(
+        act,
+        Act::Till {
+            request: Request::Price(_, _),
+            ..
+        }
+    )
+}
+
+/// Returns the words for a grant of this value: a price in thousandths, or else an amount in cents.
+fn grant_words(is_price: bool, value: u64, version: u32) -> Phrase {
+    let granted = if is_price {
+        Text::Thousandths(value)
+    } else {
+        hundredths(value)
+    };
+    Phrase("granted {} by version {}", granted, digits(version))
+}
+
+/// Returns the words for a refusal. The number after it is a state, a slot or a version.
+fn refusal_words(number: u32, value: Option<u32>) -> Phrase {
+    let refusal = Text::Refusal(number);
+    let Some(value) = value else {
+        return Phrase("{}", refusal, NONE);
+    };
+    match number {
+        22 => Phrase("{}: {}", refusal, Text::Words(state_numbered(value))),
+        23 => Phrase("{}: slot {}", refusal, digits(value)),
+        24 => Phrase("{}: version {}", refusal, digits(value)),
+        _ => Phrase("{}: {}", refusal, digits(value)),
+    }
+}
+
+/// Returns the words for what an entry was replied.
+fn reply_words(entry: &Entry) -> Phrase {
+    match entry.reply {
+        Reply::Done => plain("done"),
+        Reply::Granted(value, version) => grant_words(asks_price(&entry.act), value, version),
+        Reply::Version(version) => of_number("version {}", version),
+        Reply::Order(order) => order_words(order),
+        Reply::Point { state, unpaid, .. } => Phrase(
+            "{}, {} unpaid",
+            Text::Words(state_numbered(state)),
+            digits(unpaid),
+        ),
+        Reply::Refused(number, value) => refusal_words(number, value),
+    }
+}
+
+/// Adds the row of an entry: its number, its moment, who sent it, what it is, and the reply.
+pub(crate) fn add_entry(sheet: &mut Sheet, entry: &Entry) {
+    let (who, what) = act_words(&entry.act);
+    sheet.fill(
+        "<tr><th scope=\"row\">{}</th><td>{}</td><td class=\"words\">",
+        &[digits(entry.number), Text::Moment(entry.moment)],
+    );
+    add_phrase(sheet, who);
+    sheet.add("</td><td class=\"words\">");
+    add_phrase(sheet, what);
+    sheet.add("</td><td class=\"words\">");
+    add_phrase(sheet, reply_words(entry));
+    sheet.add("</td></tr>\n");
+}
