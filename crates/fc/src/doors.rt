@@ -67,23 +67,30 @@ fn write_address<W: fmt::Write>(
     }
 }
 
-/// The list of the open doors that is printed for an operator.
+/// The list of the open doors that is printed for an operator. The port of the page stands last, if there is one.
 #[derive(Clone, Copy)]
-pub struct OpenDoors<'a>(pub &'a [Door]);
+pub struct OpenDoors<'a> {
+    pub doors: &'a [Door],
+    pub page_port: Option<u32>,
+}
 
 impl Display for OpenDoors<'_> {
     fn fmt<W: fmt::Write>(&self, f: &mut fmt::Formatter<W>) -> fmt::Result {
-        let are_ports = are_ports(self.0);
+        let are_ports = are_ports(self.doors);
         f.write_str(if are_ports {
             "serving on 127.0.0.1:"
         } else {
             "serving:"
         })?;
         let mut between = " ";
-        for door in self.0 {
+        for door in self.doors {
             write!(f, "{between}{} ", Name(door.role))?;
             write_address(f, &door.address, are_ports)?;
             between = ", ";
+        }
+        if let Some(port) = self.page_port {
+            f.write_str(", page ")?;
+            write_address(f, &Address::Port(port), are_ports)?;
         }
         Ok(())
     }
@@ -115,6 +122,12 @@ fn refuse_folder(rt: &HostRuntime, word: &str, door: &Door, folder: Beside<'_>) 
     Stop::Said(FAILED)
 }
 
+/// Prints why a port can't be opened.
+pub fn refuse_port(rt: &HostRuntime, port: u32, error: io::Error) -> Stop {
+    let _ = eprintln!(rt; "fc: port {port}: {error}");
+    Stop::Said(FAILED)
+}
+
 /// Opens a port.
 fn open_port<H: Net<Listener = TcpListener, Stream = TcpStream>>(
     rt: &HostRuntime,
@@ -123,10 +136,7 @@ fn open_port<H: Net<Listener = TcpListener, Stream = TcpStream>>(
 ) -> Result<Listener, Stop> {
     match Listener::on_port(host, port) {
         Ok(listener) => Ok(listener),
-        Err(error) => {
-            let _ = eprintln!(rt; "fc: port {port}: {error}");
-            Err(Stop::Said(FAILED))
-        }
+        Err(error) => Err(refuse_port(rt, port, error)),
     }
 }
 

@@ -6,6 +6,7 @@ mod doors;
 mod jobs;
 mod journal_file;
 mod kept;
+mod looking;
 mod operator;
 mod printed;
 mod serve;

@@ -1,4 +1,5 @@
 //! The lines that are printed for an operator on standard error while a site is served.
+use page_port::Crowd;
 use site_server::{Limiter, Notices, SessionFailure, SessionFault};
 use std::fmt::{self, Display};
 use std::io;
@@ -13,6 +14,7 @@ pub struct Operator<'a, H: Wait + Clock> {
     rt: &'a HostRuntime,
     host: &'a H,
     limiter: Mutex<Limiter>,
+    crowd: Option<&'a Crowd>,
 }
 
 /// The name of a worker's peer that is printed for an operator: whose lines the worker takes.
@@ -48,12 +50,14 @@ fn code_of(failure: SessionFailure) -> &'static str {
 }
 
 impl<'a, H: Wait + Clock> Operator<'a, H> {
-    /// Makes an operator's reports, with none printed yet. `host` is the same runtime as `rt`.
-    pub fn new(rt: &'a HostRuntime, host: &'a H) -> Operator<'a, H> {
+    /// Makes an operator's reports, with none printed yet. Workers and connections are counted in `crowd`, if there is
+    /// one. `host` is the same runtime as `rt`.
+    pub fn new(rt: &'a HostRuntime, host: &'a H, crowd: Option<&'a Crowd>) -> Operator<'a, H> {
         Operator {
             rt,
             host,
             limiter: Mutex::new(Limiter::new()),
+            crowd,
         }
     }
 
@@ -104,6 +108,24 @@ impl<H: Wait + Clock> Notices for Operator<'_, H> {
             let _ = eprintln!(self.rt;
                 "fc: pass {pass}: the connection of {who} was closed: nothing came for {seconds} {unit}"
             );
+        }
+    }
+
+    fn connected(&self, role: Role, _pass: u32) {
+        if let Some(crowd) = self.crowd {
+            crowd.connected(role);
+        }
+    }
+
+    fn disconnected(&self, role: Role, _pass: u32) {
+        if let Some(crowd) = self.crowd {
+            crowd.disconnected(role);
+        }
+    }
+
+    fn left(&self, role: Role, _pass: u32) {
+        if let Some(crowd) = self.crowd {
+            crowd.left(role);
         }
     }
 }

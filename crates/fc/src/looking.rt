@@ -1,0 +1,38 @@
+//! Looking at a site while it is served.
+use page_port::{Crowd, PagePort};
+use site_server::{Forecourt, Journal, SiteLedger, Watcher};
+use std::sync::Wait;
+use std::thread::Threads;
+use std::time::Clock;
+
+/// Those who look at a site on its page port. Without a port there are none.
+#[derive(Drop)]
+pub struct Lookers<'a>(pub Option<PagePort<'a>>);
+
+impl Lookers<'_> {
+    /// Returns the counts of the site's workers and of their connections, which are kept for lookers alone.
+    pub fn crowd(&self) -> Option<&Crowd> {
+        match &self.0 {
+            Some(port) => Some(port.crowd()),
+            None => None,
+        }
+    }
+}
+
+impl Watcher for Lookers<'_> {
+    fn watch<L: SiteLedger + Send + Sync, J: Journal + Send, R: Threads + Wait + Clock + Sync>(
+        &self,
+        rt: &R,
+        forecourt: &Forecourt<L, J>,
+    ) {
+        if let Some(port) = &self.0 {
+            port.watch(rt, forecourt);
+        }
+    }
+
+    fn leave(&self) {
+        if let Some(port) = &self.0 {
+            port.leave();
+        }
+    }
+}

@@ -1,0 +1,59 @@
+-- Definitions: how a request on the page port is answered.
+use Rattle.std.specs.Prelude.{◌≡◌, ◌⊎◌, ℕ, List, [], ◌∷◌, ◌++◌, codes, Result, Ok, Err}
+use Rattle.http1.specs.Fields.{Header}
+use Rattle.http_server.specs.Response.{fields_of}
+use Rattle.http_server.specs.declared.response.Response.{Response}
+use Rattle.page_port.specs.declared.asked.Refusal.{Refusal}
+use Rattle.page_port.specs.declared.asked.Refusal.TheVariants as refusals
+use Rattle.page_port.specs.declared.asked.View.{View}
+use Rattle.page_port.specs.declared.asked.View.TheVariants as views
+use Rattle.page_port.specs.declared.shown.Kind.{Kind}
+use Rattle.page_port.specs.declared.shown.Kind.TheVariants as kinds
+use Rattle.page_port.specs.declared.shown.Shown.{Shown}
+
+abbrev pub status_of : Refusal → ℕ
+status_of refusals.OtherHost = 403
+status_of refusals.NoSuchPath = 404
+status_of refusals.OtherMethod = 405
+status_of refusals.NoNumber = 400
+
+abbrev pub type_of : Kind → List ℕ
+type_of kinds.Html = codes "text/html; charset=utf-8"
+type_of kinds.Metrics = codes "text/plain; version=0.0.4; charset=utf-8"
+type_of kinds.Plain = codes "text/plain; charset=utf-8"
+
+-- the fields of each answer: nobody keeps it, no other page can use it, and the connection ends
+abbrev pub heads : Kind → List Header
+heads kind =
+    (codes "content-type", type_of kind)
+    ∷ (codes "cache-control", codes "no-store")
+    ∷ (codes "x-content-type-options", codes "nosniff")
+    ∷ (codes "content-security-policy", codes "default-src 'none'; style-src 'unsafe-inline'")
+    ∷ (codes "connection", codes "close")
+    ∷ []
+
+-- the fields of the answer to a request that is refused
+abbrev pub heads_of : Refusal → List Header
+heads_of refusals.OtherMethod = heads kinds.Plain ++ (codes "allow", codes "GET, HEAD") ∷ []
+heads_of refusals.OtherHost = heads kinds.Plain
+heads_of refusals.NoSuchPath = heads kinds.Plain
+heads_of refusals.NoNumber = heads kinds.Plain
+
+-- the text that a view is shown as, unless memory runs out
+abbrev pub kind_of : View → Kind
+kind_of views.Page = kinds.Html
+kind_of views.Metrics = kinds.Metrics
+kind_of views.Health = kinds.Plain
+kind_of (views.Journal _) = kinds.Plain
+
+-- what is shown for a view: its text, or that not all is well
+abbrev pub IsShown : View → Shown → Type 0
+IsShown view shown = ((shown.status ≡ 200) × (shown.kind ≡ kind_of view))
+    ⊎ ((shown.status ≡ 503) × (shown.kind ≡ kinds.Plain))
+
+-- the answer to a request: a refusal with its status and fields; else what is shown, or that it can't be shown now
+abbrev pub IsAnswer : Result View Refusal → Response → Type 0
+IsAnswer (Err refusal) response = (response.status ≡ status_of refusal) × (fields_of response ≡ heads_of refusal)
+IsAnswer (Ok view) response =
+    ((response.status ≡ 200) × (fields_of response ≡ heads (kind_of view)))
+    ⊎ ((response.status ≡ 503) × (fields_of response ≡ heads kinds.Plain))

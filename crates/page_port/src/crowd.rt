@@ -1,0 +1,101 @@
+//! How many peers a site has: its workers and their connections, by kind of role.
+use live_page::Peers;
+use std::alloc::{AllocError, Global};
+use std::sync::atomic::{AtomicU32, AtomicU64, Ordering};
+use till_request::Role;
+
+/// The workers of one kind of role, and their connections.
+#[derive(Drop)]
+struct Counted {
+    hired: u32,
+    left: AtomicU32,
+    opened: AtomicU64,
+    closed: AtomicU64,
+}
+
+impl Counted {
+    fn new() -> Counted {
+        Counted {
+            hired: 0,
+            left: AtomicU32::new(0),
+            opened: AtomicU64::new(0),
+            closed: AtomicU64::new(0),
+        }
+    }
+
+    /// Returns the counts as they are shown. A connection that ends meanwhile may count as open still.
+    fn peers(&self, role: Role) -> Peers {
+        let closed = self.closed.load(Ordering::SeqCst);
+        let total = self.opened.load(Ordering::SeqCst);
+        Peers {
+            role,
+            workers: self.hired.saturating_sub(self.left.load(Ordering::SeqCst)),
+            open: total.saturating_sub(closed),
+            total,
+        }
+    }
+}
+
+/// Counts the workers of a site, and their connections, by kind of role: tills, dispensers and the owner.
+#[derive(Drop)]
+pub struct Crowd {
+    tills: Counted,
+    dispensers: Counted,
+    owner: Counted,
+}
+
+impl Crowd {
+    /// Makes the counts of a site without workers.
+    pub fn new() -> Crowd {
+        Crowd {
+            tills: Counted::new(),
+            dispensers: Counted::new(),
+            owner: Counted::new(),
+        }
+    }
+
+    fn counted(&self, role: Role) -> &Counted {
+        match role {
+            Role::Till | Role::OneTill(_) => &self.tills,
+            Role::Dispenser | Role::SomePoints(_) => &self.dispensers,
+            Role::Owner | Role::All => &self.owner,
+        }
+    }
+
+    /// Adds workers that take the lines of this role.
+    pub fn hire(&mut self, role: Role, workers: u32) {
+        let counted = match role {
+            Role::Till | Role::OneTill(_) => &mut self.tills,
+            Role::Dispenser | Role::SomePoints(_) => &mut self.dispensers,
+            Role::Owner | Role::All => &mut self.owner,
+        };
+        counted.hired = counted.hired.saturating_add(workers);
+    }
+
+    /// Counts a connection of a worker with this role.
+    pub fn connected(&self, role: Role) {
+        self.counted(role).opened.fetch_add(1, Ordering::SeqCst);
+    }
+
+    /// Counts that a connection of a worker with this role ended.
+    pub fn disconnected(&self, role: Role) {
+        self.counted(role).closed.fetch_add(1, Ordering::SeqCst);
+    }
+
+    /// Counts that a worker with this role serves no further connection.
+    pub fn left(&self, role: Role) {
+        self.counted(role).left.fetch_add(1, Ordering::SeqCst);
+    }
+
+    /// Returns the counts of each kind of role that has workers, or had some.
+    pub(crate) fn peers(&self, alloc: Global) -> Result<Vec<Peers>, AllocError> {
+        let mut peers = Vec::new(alloc);
+        for role in [Role::Till, Role::Dispenser, Role::Owner] {
+            let counted = self.counted(role);
+            if counted.hired > 0 {
+                peers.push(counted.peers(role))?;
+            }
+        }
+        Ok(peers)
+    }
+}

@@ -1,0 +1,112 @@
+//! What is answered to a request.
+ghost use Rattle.std.specs.Prelude.{◌≡◌, ◌++◌, ◌∷◌, [], codes, OnOk};
+ghost use Rattle.http_server.specs.Response.{IsBlank, fields_of};
+ghost use Rattle.page_port.specs.Answering.{heads, heads_of, status_of, type_of};
+ghost use Rattle.page_port.specs.declared.shown.Kind.TheVariants.{Plain};
+
+use crate::asked::Refusal;
+use bytes::Bytes;
+use http::{HeaderValue, StatusCode, header};
+use http_server::Response;
+use std::alloc::AllocError;
+
+/// What the text of an answer is.
+#[derive(Clone, Copy, Drop)]
+pub enum Kind {
+    Html,
+    Metrics,
+    Plain,
+}
+
+impl Kind {
+    /// Returns the type of the text, as a field of the answer names it.
+    fn content_type(self) -> HeaderValue
+        ensures { result.bytes ≡ type_of self }
+    {
+        match self {
+            Kind::Html => HeaderValue::from_static("text/html; charset=utf-8"),
+            Kind::Metrics => HeaderValue::from_static("text/plain; version=0.0.4; charset=utf-8"),
+            Kind::Plain => HeaderValue::from_static("text/plain; charset=utf-8"),
+        }
+    }
+}
+
+/// What is shown to somebody who looks.
+#[derive(Drop)]
+pub struct Shown {
+    pub status: StatusCode,
+    pub kind: Kind,
+    pub text: Bytes,
+}
+
+impl Shown {
+    /// Makes an answer with a text that is known beforehand.
+    pub fn fixed(status: StatusCode, text: &'static str) -> Shown
+        ensures status { result.status ≡ status }
+        ensures kind { result.kind ≡ Plain }
+    {
+        Shown {
+            status,
+            kind: Kind::Plain,
+            text: Bytes::from_static(text.as_bytes()),
+        }
+    }
+
+    /// Fills a response. Each connection ends after one answer, so that it keeps nobody else waiting.
+    pub fn put(self, response: &mut Response) -> Result<(), AllocError>
+        requires { IsBlank response.old }
+        ensures status { OnOk result (response.new.status ≡ self.status) }
+        ensures heads { OnOk result (fields_of response.new ≡ heads self.kind) }
+        ensures text { OnOk result (response.new.body.items ≡ self.text) }
+    {
+        let Shown { status, kind, text } = self;
+        response.status = status;
+        response.body.push(text)?;
+        add_heads(kind, response)
+    }
+}
+
+/// Adds the fields of each answer to a response that has none yet.
+fn add_heads(kind: Kind, response: &mut Response) -> Result<(), AllocError>
+    requires { fields_of response.old ≡ [] }
+    ensures heads { OnOk result (fields_of response.new ≡ heads kind) }
+    ensures status { response.new.status ≡ response.old.status }
+    ensures body { response.new.body ≡ response.old.body }
+{
+    response.add_header(header::CONTENT_TYPE, kind.content_type())?;
+    response.add_header(header::CACHE_CONTROL, HeaderValue::from_static("no-store"))?;
+    response.add_header(
+        header::X_CONTENT_TYPE_OPTIONS,
+        HeaderValue::from_static("nosniff"),
+    )?;
+    response.add_header(
+        header::CONTENT_SECURITY_POLICY,
+        HeaderValue::from_static("default-src 'none'; style-src 'unsafe-inline'"),
+    )?;
+    response.add_header(header::CONNECTION, HeaderValue::from_static("close"))
+}
+
+/// Adds the field that names the methods, if the method was the cause of a refusal.
+fn add_allowed(refusal: Refusal, response: &mut Response) -> Result<(), AllocError>
+    requires { fields_of response.old ≡ heads Plain }
+    ensures heads { OnOk result (fields_of response.new ≡ heads_of refusal) }
+    ensures status { response.new.status ≡ response.old.status }
+{
+    match refusal {
+        Refusal::OtherMethod => response.add_header(
+            header::ALLOW,
+            HeaderValue::from_static("GET, HEAD"),
+        ),
+        Refusal::OtherHost | Refusal::NoSuchPath | Refusal::NoNumber => Ok(()),
+    }
+}
+
+/// Fills the response to a request that is refused.
+pub fn refuse(refusal: Refusal, response: &mut Response) -> Result<(), AllocError>
+    requires { IsBlank response.old }
+    ensures status { OnOk result (response.new.status ≡ status_of refusal) }
+    ensures heads { OnOk result (fields_of response.new ≡ heads_of refusal) }
+{
+    Shown::fixed(refusal.status(), refusal.text()).put(response)?;
+    add_allowed(refusal, response)
+}

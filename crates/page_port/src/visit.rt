@@ -1,0 +1,129 @@
+//! The connection of somebody who looks.
+use http_server::{Config, Connection, Service, State};
+use http1::Limits;
+use std::alloc::Global;
+use std::hash::RandomState;
+use std::io::{self, ErrorKind, Read};
+use std::net::{Shutdown, TcpStream};
+use std::time::{Clock, Instant};
+
+/// The most seconds that a request may take from its connection, and those that its answer may take.
+const MOST: u64 = 5;
+
+/// A request's head has at most 8,192 bytes, and a request has no body.
+const LIMITS: Config = Config {
+    limits: Limits {
+        max_head_len: 8192,
+        max_extensions_len: 0,
+        max_trailers_len: 2,
+    },
+    max_body_len: 0,
+    max_pending: 65_536,
+    read_size: 4096,
+};
+
+/// How a visit went on.
+#[derive(Clone, Copy, Drop)]
+pub enum Turn {
+    /// Bytes were read or written.
+    Moved,
+    /// The peer has to send or to take something first.
+    Waits,
+    /// The visit is over.
+    Over,
+}
+
+/// The connection of somebody who looks. It waits for nothing: each turn moves what can be moved at once.
+#[derive(Drop)]
+pub struct Visit {
+    stream: TcpStream,
+    connection: Connection,
+    begin: Instant,
+    /// Whether the answer was sent whole, and nothing more will be.
+    is_told: bool,
+}
+
+impl Visit {
+    /// Begins a visit with a connection that was just opened.
+    pub fn begin<R: Clock>(
+        rt: &R,
+        alloc: Global,
+        keys: RandomState,
+        stream: TcpStream,
+    ) -> io::Result<Visit> {
+        stream.set_nonblocking(true)?;
+        stream.set_nodelay(true)?;
+        match Instant::now(rt) {
+            Ok(begin) => Ok(Visit {
+                stream,
+                connection: Connection::new(alloc, keys, LIMITS),
+                begin,
+                is_told: false,
+            }),
+            Err(error) => Err(error),
+        }
+    }
+
+    fn is_open(&self) -> bool {
+        matches!(self.connection.state(), State::Open)
+    }
+
+    /// Answers the request, if it is there now. The answer's time begins once it is made, however long that took.
+    fn answer<S: Service, R: Clock>(&mut self, rt: &R, service: &mut S) -> io::Result<()> {
+        if self.is_open() {
+            self.connection.advance(service);
+            if !self.is_open() {
+                self.begin = Instant::now(rt)?;
+            }
+        }
+        Ok(())
+    }
+
+    /// Reads from the connection, or writes to it.
+    fn carry(&mut self) -> io::Result<usize> {
+        if self.connection.wants_write() {
+            self.connection.write_to(&mut self.stream)
+        } else {
+            self.connection.read_from(&mut self.stream)
+        }
+    }
+
+    /// Takes what the peer still sends after its answer: if the connection were closed before that, the system might
+    /// throw the answer away. Returns 0 once the peer has closed its side.
+    fn take_rest(&mut self) -> io::Result<usize> {
+        if !self.is_told {
+            self.is_told = true;
+            self.stream.shutdown(Shutdown::Write)?;
+        }
+        let mut bytes = [0u8; 4096];
+        self.stream.read(&mut bytes)
+    }
+
+    /// Does what can be done at once. An error ends the visit.
+    fn go_on<S: Service, R: Clock>(&mut self, rt: &R, service: &mut S) -> io::Result<Turn> {
+        self.answer(rt, service)?;
+        if self.begin.elapsed(rt)?.as_secs() >= MOST {
+            return Ok(Turn::Over);
+        }
+        let is_done = self.connection.is_done();
+        let carried = if is_done {
+            self.take_rest()
+        } else {
+            self.carry()
+        };
+        match carried {
+            Ok(0) if is_done => Ok(Turn::Over),
+            Ok(_) => Ok(Turn::Moved),
+            Err(error) if error.kind() == ErrorKind::WouldBlock => Ok(Turn::Waits),
+            Err(error) => Err(error),
+        }
+    }
+
+    /// Does what can be done at once. A visit that failed is over: a peer that goes away is of no interest to anybody.
+    pub fn turn<S: Service, R: Clock>(&mut self, rt: &R, service: &mut S) -> Turn {
+        match self.go_on(rt, service) {
+            Ok(turn) => turn,
+            Err(_) => Turn::Over,
+        }
+    }
+}
