@@ -19,6 +19,12 @@
 #
 #     bench/serve.sh LINES --null [TURNS [BYTES [FIRST SECOND [READY]]]]
 #
+# With --looks: presets on 8 connections at a site without a page, at one with a page at which nobody looks, and at one
+# at which somebody looks 8 times a second (bench/looks.py), in turns, as a table in Markdown of the medians of TURNS
+# turns, 7 where it isn't said. Lines on standard error say how long the looks of each turn took.
+#
+#     bench/serve.sh LINES --looks [TURNS]
+#
 # The program is out/fc, which ./fc builds, or $FC.
 set -eu
 here=$(CDPATH='' cd -- "$(dirname -- "$0")" && pwd -P)
@@ -33,6 +39,8 @@ preload=''
 each=''
 null=''
 bytes=''
+page=''
+looks=''
 cc -O2 -pthread -o "$work/driver" "$here/serve.c"
 
 # Starts a site on ports that are free, with so many workers for tills; each serves one connection.
@@ -52,6 +60,7 @@ owner_port = $((port + 2))
 till_workers = $1
 dispenser_workers = 1
 connections = 1
+${page:+page_port = $((port + 3))}
 END
         : >"$work/said"
         rm -f "$work/day.journal"
@@ -87,9 +96,11 @@ lines=${1:-20000}
 measure() {
     start "$1"
     shift
+    [ -z "$looks" ] || "$here/looks.py" $((port + 3)) "$looks" >&2 &
     timeout 60 "$work/driver" "$port" "$lines" "$@"
     wait "$served"
     served=
+    wait
 }
 
 if [ "$kept" = --sync ]; then
@@ -124,6 +135,31 @@ medians() {
         { for (i = 1; i <= 4; i++) said[NR, i] = $i + 0 }
         END { print median(1), median(2), median(3), median(4) }'
 }
+
+if [ "$kept" = --looks ]; then
+    kept='' turns=${3:-7} turn=0
+    while [ "$turn" -lt "$turns" ]; do
+        measure 8 "$two" 8 'till 1 preset 1 5000' >>"$work/0.turns"
+        page=1
+        measure 8 "$two" 8 'till 1 preset 1 5000' >>"$work/1.turns"
+        looks=8
+        measure 8 "$two" 8 'till 1 preset 1 5000' >>"$work/2.turns"
+        page='' looks=''
+        turn=$((turn + 1))
+    done
+    echo '| site | lines a second | p50, us | p99, us | p99.9, us |'
+    echo '|---|---|---|---|---|'
+    for site in 'without a page' 'with a page' 'with 8 looks a second'; do
+        case $site in
+            without*) file=0 ;;
+            *looks*) file=2 ;;
+            *) file=1 ;;
+        esac
+        medians "$work/$file.turns" |
+            awk -v site="$site" '{ printf "| %s | %.0f | %.1f | %.1f | %.1f |\n", site, $1, $2, $3, $4 }'
+    done
+    exit
+fi
 
 if [ "$kept" = --null ]; then
     cc -O2 -pthread -o "$work/null_server" "$here/null_server.c"

@@ -14,6 +14,7 @@ refused. This has to hold:
 - the file of a kept journal has each answered line, and its whole lines are legal;
 - a folder of days has its journals as they were, and of a new day each file whole or not at all; its audit is legal;
 - a served site leaves no local socket, and no folder in which it makes one;
+- a look at a served site is answered 200, or 503 because memory ran out, or not at all;
 - if each read and write is cut to one byte, all is as in the unhindered run.
 If there is no C compiler (CC, or cc), nothing is tried, and that is printed. The last line is 'N passed, M failed': it
 counts the calls, each with one kind and one way of refusing.
@@ -321,20 +322,35 @@ def free_ports(count):
     return ports
 
 
-class Served(Call):
-    """A day of a till, a dispenser and the owner, by the lines of a script, over ports or over local sockets."""
+LOOKS = ("/", "/metrics", "/healthz", "/journal")
 
-    def __init__(self, name, *words, at_sockets=False):
+
+def looked(port, target):
+    """The status with which a look is answered, or None if it isn't answered."""
+    try:
+        with socket.create_connection(("127.0.0.1", port), timeout=SILENCE) as peer:
+            peer.sendall(f"GET {target} HTTP/1.1\r\nhost: localhost\r\nconnection: close\r\n\r\n".encode())
+            with peer.makefile("rb") as answer:
+                return answer.read()[9:12].decode() or None
+    except OSError:
+        return None
+
+
+class Served(Call):
+    """A day of a till, a dispenser and the owner, by the lines of a script, over ports or over local sockets. With a
+    page somebody looks at the site after every third line."""
+
+    def __init__(self, name, *words, at_sockets=False, has_page=False):
         super().__init__(name, "serve", *words, "site.toml")
         self.kept = {"--journal": "day.journal", "--days": "days/000001.journal"}.get("".join(words[:1]))
-        self.at_sockets = at_sockets
+        self.at_sockets, self.has_page = at_sockets, has_page
 
     def doors(self, folder):
         """The part of the configuration that names the doors, and where a peer finds them."""
         if self.at_sockets:
             return SERVE_AT_SOCKETS % SOCKETS, [os.path.join(folder, name) for name in SOCKETS]
-        ports = free_ports(3)
-        return SERVE % tuple(ports), ports
+        ports = free_ports(4 if self.has_page else 3)
+        return SERVE % tuple(ports[:3]) + "".join(f"page_port = {port}\n" for port in ports[3:]), ports
 
     def run(self, shim, fault=UNHINDERED):
         folder, counts = shim.path("served"), shim.path("counts")
@@ -348,7 +364,7 @@ class Served(Call):
                     [shim.program, *self.words], stdin=subprocess.DEVNULL, stdout=out, stderr=errors, cwd=folder,
                     env=shim.environment(fault, counts),
                 )
-            answers = self.talk(program, doors, said)
+            answers, looks = self.talk(program, doors, said)
             if "Address already in use" not in text_of(said):
                 break
         try:
@@ -361,26 +377,30 @@ class Served(Call):
         kept = text_of(journal) if os.path.exists(journal) else ""
         told = Told(status, printed, text_of(said), shim.counted(counts), kept, answers)
         told.left = sorted(name for name in os.listdir(folder) if name.endswith(".socket"))
+        told.looks = looks
         shutil.rmtree(folder)
         return told
 
     @staticmethod
     def talk(program, doors, said):
-        """Sends each line to its door, once the doors are open. Returns the answered lines, with their answers."""
+        """Sends each line to its door, once the doors are open. Returns the answered lines, with their answers, and
+        the answers to looks."""
         until = time.monotonic() + PATIENCE
         while "fc: serving" not in text_of(said) and program.poll() is None and time.monotonic() < until:
             time.sleep(0.005)
         if program.poll() is not None:
-            return []
-        peers = dict(zip(("till", "disp", "load"), map(Peer, doors)))
-        answers = []
-        for line in SCRIPT.splitlines():
+            return [], []
+        peers = dict(zip(("till", "disp", "load"), map(Peer, doors[:3])))
+        answers, looks = [], []
+        for turn, line in enumerate(SCRIPT.splitlines()):
             answer = peers.get(line[:4], peers["till"]).ask(line)
             if answer is not None:
                 answers.append((line, answer))
+            if turn % 3 == 0:
+                looks += [looked(page, LOOKS[turn // 3 % len(LOOKS)]) for page in doors[3:]]
         for peer in peers.values():
             peer.close()
-        return answers
+        return answers, looks
 
     def ill(self, shim, told, plain):
         whole = told.journal[: told.journal.rfind("\n") + 1]
@@ -393,6 +413,8 @@ class Served(Call):
             return f"it was refused nothing, and answers {told.answers}"
         if told.left:
             return f"it leaves {told.left}"
+        if not set(told.looks) <= {"200", "503", None} or not told.is_refused and set(told.looks) - {"200"}:
+            return f"looks are answered {told.looks}"
         return ended_ill(told, plain)
 
     @staticmethod
@@ -514,6 +536,7 @@ def calls_of_sites(shim, taken):
     yield Served("served day, synced", "--journal", "day.journal", "--sync")
     yield Served("served day in a folder", "--days", "days")
     yield Served("served day over sockets", at_sockets=True)
+    yield Served("served day with a page", has_page=True)
 
 
 def look(shim, call, pool):

@@ -12,7 +12,7 @@ from serving import free_ports
 
 ROOT = os.path.join(os.path.dirname(os.path.abspath(__file__)), "..", "..")
 DONE = "this command is done"
-PORTS = ("7001", "7002", "7003")
+PORTS = ("7001", "7002", "7003", "7004")
 
 
 def examples(text):
@@ -85,7 +85,7 @@ def follow(document, fc, seconds=60):
     with open(os.path.join(ROOT, document)) as file:
         text = file.read()
     for pasted in (False, True):
-        free = dict(zip(PORTS, map(str, free_ports(3))))
+        free = dict(zip(PORTS, map(str, free_ports(len(PORTS)))))
         steps = examples(moved(text, free))
         if not steps:
             raise SystemExit("no command was found")
