@@ -53,7 +53,7 @@ FC
     for command in "$folder"/parts/*.command; do
         [ -f "$command" ] || continue
         part=${command%.command}
-        (cd "$folder/run" && timeout 300 sh "$command") >"$part.printed" 2>"$part.errors" </dev/null
+        (cd "$folder/run" && timeout 900 sh "$command") >"$part.printed" 2>"$part.errors" </dev/null
         if cmp -s "$part.printed" "$part.wanted"; then
             passed=$((passed + 1))
         else
