@@ -12,21 +12,33 @@ use bpf_decode::{Code, Inst, Unit};
 use bpf_model::instruction::{Form, JumpFault};
 use bpf_model::machine::shift;
 use std::alloc::Global;
+use std::fmt;
 use std::marker::Model;
-use thiserror::Error;
 
 /// Why a program's jumps are refused: what is wrong with the first wrong jump, and the number of its unit, counted from
 /// 0. The messages don't show the number.
-#[derive(Clone, Copy, Debug, PartialEq, Eq, Error)]
+#[derive(Clone, Copy, Debug, PartialEq, Eq)]
 pub enum FlowFault {
-    #[error("a jump backwards")]
     BackwardJump(u32),
-    #[error("a jump past the last unit")]
     JumpOut(u32),
-    #[error("a jump into a wide load")]
     JumpIntoWide(u32),
-    #[error("out of memory")]
     OutOfMemory,
+}
+
+impl fmt::Display for FlowFault {
+    ghost use Rattle.std.specs.Prelude.{Some};
+    ghost use Rattle.flow_check.specs.Words.{flow_text};
+
+    ghost output = { λ fault. Some (flow_text fault) };
+
+    fn fmt<W: fmt::Write>(&self, f: &mut fmt::Formatter<W>) -> fmt::Result {
+        match self {
+            FlowFault::BackwardJump(_) => f.write_str("a jump backwards"),
+            FlowFault::JumpOut(_) => f.write_str("a jump past the last unit"),
+            FlowFault::JumpIntoWide(_) => f.write_str("a jump into a wide load"),
+            FlowFault::OutOfMemory => f.write_str("out of memory"),
+        }
+    }
 }
 
 /// A program whose jumps all go forward to instructions.
