@@ -8,3 +8,4 @@ pub mod Plain
 pub mod Accepting
 pub mod Refusals
 pub mod Shown
+pub mod Words

@@ -6,50 +6,82 @@ ghost use Rattle.reg_types.specs.Refusals.{located, shown_by, decode_shown, flow
 use crate::types::Flaw;
 use bpf_decode::DecodeFault;
 use flow_check::FlowFault;
-use thiserror::Error;
+use std::fmt;
 
 /// What is wrong with an instruction, given the fact (the abstract state) before it. The first number in a variant is
 /// the unit where the instruction begins. A second number is the register at fault, or the argument (1 or 2). The
 /// messages don't show the unit.
-#[derive(Clone, Copy, Debug, PartialEq, Eq, Error)]
+#[derive(Clone, Copy, Debug, PartialEq, Eq)]
 pub enum TypeFault {
-    #[error("the program runs past its last unit")]
     FallsOff(u32),
-    #[error("r10 is written")]
     WriteR10(u32),
-    #[error("r{1} isn't a number, or isn't set")]
     NotANumber(u32, u32),
-    #[error("the base register isn't a pointer")]
     NotAPointer(u32),
-    #[error("outside the context and the stack")]
     OutOfRange(u32),
-    #[error("stack bytes that aren't set, or no whole kept pointer")]
     UnsetBytes(u32),
-    #[error("a store to the context")]
     StoreToContext(u32),
-    #[error("a pointer stored by fewer than 8 bytes, or not at a multiple of 8")]
     StorePointer(u32),
-    #[error("arithmetic on a pointer")]
     PointerArithmetic(u32),
-    #[error("no such helper")]
     NoSuchHelper(u32),
-    #[error("argument {1} isn't what the helper takes")]
     BadArgument(u32, u32),
-    #[error("a counter that isn't declared")]
     UndeclaredCounter(u32),
 }
 
+impl fmt::Display for TypeFault {
+    ghost use Rattle.std.specs.Prelude.{Some};
+    ghost use Rattle.reg_types.specs.Words.{type_text};
+
+    ghost output = { λ fault. Some (type_text fault) };
+
+    fn fmt<W: fmt::Write>(&self, f: &mut fmt::Formatter<W>) -> fmt::Result {
+        match self {
+            TypeFault::FallsOff(_) => f.write_str("the program runs past its last unit"),
+            TypeFault::WriteR10(_) => f.write_str("r10 is written"),
+            TypeFault::NotANumber(_, register) => {
+                write!(f, "r{register} isn't a number, or isn't set")
+            }
+            TypeFault::NotAPointer(_) => f.write_str("the base register isn't a pointer"),
+            TypeFault::OutOfRange(_) => f.write_str("outside the context and the stack"),
+            TypeFault::UnsetBytes(_) => {
+                f.write_str("stack bytes that aren't set, or no whole kept pointer")
+            }
+            TypeFault::StoreToContext(_) => f.write_str("a store to the context"),
+            TypeFault::StorePointer(_) => {
+                f.write_str("a pointer stored by fewer than 8 bytes, or not at a multiple of 8")
+            }
+            TypeFault::PointerArithmetic(_) => f.write_str("arithmetic on a pointer"),
+            TypeFault::NoSuchHelper(_) => f.write_str("no such helper"),
+            TypeFault::BadArgument(_, argument) => {
+                write!(f, "argument {argument} isn't what the helper takes")
+            }
+            TypeFault::UndeclaredCounter(_) => f.write_str("a counter that isn't declared"),
+        }
+    }
+}
+
 /// Why the verifier refuses a program: a fault of decoding, of a jump or of a type; or memory ran out.
-#[derive(Clone, Copy, Debug, PartialEq, Eq, Error)]
+#[derive(Clone, Copy, Debug, PartialEq, Eq)]
 pub enum Refusal {
-    #[error("{0}")]
     Decode(DecodeFault),
-    #[error("{0}")]
     Flow(FlowFault),
-    #[error("{0}")]
     Type(TypeFault),
-    #[error("out of memory")]
     OutOfMemory,
+}
+
+impl fmt::Display for Refusal {
+    ghost use Rattle.std.specs.Prelude.{Some};
+    ghost use Rattle.reg_types.specs.Words.{refusal_text};
+
+    ghost output = { λ refusal. Some (refusal_text refusal) };
+
+    fn fmt<W: fmt::Write>(&self, f: &mut fmt::Formatter<W>) -> fmt::Result {
+        match self {
+            Refusal::Decode(fault) => write!(f, "{fault}"),
+            Refusal::Flow(fault) => write!(f, "{fault}"),
+            Refusal::Type(fault) => write!(f, "{fault}"),
+            Refusal::OutOfMemory => f.write_str("out of memory"),
+        }
+    }
 }
 
 fn show_decode(fault: DecodeFault) -> Option<(u32, Option<u32>, Option<u32>)>
