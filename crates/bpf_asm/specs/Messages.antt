@@ -1,9 +1,11 @@
--- Definitions: the message for a flaw of an assembler text (this profile).
+-- Definitions: the messages for a flaw of an assembler text and for a fault of a program file (this profile).
 use Rattle.std.specs.Prelude.{ℕ, ◌/◌, ◌%◌, ◌&&◌, nat_lt, nat_le, false, List, [], ◌∷◌, ◌++◌, length, take, codes, if◌then◌else◌}
 use Rattle.std.specs.List.{flat_map}
 use Rattle.std.specs.Fmt.{digit_glyph}
 use Rattle.bpf_asm.specs.declared.flaw.AsmFlaw.{AsmFlaw}
 use Rattle.bpf_asm.specs.declared.flaw.AsmFlaw.TheVariants.{ByteOrderMark, CarriageReturn, NoForm, LabelAgain, LabelMissing, OutOfRange, Length}
+use Rattle.bpf_asm.specs.declared.program_file.ProgramFileFault.{ProgramFileFault}
+use Rattle.bpf_asm.specs.declared.program_file.ProgramFileFault.TheVariants.{TooLong, BadDigits, OutOfMemory}
 
 -- How a message shows a byte: a printable ASCII character as itself, and any other byte as a backslash, an x and its two
 -- hexadecimal digits.
@@ -29,3 +31,9 @@ flaw_text (LabelAgain name) = codes "the label '" ++ (shown name.now ++ codes "'
 flaw_text (LabelMissing name) = codes "no line has the label '" ++ (shown name.now ++ codes "'")
 flaw_text (OutOfRange line) = codes "a number out of range: " ++ shown line.now
 flaw_text Length = codes "a program has 1 to 512 units"
+
+-- the message for a fault of a program file
+abbrev pub program_file_text : ProgramFileFault → List ℕ
+program_file_text TooLong = codes "over 65,536 bytes"
+program_file_text BadDigits = codes "another byte than hexadecimal digits and blanks, or an odd count of digits"
+program_file_text OutOfMemory = codes "out of memory"

@@ -5,22 +5,36 @@ ghost use Rattle.hex.specs.Hex.{decode_of};
 
 use hex::FromHexError;
 use std::alloc::{AllocError, Global};
-use thiserror::Error;
+use std::fmt;
 
 /// The most bytes that a configuration, a program file or an assembler text can have.
 pub const MOST_BYTES: usize = 65_536;
 
 /// Why a file isn't a program file.
-#[derive(Clone, Copy, Debug, Drop, Error)]
+#[derive(Clone, Copy, Debug, Drop)]
 pub enum ProgramFileFault {
     /// L1: the file is too long.
-    #[error("over 65,536 bytes")]
     TooLong,
     /// H1: a byte is neither a hexadecimal digit nor a blank, or the number of digits is odd.
-    #[error("another byte than hexadecimal digits and blanks, or an odd count of digits")]
     BadDigits,
-    #[error("out of memory")]
     OutOfMemory,
+}
+
+impl fmt::Display for ProgramFileFault {
+    ghost use Rattle.std.specs.Prelude.{Some};
+    ghost use Rattle.bpf_asm.specs.Messages.{program_file_text};
+
+    ghost output = { λ fault. Some (program_file_text fault) };
+
+    fn fmt<W: fmt::Write>(&self, f: &mut fmt::Formatter<W>) -> fmt::Result {
+        match self {
+            ProgramFileFault::TooLong => f.write_str("over 65,536 bytes"),
+            ProgramFileFault::BadDigits => f.write_str(
+                "another byte than hexadecimal digits and blanks, or an odd count of digits",
+            ),
+            ProgramFileFault::OutOfMemory => f.write_str("out of memory"),
+        }
+    }
 }
 
 impl From<AllocError> for ProgramFileFault {
