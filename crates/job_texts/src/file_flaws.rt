@@ -17,6 +17,11 @@ pub enum ProgramFlaw {
 }
 
 impl fmt::Display for ProgramFlaw {
+    ghost use Rattle.std.specs.Prelude.{Some};
+    ghost use Rattle.job_texts.specs.Words.{program_flaw_text};
+
+    ghost output = { λ flaw. Some (program_flaw_text flaw) };
+
     fn fmt<W: fmt::Write>(&self, f: &mut fmt::Formatter<W>) -> fmt::Result {
         match self {
             ProgramFlaw::File(fault) => write!(f, "{fault}"),

@@ -36,7 +36,7 @@ pub enum JournalFlaw {
 impl fmt::Display for JournalFlaw {
     ghost use Rattle.job_texts.specs.Words.{flaw_text};
 
-    ghost output = { λ flaw. flaw_text flaw };
+    ghost output = { λ flaw. Some (flaw_text flaw) };
 
     fn fmt<W: fmt::Write>(&self, f: &mut fmt::Formatter<W>) -> fmt::Result {
         match self {

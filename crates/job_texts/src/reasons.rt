@@ -8,6 +8,7 @@ ghost use Rattle.reg_types.specs.Refusals.{shown_by};
 ghost use Rattle.job_texts.specs.Told.{Passes};
 ghost use Rattle.job_texts.specs.Reasons.{IsSpelling, IsExplained, number_in, unit_in, kind_wanted, wanted_at, wanted_in};
 ghost use Rattle.job_texts.specs.Reasons.{digits_line, line_named};
+ghost use Rattle.job_texts.specs.Words.{kind_text};
 
 use bpf_asm::{AsmFault, AsmFlaw, assemble, explain, instruction_line, unit_lines};
 use bpf_decode::{Code, DecodeFault, Unit, decode};
@@ -27,31 +28,82 @@ pub struct RefusedProgram {
     pub wanted: Option<Kind>,
 }
 
-/// Returns in words what an argument of this kind must be.
-fn words_of(kind: Kind) -> &'static str {
-    match kind {
-        Kind::Nothing => "anything",
-        Kind::Number => "a number",
-        Kind::Counter => "a constant counter",
-        Kind::Place => "a place of the stack for 16 bytes",
+impl fmt::Display for RefusedProgram {
+    ghost use Rattle.job_texts.specs.Words.{refused_text};
+
+    ghost output = { λ told. Some (refused_text told) };
+
+    /// Writes the unit, its instruction, and what is wrong with it.
+    fn fmt<W: fmt::Write>(&self, f: &mut fmt::Formatter<W>) -> fmt::Result {
+        let unit = UnitAtFault(unit_of(self.refusal));
+        let line = LineAtFault(&self.line);
+        let wrong = Wrong(self.refusal, self.wanted);
+        write!(f, "{unit}{line}{wrong}")
     }
 }
 
-impl fmt::Display for RefusedProgram {
-    /// Writes the unit, its instruction, and what is wrong with it.
+/// The number of the unit at fault, if there is one, as the beginning of a text.
+#[derive(Clone, Copy, Drop)]
+struct UnitAtFault(Option<u32>);
+
+impl fmt::Display for UnitAtFault {
+    ghost use Rattle.job_texts.specs.Words.{unit_text};
+
+    ghost output = { λ unit. Some (unit_text unit.0) };
+
     fn fmt<W: fmt::Write>(&self, f: &mut fmt::Formatter<W>) -> fmt::Result {
-        if let Some((_, Some(unit), _)) = self.refusal.shown() {
-            write!(f, "unit {unit}: ")?;
+        match self.0 {
+            Some(unit) => write!(f, "unit {unit}: "),
+            None => Ok(()),
         }
-        if let Some(line) = &self.line {
-            write!(f, "{}: ", line.trim_end())?;
+    }
+}
+
+/// The line of the instruction at fault, if there is one, without its LF.
+#[derive(Clone, Copy, Drop)]
+struct LineAtFault<'a>(&'a Option<String>);
+
+impl fmt::Display for LineAtFault<'_> {
+    ghost use Rattle.job_texts.specs.Words.{line_text};
+
+    ghost output = { λ line. Some (line_text (option_map string_bytes line.0.now)) };
+
+    fn fmt<W: fmt::Write>(&self, f: &mut fmt::Formatter<W>) -> fmt::Result {
+        match self.0 {
+            Some(line) => write!(f, "{}: ", line.trim_end()),
+            None => Ok(()),
         }
-        match (self.refusal, self.wanted) {
+    }
+}
+
+/// What is wrong with an instruction: for an argument of a helper, what it must be.
+#[derive(Clone, Copy, Drop)]
+struct Wrong(Refusal, Option<Kind>);
+
+impl fmt::Display for Wrong {
+    ghost use Rattle.job_texts.specs.Words.{wrong_text};
+
+    ghost output = { λ wrong. Some (wrong_text wrong.0 wrong.1) };
+
+    fn fmt<W: fmt::Write>(&self, f: &mut fmt::Formatter<W>) -> fmt::Result {
+        match (self.0, self.1) {
             (Refusal::Type(TypeFault::BadArgument(_, argument)), Some(kind)) => {
                 write!(f, "argument {argument} isn't {}", words_of(kind))
             }
             (refusal, _) => write!(f, "{refusal}"),
         }
+    }
+}
+
+/// Returns in words what an argument of this kind must be.
+fn words_of(kind: Kind) -> &'static str
+    ensures { result.now ≡ kind_text kind }
+{
+    match kind {
+        Kind::Nothing => "anything",
+        Kind::Number => "a number",
+        Kind::Counter => "a constant counter",
+        Kind::Place => "a place of the stack for 16 bytes",
     }
 }
 
