@@ -4,8 +4,6 @@
 #![tactic(auto)]
 
 #[cfg(test)]
-mod cuts;
-#[cfg(test)]
 mod drafts;
 #[cfg(test)]
 mod lines;
