@@ -6,8 +6,9 @@
 Each metric has a line HELP, a line TYPE and then all its samples, together and in this order. A sample is a name, its
 labels, if it has some, and a whole number, with single spaces and no moment. All samples of a metric have the same
 labels in the same order, and no two have the same values of them. Label values have no escapes but those for a
-backslash, a quote and a new line. A counter ends in `_total`, another metric doesn't, and a counter isn't negative. The
-text ends with LF, and has no empty line, no CR and no other comment. Prometheus itself allows more.
+backslash, a quote and a new line. A counter ends in `_total`, another metric doesn't, and a counter isn't negative. A
+summary has two samples without labels, whose names end in `_sum`, which has nine decimals, and then in `_count`; neither
+is negative. The text ends with LF, and has no empty line, no CR and no other comment. Prometheus itself allows more.
 """
 import re
 import sys
@@ -17,8 +18,10 @@ from shared import Count
 NAME = re.compile(r"[a-zA-Z_:][a-zA-Z0-9_:]*")
 LABEL = re.compile(r'([a-zA-Z_][a-zA-Z0-9_]*)="((?:[^"\\\n]|\\["\\n])*)"')
 VALUE = re.compile(r"0|-?[1-9][0-9]*")
+SECONDS = re.compile(r"(?:0|[1-9][0-9]*)\.[0-9]{9}")
 HELP = re.compile(r"(?:[^\\\n]|\\[\\n])+")
-KINDS = ("counter", "gauge")
+KINDS = ("counter", "gauge", "summary")
+PARTS = ("_sum", "_count")
 ESCAPES = {'\\"': '"', "\\\\": "\\", "\\n": "\n"}
 
 
@@ -37,6 +40,7 @@ class Metrics:
             self.fault(0, "the text doesn't end with LF")
         for number, line in enumerate(text.removesuffix("\n").split("\n"), 1):
             self.read(number, line)
+        self.end_summary()
 
     def fault(self, number, what):
         self.faults.append((self.name, f"line {number}: {what}"))
@@ -53,7 +57,14 @@ class Metrics:
         else:
             self.sample(number, line)
 
+    def end_summary(self):
+        """Looks that the last metric has its two samples, if it is a summary."""
+        wanted = [f"{self.name}{part}" for part in PARTS]
+        if self.kinds.get(self.name) == "summary" and [it for it in self.order if it in wanted] != wanted:
+            self.fault(0, f"{self.name} hasn't one _sum and then one _count")
+
     def help(self, number, line):
+        self.end_summary()
         _, _, name, *rest = line.split(" ", 3)
         self.name = name
         if not NAME.fullmatch(name):
@@ -71,7 +82,7 @@ class Metrics:
             self.fault(number, f"{name}: TYPE isn't once, behind HELP and before the samples")
         self.name = name
         if len(words) != 4 or words[3] not in KINDS:
-            self.fault(number, f"{name} is neither a counter nor a gauge")
+            self.fault(number, f"{name} is no counter, no gauge and no summary")
         elif (words[3] == "counter") != name.endswith("_total"):
             self.fault(number, f"{name} is a {words[3]}")
         self.kinds[name] = words[-1]
@@ -81,15 +92,23 @@ class Metrics:
         if not it:
             return self.fault(number, f"no sample: {line!r}")
         name, rest = it[0], line[it.end() :]
-        if name != self.name or name not in self.kinds:
+        is_part = self.kinds.get(self.name) == "summary"
+        wanted = [f"{self.name}{part}" for part in PARTS] if is_part else [self.name]
+        if name not in wanted or self.name not in self.kinds:
             self.fault(number, f"a sample of {name} that isn't behind its HELP and TYPE")
         labels = self.labels_of(number, rest)
         if labels is None:
             return None
         labels, rest = labels
+        if is_part and labels:
+            self.fault(number, f"{name} has labels")
+        if is_part and name.endswith("_sum"):
+            if not rest.startswith(" ") or not SECONDS.fullmatch(rest[1:]):
+                return self.fault(number, f"{rest!r} isn't a space and a number with nine decimals")
+            return self.keep(number, name, labels, float(rest[1:]))
         if not rest.startswith(" ") or not VALUE.fullmatch(rest[1:]):
             return self.fault(number, f"{rest!r} isn't a space and a whole number")
-        self.keep(number, name, labels, int(rest[1:]))
+        return self.keep(number, name, labels, int(rest[1:]))
 
     def labels_of(self, number, rest):
         """The labels at the start of `rest`, and what is behind them. None if they are malformed."""
@@ -114,8 +133,8 @@ class Metrics:
             self.fault(number, f"{name} has the labels {names}, and {self.labels[name]} before")
         if (name, labels) in self.samples:
             self.fault(number, f"{name} {dict(labels)} is there twice")
-        if value < 0 and self.kinds.get(name) == "counter":
-            self.fault(number, f"{name} is a counter, and {value}")
+        if value < 0 and self.kinds.get(self.name) != "gauge":
+            self.fault(number, f"{name} is a {self.kinds.get(self.name)}, and {value}")
         self.samples[name, labels] = value
         self.order.append(name)
 
