@@ -58,6 +58,7 @@ impl Sheet {
             Text::Thousands(number) => self.thousands(number),
             Text::Hundredths(number) => self.hundredths(number),
             Text::Thousandths(number) => self.thousandths(number),
+            Text::Seconds(nanoseconds) => self.seconds(nanoseconds),
             Text::Moment(moment) => self.moment(moment),
             Text::Clock(moment) => self.clock(moment),
             Text::Point(number) => self.named("Point ", number),
@@ -121,6 +122,12 @@ impl Sheet {
     fn thousandths(&mut self, number: u64) {
         self.thousands((number / 1000) as u128);
         self.three(".", number % 1000);
+    }
+
+    fn seconds(&mut self, nanoseconds: u64) {
+        let (whole, rest) = (nanoseconds / 1_000_000_000, nanoseconds % 1_000_000_000);
+        let written = write!(self.text, "{whole}.{rest:09}");
+        self.note(written);
     }
 
     /// Adds a name, then a number.

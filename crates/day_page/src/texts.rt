@@ -13,6 +13,8 @@ pub enum Text {
     Hundredths(u128),
     /// A number of thousandths with three decimals, as in 1.799: a price.
     Thousandths(u64),
+    /// Nanoseconds as seconds with nine decimals, as in 0.000012500.
+    Seconds(u64),
     /// A moment as a date and a time of day in UTC; 0 is written as `not told`.
     Moment(u64),
     /// A moment as a time of day in UTC: hours and minutes.

@@ -1,5 +1,5 @@
 //! Looking at a site while it is served.
-use page_port::{Crowd, PagePort};
+use page_port::{Connections, PagePort};
 use site_server::{Forecourt, Journal, SiteLedger, Watcher};
 use std::sync::Wait;
 use std::thread::Threads;
@@ -11,9 +11,9 @@ pub struct Lookers<'a>(pub Option<PagePort<'a>>);
 
 impl Lookers<'_> {
     /// Returns the counts of the site's workers and of their connections, which are kept for lookers alone.
-    pub fn crowd(&self) -> Option<&Crowd> {
+    pub fn connections(&self) -> Option<&Connections> {
         match &self.0 {
-            Some(port) => Some(port.crowd()),
+            Some(port) => Some(port.connections()),
             None => None,
         }
     }

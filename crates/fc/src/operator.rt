@@ -1,5 +1,5 @@
 //! The lines that are printed for an operator on standard error while a site is served.
-use page_port::Crowd;
+use page_port::Connections;
 use site_server::{Limiter, Notices, SessionFailure, SessionFault};
 use std::fmt::{self, Display};
 use std::io;
@@ -14,7 +14,7 @@ pub struct Operator<'a, H: Wait + Clock> {
     rt: &'a HostRuntime,
     host: &'a H,
     limiter: Mutex<Limiter>,
-    crowd: Option<&'a Crowd>,
+    connections: Option<&'a Connections>,
 }
 
 /// The name of a worker's peer that is printed for an operator: whose lines the worker takes.
@@ -50,14 +50,18 @@ fn code_of(failure: SessionFailure) -> &'static str {
 }
 
 impl<'a, H: Wait + Clock> Operator<'a, H> {
-    /// Makes an operator's reports, with none printed yet. Workers and connections are counted in `crowd`, if there is
-    /// one. `host` is the same runtime as `rt`.
-    pub fn new(rt: &'a HostRuntime, host: &'a H, crowd: Option<&'a Crowd>) -> Operator<'a, H> {
+    /// Makes an operator's reports, with none printed yet. Workers and connections are counted in `connections`, if it is
+    /// there. `host` is the same runtime as `rt`.
+    pub fn new(
+        rt: &'a HostRuntime,
+        host: &'a H,
+        connections: Option<&'a Connections>,
+    ) -> Operator<'a, H> {
         Operator {
             rt,
             host,
             limiter: Mutex::new(Limiter::new()),
-            crowd,
+            connections,
         }
     }
 
@@ -112,20 +116,20 @@ impl<H: Wait + Clock> Notices for Operator<'_, H> {
     }
 
     fn connected(&self, role: Role, _pass: u32) {
-        if let Some(crowd) = self.crowd {
-            crowd.connected(role);
+        if let Some(connections) = self.connections {
+            connections.connected(role);
         }
     }
 
     fn disconnected(&self, role: Role, _pass: u32) {
-        if let Some(crowd) = self.crowd {
-            crowd.disconnected(role);
+        if let Some(connections) = self.connections {
+            connections.disconnected(role);
         }
     }
 
     fn left(&self, role: Role, _pass: u32) {
-        if let Some(crowd) = self.crowd {
-            crowd.left(role);
+        if let Some(connections) = self.connections {
+            connections.left(role);
         }
     }
 }

@@ -12,5 +12,5 @@ mod words;
 pub use checking::health;
 pub use samples::metrics;
 pub use sections::page;
-pub use station::{Health, Peers, Station};
+pub use station::{Health, JournalFile, Peers, Station, Times};
 pub use tally::Tally;

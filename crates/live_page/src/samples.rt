@@ -1,6 +1,6 @@
 //! Metrics of a station, in the text format of Prometheus, version 0.0.4.
 use crate::parts::{ENTRIES, digits};
-use crate::station::{Peers, Station};
+use crate::station::{JournalFile, Peers, Station, Times};
 use crate::tally::{Decided, Tally};
 use crate::words::role_name;
 use day_page::{STATES, Sheet, Text, number, numbered, state_name};
@@ -23,6 +23,16 @@ macro_rules! singles {
     };
 }
 
+/// Makes the lines of a metric that tells how often something was done, and how long it took in all, in seconds.
+macro_rules! summary {
+    ($name:literal: $help:literal) => {
+        concat!(
+            "# HELP ", $name, " ", $help, "\n# TYPE ", $name, " summary\n",
+            $name, "_sum {}\n", $name, "_count {}\n"
+        )
+    };
+}
+
 /// Returns the metrics of a station at one moment, in the text format of Prometheus, version 0.0.4. The error is that
 /// memory ran out.
 pub fn metrics(alloc: Global, station: &Station<'_>) -> Result<String, AllocError> {
@@ -35,6 +45,10 @@ pub fn metrics(alloc: Global, station: &Station<'_>) -> Result<String, AllocErro
     add_money(&mut sheet, left);
     add_counters(&mut sheet, left);
     add_peers(&mut sheet, station.peers);
+    add_times(&mut sheet, LOCK_WAITS, station.waits);
+    if let Some(journal) = station.journal {
+        add_file(&mut sheet, journal);
+    }
     if let Some(bytes) = station.memory {
         sheet.fill(MEMORY, &[Text::Number(bytes)]);
     }
@@ -56,6 +70,15 @@ const JOURNAL: &str = singles!(
 const MEMORY: &str = singles!(
     "process_resident_memory_bytes" is a "gauge": "Memory that the process uses, in bytes."
 );
+
+const LOCK_WAITS: &str = summary!(
+    "fc_lock_wait_seconds": "Waits of looks for the site's lock, in seconds."
+);
+
+const BYTES: &str =
+    singles!("fc_journal_bytes" is a "gauge": "Length of the journal's file, in bytes.");
+
+const SYNCS: &str = summary!("fc_journal_sync_seconds": "Syncs of the journal's file, in seconds.");
 
 /// Returns how many versions were loaded.
 fn loads(tally: &Tally) -> usize {
@@ -233,5 +256,21 @@ fn add_peers(sheet: &mut Sheet, peers: &[Peers]) {
     for role in peers {
         let (name, workers) = (Text::Words(role_name(role.role)), u64::from(role.workers));
         add_sample(sheet, "fc_workers{role=\"{}\"} {}\n", name, workers);
+    }
+}
+
+/// Adds how often something was done, and how long it took in all.
+fn add_times(sheet: &mut Sheet, form: &str, times: Times) {
+    sheet.fill(
+        form,
+        &[Text::Seconds(times.nanoseconds), Text::Number(times.count)],
+    );
+}
+
+/// Adds the length of the journal's file, and its syncs, if answers wait for them.
+fn add_file(sheet: &mut Sheet, journal: JournalFile) {
+    sheet.fill(BYTES, &[Text::Number(journal.bytes)]);
+    if let Some(syncs) = journal.syncs {
+        add_times(sheet, SYNCS, syncs);
     }
 }

@@ -74,7 +74,7 @@ fn add_headline(sheet: &mut Sheet, station: &Station<'_>) {
     );
     add_figure(sheet, "Cleared so far", hundredths(left.cleared));
     add_figure(sheet, "Transactions cleared", thousands(left.clears));
-    add_figure(sheet, "Tills", digits(station.config.tills()));
+    add_figure(sheet, "Tills", digits(station.tills));
     sheet.add("</ul>\n");
 }
 

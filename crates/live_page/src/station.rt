@@ -1,20 +1,25 @@
 //! What is shown of a station.
 use crate::tally::Tally;
 use decision_journal::Entry;
-use site_core::{Config, Opening};
+use site_core::Opening;
 use std::fmt;
 use till_request::Role;
 
 /// What is shown of a station at one moment.
 #[derive(Clone, Copy, Drop)]
 pub struct Station<'a> {
-    pub config: &'a Config,
+    /// How many tills may ask, 1 to 32.
+    pub tills: u32,
     /// The number of entries.
     pub entries: u32,
     /// What the site would leave for the next day: its points, prices, counters, totals and versions in force.
     pub left: &'a Opening,
     /// Whether the journal failed.
     pub has_failed: bool,
+    /// The file in which the journal is kept, if it is kept in one.
+    pub journal: Option<JournalFile>,
+    /// The waits of looks for the site's lock.
+    pub waits: Times,
     /// What the entries came to.
     pub tally: &'a Tally,
     /// The last entries, at most 20 of them, the oldest first.
@@ -25,6 +30,22 @@ pub struct Station<'a> {
     pub moment: u64,
     /// The bytes of memory that the process uses, if they are known.
     pub memory: Option<u64>,
+}
+
+/// How often something was done, and how long it took in all.
+#[derive(Clone, Copy, Drop)]
+pub struct Times {
+    pub count: u64,
+    pub nanoseconds: u64,
+}
+
+/// The file in which a journal is kept.
+#[derive(Clone, Copy, Drop)]
+pub struct JournalFile {
+    /// Its length.
+    pub bytes: u64,
+    /// The syncs of the file, if answers wait for them.
+    pub syncs: Option<Times>,
 }
 
 /// Connections and workers of one kind of role: tills, dispensers or the owner.

@@ -2,13 +2,16 @@
 #![tactic(auto)]
 
 mod asked;
-mod crowd;
+mod client;
+mod connections;
 mod followed;
+mod journal_counts;
 mod port;
 mod service;
 mod shown;
-mod visit;
+mod timings;
 
 pub use asked::{Refusal, View, view_of};
-pub use crowd::Crowd;
+pub use connections::Connections;
+pub use journal_counts::JournalCounts;
 pub use port::PagePort;

@@ -1,10 +1,12 @@
 //! The port on which somebody looks at a served site.
-use crate::crowd::Crowd;
+use crate::client::{Client, Turn};
+use crate::connections::Connections;
 use crate::followed::Followed;
+use crate::journal_counts::JournalCounts;
 use crate::service::Answers;
-use crate::visit::{Turn, Visit};
+use crate::timings::Timings;
 use http_server::Service;
-use site_core::Config;
+use live_page::JournalFile;
 use site_lock::{Forecourt, Journal, SiteLedger};
 use site_server::Watcher;
 use std::alloc::Global;
@@ -18,11 +20,14 @@ use std::sync::{Mutex, Wait};
 use std::thread::{self, Threads};
 use std::time::{Clock, Duration};
 
-/// How many visits there are at once; others wait until the system takes their connections.
-const MOST_VISITS: usize = 32;
+/// How many clients there are at once; others wait in the system's queue.
+const MOST_CLIENTS: usize = 32;
 
-/// How long to wait when no visit can go on, in milliseconds.
+/// How long to wait when no client can go on, in milliseconds.
 const REST: u64 = 5;
+
+/// How long to wait after a connection couldn't be accepted, in milliseconds.
+const PAUSE: u64 = 100;
 
 /// The bytes of a page of memory.
 const MEMORY_PAGE: u64 = 4096;
@@ -35,26 +40,15 @@ const MEMORY_PAGE: u64 = 4096;
 #[derive(Drop)]
 pub struct PagePort<'a> {
     rt: &'a HostRuntime,
-    pub(crate) config: &'a Config,
+    pub(crate) tills: u32,
     listener: TcpListener,
     /// The same socket once more, which can be shut down.
     handle: TcpStream,
     keys: RandomState,
-    pub(crate) followed: Mutex<Followed>,
-    pub(crate) crowd: Crowd,
+    pub(crate) connections: Connections,
+    pub(crate) journal: Option<&'a JournalCounts>,
+    pub(crate) waits: Timings,
     is_leaving: AtomicBool,
-}
-
-/// Returns how long to wait next, in milliseconds, after a wait of `pause` milliseconds: 10 at first, then twice as
-/// long, and at most 1 second.
-fn longer(pause: u64) -> u64 {
-    if pause == 0 {
-        10
-    } else if pause >= 500 {
-        1000
-    } else {
-        2 * pause
-    }
 }
 
 /// Opens a port of 127.0.0.1. Gives its listener, and a second handle of the same socket, by which it can be shut down.
@@ -72,21 +66,21 @@ fn listen<H: Net<Listener = TcpListener, Stream = TcpStream>>(
     }
 }
 
-/// Gives each visit a turn, and ends those that are over. Returns whether one of them went on.
-fn take_turns<S: Service, R: Clock>(rt: &R, visits: &mut Vec<Visit>, service: &mut S) -> bool {
+/// Gives each client a turn, and closes the connections that are over. Returns whether one of them went on.
+fn take_turns<S: Service, R: Clock>(rt: &R, clients: &mut Vec<Client>, service: &mut S) -> bool {
     let mut went_on = false;
-    for place in 0..visits.len() {
-        // Where a visit ended in this loop, the last one took its place, and has its turn in the next loop.
-        let Some(visit) = visits.get_mut(place) else {
+    for place in 0..clients.len() {
+        // Where one was over in this loop, the last one took its place, and has its turn in the next loop.
+        let Some(client) = clients.get_mut(place) else {
             break;
         };
-        match visit.turn(rt, service) {
+        match client.turn(rt, service) {
             Turn::Waits => {}
             Turn::Moved => went_on = true,
             Turn::Over => {
                 went_on = true;
-                if place < visits.len() {
-                    drop(visits.swap_remove(place));
+                if place < clients.len() {
+                    drop(clients.swap_remove(place));
                 }
             }
         }
@@ -95,25 +89,28 @@ fn take_turns<S: Service, R: Clock>(rt: &R, visits: &mut Vec<Visit>, service: &m
 }
 
 impl<'a> PagePort<'a> {
-    /// Opens a port of 127.0.0.1, on which a site with this configuration and these workers is to be looked at. A port
-    /// above 65,535 is `InvalidInput`. `host` is the same runtime as `rt`.
+    /// Opens a port of 127.0.0.1, on which a site with so many tills and these workers is to be looked at. `journal` has
+    /// the counts of the file in which its journal is kept, if it is kept in one. A port above 65,535 is `InvalidInput`.
+    /// `host` is the same runtime as `rt`.
     pub fn open<H: Net<Listener = TcpListener, Stream = TcpStream>>(
         rt: &'a HostRuntime,
         host: &H,
         port: u32,
-        config: &'a Config,
-        crowd: Crowd,
+        tills: u32,
+        connections: Connections,
+        journal: Option<&'a JournalCounts>,
     ) -> io::Result<PagePort<'a>> {
         let keys = RandomState::new(rt)?;
         match listen(host, port) {
             Ok((listener, handle)) => Ok(PagePort {
                 rt,
-                config,
+                tills,
                 listener,
                 handle,
                 keys,
-                followed: Mutex::new(Followed::new(rt.alloc())),
-                crowd,
+                connections,
+                journal,
+                waits: Timings::new(),
                 is_leaving: AtomicBool::new(false),
             }),
             Err(error) => Err(error),
@@ -121,12 +118,20 @@ impl<'a> PagePort<'a> {
     }
 
     /// Returns the counts of the site's workers and of their connections.
-    pub fn crowd(&self) -> &Crowd {
-        &self.crowd
+    pub fn connections(&self) -> &Connections {
+        &self.connections
     }
 
     pub(crate) fn alloc(&self) -> Global {
         self.rt.alloc()
+    }
+
+    /// Returns the counts of the file in which the journal is kept, if it is kept in one.
+    pub(crate) fn journal(&self) -> Option<JournalFile> {
+        match self.journal {
+            Some(counts) => Some(counts.file()),
+            None => None,
+        }
     }
 
     /// Returns how many bytes of memory the process uses, or `None` if the system doesn't say.
@@ -138,39 +143,42 @@ impl<'a> PagePort<'a> {
         pages.parse::<u64>().ok()?.checked_mul(MEMORY_PAGE)
     }
 
-    /// Prints for an operator that a connection couldn't be opened, if none failed just before, and waits. Returns how
-    /// long it waited, in milliseconds, after a wait of `pause` before.
-    fn hold(&self, pause: u64, error: &io::Error) -> u64 {
-        if pause == 0 {
+    /// Accepts the next connection. Waits for one only if there is no client.
+    fn accept<R: Clock>(&self, rt: &R, clients: &mut Vec<Client>) -> io::Result<()> {
+        self.listener.set_nonblocking(!clients.is_empty())?;
+        let (stream, _) = self.listener.accept()?;
+        let client = Client::new(rt, self.alloc(), self.keys, stream)?;
+        Ok(clients.push(client)?)
+    }
+
+    /// Waits after a connection couldn't be accepted. Prints that for an operator, if none failed just before.
+    fn pause(&self, has_failed: bool, error: &io::Error) {
+        if !has_failed {
             let _ = eprintln!(self.rt; "fc: no connection for the page: {error}");
         }
-        let pause = longer(pause);
-        thread::sleep(self.rt, Duration::from_millis(pause));
-        pause
+        thread::sleep(self.rt, Duration::from_millis(PAUSE));
     }
 
-    /// Begins a visit with the next connection. Waits for one only if there is no visit.
-    fn take<R: Clock>(&self, rt: &R, visits: &mut Vec<Visit>) -> io::Result<()> {
-        self.listener.set_nonblocking(!visits.is_empty())?;
-        let (stream, _) = self.listener.accept()?;
-        let visit = Visit::begin(rt, self.alloc(), self.keys, stream)?;
-        Ok(visits.push(visit)?)
-    }
-
-    /// Begins a visit with the next connection, if there is one, and there is room for it. Returns whether it did. A
-    /// failure is reported, and `pause` has how long was waited after it.
-    fn welcome<R: Clock>(&self, rt: &R, visits: &mut Vec<Visit>, pause: &mut u64) -> bool {
-        if visits.len() >= MOST_VISITS {
+    /// Accepts the next connection, if there is one, and there is room for it. Returns whether it did. `has_failed` says
+    /// whether the last one couldn't be accepted.
+    fn accept_next<R: Clock>(
+        &self,
+        rt: &R,
+        clients: &mut Vec<Client>,
+        has_failed: &mut bool,
+    ) -> bool {
+        if clients.len() >= MOST_CLIENTS {
             return false;
         }
-        match self.take(rt, visits) {
+        match self.accept(rt, clients) {
             Ok(()) => {
-                *pause = 0;
+                *has_failed = false;
                 true
             }
             Err(error) => {
                 if error.kind() != ErrorKind::WouldBlock && !self.is_leaving() {
-                    *pause = self.hold(*pause, &error);
+                    self.pause(*has_failed, &error);
+                    *has_failed = true;
                 }
                 false
             }
@@ -188,19 +196,21 @@ impl Watcher for PagePort<'_> {
         rt: &R,
         forecourt: &Forecourt<L, J>,
     ) {
+        let followed = Mutex::new(Followed::new(self.alloc()));
         let mut answers = Answers {
             rt,
             port: self,
             forecourt,
+            followed: &followed,
         };
-        let mut visits = Vec::new(self.alloc());
-        let mut pause = 0;
+        let mut clients = Vec::new(self.alloc());
+        let mut has_failed = false;
         for _ in rt.forever() {
-            let has_come = self.welcome(rt, &mut visits, &mut pause);
+            let has_come = self.accept_next(rt, &mut clients, &mut has_failed);
             if self.is_leaving() {
                 break;
             }
-            let went_on = take_turns(rt, &mut visits, &mut answers);
+            let went_on = take_turns(rt, &mut clients, &mut answers);
             if !has_come && !went_on {
                 thread::sleep(rt, Duration::from_millis(REST));
             }

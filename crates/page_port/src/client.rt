@@ -22,20 +22,20 @@ const LIMITS: Config = Config {
     read_size: 4096,
 };
 
-/// How a visit went on.
+/// How a turn of a client went.
 #[derive(Clone, Copy, Drop)]
 pub enum Turn {
     /// Bytes were read or written.
     Moved,
     /// The peer has to send or to take something first.
     Waits,
-    /// The visit is over.
+    /// The connection is to be closed.
     Over,
 }
 
 /// The connection of somebody who looks. It waits for nothing: each turn moves what can be moved at once.
 #[derive(Drop)]
-pub struct Visit {
+pub struct Client {
     stream: TcpStream,
     connection: Connection,
     begin: Instant,
@@ -43,18 +43,18 @@ pub struct Visit {
     is_told: bool,
 }
 
-impl Visit {
-    /// Begins a visit with a connection that was just opened.
-    pub fn begin<R: Clock>(
+impl Client {
+    /// Makes a client of a connection that was just opened.
+    pub fn new<R: Clock>(
         rt: &R,
         alloc: Global,
         keys: RandomState,
         stream: TcpStream,
-    ) -> io::Result<Visit> {
+    ) -> io::Result<Client> {
         stream.set_nonblocking(true)?;
         stream.set_nodelay(true)?;
         match Instant::now(rt) {
-            Ok(begin) => Ok(Visit {
+            Ok(begin) => Ok(Client {
                 stream,
                 connection: Connection::new(alloc, keys, LIMITS),
                 begin,
@@ -99,7 +99,7 @@ impl Visit {
         self.stream.read(&mut bytes)
     }
 
-    /// Does what can be done at once. An error ends the visit.
+    /// Does what can be done at once. After an error the connection is to be closed.
     fn go_on<S: Service, R: Clock>(&mut self, rt: &R, service: &mut S) -> io::Result<Turn> {
         self.answer(rt, service)?;
         if self.begin.elapsed(rt)?.as_secs() >= MOST {
@@ -119,7 +119,7 @@ impl Visit {
         }
     }
 
-    /// Does what can be done at once. A visit that failed is over: a peer that goes away is of no interest to anybody.
+    /// Does what can be done at once. After a failure it is over: a peer that goes away is of no interest to anybody.
     pub fn turn<S: Service, R: Clock>(&mut self, rt: &R, service: &mut S) -> Turn {
         match self.go_on(rt, service) {
             Ok(turn) => turn,

@@ -7,7 +7,7 @@ use till_request::Role;
 /// The workers of one kind of role, and their connections.
 #[derive(Drop)]
 struct Counted {
-    hired: u32,
+    workers: u32,
     left: AtomicU32,
     opened: AtomicU64,
     closed: AtomicU64,
@@ -16,7 +16,7 @@ struct Counted {
 impl Counted {
     fn new() -> Counted {
         Counted {
-            hired: 0,
+            workers: 0,
             left: AtomicU32::new(0),
             opened: AtomicU64::new(0),
             closed: AtomicU64::new(0),
@@ -29,7 +29,9 @@ impl Counted {
         let total = self.opened.load(Ordering::SeqCst);
         Peers {
             role,
-            workers: self.hired.saturating_sub(self.left.load(Ordering::SeqCst)),
+            workers: self
+                .workers
+                .saturating_sub(self.left.load(Ordering::SeqCst)),
             open: total.saturating_sub(closed),
             total,
         }
@@ -38,16 +40,16 @@ impl Counted {
 
 /// Counts the workers of a site, and their connections, by kind of role: tills, dispensers and the owner.
 #[derive(Drop)]
-pub struct Crowd {
+pub struct Connections {
     tills: Counted,
     dispensers: Counted,
     owner: Counted,
 }
 
-impl Crowd {
+impl Connections {
     /// Makes the counts of a site without workers.
-    pub fn new() -> Crowd {
-        Crowd {
+    pub fn new() -> Connections {
+        Connections {
             tills: Counted::new(),
             dispensers: Counted::new(),
             owner: Counted::new(),
@@ -63,13 +65,13 @@ impl Crowd {
     }
 
     /// Adds workers that take the lines of this role.
-    pub fn hire(&mut self, role: Role, workers: u32) {
+    pub fn add_workers(&mut self, role: Role, workers: u32) {
         let counted = match role {
             Role::Till | Role::OneTill(_) => &mut self.tills,
             Role::Dispenser | Role::SomePoints(_) => &mut self.dispensers,
             Role::Owner | Role::All => &mut self.owner,
         };
-        counted.hired = counted.hired.saturating_add(workers);
+        counted.workers = counted.workers.saturating_add(workers);
     }
 
     /// Counts a connection of a worker with this role.
@@ -92,7 +94,7 @@ impl Crowd {
         let mut peers = Vec::new(alloc);
         for role in [Role::Till, Role::Dispenser, Role::Owner] {
             let counted = self.counted(role);
-            if counted.hired > 0 {
+            if counted.workers > 0 {
                 peers.push(counted.peers(role))?;
             }
         }

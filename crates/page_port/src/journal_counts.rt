@@ -1,0 +1,51 @@
+//! Counts of the file in which a served site's journal is kept.
+use crate::timings::Timings;
+use live_page::JournalFile;
+use std::sync::atomic::{AtomicU64, Ordering};
+use std::time::Duration;
+
+/// Counts the bytes of the file in which a journal is kept, and its syncs.
+#[derive(Drop)]
+pub struct JournalCounts {
+    bytes: AtomicU64,
+    /// The syncs, if answers wait for them.
+    syncs: Option<Timings>,
+}
+
+impl JournalCounts {
+    /// Makes the counts of a file of so many bytes. `is_synced` says whether answers wait for its syncs, which are then
+    /// counted too.
+    pub fn new(bytes: u64, is_synced: bool) -> JournalCounts {
+        JournalCounts {
+            bytes: AtomicU64::new(bytes),
+            syncs: if is_synced {
+                Some(Timings::new())
+            } else {
+                None
+            },
+        }
+    }
+
+    /// Counts so many bytes that were appended.
+    pub fn appended(&self, bytes: usize) {
+        self.bytes.fetch_add(bytes as u64, Ordering::SeqCst);
+    }
+
+    /// Counts a sync that took so long.
+    pub fn synced(&self, taken: Duration) {
+        if let Some(syncs) = &self.syncs {
+            syncs.add(taken);
+        }
+    }
+
+    /// Returns the counts as they are shown.
+    pub(crate) fn file(&self) -> JournalFile {
+        JournalFile {
+            bytes: self.bytes.load(Ordering::SeqCst),
+            syncs: match &self.syncs {
+                Some(syncs) => Some(syncs.times()),
+                None => None,
+            },
+        }
+    }
+}
