@@ -2,7 +2,7 @@
 ghost use Rattle.std.specs.Prelude.{◌≡◌};
 ghost use Rattle.live_page.specs.Health.{health_of, without_worker};
 
-use crate::station::{Health, Peers, Station};
+use crate::station::{Health, Peers};
 use till_request::Role;
 
 /// From this number of entries on a journal is nearly full.
@@ -20,18 +20,18 @@ fn without_worker(peers: &[Peers]) -> Option<Role>
     }
 }
 
-/// Returns whether all is well with a station, or the first of these: the journal failed; it is nearly full; a role has
-/// no worker left.
-pub fn health(station: &Station<'_>) -> Health
-    ensures { result ≡ health_of station.now.has_failed station.now.entries station.now.peers.now }
+/// Returns whether all is well with a station whose journal has so many entries, or the first of these: the journal
+/// failed; it is nearly full; a role has no worker left.
+pub fn health(has_failed: bool, entries: u32, peers: &[Peers]) -> Health
+    ensures { result ≡ health_of has_failed entries peers.now }
 {
-    if station.has_failed {
+    if has_failed {
         return Health::JournalFailed;
     }
-    if station.entries >= NEARLY_FULL {
+    if entries >= NEARLY_FULL {
         return Health::NearlyFull;
     }
-    match without_worker(station.peers) {
+    match without_worker(peers) {
         None => Health::Well,
         Some(role) => Health::NoWorker(role),
     }

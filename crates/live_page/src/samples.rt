@@ -1,11 +1,12 @@
 //! Metrics of a station, in the text format of Prometheus, version 0.0.4.
 use crate::parts::{ENTRIES, digits};
 use crate::station::{JournalFile, Peers, Station, Times};
-use crate::tally::{Decided, Tally};
+use crate::tally::{Decided, NOTHING, Tally};
 use crate::words::role_name;
 use day_page::{STATES, Sheet, Text, number, numbered, state_name};
 use day_report::{FIRST_REFUSAL, REFUSALS};
 use fuelling_point::{Point, State};
+use program_slots::Version;
 use site_core::Opening;
 use std::alloc::{AllocError, Global};
 
@@ -40,7 +41,7 @@ pub fn metrics(alloc: Global, station: &Station<'_>) -> Result<String, AllocErro
     let mut sheet = Sheet::new(alloc);
     add_journal(&mut sheet, station);
     add_refusals(&mut sheet, station.tally);
-    add_decisions(&mut sheet, station.tally);
+    add_decisions(&mut sheet, station.tally, &left.rules);
     add_points(&mut sheet, &left.points);
     add_money(&mut sheet, left);
     add_counters(&mut sheet, left);
@@ -72,7 +73,7 @@ const MEMORY: &str = singles!(
 );
 
 const LOCK_WAITS: &str = summary!(
-    "fc_lock_wait_seconds": "Waits of looks for the site's lock, in seconds."
+    "fc_look_lock_wait_seconds": "Waits of looks for the site's lock, in seconds."
 );
 
 const BYTES: &str =
@@ -102,15 +103,12 @@ fn add_journal(sheet: &mut Sheet, station: &Station<'_>) {
 fn add_refusals(sheet: &mut Sheet, tally: &Tally) {
     sheet.add(head!("fc_refusals_total" is a "counter": "Refusals today, by their number."));
     for number in FIRST_REFUSAL..FIRST_REFUSAL + REFUSALS {
-        let count = tally.refusals(number);
-        if count > 0 {
-            add_sample(
-                sheet,
-                "fc_refusals_total{number=\"S{}\"} {}\n",
-                digits(number),
-                count,
-            );
-        }
+        add_sample(
+            sheet,
+            "fc_refusals_total{number=\"S{}\"} {}\n",
+            digits(number),
+            tally.refusals(number),
+        );
     }
 }
 
@@ -124,10 +122,23 @@ fn add_version(sheet: &mut Sheet, version: u32, decided: &Decided) {
     sheet.fill(DECISIONS, &[slot, version, granted, slot, version, denied]);
 }
 
-fn add_decisions(sheet: &mut Sheet, tally: &Tally) {
+/// Adds the samples of the versions of which something was counted, and of the others that are in force.
+fn add_decisions(sheet: &mut Sheet, tally: &Tally, rules: &[Option<Version>]) {
     sheet.add(head!("fc_decisions_total" is a "counter": "Decisions of rules today, by version."));
     for (version, decided) in tally.versions().iter() {
         add_version(sheet, *version, decided);
+    }
+    for (slot, rule) in rules.iter().enumerate() {
+        if let Some(version) = rule {
+            add_idle(sheet, slot as u32, version.number, tally);
+        }
+    }
+}
+
+/// Adds the samples of a version that is in force, if nothing was counted of it.
+fn add_idle(sheet: &mut Sheet, slot: u32, version: u32, tally: &Tally) {
+    if tally.versions().get(&version).is_none() {
+        add_version(sheet, version, &Decided { slot, ..NOTHING });
     }
 }
 
@@ -205,25 +216,25 @@ fn add_money(sheet: &mut Sheet, left: &Opening) {
 }
 
 fn add_counters(sheet: &mut Sheet, left: &Opening) {
-    sheet.add(head!("fc_counter" is a "gauge": "Value of a counter whose bound is over 0."));
+    sheet.add(head!("fc_counters" is a "gauge": "Value of a counter whose bound is over 0."));
     for counter in 0..32u32 {
         if left.counters.bound(counter) > 0 {
             let value = left.counters.get(counter);
             add_sample(
                 sheet,
-                "fc_counter{counter=\"{}\"} {}\n",
+                "fc_counters{counter=\"{}\"} {}\n",
                 digits(counter),
                 value,
             );
         }
     }
-    sheet.add(head!("fc_counter_bound" is a "gauge": "Bound of a counter."));
+    sheet.add(head!("fc_counters_bound" is a "gauge": "Bound of a counter."));
     for counter in 0..32u32 {
         let bound = left.counters.bound(counter);
         if bound > 0 {
             add_sample(
                 sheet,
-                "fc_counter_bound{counter=\"{}\"} {}\n",
+                "fc_counters_bound{counter=\"{}\"} {}\n",
                 digits(counter),
                 bound,
             );

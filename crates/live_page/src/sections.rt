@@ -56,7 +56,7 @@ fn add_headline(sheet: &mut Sheet, station: &Station<'_>) {
         "<p class=\"audited\">{} UTC, renewed every 5 seconds</p>\n<h1>The station now</h1>\n",
         &[Text::Moment(station.moment)],
     );
-    match health(station) {
+    match health(station.has_failed, station.entries, station.peers) {
         Health::Well => sheet.add("<p>All is well.</p>\n"),
         flaw => sheet.fill(
             "<p><strong>Not well: {}.</strong></p>\n",

@@ -8,7 +8,7 @@ use till_request::Role;
 /// What is shown of a station at one moment.
 #[derive(Clone, Copy, Drop)]
 pub struct Station<'a> {
-    /// How many tills may ask, 1 to 32.
+    /// How many tills may ask, 1 to 64.
     pub tills: u32,
     /// The number of entries.
     pub entries: u32,

@@ -3,6 +3,8 @@ use Rattle.std.specs.Prelude.{◌≡◌, ◌⊎◌, ℕ, List, [], ◌∷◌, �
 use Rattle.http1.specs.Fields.{Header}
 use Rattle.http_server.specs.Response.{fields_of}
 use Rattle.http_server.specs.declared.response.Response.{Response}
+use Rattle.live_page.specs.declared.station.Health.{Health}
+use Rattle.live_page.specs.declared.station.Health.TheVariants as health
 use Rattle.page_port.specs.declared.asked.Refusal.{Refusal}
 use Rattle.page_port.specs.declared.asked.Refusal.TheVariants as refusals
 use Rattle.page_port.specs.declared.asked.View.{View}
@@ -23,8 +25,8 @@ type_of kinds.Metrics = codes "text/plain; version=0.0.4; charset=utf-8"
 type_of kinds.Plain = codes "text/plain; charset=utf-8"
 
 -- the fields of each answer: nobody keeps it, no other page can use it, and the connection ends
-abbrev pub heads : Kind → List Header
-heads kind =
+abbrev pub fields : Kind → List Header
+fields kind =
     (codes "content-type", type_of kind)
     ∷ (codes "cache-control", codes "no-store")
     ∷ (codes "x-content-type-options", codes "nosniff")
@@ -33,11 +35,11 @@ heads kind =
     ∷ []
 
 -- the fields of the answer to a request that is refused
-abbrev pub heads_of : Refusal → List Header
-heads_of refusals.OtherMethod = heads kinds.Plain ++ (codes "allow", codes "GET, HEAD") ∷ []
-heads_of refusals.OtherHost = heads kinds.Plain
-heads_of refusals.NoSuchPath = heads kinds.Plain
-heads_of refusals.NoNumber = heads kinds.Plain
+abbrev pub fields_refusing : Refusal → List Header
+fields_refusing refusals.OtherMethod = fields kinds.Plain ++ (codes "allow", codes "GET, HEAD") ∷ []
+fields_refusing refusals.OtherHost = fields kinds.Plain
+fields_refusing refusals.NoSuchPath = fields kinds.Plain
+fields_refusing refusals.NoNumber = fields kinds.Plain
 
 -- the text that a view is shown as, unless memory runs out
 abbrev pub kind_of : View → Kind
@@ -46,14 +48,31 @@ kind_of views.Metrics = kinds.Metrics
 kind_of views.Health = kinds.Plain
 kind_of (views.Journal _) = kinds.Plain
 
--- what is shown for a view: its text, or that not all is well
+-- the status that tells whether all is well
+abbrev pub status_of_health : Health → ℕ
+status_of_health health.Well = 200
+status_of_health health.JournalFailed = 503
+status_of_health health.NearlyFull = 503
+status_of_health (health.NoWorker _) = 503
+
+-- a text of this kind is shown
+abbrev pub Shows : Kind → Shown → Type 0
+Shows kind shown = (shown.status ≡ 200) × (shown.kind ≡ kind)
+
+-- it is told whether all is well
+abbrev pub TellsHealth : Health → Shown → Type 0
+TellsHealth health shown = (shown.status ≡ status_of_health health) × (shown.kind ≡ kinds.Plain)
+
+-- what is shown for a view
 abbrev pub IsShown : View → Shown → Type 0
-IsShown view shown = ((shown.status ≡ 200) × (shown.kind ≡ kind_of view))
-    ⊎ ((shown.status ≡ 503) × (shown.kind ≡ kinds.Plain))
+IsShown views.Page shown = Shows kinds.Html shown
+IsShown views.Metrics shown = Shows kinds.Metrics shown
+IsShown views.Health shown = (health : Health) × TellsHealth health shown
+IsShown (views.Journal _) shown = Shows kinds.Plain shown
 
 -- the answer to a request: a refusal with its status and fields; else what is shown, or that it can't be shown now
 abbrev pub IsAnswer : Result View Refusal → Response → Type 0
-IsAnswer (Err refusal) response = (response.status ≡ status_of refusal) × (fields_of response ≡ heads_of refusal)
+IsAnswer (Err refusal) response = (response.status ≡ status_of refusal) × (fields_of response ≡ fields_refusing refusal)
 IsAnswer (Ok view) response =
-    ((response.status ≡ 200) × (fields_of response ≡ heads (kind_of view)))
-    ⊎ ((response.status ≡ 503) × (fields_of response ≡ heads kinds.Plain))
+    ((response.status ≡ 200) × (fields_of response ≡ fields (kind_of view)))
+    ⊎ ((response.status ≡ 503) × (fields_of response ≡ fields kinds.Plain))

@@ -7,8 +7,8 @@ use std::io::{self, ErrorKind, Read};
 use std::net::{Shutdown, TcpStream};
 use std::time::{Clock, Instant};
 
-/// The most seconds that a request may take from its connection, and those that its answer may take.
-const MOST: u64 = 5;
+/// The most seconds from a connection to its request, and from there to its answer's end.
+const MOST_SECONDS: u64 = 5;
 
 /// A request's head has at most 8,192 bytes, and a request has no body.
 const LIMITS: Config = Config {
@@ -38,9 +38,10 @@ pub enum Turn {
 pub struct Client {
     stream: TcpStream,
     connection: Connection,
-    begin: Instant,
+    /// When the connection was opened, and later when its answer was made.
+    since: Instant,
     /// Whether the answer was sent whole, and nothing more will be.
-    is_told: bool,
+    is_answered: bool,
 }
 
 impl Client {
@@ -54,11 +55,11 @@ impl Client {
         stream.set_nonblocking(true)?;
         stream.set_nodelay(true)?;
         match Instant::now(rt) {
-            Ok(begin) => Ok(Client {
+            Ok(since) => Ok(Client {
                 stream,
                 connection: Connection::new(alloc, keys, LIMITS),
-                begin,
-                is_told: false,
+                since,
+                is_answered: false,
             }),
             Err(error) => Err(error),
         }
@@ -73,7 +74,7 @@ impl Client {
         if self.is_open() {
             self.connection.advance(service);
             if !self.is_open() {
-                self.begin = Instant::now(rt)?;
+                self.since = Instant::now(rt)?;
             }
         }
         Ok(())
@@ -91,8 +92,8 @@ impl Client {
     /// Takes what the peer still sends after its answer: if the connection were closed before that, the system might
     /// throw the answer away. Returns 0 once the peer has closed its side.
     fn take_rest(&mut self) -> io::Result<usize> {
-        if !self.is_told {
-            self.is_told = true;
+        if !self.is_answered {
+            self.is_answered = true;
             self.stream.shutdown(Shutdown::Write)?;
         }
         let mut bytes = [0u8; 4096];
@@ -102,7 +103,7 @@ impl Client {
     /// Does what can be done at once. After an error the connection is to be closed.
     fn go_on<S: Service, R: Clock>(&mut self, rt: &R, service: &mut S) -> io::Result<Turn> {
         self.answer(rt, service)?;
-        if self.begin.elapsed(rt)?.as_secs() >= MOST {
+        if self.since.elapsed(rt)?.as_secs() >= MOST_SECONDS {
             return Ok(Turn::Over);
         }
         let is_done = self.connection.is_done();

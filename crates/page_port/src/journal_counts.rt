@@ -1,13 +1,14 @@
 //! Counts of the file in which a served site's journal is kept.
 use crate::timings::Timings;
 use live_page::JournalFile;
-use std::sync::atomic::{AtomicU64, Ordering};
+use std::sync::atomic::{AtomicBool, AtomicU64, Ordering};
 use std::time::Duration;
 
-/// Counts the bytes of the file in which a journal is kept, and its syncs.
+/// Counts the bytes of the file in which a journal is kept, and its syncs, and records whether one of them failed.
 #[derive(Drop)]
 pub struct JournalCounts {
     bytes: AtomicU64,
+    has_failed: AtomicBool,
     /// The syncs, if answers wait for them.
     syncs: Option<Timings>,
 }
@@ -18,6 +19,7 @@ impl JournalCounts {
     pub fn new(bytes: u64, is_synced: bool) -> JournalCounts {
         JournalCounts {
             bytes: AtomicU64::new(bytes),
+            has_failed: AtomicBool::new(false),
             syncs: if is_synced {
                 Some(Timings::new())
             } else {
@@ -36,6 +38,16 @@ impl JournalCounts {
         if let Some(syncs) = &self.syncs {
             syncs.add(taken);
         }
+    }
+
+    /// Records that a write or a sync failed. Returns whether one had failed before.
+    pub fn fail(&self) -> bool {
+        self.has_failed.swap(true, Ordering::SeqCst)
+    }
+
+    /// Returns whether a write or a sync failed.
+    pub fn has_failed(&self) -> bool {
+        self.has_failed.load(Ordering::SeqCst)
     }
 
     /// Returns the counts as they are shown.

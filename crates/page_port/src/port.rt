@@ -23,11 +23,11 @@ use std::time::{Clock, Duration};
 /// How many clients there are at once; others wait in the system's queue.
 const MOST_CLIENTS: usize = 32;
 
-/// How long to wait when no client can go on, in milliseconds.
-const REST: u64 = 5;
+/// How many milliseconds to wait when no client can go on.
+const REST_MILLISECONDS: u64 = 5;
 
-/// How long to wait after a connection couldn't be accepted, in milliseconds.
-const PAUSE: u64 = 100;
+/// How many milliseconds to wait after a connection couldn't be accepted.
+const PAUSE_MILLISECONDS: u64 = 100;
 
 /// The bytes of a page of memory.
 const MEMORY_PAGE: u64 = 4096;
@@ -134,6 +134,15 @@ impl<'a> PagePort<'a> {
         }
     }
 
+    /// Returns whether a write to the journal's file or a sync of it failed. The site's lock knows of it only from the next
+    /// event on.
+    pub(crate) fn has_journal_failed(&self) -> bool {
+        match self.journal {
+            Some(counts) => counts.has_failed(),
+            None => false,
+        }
+    }
+
     /// Returns how many bytes of memory the process uses, or `None` if the system doesn't say.
     pub(crate) fn memory(&self) -> Option<u64> {
         let Ok(text) = fs::read_to_string(self.rt, "/proc/self/statm") else {
@@ -156,7 +165,7 @@ impl<'a> PagePort<'a> {
         if !has_failed {
             let _ = eprintln!(self.rt; "fc: no connection for the page: {error}");
         }
-        thread::sleep(self.rt, Duration::from_millis(PAUSE));
+        thread::sleep(self.rt, Duration::from_millis(PAUSE_MILLISECONDS));
     }
 
     /// Accepts the next connection, if there is one, and there is room for it. Returns whether it did. `has_failed` says
@@ -212,7 +221,7 @@ impl Watcher for PagePort<'_> {
             }
             let went_on = take_turns(rt, &mut clients, &mut answers);
             if !has_come && !went_on {
-                thread::sleep(rt, Duration::from_millis(REST));
+                thread::sleep(rt, Duration::from_millis(REST_MILLISECONDS));
             }
         }
     }

@@ -1,7 +1,7 @@
 //! What is answered to a request.
 ghost use Rattle.std.specs.Prelude.{◌≡◌, ◌++◌, ◌∷◌, [], codes, OnOk};
 ghost use Rattle.http_server.specs.Response.{IsBlank, fields_of};
-ghost use Rattle.page_port.specs.Answering.{heads, heads_of, status_of, type_of};
+ghost use Rattle.page_port.specs.Answering.{fields, fields_refusing, status_of, type_of};
 ghost use Rattle.page_port.specs.declared.shown.Kind.TheVariants.{Plain};
 
 use crate::asked::Refusal;
@@ -56,20 +56,20 @@ impl Shown {
     pub fn put(self, response: &mut Response) -> Result<(), AllocError>
         requires { IsBlank response.old }
         ensures status { OnOk result (response.new.status ≡ self.status) }
-        ensures heads { OnOk result (fields_of response.new ≡ heads self.kind) }
+        ensures fields { OnOk result (fields_of response.new ≡ fields self.kind) }
         ensures text { OnOk result (response.new.body.items ≡ self.text) }
     {
         let Shown { status, kind, text } = self;
         response.status = status;
         response.body.push(text)?;
-        add_heads(kind, response)
+        add_fields(kind, response)
     }
 }
 
 /// Adds the fields of each answer to a response that has none yet.
-fn add_heads(kind: Kind, response: &mut Response) -> Result<(), AllocError>
+fn add_fields(kind: Kind, response: &mut Response) -> Result<(), AllocError>
     requires { fields_of response.old ≡ [] }
-    ensures heads { OnOk result (fields_of response.new ≡ heads kind) }
+    ensures fields { OnOk result (fields_of response.new ≡ fields kind) }
     ensures status { response.new.status ≡ response.old.status }
     ensures body { response.new.body ≡ response.old.body }
 {
@@ -88,8 +88,8 @@ fn add_heads(kind: Kind, response: &mut Response) -> Result<(), AllocError>
 
 /// Adds the field that names the methods, if the method was the cause of a refusal.
 fn add_allowed(refusal: Refusal, response: &mut Response) -> Result<(), AllocError>
-    requires { fields_of response.old ≡ heads Plain }
-    ensures heads { OnOk result (fields_of response.new ≡ heads_of refusal) }
+    requires { fields_of response.old ≡ fields Plain }
+    ensures fields { OnOk result (fields_of response.new ≡ fields_refusing refusal) }
     ensures status { response.new.status ≡ response.old.status }
 {
     match refusal {
@@ -105,7 +105,7 @@ fn add_allowed(refusal: Refusal, response: &mut Response) -> Result<(), AllocErr
 pub fn refuse(refusal: Refusal, response: &mut Response) -> Result<(), AllocError>
     requires { IsBlank response.old }
     ensures status { OnOk result (response.new.status ≡ status_of refusal) }
-    ensures heads { OnOk result (fields_of response.new ≡ heads_of refusal) }
+    ensures fields { OnOk result (fields_of response.new ≡ fields_refusing refusal) }
 {
     Shown::fixed(refusal.status(), refusal.text()).put(response)?;
     add_allowed(refusal, response)
