@@ -116,8 +116,8 @@ fn add_refusals(sheet: &mut Sheet, tally: &Tally) {
 const DECISIONS: &str = "fc_decisions_total{slot=\"{}\",version=\"{}\",answer=\"granted\"} {}\n\
     fc_decisions_total{slot=\"{}\",version=\"{}\",answer=\"denied\"} {}\n";
 
-fn add_version(sheet: &mut Sheet, version: u32, decided: &Decided) {
-    let (slot, version) = (digits(decided.slot), digits(version));
+fn add_version(sheet: &mut Sheet, slot: Text, version: u32, decided: &Decided) {
+    let version = digits(version);
     let (granted, denied) = (Text::Number(decided.granted), Text::Number(decided.denied));
     sheet.fill(DECISIONS, &[slot, version, granted, slot, version, denied]);
 }
@@ -126,19 +126,19 @@ fn add_version(sheet: &mut Sheet, version: u32, decided: &Decided) {
 fn add_decisions(sheet: &mut Sheet, tally: &Tally, rules: &[Option<Version>]) {
     sheet.add(head!("fc_decisions_total" is a "counter": "Decisions of rules today, by version."));
     for (version, decided) in tally.versions().iter() {
-        add_version(sheet, *version, decided);
+        add_version(sheet, digits(decided.slot), *version, decided);
     }
     for (slot, rule) in rules.iter().enumerate() {
         if let Some(version) = rule {
-            add_idle(sheet, slot as u32, version.number, tally);
+            add_idle(sheet, number(slot), version.number, tally);
         }
     }
 }
 
 /// Adds the samples of a version that is in force, if nothing was counted of it.
-fn add_idle(sheet: &mut Sheet, slot: u32, version: u32, tally: &Tally) {
+fn add_idle(sheet: &mut Sheet, slot: Text, version: u32, tally: &Tally) {
     if tally.versions().get(&version).is_none() {
-        add_version(sheet, version, &Decided { slot, ..NOTHING });
+        add_version(sheet, slot, version, &NOTHING);
     }
 }
 
