@@ -22,7 +22,7 @@ use Rattle.site_core.specs.declared.auditing.AuditFault.{AuditFault}
 use Rattle.site_core.specs.declared.auditing.AuditFault.TheVariants.{OutOfMemory}
 use Rattle.job_texts.specs.declared.told.Told.{Told}
 use Rattle.job_texts.specs.Told.{IsSaid}
-use Rattle.job_texts.specs.AuditTold.{AuditTells, JournalTells, audit_text, legal_text, journal_fault_text}
+use Rattle.job_texts.specs.AuditTold.{AuditTells, JournalTells, audit_text, legal_text, journal_fault_answer}
 
 pub told-legal : {E : Type 0} → (config : ConfigValue) (entries : List Entry) (site : SiteValue) (r : Result Told E) → site.config ≡ config
     → site.history ≡ entries → Upholds site → IfOk r (λ told. IsSaid told (legal_text entries) 0) → IfOk r (AuditTells config entries)
@@ -85,7 +85,7 @@ no-journal : (config : ConfigValue) (text : List ℕ) (new : Option (List ℕ)) 
 no-journal config text new fault r wants j = wants (fault_again j.entries new fault j.written (subst (λ t. ReadsFault (Some t) new fault) j.text_is r))
 
 pub fault-told : {E : Type 0} → (config : ConfigValue) (text : List ℕ) (new : Option (List ℕ)) (fault : JournalFault) (r : Result Told E)
-    → ReadsFault (Some text) new fault → OnOk r (IsWant fault → ⊥) → IfOk r (λ told. IsSaid told (journal_fault_text fault) 1) → IfOk r (JournalTells config text)
+    → ReadsFault (Some text) new fault → OnOk r (IsWant fault → ⊥) → IfOk r (λ told. IsSaid told (journal_fault_answer fault) 1) → IfOk r (JournalTells config text)
 fault-told config text new fault (Ok told) reads wants said =
     inr (record {
       none = no-journal config text new fault reads wants;

@@ -47,11 +47,11 @@ abbrev pub AuditTells : ConfigValue → List Entry → Told → Type 0
 AuditTells config entries told = ToldLegal config entries told ⊎ ToldFault config entries told
 
 -- The line for a text that isn't a journal. A fault of a device or of memory has no line, only an exit status.
-abbrev pub journal_fault_text : JournalFault → List ℕ
-journal_fault_text (journal.BadEntry line) = codes "J1 " ++ decimal line ++ codes "\n"
-journal_fault_text journal.Cut = codes "J2\n"
-journal_fault_text journal.Device = []
-journal_fault_text journal.OutOfMemory = []
+abbrev pub journal_fault_answer : JournalFault → List ℕ
+journal_fault_answer (journal.BadEntry line) = codes "J1 " ++ decimal line ++ codes "\n"
+journal_fault_answer journal.Cut = codes "J2\n"
+journal_fault_answer journal.Device = []
+journal_fault_answer journal.OutOfMemory = []
 
 -- the text is the journal of a history that a site of this configuration can have, and the number of its entries is printed
 pub record LegalTold (config : ConfigValue) (text : List ℕ) (told : Told) : Type 0 where
@@ -64,7 +64,7 @@ pub record TextFault (text : List ℕ) (told : Told) : Type 0 where
   pub fault : JournalFault
   pub reads : ReadsFault (Some text) new fault
   pub no_want : ¬ IsWant fault
-  pub said : IsSaid told (journal_fault_text fault) 1
+  pub said : IsSaid told (journal_fault_answer fault) 1
 
 -- the printed fault is that of the entries whose journal the text is, or that of the text itself
 abbrev pub FaultOf : ConfigValue → List ℕ → Told → Type 0
