@@ -6,16 +6,19 @@
 Each metric has a line HELP, a line TYPE and then all its samples, together and in this order. A sample is a name, its
 labels, if it has some, and a whole number, with single spaces and no moment. All samples of a metric have the same
 labels in the same order, and no two have the same values of them. Label values have no escapes but those for a
-backslash, a quote and a new line. A counter ends in `_total`, another metric doesn't, and a counter isn't negative. A
-summary has two samples without labels, whose names end in `_sum`, which has nine decimals, and then in `_count`; neither
-is negative. The text ends with LF, and has no empty line, no CR and no other comment. Prometheus itself allows more.
+backslash, a quote and a new line. A name has small letters, digits and underscores, and no type's word in it. A counter
+ends in `_total`, another metric doesn't, and a counter isn't negative. A summary has two samples without labels, whose
+names end in `_sum`, which has nine decimals, and then in `_count`; neither is negative, and no other metric's name ends
+so. The text ends with LF, and has no empty line, no CR and no other comment. Prometheus itself allows more.
 """
 import re
 import sys
 
 from shared import Count
 
-NAME = re.compile(r"[a-zA-Z_:][a-zA-Z0-9_:]*")
+NAME = re.compile(r"[a-z_][a-z0-9_]*")
+# What the lint of `promtool check metrics` refuses in a name, of the kinds that are read here.
+TYPED = re.compile(r"_(?:counter|gauge|histogram|gauge_histogram|summary)(?:_|$)")
 LABEL = re.compile(r'([a-zA-Z_][a-zA-Z0-9_]*)="((?:[^"\\\n]|\\["\\n])*)"')
 VALUE = re.compile(r"0|-?[1-9][0-9]*")
 SECONDS = re.compile(r"(?:0|[1-9][0-9]*)\.[0-9]{9}")
@@ -69,6 +72,10 @@ class Metrics:
         self.name = name
         if not NAME.fullmatch(name):
             self.fault(number, f"{name!r} is no name")
+        if TYPED.search(name):
+            self.fault(number, f"{name} has a type's word in it")
+        if name.endswith(PARTS):
+            self.fault(number, f"{name} is named as a sample of a summary")
         if name in self.helps:
             self.fault(number, f"{name} has a second HELP, or isn't in one piece")
         if not rest or not HELP.fullmatch(rest[0]):
