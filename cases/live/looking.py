@@ -4,7 +4,9 @@ by byte, and answers are read strictly."""
 import html.parser
 import os
 import re
+import shutil
 import socket
+import subprocess
 import sys
 
 HERE = os.path.dirname(os.path.abspath(__file__))
@@ -158,6 +160,16 @@ class Station:
 
     def page(self):
         return Page(self.look("/"))
+
+    def page_in_browser(self):
+        """The page as Chromium has it. Where there is none, that is said, and it is the page as it is sent."""
+        browser = shutil.which("chromium") or shutil.which("chromium-browser")
+        if not browser:
+            print("left out: there is no chromium here", file=sys.stderr)
+            return self.page()
+        words = [browser, "--headless", "--no-sandbox", "--disable-gpu", "--dump-dom"]
+        words.append(f"http://127.0.0.1:{self.ports['page']}/")
+        return Page(subprocess.run(words, capture_output=True, text=True, timeout=PATIENCE).stdout)
 
     def end(self):
         """Connects to the doors where nobody was yet, and hangs up everywhere. The status, what was printed, and what
