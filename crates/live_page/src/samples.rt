@@ -65,7 +65,7 @@ const JOURNAL: &str = singles!(
     "fc_entries" is a "gauge": "Entries of the journal.";
     "fc_entries_limit" is a "gauge": "Entries that the journal can have.";
     "fc_journal_failed" is a "gauge": "1 if the journal failed, else 0.";
-    "fc_loads_total" is a "counter": "Rules that were loaded today."
+    "fc_loads_total" is a "counter": "Loads of rules in this journal."
 );
 
 const MEMORY: &str = singles!(
@@ -101,7 +101,9 @@ fn add_journal(sheet: &mut Sheet, station: &Station<'_>) {
 }
 
 fn add_refusals(sheet: &mut Sheet, tally: &Tally) {
-    sheet.add(head!("fc_refusals_total" is a "counter": "Refusals today, by their number."));
+    sheet.add(
+        head!("fc_refusals_total" is a "counter": "Refusals in this journal, by their number."),
+    );
     for number in FIRST_REFUSAL..FIRST_REFUSAL + REFUSALS {
         add_sample(
             sheet,
@@ -124,7 +126,9 @@ fn add_version(sheet: &mut Sheet, slot: Text, version: u32, decided: &Decided) {
 
 /// Adds the samples of the versions of which something was counted, and of the others that are in force.
 fn add_decisions(sheet: &mut Sheet, tally: &Tally, rules: &[Option<Version>]) {
-    sheet.add(head!("fc_decisions_total" is a "counter": "Decisions of rules today, by version."));
+    sheet.add(
+        head!("fc_decisions_total" is a "counter": "Decisions of rules in this journal, by version."),
+    );
     for (version, decided) in tally.versions().iter() {
         add_version(sheet, digits(decided.slot), *version, decided);
     }

@@ -160,7 +160,7 @@ fn add_prices(sheet: &mut Sheet, prices: &[u32; 8]) {
     sheet.add(END);
 }
 
-/// Adds the row of the version in a slot, with how many requests it granted and denied today.
+/// Adds the row of the version in a slot, with how many requests it granted and denied in this journal.
 fn add_rule(sheet: &mut Sheet, slot: usize, version: u32, tally: &Tally) {
     let decided = tally.decided_by(version);
     let since = match decided.since {
@@ -204,7 +204,7 @@ fn add_counters(sheet: &mut Sheet, left: &Opening) {
 }
 
 fn add_refusals(sheet: &mut Sheet, tally: &Tally) {
-    sheet.add(section!("refusals" with title "Refusals today" and columns "Refusal", "Times"));
+    sheet.add(section!("refusals" with title "Refusals" and columns "Refusal", "Times"));
     for number in FIRST_REFUSAL..FIRST_REFUSAL + REFUSALS {
         let count = tally.refusals(number);
         if count > 0 {

@@ -60,19 +60,19 @@ fn request_words(request: &Request) -> Phrase {
         Request::Resume(point) => of_number("resume point {}", point),
         Request::Stop(point) => of_number("stop point {}", point),
         Request::Lock(point, number) => of_numbers(
-            "lock at point {} transaction {}",
-            point,
+            "lock transaction {} at point {}",
             number,
+            point,
         ),
         Request::Unlock(point, number) => of_numbers(
-            "unlock at point {} transaction {}",
-            point,
+            "unlock transaction {} at point {}",
             number,
+            point,
         ),
         Request::Clear(point, number) => of_numbers(
-            "clear at point {} transaction {}",
-            point,
+            "clear transaction {} at point {}",
             number,
+            point,
         ),
         Request::Show(point) => of_number("show point {}", point),
     }
