@@ -14,7 +14,7 @@ abbrev pub bytes_or_fault : Result (List ℕ) FromHexError → Result (List ℕ)
 bytes_or_fault (Ok bytes) = Ok bytes
 bytes_or_fault (Err e) = Err BadDigits
 
--- the bytes that the hexadecimal digits of a program file stand for, with blanks skipped; or the fault of the file
+-- the bytes that the hexadecimal digits of a program file spell, with blanks skipped; or the fault of the file
 unfoldable pub program_in : List ℕ → Result (List ℕ) ProgramFileFault
 program_in text =
     if nat_le (length text) 65536 then bytes_or_fault (decode_of (filter (λ b. not (is_blank b)) text)) else Err TooLong

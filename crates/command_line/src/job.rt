@@ -99,14 +99,14 @@ pub enum ServeJob {
         config: String,
         journal: String,
     },
-    /// The same, and send an answer only after its line in the journal is synced.
+    /// Write the journal to a file as it grows, and send an answer only after its line in the journal is synced.
     Synced {
         opening: Option<String>,
         config: String,
         journal: String,
     },
-    /// Serve the newest day of a station, and keep its journal in the folder of the days. If `is_synced`, send an answer
-    /// only after its line is synced. If `is_new_day`, close the newest day first, and serve the next one.
+    /// Serve the newest day of a station, and keep its journal in the folder of the days. If `is_synced`, send an
+    /// answer only after its line is synced. If `is_new_day`, close the newest day first, and serve the next one.
     Days {
         folder: String,
         config: String,

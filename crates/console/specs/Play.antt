@@ -1,7 +1,7 @@
 -- Definitions: the answer to each line of a script (this profile). It depends on the moment that was set last, and on
 -- the site after the lines before. An act is an event of pass 1 at that moment. The program of a load is verified
--- first. If it is refused, the answer is its V line, and there is no event. If memory runs out the answer is `S31`, and
--- if the journal is full it is `S29`. Both leave the site unchanged.
+-- first. If it is refused, the answer is the line of the V fault, and there is no event. If memory runs out the answer
+-- is `S31`, and if the journal is full it is `S29`. Both leave the site unchanged.
 use Rattle.std.specs.Prelude.{◌≡◌, ◌≢◌, ◌⊎◌, ⊤, ℕ, List, [], ◌∷◌, ◌++◌, length, codes, Option, Some, None, Result, Ok, Err}
 use Rattle.std.specs.Fmt.{decimal}
 use Rattle.std.specs.List.{join_with_byte}
@@ -38,7 +38,7 @@ EventAnswered old moment act (answers.Line fault) new = ⊥
 EventAnswered old moment act (answers.Program number unit part) new = ⊥
 EventAnswered old moment act answers.JournalFailed new = ⊥
 
--- The verifier refuses the program, these are the numbers of its V line, and the site is unchanged.
+-- The verifier refuses the program, these are the numbers in the line of the V fault, and the site is unchanged.
 pub record ProgramRefused (old : SiteValue) (p : ProgramText) (number : ℕ) (unit part : Option ℕ) (new : SiteValue) : Type 0 where
   pub refusal : Refusal
   pub refused : IsRefused p refusal

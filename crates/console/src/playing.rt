@@ -51,7 +51,7 @@ pub fn play_within<I: LineIn, O: LineOut, N: PlayNotices>(
 /// Answers a script line by line, from a new site of this configuration. The first moment is 0, and at most 67,108,864
 /// reads of one byte are made.
 ///
-/// After an error the output has a beginning of the answers.
+/// After an error, some of the first bytes of the answers may have been written.
 pub fn play<I: LineIn, O: LineOut>(
     alloc: Global,
     config: Config,

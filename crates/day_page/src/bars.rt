@@ -147,8 +147,8 @@ fn add_hour(sheet: &mut Sheet, hour: usize, height: usize) {
 /// are fewer columns than this.
 const COLUMNS: usize = 1000;
 
-/// Adds the picture of decisions by version, by place. Each version has a column of two parts,
-/// granted and denied. If there are 1,000 versions or more, neighbouring versions share a column.
+/// Adds the picture of decisions by version, in the order of the versions in `totals`. Each version has a column of two
+/// parts, granted and denied. If there are 1,000 versions or more, neighbouring versions share a column.
 pub(crate) fn add_versions(sheet: &mut Sheet, totals: &Totals) {
     add_head(
         sheet,

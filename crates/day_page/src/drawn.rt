@@ -88,13 +88,13 @@ fn add_point(sheet: &mut Sheet, bands: &Bands, place: usize) {
     sheet.add("</g>\n");
 }
 
-/// Returns whether the point at a place has this state in a step.
+/// Returns whether the point at a place is in this state in a step of the axis.
 fn is_at(bands: &Bands, place: usize, state: State, step: usize) -> bool {
     let at = step.saturating_mul(bands.points).saturating_add(place);
     step < bands.steps && bands.states.get(at) == Some(&state)
 }
 
-/// Adds a line at height `y` from step `from` to step `to`, in which the point is in one state.
+/// Adds a line at height `y` from step `from` to step `to` of the axis, between which the point is in one state.
 fn add_stretch(sheet: &mut Sheet, bands: &Bands, from: usize, to: usize, y: usize) {
     let left = scaled(from as u128, bands.steps as u128, 2000);
     let width = scaled(to as u128, bands.steps as u128, 2000).saturating_sub(left);

@@ -28,7 +28,7 @@ verdict_of (reply.Granted amount version) = Some (version, true)
 verdict_of (reply.Refused number (Some version)) = if number == 24 then Some (version, false) else None
 verdict_of _ = None
 
--- The decision that an act with this reply stands for; None if no rule decided.
+-- The decision of the rule that gave an act this reply; None if no rule decided.
 abbrev pub decided : Act → Reply → Option Decision
 decided (act.Till till request) reply =
     elim (asked_by request) [
@@ -58,7 +58,7 @@ changed_price number moment _ _ = None
 unfoldable pub price_change_of : Entry → Option PriceChange
 price_change_of entry = changed_price entry.number entry.moment entry.act entry.reply
 
--- The last moment after an entry: the entry's own, or `moment`, the last one before it, if the entry has none.
+-- The last moment up to and with an entry: the entry's own, or, if it has none, `moment`, the last one before it.
 abbrev pub moment_after : ℕ → Entry → ℕ
 moment_after moment entry = if entry.moment == 0 then moment else entry.moment
 

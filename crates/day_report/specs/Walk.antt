@@ -34,7 +34,7 @@ done_command (request.Unlock n number) = Some (n, command.Unlock number)
 done_command (request.Clear n number) = Some (n, command.Clear number)
 done_command _ = None
 
--- The point and the command that a till's request carried out, by its reply; None if the reply is a refusal.
+-- The point and the command that were carried out for a till's request with this reply; None if the reply is a refusal.
 abbrev pub command_told : Request → Reply → Option (ℕ × Command)
 command_told request (reply.Granted granted version) = granted_command request granted
 command_told request reply.Done = done_command request

@@ -96,7 +96,7 @@ pub struct Unpaid {
     pub holder: u32,
 }
 
-/// By what sales are divided into parts.
+/// How sales are divided into parts: by point, by till, or by hour of the day.
 #[derive(Clone, Copy, Drop)]
 enum By {
     Point,
@@ -177,7 +177,7 @@ fn by_till_asked(
     Ok(found)
 }
 
-/// Returns a transaction of point `point` with the number of this point, or `None` if there is no transaction.
+/// Returns an unpaid transaction with the number of its point, which is `point`; `None` if there is no transaction.
 fn unpaid_as(point: usize, transaction: Option<Transaction>) -> Option<Unpaid>
     ensures { result ≡ option_map (unpaid_transaction point) transaction }
 {

@@ -36,7 +36,8 @@ fn load_of(moment: u64, entry: &Entry) -> Option<Load>
     }
 }
 
-/// Returns the last moment after an entry: the entry's own, or `moment`, the last one before it, if the entry has none.
+/// Returns the last moment up to and with an entry: the entry's own, or, if it has none, `moment`, the last one before
+/// it.
 fn moment_after(moment: u64, entry: &Entry) -> u64
     ensures { result ≡ moment_after moment entry.now }
 {

@@ -24,7 +24,7 @@ pub fn opening_points(alloc: Global, config: &Config) -> Result<Vec<Point>, Allo
     }
 }
 
-/// Returns as many closed points as the configuration has. The error is that memory ran out.
+/// Returns a closed point for each point of the configuration. The error is that memory ran out.
 fn closed_points(alloc: Global, config: &Config) -> Result<Vec<Point>, AllocError>
     ensures points { IfOk result (λ points. points.items ≡ (fresh_state config.now).points) }
     ensures within { IfOk result (λ points. AreWithin 4290000000 points.items) }

@@ -16,7 +16,8 @@ use till_request::{Act, Request};
 /// The most steps into which the axis of a picture is divided.
 const STEPS: usize = 2000;
 
-/// How many seconds a history has to last for the axis of its picture to be time, and not its entries.
+/// If a history lasts at least this many seconds, the axis of its picture can be time. Otherwise the axis is its
+/// entries.
 const SPAN: u64 = 600;
 
 /// The axis of a picture of a history: its entries, or time.

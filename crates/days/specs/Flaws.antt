@@ -1,4 +1,4 @@
--- Promises: that a text is of one opening alone, and why a text isn't that of an opening.
+-- Promises: that no two openings have the same text, and why a text isn't that of an opening.
 use Rattle.std.specs.Prelude.{◌≡◌, ◌==◌, ℕ, ◌+◌, ◌<◌, min, List, [], ◌∷◌, ◌++◌, length, map, Some}
 use Rattle.std.specs.List.{slice_split}
 use Rattle.bpf_model.specs.Program.{ProgramText}
@@ -21,7 +21,7 @@ IsOnly text file = (f : OpeningFile) → IsOpeningFile f → FileFits f → open
 abbrev pub HasNoOpening : List ℕ → Type 0
 HasNoOpening text = (f : OpeningFile) → IsOpeningFile f → FileFits f → opening_text f ≡ text → ⊥
 
--- The pieces between a text's LFs: its lines, and what is behind the last LF.
+-- The pieces between a text's LFs: its lines, and what comes after the last LF.
 abbrev pub pieces : List ℕ → List (List ℕ)
 pieces text = slice_split (λ b. b == 10) text
 
@@ -32,8 +32,8 @@ pub record BeginOne (lines : List Line) : Type 0 where
   pub more : List Line
   pub lines_are : opening_lines f ≡ lines ++ more
 
--- The piece of a text with this number, counted from 1. Those before it are the first lines of an opening, and the piece is so. A number above
--- 4,294,967,295 is given as 4,294,967,295.
+-- The piece of a text with this number, counted from 1: the pieces before it are the first lines of an opening, and
+-- `IsSo` holds of it. A number above 4,294,967,295 is given as 4,294,967,295.
 pub record IsPiece (text : List ℕ) (number : ℕ) (IsSo : List Line → List ℕ → List (List ℕ) → Type 0) : Type 0 where
   pub before : List Line
   pub begin_one : BeginOne before
@@ -49,7 +49,7 @@ CannotFollow before piece behind =
     (f : OpeningFile) → IsOpeningFile f → FileFits f → (next : List ℕ) (rest : List (List ℕ))
     → pieces (opening_text f) ≡ map line_spelling before ++ piece ∷ next ∷ rest → ⊥
 
--- The piece isn't empty, and no LF is behind it.
+-- The piece isn't empty, and no LF comes after it.
 abbrev pub IsCut : List Line → List ℕ → List (List ℕ) → Type 0
 IsCut before piece behind = (behind ≡ []) × (0 < length piece)
 
@@ -58,7 +58,8 @@ abbrev pub IsRefusedLine : Refusal → List Line → List ℕ → List (List ℕ
 IsRefusedLine refusal before piece behind =
     (line : Line) × (line_spelling line ≡ piece) × ((p : ProgramText) × (program_in line ≡ Some p) × (refusal_of p ≡ Some refusal))
 
--- What holds of a text, for each flaw: it isn't that of an opening, and the line is the first that can't stand where it stands.
+-- What holds of a text, for each flaw: the text isn't that of an opening, and the line is the first that no opening has
+-- after the lines before it.
 abbrev pub IsFlaw : List ℕ → OpeningFlaw → Type 0
 IsFlaw text (BadLine n) = HasNoOpening text × IsPiece text n CannotFollow
 IsFlaw text (CutLine n) = HasNoOpening text × IsPiece text n IsCut

@@ -6,8 +6,8 @@ use Rattle.site_core.specs.Site.{SiteValue}
 use Rattle.days.specs.declared.file.Uncarried.{Uncarried}
 use Rattle.days.specs.declared.file.Uncarried.TheVariants.{Fault, LastDay}
 
--- Why the site of day `number` leaves no opening: there is no next number, or what the site leaves isn't one that a site with as many points can
--- begin with. If memory ran out, nothing is claimed.
+-- Why the site of day `number` leaves no opening: there is no next number, or no site with this number of points can
+-- begin with what the site leaves. If memory ran out, nothing is claimed.
 abbrev pub IsUncarried : ℕ → SiteValue → Uncarried → Type 0
 IsUncarried number site LastDay = number ≡ 4294967295
 IsUncarried number site (Fault fault) = IsFaulty (length site.config.points) (carried site) fault

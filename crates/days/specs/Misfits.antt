@@ -1,4 +1,4 @@
--- Promises: what is told of an opening that doesn't fit a configuration.
+-- Promises: why an opening doesn't fit a configuration.
 use Rattle.std.specs.Prelude.{◌≡◌, ◌≢◌, ◌<◌, ℕ, List, IfSome, length, slice_get}
 use Rattle.std.specs.List.{Contains}
 use Rattle.bpf_model.specs.Machine.{Counters, counter}
@@ -28,8 +28,9 @@ Misfits config o (misfit.Points points there) = (points ≡ length o.points) × 
 Misfits config o (misfit.Counter c value bound) = IsOver o.counters config.counters (c, value, bound)
 Misfits config o (misfit.Till at t tills) = IsAt o.points at t × (tills ≡ config.tills) × (tills < t.holder)
 
--- Why no site of this configuration begins with the opening: both don't fit, or the opening with the counters that it would have there is none
--- that a site with as many points can begin with. If memory ran out, nothing is claimed.
+-- Why no site of this configuration begins with the opening: they don't fit each other, or no site with this number of
+-- points can begin with the opening once its counters have the configuration's bounds. If memory ran out, nothing is
+-- claimed.
 abbrev pub IsUnfit : ConfigValue → OpeningValue → Unfit → Type 0
 IsUnfit config o (unfit.Misfit m) = Misfits config o m
 IsUnfit config o (unfit.Fault fault) =

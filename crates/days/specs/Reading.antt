@@ -1,4 +1,4 @@
--- Promises: how an opening is read line by line: which line can stand next, and what has been read after it.
+-- Promises: how an opening is read line by line: which line can come next, and what has been read once it is taken.
 use Rattle.std.specs.Prelude.{◌≡◌, ◌==◌, ℕ, ◌+◌, ◌-◌, ◌≤◌, ◌<◌, ◌^◌, List, [], ◌∷◌, ◌++◌}
 use Rattle.std.specs.Prelude.{length, map, min, replicate, slice_set, slice_index_or, Option, Some, None, Result, Ok, Err}
 use Rattle.std.specs.List.{AllByRecursion, slice_split}
@@ -56,7 +56,7 @@ with_unpaid p t = record p { unpaid = p.unpaid ++ t ∷ [] }
 abbrev pub point_at : List PointState → ℕ → PointState
 point_at points n = slice_index_or points (n - 1) fresh_point
 
--- The line can stand next.
+-- The line can come next.
 abbrev pub CanStand : ReadingValue → Line → Type 0
 CanStand r (lines.Day n) = (r.next ≡ 0) × (2 ≤ n)
 CanStand r (lines.Cleared total count) = (r.next ≡ 1) × (total ≤ 1000000000000000000) × (count ≤ 1000000000000000000)
@@ -76,7 +76,7 @@ CanStand r (lines.Journal entries digest) = (3 ≤ r.next) × (r.next ≤ 60)
 abbrev pub with_opening : ReadingValue → ℕ → OpeningValue → ReadingValue
 with_opening r next opening = record { next = next; file = record r.file { opening = opening } }
 
--- What has been read after the line.
+-- What has been read once the line is taken.
 abbrev pub after_line : ReadingValue → Line → ReadingValue
 after_line r (lines.Day n) = record { next = 1; file = record r.file { day = n } }
 after_line r (lines.Cleared total count) = with_opening r 2 (record r.file.opening { cleared = total; clears = count })
@@ -104,7 +104,7 @@ abbrev pub IsRefusedIn : Option ProgramText → Refusal → Type 0
 IsRefusedIn None refusal = ⊥
 IsRefusedIn (Some p) refusal = refusal_of p ≡ Some refusal
 
--- The line was taken, and could stand; or it couldn't stand; or its program is refused; or memory ran out.
+-- The line was taken, and could come next; or it couldn't; or its program is refused; or memory ran out.
 abbrev pub Steps : ReadingValue → Line → Result (Unit {0}) StepFault → ReadingValue → Type 0
 Steps old line (Ok u) new = CanStand old line × (new ≡ after_line old line)
 Steps old line (Err Misplaced) new = CanStand old line → ⊥
@@ -118,7 +118,7 @@ Verified number p (Err Misplaced) = ⊥
 Verified number p (Err (Refused refusal)) = refusal_of p ≡ Some refusal
 Verified number p (Err OutOfMemory) = Unit {0}
 
--- Each of the lines can stand behind those before it.
+-- Each of the lines can come after those before it.
 abbrev pub AllStand : ReadingValue → List Line → Type 0
 AllStand r [] = Unit {0}
 AllStand r (line ∷ rest) = CanStand r line × AllStand (after_line r line) rest
@@ -138,8 +138,8 @@ LineFound bytes (Err Misplaced) = (line : Line) → ReadsBack line → line_spel
 LineFound bytes (Err (Refused refusal)) = ⊥
 LineFound bytes (Err OutOfMemory) = Unit {0}
 
--- The line of this number, whose bytes these are, was taken; or no line that can stand there has these bytes; or its program is refused; or memory ran
--- out.
+-- The line of this number, whose bytes these are, was taken; or no line that can come next has these bytes; or its
+-- program is refused; or memory ran out.
 abbrev pub Takes : ℕ → List ℕ → ReadingValue → Result (Unit {0}) OpeningFlaw → ReadingValue → Type 0
 Takes number bytes old (Ok u) new = (line : Line) × (line_spelling line ≡ bytes) × ReadsBack line × CanStand old line × (new ≡ after_line old line)
 Takes number bytes old (Err (flaws.BadLine n)) new =
@@ -149,8 +149,8 @@ Takes number bytes old (Err (flaws.BadProgram n refusal)) new =
     (n ≡ number) × ((line : Line) × (line_spelling line ≡ bytes) × ReadsBack line × IsRefusedIn (program_in line) refusal)
 Takes number bytes old (Err flaws.OutOfMemory) new = Unit {0}
 
--- Lines were read from a text, up to the rest: each is read back and could stand where it stood. The next line has this number, but at most
--- 4,294,967,295.
+-- Lines were read from a text, up to the rest: each is read back from its spelling, and could come after those before
+-- it. The next line has this number, but at most 4,294,967,295.
 pub record HasRead (text rest : List ℕ) (number : ℕ) (r : ReadingValue) : Type 0 where
   pub taken : List Line
   pub split : slice_split (λ b. b == 10) text ≡ map line_spelling taken ++ slice_split (λ b. b == 10) rest
@@ -159,7 +159,7 @@ pub record HasRead (text rest : List ℕ) (number : ℕ) (r : ReadingValue) : Ty
   pub is : r ≡ after_lines nothing_read taken
   pub number_is : number ≡ min (length taken + 1) 4294967295
 
--- Lines were read, and then came these bytes, which aren't the spelling of a line that can stand there.
+-- Lines were read, and then came these bytes, which aren't the spelling of a line that can come next.
 pub record BadBehind (text : List ℕ) (number : ℕ) : Type 0 where
   pub rest : List ℕ
   pub r : ReadingValue

@@ -14,7 +14,7 @@ use std::fmt::{self, Display};
 pub enum Unfit {
     /// The opening and the configuration don't fit each other.
     Misfit(Misfit),
-    /// No site with as many points can begin with the opening, or memory ran out.
+    /// No site with this number of points can begin with the opening, or memory ran out.
     Fault(OpeningFault),
 }
 
@@ -27,8 +27,9 @@ impl Display for Unfit {
     }
 }
 
-/// Returns the configuration of a site that begins with an opening, with the bounds of its own counters. The error is
-/// why no site of this configuration can begin with it, or that memory ran out.
+/// Returns the configuration of a site that begins with an opening. The counters have the values of the opening, and
+/// the bounds of `config`. The error is why no site of this configuration can begin with the opening, or that memory
+/// ran out.
 pub fn begun(alloc: Global, config: Config, opening: Opening) -> Result<Config, Unfit>
     ensures begun { IfOk result (BeginsWith config opening) }
     ensures unfit { IfErr result (IsUnfit config opening) }

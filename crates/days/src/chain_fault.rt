@@ -4,7 +4,7 @@ use crate::file::{OpeningFlaw, Uncarried};
 use decision_journal::JournalFault;
 use site_core::{AuditFault, Config};
 
-/// Why a day leaves nothing for the next one.
+/// Why a day leaves no opening for the next day.
 #[derive(Clone, Copy, Drop)]
 pub enum Unleft {
     /// The day has no journal.
@@ -37,10 +37,10 @@ pub enum Unbegun {
     Unfit(Unfit),
 }
 
-/// Why a day's journal comes to no site.
+/// Why a day's journal leads to no site.
 #[derive(Drop)]
 pub enum Unclosed<J> {
-    /// The journal's device, and why it isn't the text of a journal.
+    /// The device of the journal, and why its bytes aren't the text of a journal, or couldn't be read.
     Text(J, JournalFault),
     /// The configuration that the day's site begins with, and why it can't have the entries of the journal.
     History(Config, AuditFault),
@@ -54,13 +54,13 @@ pub enum Cause<J> {
     NoDays,
     /// The day couldn't be read.
     Unread,
-    /// The day leaves nothing for the next one.
+    /// The day leaves no opening for the next day.
     Unleft(Unleft),
     /// The day doesn't begin with what the day before left.
     Unfollowed(Unfollowed),
     /// No site of the day's configuration begins the day.
     Unbegun(Unbegun),
-    /// The day's journal comes to no site.
+    /// The day's journal leads to no site.
     Unclosed(Unclosed<J>),
 }
 

@@ -1,4 +1,4 @@
-//! What a day's journal comes to, and the opening that it leaves for the next day.
+//! The close of a day, and the opening that it leaves for the next day.
 ghost use Rattle.std.specs.Prelude.{◌≡◌, IfErr, IfOk, OnOk, length};
 ghost use Rattle.sha2.specs.Sha256.{sha256};
 ghost use Rattle.decision_journal.specs.Text.{journal_text};
@@ -10,7 +10,7 @@ ghost use Rattle.days.specs.Leaving.{IsUncarried};
 use crate::file::{OpeningFile, Uncarried};
 use site_core::Site;
 
-/// The site that a day's journal leads to, and the SHA-256 of the journal's bytes.
+/// The close of a day: the site that the day's journal leads to, and the SHA-256 of the journal's bytes.
 #[derive(Drop)]
 pub struct Closed {
     pub site: Site,
@@ -19,8 +19,9 @@ pub struct Closed {
 }
 
 impl Closed {
-    /// Returns the opening that the site leaves for the next day, if the site's day has this number. The error is that
-    /// no number comes after it, that a number that only grows is too great for an opening, or that memory ran out.
+    /// Returns the opening that day number `day`, of which this is the close, leaves for the next day. The error is
+    /// that `day` is the greatest number that a day can have, that a number that only grows is too great for an
+    /// opening, or that memory ran out.
     pub fn opening(&self, day: u32) -> Result<OpeningFile, Uncarried>
         ensures left { IfOk result (λ file. file ≡ left_by day self.now.site) }
         ensures carries { OnOk result (IsOpening (length self.now.site.config.points) (carried self.now.site)) }

@@ -3,8 +3,8 @@ use site_core::Config;
 use std::fmt;
 use till_request::LineIn;
 
-/// What there is of a day: its configuration, the bytes of the opening that it begins with, if it has one, and the
-/// device that its journal is read from, if it has one.
+/// A day as it is given: its configuration, the bytes of the opening that it begins with, if it has one, and the device
+/// that its journal is read from, if it has one.
 #[derive(Drop)]
 pub struct DayIn<J> {
     pub config: Config,

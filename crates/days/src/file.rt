@@ -1,10 +1,10 @@
-//! What the text of an opening says, and why a text isn't one.
+//! The values in the text of an opening, and why a text isn't that of an opening.
 
 use reg_types::Refusal;
 use site_core::{Opening, OpeningFault};
 use thiserror::Error;
 
-/// What the text of an opening says.
+/// The values in the text of an opening.
 #[derive(Drop)]
 pub struct OpeningFile {
     /// The number of the day that begins with the opening: 2 or more.
@@ -19,7 +19,8 @@ pub struct OpeningFile {
 /// Why bytes aren't the text of an opening. The number is that of a line, counted from 1.
 #[derive(Clone, Copy, Debug, Drop, Error)]
 pub enum OpeningFlaw {
-    /// The first line that can't stand where it stands, or the number behind the last line if one is missing there.
+    /// The first line that no opening has after the lines before it; or, if the text ends too early, the number after
+    /// the last line's.
     #[error("line {0} can't stand there")]
     BadLine(u32),
     /// The last line has no LF.
@@ -38,7 +39,7 @@ pub enum Uncarried {
     /// The number of the day is the greatest one.
     #[error("no day comes after day 4294967295")]
     LastDay,
-    /// No site with as many points can begin with what the site leaves, or memory ran out.
+    /// No site with this number of points can begin with what the site leaves, or memory ran out.
     #[error("{0}")]
     Fault(OpeningFault),
 }

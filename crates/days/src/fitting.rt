@@ -1,5 +1,5 @@
-//! Whether an opening fits a configuration: it has the same points, each counter is within its bound there, and no till
-//! that isn't there holds a transaction.
+//! Whether an opening fits a configuration: both have the same number of points, each counter is within its bound in
+//! the configuration, and the configuration has each till that holds a transaction.
 ghost use Rattle.std.specs.Prelude.{◌≡◌, ◌≤◌, ◌<◌, ℕ, All, MatchOption, IfErr, IfOk, OnOk, Some, option_to_list};
 ghost use Rattle.std.specs.List.{Contains};
 ghost use Rattle.bpf_model.specs.Machine.{counter};
@@ -48,7 +48,7 @@ impl Display for Misfit {
     }
 }
 
-/// Returns an opening with the bounds that the counters have in a configuration. The error is why no site of this
+/// Returns the opening with other bounds of its counters: those in the configuration. The error is why no site of this
 /// configuration can begin with it.
 pub fn fitted(config: &Config, opening: Opening) -> Result<Opening, Misfit>
     ensures same { IfOk result (λ new. new ≡ record opening { counters = new.counters }) }
@@ -72,8 +72,8 @@ pub fn fitted(config: &Config, opening: Opening) -> Result<Opening, Misfit>
     }
 }
 
-/// Returns the place of a point and an unpaid transaction there that a till holds whose number is over `tills`. Returns
-/// `None` if there is none.
+/// Returns the place of a point, counted from 0, and an unpaid transaction of this point that a till with a number over
+/// `tills` holds. Returns `None` if there is no such transaction.
 fn held_over(points: &[Point], tills: u32) -> Option<(usize, Transaction)>
     ensures { MatchOption result (HaveTills tills points.now) (λ m. IsAt points.now m.0 m.1 × (tills < m.1.holder)) }
 {
@@ -85,7 +85,7 @@ fn held_over(points: &[Point], tills: u32) -> Option<(usize, Transaction)>
     None
 }
 
-/// Returns an unpaid transaction that a till holds whose number is over `tills`.
+/// Returns an unpaid transaction of the point that a till with a number over `tills` holds, or `None` if there is none.
 fn held_at(point: &Point, tills: u32) -> Option<Transaction>
     ensures { MatchOption result (All (HasTill tills) point.now.unpaid)
         (λ t. Contains point.now.unpaid t × (tills < t.holder)) }
@@ -97,7 +97,7 @@ fn held_at(point: &Point, tills: u32) -> Option<Transaction>
     }
 }
 
-/// Returns the transaction if a till holds it whose number is over `tills`.
+/// Returns the transaction, if there is one and the number of the till that holds it is over `tills`.
 fn held(place: Option<Transaction>, tills: u32) -> Option<Transaction>
     ensures { MatchOption result (All (HasTill tills) (option_to_list place))
         (λ t. (place ≡ Some t) × (tills < t.holder)) }
@@ -124,7 +124,7 @@ fn rebounded(counters: &Counters, bounds: &[(u64, u64); 32]) -> Result<Counters,
     }
 }
 
-/// Returns pairs of the values of counters and these bounds.
+/// Returns for each counter a pair of its value and the bound in `bounds`.
 fn bounded(counters: &Counters, bounds: &[(u64, u64); 32]) -> [(u64, u64); 32]
     ensures { AreBounded counters.now bounds.now result }
 {

@@ -1,5 +1,5 @@
 //! How one day of a station follows another: openings, as text that is written and read back, whether an opening fits a
-//! configuration, what a day's journal comes to, and the audit of days that follow one another.
+//! configuration, the close of a day, and the audit of days that follow one another.
 #![tactic(auto)]
 
 mod beginning;

@@ -46,7 +46,8 @@ fn read_line(alloc: Global, room: &mut String, bytes: &[u8]) -> Result<Line, Ste
     }
 }
 
-/// Takes the line of these bytes into the reading. `room` is overwritten. The error names `number` as the line's.
+/// Reads the line of these bytes, and adds it to the reading. `room` is overwritten. The error has `number` as the
+/// number of the line.
 fn take_line(
     alloc: Global,
     room: &mut String,
@@ -94,11 +95,12 @@ fn read_lines(alloc: Global, reading: &mut Reading, text: &[u8]) -> Result<u32, 
     Ok(number)
 }
 
-/// Reads the text of an opening: the only one that has it.
+/// Reads the text of an opening, and returns the opening. No other opening has the same text.
 ///
-/// The error is `BadLine` with the number of the first line that can't stand where it stands, or the number behind the
-/// last line if a line is missing there. It is `CutLine` if the last line has no LF, and `BadProgram` if the verifier
-/// refuses the program of a line. A flaw further up in the text comes first. It can also be that memory ran out.
+/// The error is `BadLine` with the number of the first line that no opening has after the lines before it; or, if the
+/// text ends too early, with the number after the last line's. It is `CutLine` if the last line has no LF, and
+/// `BadProgram` if the verifier refuses the program of a line. A flaw further up in the text comes first. The error can
+/// also be that memory ran out.
 pub fn read_opening(alloc: Global, text: &[u8]) -> Result<OpeningFile, OpeningFlaw>
     ensures read { IfOk result (λ file. opening_text file ≡ text.now) }
     ensures good { IfOk result (λ file. IsOpeningFile file) }

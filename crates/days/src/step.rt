@@ -1,4 +1,4 @@
-//! What has been read of an opening, and which line can stand next.
+//! What has been read of an opening, and which line can come next.
 
 ghost use Rattle.std.specs.Prelude.{◌≡◌, ◌↔◌, ◌≤◌, ◌∷◌, [], All};
 ghost use Rattle.std.specs.Prelude.{IfOk, IfSome, IsTrue, None, is_some, replicate};
@@ -24,13 +24,14 @@ const MOST: u32 = 4_290_000_000;
 /// The greatest total of cleared amounts in cents, and the greatest number of cleared transactions.
 const MOST_CLEARED: u64 = 1_000_000_000_000_000_000;
 
-/// The place of slot 0, behind the first three lines. Lines of higher slots have the places behind it.
+/// The place of the line of slot 0, after those of the first three lines. A line's place says where in an opening it
+/// can come; the lines of slots 1 to 15 have the places after this one.
 const SLOTS_AT: u32 = 3;
 
-/// The place of product 1.
+/// The place of the line of product 1.
 const PRODUCTS_AT: u32 = 19;
 
-/// The place of counter 0.
+/// The place of the line of counter 0.
 const COUNTERS_AT: u32 = 27;
 
 /// The place of all lines of points.
@@ -42,7 +43,7 @@ const END_AT: u32 = 60;
 /// Why a line isn't taken.
 #[derive(Clone, Copy, Drop)]
 pub(crate) enum StepFault {
-    /// The line can't stand there.
+    /// The line can't come next.
     Misplaced,
     /// The verifier refuses the line's program.
     Refused(Refusal),
@@ -125,7 +126,7 @@ impl Reading {
         })
     }
 
-    /// Returns whether the last line was taken.
+    /// Returns whether the line that ends an opening was taken.
     pub(crate) fn is_complete(&self) -> bool
         ensures { IsTrue result ↔ (self.now.next ≡ 61) }
     {
@@ -293,10 +294,10 @@ impl Reading {
         Ok(())
     }
 
-    /// Takes a line, if it can stand next.
+    /// Takes a line, if it can come next.
     ///
-    /// The error is `Misplaced` if the line can't stand there, else `Refused` if the verifier refuses its program. It
-    /// can also be that memory ran out.
+    /// The error is `Misplaced` if the line can't come next, else `Refused` if the verifier refuses its program. It can
+    /// also be that memory ran out.
     pub(crate) fn take(&mut self, alloc: Global, line: &Line) -> Result<(), StepFault>
         ensures { Steps self.old line.now result self.new }
     {
@@ -351,7 +352,8 @@ fn verified(
     }
 }
 
-/// Returns the point with one more unpaid transaction, behind those that it has; `None` if no point is so.
+/// Returns the point with one more unpaid transaction, newer than those that it has; `None` if no point can have them
+/// all.
 fn owing(point: &Point, unpaid: Transaction) -> Option<Point>
     ensures state { IfSome result (λ new. new ≡ with_unpaid point.now unpaid) }
     ensures when { IsTrue (is_some result) ↔ IsPointState (with_unpaid point.now unpaid) }

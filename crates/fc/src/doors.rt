@@ -67,7 +67,7 @@ fn write_address<W: fmt::Write>(
     }
 }
 
-/// The list of the open doors that is printed for an operator. The port of the page stands last, if there is one.
+/// The list of the open doors that is printed for an operator. The port of the page comes last, if there is one.
 #[derive(Clone, Copy)]
 pub struct OpenDoors<'a> {
     pub doors: &'a [Door],

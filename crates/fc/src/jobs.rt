@@ -14,8 +14,8 @@ use std::time::Clock;
 
 /// Does a job, and returns the exit status. Faults of files and devices are printed on standard error.
 ///
-/// `host` is the same runtime as `rt`, but of a type that can start threads and open sockets. Only `main` can lend it
-/// so.
+/// `host` is the same runtime as `rt`, but has a type that can start threads and open sockets. Only `main` can borrow
+/// the runtime with this type.
 pub fn do_job<
     H: Files + Net<Listener = TcpListener, Stream = TcpStream> + Threads + Wait + Clock + Sync,
 >(rt: &HostRuntime, host: &H, job: &Job) -> Result<u8, Stop> {

@@ -5,12 +5,12 @@ use std::sync::Wait;
 use std::thread::Threads;
 use std::time::Clock;
 
-/// Those who look at a site on its page port. Without a port there are none.
+/// The watcher of a served site: its page port. Without a port nobody looks at the site.
 #[derive(Drop)]
 pub struct Lookers<'a>(pub Option<PagePort<'a>>);
 
 impl Lookers<'_> {
-    /// Returns the counts of the site's workers and of their connections, which are kept for lookers alone.
+    /// Returns the counts of the site's workers and of their connections, or `None` if there is no page port.
     pub fn connections(&self) -> Option<&Connections> {
         match &self.0 {
             Some(port) => Some(port.connections()),

@@ -11,7 +11,7 @@ use site_core::Config;
 use std::io;
 use till_request::devices::StreamIn;
 
-/// Audits the journal in a file as one of this site, prints the result, and returns the exit status. The argument
+/// Audits the journal in a file as this site's journal, prints the result, and returns the exit status. The argument
 /// `journal` names the file.
 pub fn audit_files(rt: &HostRuntime, site: SiteFiles<'_>, journal: &str) -> Result<u8, Stop> {
     let (day, source) = day_and(rt, site, journal)?;

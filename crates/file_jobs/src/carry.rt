@@ -1,4 +1,4 @@
-//! The end of a day: the opening of the next one.
+//! What `fc carry` does: closes a day, and prints the opening of the next one.
 use crate::audited::refused;
 use crate::audits::{explain_journal, tell_journal_fault};
 use crate::faults::say;
@@ -11,8 +11,9 @@ use crate::stop::Stop;
 use days::{Closed, close, opening_text};
 use site_core::Config;
 
-/// Audits the journal in a file as one of this site, prints the opening of the next day, and returns the exit status.
-/// The argument `journal` names the file. If the journal is refused, prints what its audit prints, and no opening.
+/// Audits the journal in a file as this site's journal, prints the opening of the next day, and returns the exit
+/// status. The argument `journal` names the file. If the journal is refused, prints what its audit prints, and no
+/// opening.
 pub fn carry_files(rt: &HostRuntime, site: SiteFiles<'_>, journal: &str) -> Result<u8, Stop> {
     let (day, source) = day_and(rt, site, journal)?;
     let number = day.number;
@@ -22,8 +23,8 @@ pub fn carry_files(rt: &HostRuntime, site: SiteFiles<'_>, journal: &str) -> Resu
     }
 }
 
-/// Audits a journal, and returns the end of its day. If the journal is refused, prints what its audit prints; the error
-/// has the exit status.
+/// Audits a journal, and returns the close of its day. If the journal is refused, prints what its audit prints; the
+/// error has the exit status.
 fn closed(rt: &HostRuntime, config: Config, journal: &str, source: Source) -> Result<Closed, Stop> {
     let size = source.size();
     let mut input = watch(rt, source, size);

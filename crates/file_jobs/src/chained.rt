@@ -28,7 +28,7 @@ type Journal<'a> = Watched<'a, StreamIn<Source>>;
 struct FolderIn<'a> {
     rt: &'a HostRuntime,
     folder: Folder<'a>,
-    /// The configuration of each day of which the folder has none.
+    /// The configuration for each day for which the folder has none.
     config: Config,
     /// The next day, or `None` after the newest.
     next: Option<u32>,
@@ -105,8 +105,8 @@ impl<'a> DaysIn for FolderIn<'a> {
     }
 }
 
-/// Audits all days of a folder, prints the result, and returns the exit status. `word` names the configuration of each
-/// day of which the folder has none.
+/// Audits all days of a folder, prints the result, and returns the exit status. `word` names the configuration for each
+/// day for which the folder has none.
 pub fn audit_folder(rt: &HostRuntime, path: &str, word: &str) -> Result<u8, Stop> {
     let folder = Folder::named(rt, path)?;
     let text = text_of(rt, word)?;
@@ -144,7 +144,7 @@ fn refuse_days(
     let opening = days.folder.file(rt, day, Part::Opening)?;
     let journal = days.folder.file(rt, day, Part::Journal)?;
     match cause {
-        // There was a day as the folder was read first.
+        // This case never happens: the folder had a day when it was read.
         Cause::NoDays => Ok(refuse_folder(rt, days.folder)),
         Cause::Unread => Err(days.stop.unwrap_or(Stop::Said(FAILED))),
         Cause::Unleft(Unleft::NoJournal) => {
@@ -179,7 +179,8 @@ fn refuse_unfollowed(rt: &HostRuntime, opening: &str, day: u32, why: Unfollowed)
     }
 }
 
-/// What a day left, as a line of the next one's opening.
+/// The message for a line of an opening that isn't the one that the day before left: that day's number, and the line
+/// that it left.
 #[derive(Drop)]
 struct Left<'a>(u32, &'a str);
 
@@ -189,8 +190,8 @@ impl Display for Left<'_> {
     }
 }
 
-/// Returns the number of the first line, counted from 1, that isn't the same in both texts, its LF included, and that
-/// line of `left` without its LF. It is empty if `left` has no such line.
+/// Returns the number of the first line, counted from 1, in which the two texts differ (its LF counts too), and this
+/// line of `left` without its LF. The line is empty if `left` has no such line.
 fn other_line<'a>(text: &[u8], left: &'a [u8]) -> (u64, &'a [u8]) {
     let (mut number, mut line_at) = (1u64, 0);
     for (at, byte) in left.iter().enumerate() {

@@ -9,8 +9,8 @@ use day_export::{RowsFault, write_rows};
 use site_core::Site;
 use std::io::{self, BufWriter, Write};
 
-/// Audits the journal in a file as one of this site, prints the rows that are asked for, and returns the exit status.
-/// If the journal is refused, prints what its audit prints, and no rows.
+/// Audits the journal in a file as this site's journal, prints the rows that are asked for, and returns the exit
+/// status. If the journal is refused, prints what its audit prints, and no rows.
 pub fn export_files(
     rt: &HostRuntime,
     rows: Rows,

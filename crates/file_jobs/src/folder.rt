@@ -1,5 +1,5 @@
-//! The folder of a station's days. Each file has its day's number in its name, in six digits or more: a day's journal, as
-//! `000002.journal`, the opening that the day begins with, and the configuration of its site.
+//! The folder of a station's days. Each file has its day's number in its name, in six digits or more: a day's journal,
+//! as `000002.journal`, the opening that the day begins with, and the configuration of its site.
 use crate::faults::{cannot_use, tell};
 use crate::files::is_input;
 use crate::statuses::USAGE;
@@ -40,7 +40,8 @@ pub struct Folder<'a> {
 }
 
 impl<'a> Folder<'a> {
-    /// Returns the folder that an argument names. If it names standard input, prints that; the error has the exit status.
+    /// Returns the folder that an argument names. If it names standard input, prints that; the error has the exit
+    /// status.
     pub fn named(rt: &HostRuntime, word: &'a str) -> Result<Folder<'a>, Stop> {
         if is_input(word) {
             tell(rt, &"--days wants a folder, and - is standard input");
@@ -55,8 +56,8 @@ impl<'a> Folder<'a> {
         format!(in rt.alloc(); "{path}/{day:06}.{ending}")
     }
 
-    /// Returns whether there is such a file of this day. If that can't be told, prints why; the error has the exit
-    /// status.
+    /// Returns whether the folder has such a file of this day. If that can't be found out, prints why; the error has
+    /// the exit status.
     pub fn has(self, rt: &HostRuntime, day: u32, part: Part) -> Result<bool, Stop> {
         let path = self.file(rt, day, part)?;
         match fs::exists(rt, path.as_str()) {
@@ -65,8 +66,8 @@ impl<'a> Folder<'a> {
         }
     }
 
-    /// Returns whether there is such a file of this day, and it isn't empty. If that can't be told, prints why; the error
-    /// has the exit status.
+    /// Returns whether the folder has such a file of this day, and the file isn't empty. If that can't be found out,
+    /// prints why; the error has the exit status.
     pub fn has_bytes(self, rt: &HostRuntime, day: u32, part: Part) -> Result<bool, Stop> {
         let path = self.file(rt, day, part)?;
         match fs::metadata(rt, path.as_str()) {
@@ -76,8 +77,8 @@ impl<'a> Folder<'a> {
         }
     }
 
-    /// Returns the oldest and the newest day that has a journal or an opening, or `None` if there is none. If the folder
-    /// can't be read, prints why; the error has the exit status.
+    /// Returns the oldest and the newest day that has a journal or an opening, or `None` if there is none. If the
+    /// folder can't be read, prints why; the error has the exit status.
     pub fn span(self, rt: &HostRuntime) -> Result<Option<Span>, Stop> {
         match span_of(rt, self.path) {
             Ok(span) => Ok(span),
@@ -85,8 +86,9 @@ impl<'a> Folder<'a> {
         }
     }
 
-    /// Writes a file of this day, so that whoever stops this at any moment leaves the whole file or none: it is written
-    /// and synced under another name, and then gets its own. If that fails, prints why; the error has the exit status.
+    /// Writes a file of this day. Even if the program is stopped meanwhile, either the whole file is there or none: it
+    /// is written and synced under another name, and then renamed. If that fails, prints why; the error has the exit
+    /// status.
     pub fn put(self, rt: &HostRuntime, day: u32, part: Part, bytes: &[u8]) -> Result<(), Stop> {
         let path = self.file(rt, day, part)?;
         let beside = format!(in rt.alloc(); "{path}.new")?;
@@ -118,7 +120,7 @@ fn span_of(rt: &HostRuntime, folder: &str) -> io::Result<Option<Span>> {
     for entry in read_dir(rt, folder)? {
         match entry {
             Ok(entry) => span = with_name(span, entry.file_name()),
-            // A name that isn't text is of no day.
+            // A name that isn't text names no file of a day.
             Err(error) if error.kind() == ErrorKind::InvalidFilename => (),
             Err(error) => return Err(error),
         }
@@ -126,7 +128,7 @@ fn span_of(rt: &HostRuntime, folder: &str) -> io::Result<Option<Span>> {
     Ok(span)
 }
 
-/// Returns the days of a folder after one more name.
+/// Returns the oldest and the newest day of a folder that also has a file with this name.
 fn with_name(span: Option<Span>, name: &str) -> Option<Span> {
     match day_named(name) {
         Some(day) => Some(with_day(span, day)),
@@ -147,7 +149,7 @@ fn with_day(span: Option<Span>, day: u32) -> Span {
     }
 }
 
-/// Returns the number of the day whose journal or opening has this name. Other names are of no day.
+/// Returns the number of the day whose journal or opening has this name, or `None` for any other name.
 fn day_named(name: &str) -> Option<u32> {
     let (digits, ending) = name.split_once('.')?;
     if ending != Part::Journal.ending() && ending != Part::Opening.ending() {

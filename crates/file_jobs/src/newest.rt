@@ -12,7 +12,8 @@ use days::{Closed, Uncarried, opening_text};
 use site_core::{Config, OpeningFault};
 use std::fmt::{self, Display};
 
-/// The newest day of a folder, the path of its journal, and the text of its configuration if the folder hasn't it yet.
+/// The newest day of a folder, the path of the day's journal, and the text of the day's configuration, if the folder
+/// doesn't have it yet.
 #[derive(Drop)]
 pub struct Newest {
     pub day: Day,
@@ -20,7 +21,7 @@ pub struct Newest {
     pub unkept: Option<Vec<u8>>,
 }
 
-/// The configuration that an argument names: its text, and what it says.
+/// The configuration that an argument names: its text, and the settings in it.
 #[derive(Drop)]
 pub struct Given<'a> {
     pub word: &'a str,
@@ -28,8 +29,8 @@ pub struct Given<'a> {
     pub settings: Settings,
 }
 
-/// Reads the configuration that an argument names. If it can't be read or is refused, prints why; the error has the exit
-/// status.
+/// Reads the configuration that an argument names. If it can't be read or is refused, prints why; the error has the
+/// exit status.
 pub fn read_given<'a>(rt: &HostRuntime, word: &'a str) -> Result<Given<'a>, Stop> {
     let text = text_of(rt, word)?;
     match settings_in(rt, word, &text) {
@@ -77,7 +78,8 @@ pub fn newest_day(
     })
 }
 
-/// Prints that a day goes on with the configuration of its folder, if that isn't the one that `word` names.
+/// Prints that a day goes on with the configuration that the folder has for it, if that isn't the one that `word`
+/// names.
 fn tell_other(
     rt: &HostRuntime,
     folder: Folder<'_>,
@@ -94,9 +96,9 @@ fn tell_other(
     Ok(())
 }
 
-/// Returns the number of the newest day of a folder, or 1 if it has none. If `is_new_day`, closes that day first, unless
-/// it has no entry, and returns the number of the next one. `config` is the configuration of a day of which the folder
-/// has none, and `text` is its text.
+/// Returns the number of the newest day of a folder, or 1 if it has none. If `is_new_day`, closes that day first,
+/// unless it has no entry, and returns the number of the next one. `config` is the configuration for a day for which
+/// the folder has none, and `text` is its text.
 fn number_of(
     rt: &HostRuntime,
     folder: Folder<'_>,
@@ -117,7 +119,7 @@ fn number_of(
     }
 }
 
-/// Returns the configuration that a folder has of a day, or `None` if it has none.
+/// Returns the configuration that a folder has for a day, or `None` if it has none.
 pub fn kept_config(rt: &HostRuntime, folder: Folder<'_>, day: u32) -> Result<Option<Config>, Stop> {
     if !folder.has(rt, day, Part::Config)? {
         return Ok(None);
@@ -130,8 +132,8 @@ pub fn kept_config(rt: &HostRuntime, folder: Folder<'_>, day: u32) -> Result<Opt
     }
 }
 
-/// Returns the configuration with which a day goes on, or `None` if it can still begin with another: its folder has none
-/// of it, or the day has no entry.
+/// Returns the configuration with which a day goes on. Returns `None` if the day can still begin with another one: the
+/// folder has none for the day, or the day has no entry.
 fn settled_config(rt: &HostRuntime, folder: Folder<'_>, day: u32) -> Result<Option<Config>, Stop> {
     if folder.has_bytes(rt, day, Part::Journal)? {
         kept_config(rt, folder, day)
@@ -140,7 +142,7 @@ fn settled_config(rt: &HostRuntime, folder: Folder<'_>, day: u32) -> Result<Opti
     }
 }
 
-/// Returns the configuration of a site that begins a day with the opening in its folder. The first day has none.
+/// Returns the configuration of a site that begins a day with the opening in its folder. The first day has no opening.
 fn begin_day(
     rt: &HostRuntime,
     folder: Folder<'_>,
@@ -162,7 +164,7 @@ fn begin_day(
     Ok(begun.config)
 }
 
-/// What is said of a day that has no opening.
+/// The message for a day that has no opening.
 pub const UNOPENED: &str = "the day has no opening";
 
 /// Prints that a day doesn't follow the one before (O1): why on standard error, and the day on standard output. Returns
@@ -172,7 +174,7 @@ pub fn refuse_link<D: Display>(rt: &HostRuntime, place: Place<'_>, day: u32, wor
     once_printed(rt, println!(rt; "O1 {day}"), REFUSED)
 }
 
-/// That an opening is that of another day.
+/// The message for an opening that belongs to another day, the one of this number.
 #[derive(Drop)]
 pub struct OfDay(pub u32);
 
@@ -182,9 +184,9 @@ impl Display for OfDay {
     }
 }
 
-/// Closes a day, unless it has no entry: syncs its journal, and writes the opening of the next one. Returns the number
-/// of the newest day then. `config` is the configuration of the day's site, and `unkept` its text if the folder hasn't
-/// it yet.
+/// Closes a day, unless it has no entry: syncs the day's journal, and writes the opening of the next day. Returns the
+/// number of the day that is then the newest. `config` is the configuration of the day's site. `unkept` is the
+/// configuration's text, if the folder doesn't have it yet; the text of a closed day is written there.
 fn close_day(
     rt: &HostRuntime,
     folder: Folder<'_>,
@@ -224,7 +226,8 @@ fn leave(rt: &HostRuntime, folder: Folder<'_>, number: u32, closed: &Closed) -> 
 }
 
 /// Returns an error if the day after this one has begun, and prints that. A caller that has locked this day's journal
-/// knows then that this day is the newest, and stays it: who begins the next one locks the same journal.
+/// then knows that this day stays the newest until the lock is released: to begin the next day, a process locks the
+/// same journal.
 pub fn check_newest(rt: &HostRuntime, folder: Folder<'_>, number: u32) -> Result<(), Stop> {
     let next = number.saturating_add(1);
     if next == number || !folder.has(rt, next, Part::Opening)? {

@@ -20,8 +20,8 @@ use std::str;
 /// The most bytes that the file of an opening may have. An opening with the longest programs has some 150,000.
 const MOST_OPENING: usize = 262_144;
 
-/// What a day of a site begins with: its configuration, which has the opening if there is one, how it is served, and the
-/// day's number, which is 1 without an opening.
+/// What a day of a site begins with: its configuration, which has the opening if there is one, how it is served, and
+/// the day's number, which is 1 without an opening.
 #[derive(Drop)]
 pub struct Day {
     pub config: Config,
@@ -81,7 +81,8 @@ pub fn refuse_opening(rt: &HostRuntime, word: &str, text: &[u8], flaw: OpeningFl
     }
 }
 
-/// Returns what is wrong with the line of this number, counted from 1: it can't stand there, or the text has ended.
+/// Returns what is wrong with the line of this number, counted from 1: no opening has this line after the lines before
+/// it, or the text has ended.
 fn bad_line(text: &[u8], number: u32) -> &'static str {
     match text.split(|byte| *byte == b'\n').nth(number as usize) {
         Some(_) => "no line of an opening",
@@ -113,7 +114,7 @@ fn explain_rule(
     line: &[u8],
     refusal: Refusal,
 ) -> Result<(), AllocError> {
-    // The line was read before, so nothing but memory can be wanting here.
+    // The same line was read before, so only memory can be missing here.
     let Some((slot, program)) = rule_in(rt.alloc(), line) else {
         return Err(AllocError);
     };
@@ -131,8 +132,8 @@ fn line_of(text: &[u8], number: u32) -> &[u8] {
     }
 }
 
-/// Returns the slot and the program of a line `version SLOT NUMBER MASK LOAD HEX`. Returns `None` if it is another line,
-/// or if memory ran out.
+/// Returns the slot and the program of a line `version SLOT NUMBER MASK LOAD HEX`. Returns `None` if it is another
+/// line, or if memory ran out.
 fn rule_in(alloc: Global, line: &[u8]) -> Option<(u32, Vec<u8>)> {
     let text = str::from_utf8(line).ok()?;
     let (_, digits) = text.rsplit_once(' ')?;
@@ -141,8 +142,8 @@ fn rule_in(alloc: Global, line: &[u8]) -> Option<(u32, Vec<u8>)> {
     Some((slot, program))
 }
 
-/// Returns the configuration of a site that begins with an opening, with the bounds of its own counters. `word` names
-/// the opening's file. If the opening doesn't fit the configuration, prints why; the error has the exit status.
+/// Returns the configuration of a site that begins with an opening. The counters have the bounds of `config`. `word`
+/// names the opening's file. If the opening doesn't fit the configuration, prints why; the error has the exit status.
 fn opened(rt: &HostRuntime, word: &str, config: Config, opening: Opening) -> Result<Config, Stop>
     ensures { IfOk result (BeginsWith config opening) }
 {

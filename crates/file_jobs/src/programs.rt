@@ -7,8 +7,8 @@ use bpf_model::context::Layout;
 use job_texts::{Told, asm_file, dis_file, dis_flaw, dis_units_file, verify_file, verify_flaw};
 use std::alloc::{AllocError, Global};
 
-/// What to print of a file: its units, its text in assembler, or that text with the numbers of units. The fourth is the
-/// verifier's result for a mask of counters and a layout.
+/// What to print of a file: its units, its text in assembler, that text with the numbers of units, or the verifier's
+/// result for this mask of counters and this layout.
 #[derive(Clone, Copy)]
 pub enum Tell {
     Asm,

@@ -8,7 +8,7 @@ use day_page::Page;
 use site_core::Site;
 use std::io::{self, BufWriter, Write};
 
-/// Audits the journal in a file as one of this site, prints its page of HTML, and returns the exit status. If the
+/// Audits the journal in a file as this site's journal, prints its page of HTML, and returns the exit status. If the
 /// journal is refused, prints what its audit prints, and no page.
 pub fn report_files(rt: &HostRuntime, site: SiteFiles<'_>, journal: &str) -> Result<u8, Stop> {
     let site = audited_site(rt, site, journal)?;

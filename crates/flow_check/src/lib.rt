@@ -16,7 +16,7 @@ use std::fmt;
 use std::marker::Model;
 
 /// Why a program's jumps are refused: what is wrong with the first wrong jump, and the number of its unit, counted from
-/// 0. The messages don't show the number.
+/// 0. `Display` doesn't write this number.
 #[derive(Clone, Copy, Debug, PartialEq, Eq)]
 pub enum FlowFault {
     BackwardJump(u32),
@@ -59,7 +59,7 @@ impl Model for Flow {
     ghost invariant = { λ f. GoesForward f.code };
 }
 
-// Returns the distance of a jump, in units from the unit behind it, or `None` if the instruction isn't a jump.
+// Returns the distance of a jump, in units from the unit after the jump, or `None` if the instruction isn't a jump.
 fn distance_in(inst: Inst) -> Option<i64>
     ensures { result ≡ distance_by (form_of inst.opcode) inst }
 {

@@ -27,7 +27,7 @@ pub record IsPointState (p : PointState) : Type 0 where
   pub unpaid : All (IsUnpaid p.last) p.unpaid
   pub rise : Rise p.unpaid
 
--- The state that a snapshot is of.
+-- The state of the point that a snapshot describes.
 abbrev pub snapshot_state : Snapshot → PointState
 snapshot_state s = record {
   state = s.state;
@@ -47,7 +47,7 @@ abbrev pub FirstThenSecond : Option Transaction → Option Transaction → Type 
 FirstThenSecond None (Some t) = ⊥
 FirstThenSecond _ _ = Unit {0}
 
--- The snapshot is one of a point.
+-- A point can have the values of the snapshot.
 pub record IsSnapshot (s : Snapshot) : Type 0 where
   pub places : FirstThenSecond (slice_index_or s.unpaid 0 None) (slice_index_or s.unpaid 1 None)
   pub state : IsPointState (snapshot_state s)

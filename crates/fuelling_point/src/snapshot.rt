@@ -10,8 +10,8 @@ use crate::kinds::{Order, State, Transaction};
 /// The greatest amount of a delivery in cents, and its greatest volume in centilitres.
 pub const GREATEST: u64 = 999_999_999;
 
-/// All that a fuelling point keeps. Each field but `unpaid` is what the `Point`'s method of its name returns: amounts
-/// in cents, volumes in centilitres.
+/// All that a fuelling point keeps. The fields from `state` to `volume`, and `last`, are what the methods of `Point`
+/// with these names return: amounts in cents, volumes in centilitres.
 #[derive(Clone, Copy, Drop)]
 pub struct Snapshot {
     pub state: State,
@@ -55,7 +55,8 @@ fn are_places(first: Option<Transaction>, second: Option<Transaction>, state: St
     }
 }
 
-/// Returns whether the place is free, or has a transaction of a point whose newest one has the number `last`.
+/// Returns whether the place is free, or its transaction has values that an unpaid one can have: a number from 1 to
+/// `last`, the number of the point's newest transaction, and an amount and a volume in their ranges.
 fn is_kept(place: Option<Transaction>, last: u32) -> bool
     ensures { IsTrue result ↔ Keeps last place }
 {

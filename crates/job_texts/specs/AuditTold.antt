@@ -17,7 +17,7 @@ use Rattle.site_core.specs.declared.auditing.AuditFault.TheVariants.{BadNumber, 
 use Rattle.job_texts.specs.declared.told.Told.{Told}
 use Rattle.job_texts.specs.Told.{IsSaid}
 
--- the line for a load whose program is refused: F2, the number of its entry, and the V line of the refusal
+-- the line for a load whose program is refused: F2, the number of its entry, and the numbers of the program's V fault
 abbrev pub program_text : ℕ → Option (ℕ × (Option ℕ) × (Option ℕ)) → List ℕ
 program_text number None = []
 program_text number (Some p) = codes "F2 " ++ decimal number ++ codes " " ++ answer_line (Program p.0 p.1 p.2)

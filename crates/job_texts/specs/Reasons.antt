@@ -17,7 +17,7 @@ use Rattle.reg_types.specs.Shown.{IsRefused, refusal_of}
 use Rattle.bpf_asm.specs.ProgramFile.{line_at}
 use Rattle.job_texts.specs.declared.reasons.RefusedProgram.{RefusedProgram}
 
--- the V number among the numbers of a refusal; 0 if it has no V line
+-- the V number among the numbers of a refusal; 0 if it has none
 abbrev pub number_in : Option (ℕ × (Option ℕ) × (Option ℕ)) → ℕ
 number_in None = 0
 number_in (Some p) = p.0

@@ -78,8 +78,8 @@ fn dis_bytes(alloc: Global, bytes: &[u8]) -> Result<Told, AllocError>
 }
 
 /// Returns what `fc dis` prints for a program file: the program as assembler text, with status 0. With status 1 returns
-/// `L1` for a file of over 65,536 bytes, `H1` for wrong digits, or the V line for bytes that don't decode. Jumps and
-/// types aren't checked.
+/// `L1` for a file of over 65,536 bytes, `H1` for wrong digits, or the line of the V fault for bytes that don't decode.
+/// Jumps and types aren't checked.
 pub fn dis_file(alloc: Global, file: &[u8]) -> Result<Told, AllocError>
     ensures { IfOk result (DisTells file.now) }
 {

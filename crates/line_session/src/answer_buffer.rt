@@ -35,7 +35,8 @@ impl AnswerBuffer {
         self.held.bytes.len() >= MOST_WAITING
     }
 
-    /// Writes the buffered answers, and empties the buffer. After an error a beginning of them was written.
+    /// Writes the buffered answers, and empties the buffer. After an error, some of the answers' first bytes may have
+    /// been written.
     pub fn flush<O: LineOut>(&mut self, output: &mut O) -> Result<(), SessionFault>
         ensures ok { OnOk result
             (Sends self.old.held.bytes.items [] (O.written output.old) (O.written output.new)) }

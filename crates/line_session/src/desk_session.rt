@@ -12,7 +12,7 @@ use till_request::{LineIn, LineOut, Role};
 
 /// Answers the lines of an input in order, as acts of a role, with the desk's answers at the clock's moments.
 ///
-/// After an error a beginning of the answers was written.
+/// After an error, some of the first bytes of the answers may have been written.
 pub fn session<I: LineIn, O: LineOut, C: Clock, D: Desk>(
     alloc: Global,
     role: Role,

@@ -29,7 +29,7 @@ pub trait LineHandler<C, D> {
     /// States which states the clock and the desk may have after a line at which the journal failed.
     ghost fails: { Self → (C × D) → List ℕ → (C × D) → Type 0 };
 
-    /// States which lines need memory before anything changes.
+    /// States for which lines the handler may run out of memory before anything has changed.
     ghost takes: { Self → List ℕ → Type 0 };
 
     /// Answers a line, which is given without its LF. After an error the handler isn't called again.

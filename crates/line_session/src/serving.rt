@@ -47,7 +47,7 @@ fn one_if_good(outcome: Option<Result<Ended, SessionFault>>) -> u64
 /// Serves `connections` connections of a role, one after another, and returns how many of their sessions ended without
 /// fault.
 ///
-/// A connection that can't be opened counts as one of them, and not as one without fault.
+/// A connection that can't be opened counts as one of the `connections`, but not in the number that is returned.
 pub fn worker<S: Doors, C: Clock, D: Desk>(
     alloc: Global,
     role: Role,

@@ -5,12 +5,13 @@ use Rattle.bpf_model.specs.Program.{ProgramText, IsGood}
 use Rattle.reg_types.specs.Shown.{refusal_of}
 use Rattle.program_slots.specs.Value.{SlotsValue, Version}
 
--- The slot has no version, or one of these many, with a good program that the verifier accepts.
+-- The slot has no version. Or the number of its version is from 1 to `versions`, and its program is good and accepted
+-- by the verifier.
 abbrev pub IsRule : ℕ → Option Version → Type 0
 IsRule versions None = Unit {0}
 IsRule versions (Some v) = (1 ≤ v.number) × (v.number ≤ versions) × IsGood v.program × (refusal_of v.program ≡ None)
 
--- Slots that begin with these versions, after this many.
+-- Slots that begin with these versions, after `before` versions were made.
 abbrev pub opened_slots : ℕ → List (Option Version) → SlotsValue
 opened_slots before opened = record { before = before; opened = opened; installed = repeat 16 (None ∷ []); programs = [] }
 

@@ -1,4 +1,4 @@
--- Definitions: the value that stands for `Slots` in contracts.
+-- Definitions: the value of `Slots` in contracts.
 use Rattle.std.specs.Prelude.{ℕ, List, Option}
 use Rattle.bpf_model.specs.Program.{ProgramText}
 

@@ -65,8 +65,9 @@ impl Slots {
         Self::opened(alloc, 0, Vec::new(alloc))
     }
 
-    /// Makes 16 slots that begin with these versions: the first with the first, and so on. `before`, at most
-    /// 4,290,000,000, is how many versions were ever made. Each of these is one of those. Allocates no memory.
+    /// Makes 16 slots, of which slot k begins with the version at place k of `opened`, or with none if there is none.
+    /// `before`, at most 4,290,000,000, is how many versions were ever made; the versions in `opened` have numbers from
+    /// 1 to `before`. Allocates no memory.
     pub fn opened(alloc: Global, before: u32, opened: Vec<Option<Version>>) -> Self
         requires few { before ≤ 4290000000 }
         requires rules { All (IsRule before) opened.items }
@@ -81,8 +82,9 @@ impl Slots {
         }
     }
 
-    /// Installs a program in a slot as a new version, and returns the version's number. Versions are numbered on from
-    /// how many were made before these slots began. No other slot changes.
+    /// Installs a program in a slot as a new version, and returns the version's number. The n-th version that is
+    /// installed in these slots has the number `before` + n, where `before` is how many versions were made before these
+    /// slots began. No other slot changes.
     ///
     /// The error is `NoSuchSlot` for a slot over 15, else `VersionsFull` if 4,096 versions were installed, else
     /// `OutOfMemory`. After an error nothing has changed, and the program is dropped.
@@ -126,8 +128,8 @@ impl Slots {
         Some(number)
     }
 
-    /// Returns the program of the version of this number: of one that was installed, or that a slot began with. `None`
-    /// if there is no such version.
+    /// Returns the program of the version of this number, which was installed in a slot or is one that a slot began
+    /// with. `None` if there is no such version.
     pub fn version(&self, number: u32) -> Option<&Arc<Program>>
         ensures { MatchOption result (program_of self.now number ≡ None)
             (λ program. program_of self.now number ≡ Some (arc_value program.now)) }

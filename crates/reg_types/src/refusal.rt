@@ -9,8 +9,8 @@ use flow_check::FlowFault;
 use std::fmt;
 
 /// What is wrong with an instruction, given the fact (the abstract state) before it. The first number in a variant is
-/// the unit where the instruction begins. A second number is the register at fault, or the argument (1 or 2). The
-/// messages don't show the unit.
+/// the unit where the instruction begins, which `Display` doesn't write. A second number is the register at fault, or
+/// the argument (1 or 2).
 #[derive(Clone, Copy, Debug, PartialEq, Eq)]
 pub enum TypeFault {
     FallsOff(u32),

@@ -52,7 +52,7 @@ pub fn join_spills(spills: &mut [u16; 64], others: &[u16; 64])
     }
 }
 
-/// Sets the spill of each aligned place that overlaps the `len` bytes from `at` on.
+/// Writes `spill` for each aligned place of eight bytes that has at least one of the `len` bytes from `at` on.
 pub fn put_spill(spills: &mut [u16; 64], spill: u16, at: u32, len: u32)
     requires { at + len ≤ STACK_BYTES }
     ensures { spills.new ≡ respilled spill at len 0 spills.old }

@@ -41,8 +41,8 @@ pub record DoorValue : Type 0 where
   pub role : Role
   pub workers : ℕ
 
--- Where and how to serve: the doors in their order, how many connections, after how many seconds without a byte a
--- connection ends (0 for never), and the port of the page on which the site is shown, if there is one.
+-- Where and how to serve: the doors in their order, how many connections each worker serves, after how many seconds
+-- without a byte a connection ends (0 for never), and the port of the page on which the site is shown, if there is one.
 pub record ServeValue : Type 0 where
   pub doors : List DoorValue
   pub connections : ℕ
@@ -174,7 +174,7 @@ is_single sides.Tills (OneTill z) = true
 is_single sides.Dispensers (SomePoints zs) = true
 is_single side role = false
 
--- How many doors are one till's each, if the side is tills, or some points' each, if the side is dispensers.
+-- How many doors are for a single till, if the side is tills, or for some points only, if the side is dispensers.
 abbrev pub count_single : Side → List RawDoor → ℕ
 count_single side [] = 0
 count_single side (d ∷ ds) = (if is_single side d.role then 1 else 0) + count_single side ds

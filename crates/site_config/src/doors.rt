@@ -274,7 +274,8 @@ fn is_one(side: Side, role: &RawRole) -> bool
     }
 }
 
-/// Returns how many doors are one till's each, if the side is tills, or some points' each, if the side is dispensers.
+/// Returns how many doors are for a single till, if the side is tills, or for some points only, if the side is
+/// dispensers.
 fn count_of(side: Side, doors: &[RawDoor]) -> usize
     ensures count { result ≡ count_single side doors.now }
     ensures bound { result ≤ length doors.now }

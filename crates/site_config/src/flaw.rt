@@ -115,8 +115,8 @@ impl fmt::Display for Section {
 
     ghost output = { λ s. Some (section_text s) };
 
-    /// Writes what comes before a key of this section. Points and doors are counted from 1 and counters from 0, as the
-    /// site counts them.
+    /// Writes what comes before a key of this section in a message, such as `point[1].`. Points and doors are counted
+    /// from 1 and counters from 0, as the site counts them.
     fn fmt<W: fmt::Write>(&self, f: &mut fmt::Formatter<W>) -> fmt::Result {
         match *self {
             Section::Top => Ok(()),

@@ -1,4 +1,4 @@
-//! Reads the table `[serve]` and those of its doors, and checks their types (K2).
+//! Reads the table `[serve]` and the tables of doors in it, and checks their types (K2).
 ghost use Rattle.std.specs.Prelude.{◌≡◌, option_map};
 ghost use Rattle.toml.specs.View.{view, table_view, items_view};
 ghost use Rattle.toml.specs.Data.{get_member};

@@ -12,8 +12,8 @@ pub enum Address {
     Socket(String),
 }
 
-/// A door of a served site: where connections come in, whose lines they may send, and how many are served at the same
-/// time. The place is the key that names the address.
+/// A door of a served site: where its connections come in, whose lines it takes, and how many connections are served at
+/// the same time. The place is that of the key that names the address.
 #[derive(Drop)]
 pub struct Door {
     pub place: Place,
@@ -22,12 +22,12 @@ pub struct Door {
     pub workers: u32,
 }
 
-/// Where and how to serve the site: its doors, how many connections, after how many seconds without a byte a connection
-/// ends (0 for never), and the port of the page on which the site is shown while it is served, if it has one: 1 to
-/// 65,535. The doors are in the order in which workers get their passes: the tills' shared one, those of one till each,
-/// the dispensers' shared one, those of some points each, the owner's. All doors have different addresses, and none has
-/// the page's port. Each till has at most one door of its own. Tills have 1 to 64 workers in all, dispensers 1 to 31,
-/// and the owner has one.
+/// Where and how to serve the site: its doors, how many connections each worker serves, after how many seconds without
+/// a byte a connection ends (0 for never), and the port of the page on which the site is shown while it is served, if
+/// it has one: 1 to 65,535. The doors are in the order in which workers get their passes: the tills' shared one, those
+/// of one till each, the dispensers' shared one, those of some points each, the owner's. All doors have different
+/// addresses, and none has the page's port. Each till has at most one door of its own. Tills have 1 to 64 workers in
+/// all, dispensers 1 to 31, and the owner has one.
 #[derive(Drop)]
 pub struct Serve {
     pub doors: Vec<Door>,

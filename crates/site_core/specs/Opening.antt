@@ -29,15 +29,15 @@ rule_numbers (Some v ∷ rest) = v.number ∷ rule_numbers rest
 abbrev pub IsNewNumber : List (Option Version) → ℕ → Type 0
 IsNewNumber rules number = AllByRecursion (λ n. (number == n) ≡ false) (rule_numbers rules)
 
--- No two slots have versions of one number.
+-- No two slots have versions with the same number.
 abbrev pub HaveOwnNumbers : List (Option Version) → Type 0
 HaveOwnNumbers rules = IsDistinct (λ a b. a == b) (rule_numbers rules)
 
 -- The numbers of an opening are ones that a site with this many points can begin with: each price is at most 9,999,999,
 -- and each counter's value at most its bound. Each of the 16 slots has no version or one that was loaded, and no two
--- have versions of one number. The numbers that only grow are so small that a day doesn't bring them to the end of their
--- ranges: the number of a point's newest transaction, the total and the count of what was cleared, and the count of
--- versions.
+-- have versions with the same number. The numbers that only grow are so small that a day doesn't bring them to the end
+-- of their ranges: the number of a point's newest transaction, the total and the count of what was cleared, and the
+-- count of versions.
 pub record IsOpening (count : ℕ) (o : OpeningValue) : Type 0 where
   pub points : length o.points ≡ count
   pub prices : All (λ price. price ≤ 9999999) o.prices

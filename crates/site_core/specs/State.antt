@@ -19,8 +19,8 @@ pub record SiteState : Type 0 where
   pub cleared : ℕ
   pub clears : ℕ
 
--- The state in which a site starts that has no day behind it: each point is closed, prices and counters are those of
--- the configuration, and nothing is cleared.
+-- The state in which a site without an opening starts: each point is closed, prices and counters are those of the
+-- configuration, and nothing is cleared.
 abbrev pub fresh_state : ConfigValue → SiteState
 fresh_state config = record { points = map (λ _. fresh_point) config.points; prices = config.prices; counters = config.counters; cleared = 0; clears = 0 }
 

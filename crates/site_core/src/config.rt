@@ -18,8 +18,8 @@ const MOST_COUNTER: u64 = 9_223_372_036_854_775_807;
 
 /// The configuration that a site is started from: how many tills there are, the slot of price changes, the prices of
 /// products 1 to 8 in thousandths, for each point the slots of its releases and of its presets, and the values and
-/// bounds of the counters. Every value is in its range. If there is an opening, the site begins with its prices,
-/// counters and points in place of those.
+/// bounds of the counters. Every value is in its range. If there is an opening, the site begins with the opening's
+/// prices, counters and points instead.
 #[derive(Drop)]
 pub struct Config {
     tills: u32,

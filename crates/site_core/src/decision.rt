@@ -120,8 +120,8 @@ fn places_of(mask: u32, before: &Counters, after: &Counters) -> [Option<(u64, u6
     places
 }
 
-/// Notes the values of each declared counter before and after a run. The error is that memory ran out; where no counter
-/// is declared, none is needed.
+/// Returns the values of each declared counter before and after a run. The error is that memory ran out; if no counter
+/// is declared, there is no error.
 pub fn note_counts(
     alloc: Global,
     mask: u32,

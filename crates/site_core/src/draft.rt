@@ -1,5 +1,5 @@
-//! Decisions whose program is run outside the site: a draft is made under the lock, run without it, and committed under
-//! it.
+//! Decisions whose program is run outside the site: a draft is made while the site is locked, run while it isn't, and
+//! committed while it is locked again.
 
 ghost use Rattle.std.specs.Prelude.{◌≡◌, IfOk, length};
 
@@ -117,8 +117,8 @@ impl Draft {
     }
 
     /// Compares what the draft's run depends on with what a run now would depend on: version, context, view and
-    /// declared counters. Returns the question if nothing has changed since. Else the error is the first change that
-    /// was found.
+    /// declared counters. Returns the question if nothing has changed since the draft was made. Else the error is the
+    /// first change that was found.
     fn compare(&self, config: &Config, station: &Station, slots: &Slots) -> Result<Question, Why>
         requires { length station.now.points ≡ length config.now.points }
         ensures { Compares config.now station.now slots.now self.now result }

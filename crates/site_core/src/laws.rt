@@ -48,7 +48,7 @@ pub fn each_event_goes_on()
     ensures { EachEventGoesOn }
 {}
 
-/// A law: the counters that a site leaves for the next day have the bounds that they began with.
+/// A law: each counter that a site leaves for the next day has the bound that it began with.
 pub fn bounds_stay()
     ensures { BoundsStay }
 {}

@@ -157,7 +157,8 @@ fn are_few(points: &[Point]) -> bool
     points.iter().all(|point| point.last() <= MOST_TRANSACTIONS)
 }
 
-/// Returns whether each slot has none or one of these many versions.
+/// Returns whether each version in the slots is one of the first `versions` versions: its number is from 1 to
+/// `versions`.
 fn are_rules(versions: u32, rules: &[Option<Version>]) -> bool
     ensures { IsTrue result ↔ All (IsRule versions) rules.now }
 {
@@ -177,7 +178,7 @@ fn is_rule(versions: u32, rule: &Option<Version>) -> bool
     }
 }
 
-/// Returns whether no two slots have versions of one number.
+/// Returns whether no two slots have versions with the same number.
 fn have_own_numbers(rules: &[Option<Version>]) -> bool
     ensures { IsTrue result ↔ HaveOwnNumbers rules.now }
 {

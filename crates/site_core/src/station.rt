@@ -79,7 +79,7 @@ impl Station {
         }
     }
 
-    /// Makes the state of a site that has no day behind it. The error is that memory ran out.
+    /// Makes the state of a new site that begins without an opening. The error is that memory ran out.
     fn fresh(alloc: Global, config: &Config) -> Result<Station, AllocError>
         ensures { IfOk result (λ s. s ≡ fresh_state config.now) }
     {
@@ -386,8 +386,8 @@ impl Station {
     }
 
     /// Runs a program on the current state. Returns its answer, and the values of each declared counter before and
-    /// after the run. The error is that memory for these ran out; then the station is unchanged. A program that
-    /// declares no counter is never refused.
+    /// after the run. The error is that memory for these values ran out; then the station is unchanged. For a program
+    /// that declares no counter there is no error.
     pub fn run(
         &mut self,
         alloc: Global,
@@ -404,7 +404,7 @@ impl Station {
     {
         let mask = program.declared();
         if mask == 0 {
-            // There are no counts, so nothing can be refused after the run, and it needs no copy.
+            // No counter is declared, so nothing can fail after the run, and the run needs no copy of the counters.
             let counts = note_counts(alloc, mask, &self.counters, &self.counters)?;
             let r0 = run(program, given, &self.view, &mut self.counters);
             return Ok((r0, counts));

@@ -3,8 +3,8 @@
 /// The first difference between the site and what a run was made on, in the order of these cases.
 #[derive(Clone, Copy, PartialEq, Eq, Drop)]
 pub enum Why {
-    /// The slot has another version, whose number is given, or none. The number is `None` also if there is no such till
-    /// or point.
+    /// The slot has another version now, whose number is given, or no version (`None`). It is `None` too if there is no
+    /// such till or point.
     Version(Option<u32>),
     /// The context differs; the number is that of the first byte that differs: 0 to 63, or 0 to 79 in the second
     /// layout.

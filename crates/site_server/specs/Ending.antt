@@ -37,7 +37,7 @@ pub record HaveWorked (plan : Plan) (passes : List PassView) (clean : ℕ) : Typ
   pub each : HandsBack plan done
   pub counted : clean ≡ all_clean done
 
--- What the tasks of some workers come to: these are all passes of a forecourt with this opening, each after its work.
+-- The result of the tasks of some workers: these are all passes of a forecourt with this opening, each after its work.
 abbrev pub WorksOff : Opened → Type 0 → ℕ → List (Option (PassView × Worker)) → List PassView → ℕ → Type 0
 WorksOff from may_fail connections tasks passes clean =
     (workers : List Worker) → AreWaiting workers tasks

@@ -5,8 +5,8 @@ use line_session::Clock;
 use std::time;
 use std::time::{SystemTime, UNIX_EPOCH};
 
-/// Gives whole seconds since the start of 1970. If the machine's clock can't be read, or is before 1970, the last
-/// moment is given again; before the first one that is 0.
+/// Gives whole seconds since the start of 1970. If the machine's clock can't be read, or is before 1970, gives the last
+/// moment again, or 0 if there is none yet.
 #[derive(Drop)]
 pub struct MachineClock<'a, R: time::Clock> {
     rt: &'a R,

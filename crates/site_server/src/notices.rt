@@ -25,8 +25,8 @@ impl fmt::Display for SessionFailure {
     }
 }
 
-/// Is told by the workers of a site what happens: an operator reads what went wrong, and connections may be counted.
-/// All workers share one reporter, and none waits until a report is read.
+/// Receives reports from the workers of a site: on what went wrong, for an operator to read, and on connections, which
+/// may be counted. All workers share one receiver, and none waits until a report is read.
 pub trait Notices {
     /// Reports that a connection couldn't be opened for the worker with this role and this pass.
     fn accept_failed(&self, role: Role, pass: u32, error: &io::Error);

@@ -22,7 +22,7 @@ use std::thread::Threads;
 use std::time::Clock;
 use thiserror::Error;
 
-/// A site to be served: its journal, its crew, and how many connections are served.
+/// A site to be served, with its journal, its crew, and the limits for its connections.
 #[derive(Drop)]
 pub struct Serving<J: Journal = NoJournal> {
     pub site: Site,
@@ -34,8 +34,8 @@ pub struct Serving<J: Journal = NoJournal> {
     pub idle_seconds: u32,
 }
 
-/// Those outside a site that is served: who is told what happens, who decides when an answer may be sent, and who looks
-/// at the site meanwhile.
+/// What serving a site needs besides the site: the receiver of the workers' reports, what decides when an answer may be
+/// sent, and who looks at the site meanwhile.
 #[derive(Clone, Copy)]
 pub struct Outside<'a, N: Notices, A: Release, W: Watcher> {
     pub notices: &'a N,
@@ -210,8 +210,8 @@ fn work_all<
 impl<J: Journal + Send> Serving<J> {
     /// Serves the site: each worker of the crew serves its connections, one after another, and then the site is closed.
     /// Each entry's line is passed to the journal before the entry is answered, and the answer is sent once `release`
-    /// allows it. A listener is closed when the last worker with a share of it ends. Beside the workers the watcher looks
-    /// at the site, until the last of them has ended.
+    /// allows it. A listener is closed when the last worker with a share of it ends. While the workers serve, the
+    /// watcher looks at the site, until the last of them has ended.
     ///
     /// The fault `OutOfMemory` comes only before anything is served, and gives the site and the journal back.
     pub fn run<

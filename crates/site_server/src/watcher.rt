@@ -4,7 +4,7 @@ use std::sync::Wait;
 use std::thread::Threads;
 use std::time::Clock;
 
-/// Somebody who looks at a site while it is served, beside the workers.
+/// Looks at a site while its workers serve it.
 pub trait Watcher {
     /// Looks at the site until `leave` is called.
     fn watch<L: SiteLedger + Send + Sync, J: Journal + Send, R: Threads + Wait + Clock + Sync>(
@@ -13,11 +13,11 @@ pub trait Watcher {
         forecourt: &Forecourt<L, J>,
     );
 
-    /// Is called once the last worker has ended: `watch` must return soon.
+    /// Asks `watch` to return soon. It is called once the last worker has ended.
     fn leave(&self);
 }
 
-/// Nobody looks at the site.
+/// A watcher that doesn't look at the site.
 #[derive(Clone, Copy)]
 pub struct NoWatcher;
 

@@ -27,7 +27,7 @@ pub struct Workers<'a, L: SiteLedger, J: Journal, N: Notices, A: Release, R: Wai
     pub release: &'a A,
     /// The number of connections that each worker serves.
     pub connections: u32,
-    /// For how many seconds a peer may be silent; 0 is no limit.
+    /// The most seconds for which a peer may be silent; 0 is no limit.
     pub idle_seconds: u32,
 }
 

@@ -1,4 +1,4 @@
--- Promises: a set determines the words that stand for it. So a set can be copied and compared.
+-- Promises: a set determines the words that represent it. So a set can be copied and compared.
 use Rattle.std.specs.Prelude.{◌≡◌, ℕ, zero, suc, ◌+◌, ◌*◌, ◌/◌, ◌%◌, ◌^◌, ◌<◌, ◌==◌, cond, List, [], ◌∷◌, ◌++◌, Bool, drop, length}
 use Rattle.std.specs.List.{AllByRecursion}
 use Rattle.std.proofs.Common.{refl, sym, ap, ◌∙◌, subst, add-one}

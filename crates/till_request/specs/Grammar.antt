@@ -153,7 +153,7 @@ abbrev pub ◌>>=◌ : {A B : Type 0} → Result A LineFault → (A → Result B
 (Ok x) >>= f = f x
 (Err e) >>= f = Err e
 
--- the request or the event that a verb and its numbers stand for
+-- the request or the event of a verb with its numbers
 abbrev pub amount_request : AmountVerb → ℕ → ℕ → Request
 amount_request amounts.Release point amount = requests.Release point amount
 amount_request amounts.Preset point amount = requests.Preset point amount
@@ -225,7 +225,7 @@ load_of layout slot mask hex = do
   bytes' ← bytes_from (decode_of hex)
   Ok (acts.Load slot' mask' layout bytes')
 
--- Reads the words of a line as the act that this form stands for. Words that don't have the form are a bad line.
+-- Reads the words of a line as the act of this form. Words that don't have the form are a bad line.
 abbrev pub act_in : Form → List (List ℕ) → Result Act LineFault
 act_in (forms.Amount verb) (k0 ∷ till ∷ k1 ∷ point ∷ amount ∷ []) = amount_of verb till point amount
 act_in (forms.Point verb) (k0 ∷ till ∷ k1 ∷ point ∷ []) = point_of verb till point

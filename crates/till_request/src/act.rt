@@ -66,8 +66,8 @@ impl PartialEq for Bytes {
     }
 }
 
-/// A till's request. The first number is a point's, or for `Price` a product's; a second one of 32 bits is the number
-/// of one of the point's transactions.
+/// A till's request. The first number is a point's, or for `Price` a product's. The second number of `Lock`, `Unlock`
+/// and `Clear` is that of one of the point's transactions.
 #[derive(Clone, Copy, PartialEq, Eq, Drop)]
 pub enum Request {
     /// Allow a delivery of at most this amount, in cents.

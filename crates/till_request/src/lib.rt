@@ -1,5 +1,5 @@
-//! What tills, dispensers and the owner ask, and what they are answered: lines in, answers out,
-//! over any reader and writer.
+//! What tills, dispensers and the owner ask, as lines from any reader, and what they are answered, as lines to any
+//! writer.
 #![tactic(auto)]
 
 mod act;
