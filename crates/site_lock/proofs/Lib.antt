@@ -1,5 +1,6 @@
 pub mod Fresh
 pub mod Loops
+pub mod Counting
 pub mod Ends
 pub mod Fitting
 pub mod Standing
