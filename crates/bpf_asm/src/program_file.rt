@@ -1,5 +1,5 @@
 //! Program files: the bytes of a program as hexadecimal digits, with blanks between them.
-ghost use Rattle.std.specs.Prelude.{◌≡◌, ◌*◌, ◌+◌, ◌≤◌, length, filter, not, IfOk, OnOk, ◌++◌, string_bytes};
+ghost use Rattle.std.specs.Prelude.{◌≡◌, ◌*◌, ◌+◌, ◌≤◌, ◌<◌, length, filter, not, IfOk, OnOk, Err, ◌++◌, string_bytes};
 ghost use Rattle.bpf_asm.specs.ProgramFile.{Gives, bytes_or_fault, program_in, is_blank, line_at, unit_lines};
 ghost use Rattle.hex.specs.Hex.{decode_of};
 
@@ -11,7 +11,7 @@ use std::fmt;
 pub const MOST_BYTES: usize = 65_536;
 
 /// Why a file isn't a program file.
-#[derive(Clone, Copy, Debug, Drop)]
+#[derive(Clone, Copy, Drop)]
 pub enum ProgramFileFault {
     /// L1: the file is too long.
     TooLong,
@@ -81,7 +81,8 @@ fn bytes_of(alloc: Global, digits: &[u8]) -> Result<Vec<u8>, ProgramFileFault>
 /// LF are skipped. A file that is too long is refused before its digits are checked.
 #[tactic(auto, unfolding(crate::specs::ProgramFile::program_in))]
 pub fn read_program(alloc: Global, text: &[u8]) -> Result<Vec<u8>, ProgramFileFault>
-    ensures { Gives (λ bytes. bytes.items) result (program_in text.now) }
+    ensures given { Gives (λ bytes. bytes.items) result (program_in text.now) }
+    ensures length { 65536 < length text.now → result ≡ Err ProgramFileFault.TooLong }
 {
     if text.len() > MOST_BYTES {
         return Err(ProgramFileFault::TooLong);

@@ -1,5 +1,6 @@
 //! Carries out the acts of a script on a site.
-ghost use Rattle.std.specs.Prelude.{◌≡◌, ℕ, None};
+ghost use Rattle.std.specs.Prelude.{◌≡◌, ℕ, None, Option, Some};
+ghost use Rattle.reg_types.specs.Refusals.{shown_by};
 ghost use Rattle.bpf_model.specs.Program.{ProgramText, as_loaded};
 ghost use Rattle.reg_types.specs.Shown.{IsRefused, IsRefusal, refusal_of};
 ghost use Rattle.site_core.specs.Site.{SiteValue, act_of};
@@ -45,6 +46,8 @@ pub struct Entered {
 /// Returns the answer to a load that the verifier refuses, with the refusal. If memory ran out in the verifier, the
 /// answer says so, and there is no refusal.
 fn refuse_load(refusal: Refusal) -> Entered
+    ensures told { (number : ℕ) (unit part : Option ℕ) → shown_by refusal ≡ Some (number, unit, part)
+        → result.answer ≡ Answer.Program number unit part }
     ensures answered { (old : SiteValue) (moment slot : ℕ) (p : ProgramText) → IsRefused p refusal
         → IsRefusal (refusal_of p) refusal → LoadAnswered old moment slot p result.answer old }
     ensures refused { (slot mask : ℕ) (layout : _) (bytes : _) → IsRefusal (refusal_of (as_loaded bytes mask layout)) refusal
