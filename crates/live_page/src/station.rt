@@ -74,8 +74,13 @@ pub enum Health {
 }
 
 impl Health {
+    ghost use Rattle.std.specs.Prelude.{◌≡◌};
+    ghost use Rattle.live_page.specs.Health.{health_text};
+
     /// Returns the few words for it: `ok` if all is well.
-    pub(crate) fn words(self) -> &'static str {
+    pub(crate) fn words(self) -> &'static str
+        ensures { result.now ≡ health_text self }
+    {
         match self {
             Health::Well => "ok",
             Health::JournalFailed => "the journal failed",
@@ -89,6 +94,11 @@ impl Health {
 }
 
 impl fmt::Display for Health {
+    ghost use Rattle.std.specs.Prelude.{Some};
+    ghost use Rattle.live_page.specs.Health.{health_text};
+
+    ghost output = { λ health. Some (health_text health) };
+
     fn fmt<W: fmt::Write>(&self, f: &mut fmt::Formatter<W>) -> fmt::Result {
         f.write_str(self.words())
     }

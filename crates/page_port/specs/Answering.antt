@@ -5,6 +5,7 @@ use Rattle.http_server.specs.Response.{fields_of}
 use Rattle.http_server.specs.declared.response.Response.{Response}
 use Rattle.live_page.specs.declared.station.Health.{Health}
 use Rattle.live_page.specs.declared.station.Health.TheVariants as health
+use Rattle.live_page.specs.Health.{health_text}
 use Rattle.page_port.specs.declared.asked.Refusal.{Refusal}
 use Rattle.page_port.specs.declared.asked.Refusal.TheVariants as refusals
 use Rattle.page_port.specs.declared.asked.View.{View}
@@ -41,12 +42,12 @@ fields_refusing refusals.OtherHost = fields kinds.Plain
 fields_refusing refusals.NoSuchPath = fields kinds.Plain
 fields_refusing refusals.NoNumber = fields kinds.Plain
 
--- the text that a view is shown as, unless memory runs out
-abbrev pub kind_of : View → Kind
-kind_of views.Page = kinds.Html
-kind_of views.Metrics = kinds.Metrics
-kind_of views.Health = kinds.Plain
-kind_of (views.Journal _) = kinds.Plain
+-- the text of the answer to a request that is refused
+abbrev pub text_refusing : Refusal → List ℕ
+text_refusing refusals.OtherHost = codes "this page is for localhost, 127.0.0.1 and [::1] alone\n"
+text_refusing refusals.NoSuchPath = codes "nothing is here: try /, /metrics, /healthz or /journal?after=N\n"
+text_refusing refusals.OtherMethod = codes "only GET and HEAD are answered here\n"
+text_refusing refusals.NoNumber = codes "write after=N, with N from 0 to 4294967295 in plain digits\n"
 
 -- the status that tells whether all is well
 abbrev pub status_of_health : Health → ℕ
@@ -61,7 +62,8 @@ Shows kind shown = (shown.status ≡ 200) × (shown.kind ≡ kind)
 
 -- it is told whether all is well
 abbrev pub TellsHealth : Health → Shown → Type 0
-TellsHealth health shown = (shown.status ≡ status_of_health health) × (shown.kind ≡ kinds.Plain)
+TellsHealth health shown =
+    (shown.status ≡ status_of_health health) × (shown.kind ≡ kinds.Plain) × (shown.text ≡ health_text health ++ codes "\n")
 
 -- what is shown for a view
 abbrev pub IsShown : View → Shown → Type 0
@@ -70,9 +72,23 @@ IsShown views.Metrics shown = Shows kinds.Metrics shown
 IsShown views.Health shown = (health : Health) × TellsHealth health shown
 IsShown (views.Journal _) shown = Shows kinds.Plain shown
 
--- the answer to a request: a refusal with its status and fields; else what is shown, or that it can't be shown now
+-- it is told that memory ran out
+abbrev pub TellsWant : Shown → Type 0
+TellsWant shown = (shown.status ≡ 503) × (shown.kind ≡ kinds.Plain) × (shown.text ≡ codes "out of memory\n")
+
+-- the response to a request that is refused
+pub record Refuses (refusal : Refusal) (response : Response) : Type 0 where
+  pub status : response.status ≡ status_of refusal
+  pub fields : fields_of response ≡ fields_refusing refusal
+  pub text : response.body.items ≡ text_refusing refusal
+
+-- the response that shows this
+pub record Puts (shown : Shown) (response : Response) : Type 0 where
+  pub status : response.status ≡ shown.status
+  pub fields : fields_of response ≡ fields shown.kind
+  pub text : response.body.items ≡ shown.text
+
+-- the answer to a request: a refusal; else what is shown for the view, or that memory ran out
 abbrev pub IsAnswer : Result View Refusal → Response → Type 0
-IsAnswer (Err refusal) response = (response.status ≡ status_of refusal) × (fields_of response ≡ fields_refusing refusal)
-IsAnswer (Ok view) response =
-    ((response.status ≡ 200) × (fields_of response ≡ fields (kind_of view)))
-    ⊎ ((response.status ≡ 503) × (fields_of response ≡ fields kinds.Plain))
+IsAnswer (Err refusal) response = Refuses refusal response
+IsAnswer (Ok view) response = (shown : Shown) × Puts shown response × (IsShown view shown ⊎ TellsWant shown)

@@ -3,7 +3,7 @@ ghost use Rattle.std.specs.Prelude.{◌≡◌, option_copied};
 ghost use Rattle.http.specs.Request.{head_of};
 ghost use Rattle.http_uri.specs.Uri.{uri_query};
 ghost use Rattle.till_request.specs.Grammar.{number};
-ghost use Rattle.page_port.specs.Answering.{status_of};
+ghost use Rattle.page_port.specs.Answering.{status_of, text_refusing};
 ghost use Rattle.page_port.specs.Asking.{asked_of, host_of, is_for_here, is_here, is_named, is_port, is_read};
 ghost use Rattle.page_port.specs.Asking.{lines_after, journal_at, view_at};
 
@@ -12,7 +12,7 @@ use http::{Request, StatusCode, header};
 use till_request::number_u32;
 
 /// What can be looked at.
-#[derive(Clone, Copy, Debug, PartialEq, Eq, Drop)]
+#[derive(Clone, Copy, PartialEq, Eq, Drop)]
 pub enum View {
     /// The station now, as a page of HTML.
     Page,
@@ -25,7 +25,7 @@ pub enum View {
 }
 
 /// Why a request is refused.
-#[derive(Clone, Copy, Debug, PartialEq, Eq, Drop)]
+#[derive(Clone, Copy, PartialEq, Eq, Drop)]
 pub enum Refusal {
     /// It names another host than this machine: a page of another site may have sent it.
     OtherHost,
@@ -51,7 +51,9 @@ impl Refusal {
     }
 
     /// Returns the text of the answer, one line.
-    pub fn text(self) -> &'static str {
+    pub fn text(self) -> &'static str
+        ensures { result.now ≡ text_refusing self }
+    {
         match self {
             Refusal::OtherHost => "this page is for localhost, 127.0.0.1 and [::1] alone\n",
             Refusal::NoSuchPath =>

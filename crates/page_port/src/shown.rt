@@ -1,7 +1,7 @@
 //! What is answered to a request.
 ghost use Rattle.std.specs.Prelude.{◌≡◌, ◌++◌, ◌∷◌, [], codes, OnOk};
 ghost use Rattle.http_server.specs.Response.{IsBlank, fields_of};
-ghost use Rattle.page_port.specs.Answering.{fields, fields_refusing, status_of, type_of};
+ghost use Rattle.page_port.specs.Answering.{Puts, Refuses, fields, fields_refusing, type_of};
 ghost use Rattle.page_port.specs.declared.shown.Kind.TheVariants.{Plain};
 
 use crate::asked::Refusal;
@@ -44,6 +44,7 @@ impl Shown {
     pub fn fixed(status: StatusCode, text: &'static str) -> Shown
         ensures status { result.status ≡ status }
         ensures kind { result.kind ≡ Plain }
+        ensures text { result.text ≡ text.now }
     {
         Shown {
             status,
@@ -55,9 +56,7 @@ impl Shown {
     /// Fills a response. Each connection ends after one answer, so that it keeps nobody else waiting.
     pub fn put(self, response: &mut Response) -> Result<(), AllocError>
         requires { IsBlank response.old }
-        ensures status { OnOk result (response.new.status ≡ self.status) }
-        ensures fields { OnOk result (fields_of response.new ≡ fields self.kind) }
-        ensures text { OnOk result (response.new.body.items ≡ self.text) }
+        ensures { OnOk result (Puts self response.new) }
     {
         let Shown { status, kind, text } = self;
         response.status = status;
@@ -91,6 +90,7 @@ fn add_allowed(refusal: Refusal, response: &mut Response) -> Result<(), AllocErr
     requires { fields_of response.old ≡ fields Plain }
     ensures fields { OnOk result (fields_of response.new ≡ fields_refusing refusal) }
     ensures status { response.new.status ≡ response.old.status }
+    ensures body { response.new.body ≡ response.old.body }
 {
     match refusal {
         Refusal::OtherMethod => response.add_header(
@@ -104,8 +104,7 @@ fn add_allowed(refusal: Refusal, response: &mut Response) -> Result<(), AllocErr
 /// Fills the response to a request that is refused.
 pub fn refuse(refusal: Refusal, response: &mut Response) -> Result<(), AllocError>
     requires { IsBlank response.old }
-    ensures status { OnOk result (response.new.status ≡ status_of refusal) }
-    ensures fields { OnOk result (fields_of response.new ≡ fields_refusing refusal) }
+    ensures { OnOk result (Refuses refusal response.new) }
 {
     Shown::fixed(refusal.status(), refusal.text()).put(response)?;
     add_allowed(refusal, response)
