@@ -13,3 +13,4 @@ pub mod Reading
 pub mod Spelling
 pub mod Standing
 pub mod Text
+pub mod Words

@@ -2,7 +2,7 @@
 
 use reg_types::Refusal;
 use site_core::{Opening, OpeningFault};
-use thiserror::Error;
+use std::fmt;
 
 /// The values in the text of an opening.
 #[derive(Drop)]
@@ -17,29 +17,37 @@ pub struct OpeningFile {
 }
 
 /// Why bytes aren't the text of an opening. The number is that of a line, counted from 1.
-#[derive(Clone, Copy, Debug, Drop, Error)]
+#[derive(Clone, Copy, Drop)]
 pub enum OpeningFlaw {
     /// The first line that no opening has after the lines before it; or, if the text ends too early, the number after
     /// the last line's.
-    #[error("line {0} can't stand there")]
     BadLine(u32),
     /// The last line has no LF.
-    #[error("line {0} is cut off")]
     CutLine(u32),
     /// The verifier refuses the program of this line.
-    #[error("the program in line {0} is refused: {1}")]
     BadProgram(u32, Refusal),
-    #[error("out of memory (S31)")]
     OutOfMemory,
 }
 
 /// Why the site of a day leaves no opening for the next day.
-#[derive(Clone, Copy, Debug, Drop, Error)]
+#[derive(Clone, Copy, Drop)]
 pub enum Uncarried {
     /// The number of the day is the greatest one.
-    #[error("no day comes after day 4294967295")]
     LastDay,
     /// No site with this number of points can begin with what the site leaves, or memory ran out.
-    #[error("{0}")]
     Fault(OpeningFault),
+}
+
+impl fmt::Display for Uncarried {
+    ghost use Rattle.std.specs.Prelude.{Some};
+    ghost use Rattle.days.specs.Words.{uncarried_text};
+
+    ghost output = { λ why. Some (uncarried_text why) };
+
+    fn fmt<W: fmt::Write>(&self, f: &mut fmt::Formatter<W>) -> fmt::Result {
+        match self {
+            Uncarried::LastDay => f.write_str("no day comes after day 4294967295"),
+            Uncarried::Fault(fault) => fault.fmt(f),
+        }
+    }
 }

@@ -16,7 +16,7 @@ use counters::Counters;
 pub use memory::put;
 
 /// The kind of a helper's argument: none, any number, the number of a declared counter, or a place in the stack.
-#[derive(Clone, Copy, Debug)]
+#[derive(Clone, Copy)]
 pub enum Kind {
     Nothing,
     Number,

@@ -6,3 +6,4 @@ pub mod Deciding
 pub mod Serving
 pub mod Session
 pub mod Answering
+pub mod Words

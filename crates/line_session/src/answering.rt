@@ -10,7 +10,7 @@ ghost use Rattle.line_session.specs.Found.{IsEnd, cut_by};
 
 use crate::line_handler::{HandlerError, LineHandler};
 use std::alloc::Global;
-use thiserror::Error;
+use std::fmt;
 use till_request::{
     Answer, Found, InputFault, LineFault, LineIn, LineOut, WriteFault, find_line, write_answer,
 };
@@ -27,22 +27,34 @@ pub struct Ended {
 }
 
 /// Why a session failed.
-#[derive(Clone, Copy, Debug, PartialEq, Eq, Drop, Error)]
+#[derive(Clone, Copy, PartialEq, Eq, Drop)]
 pub enum SessionFault {
     /// N1: a read failed.
-    #[error("a read failed")]
     Read,
     /// N2: a write failed.
-    #[error("a write failed")]
     Write,
     /// N3: the session would need more reads than it may make.
-    #[error("the reads ran out")]
     ReadsSpent,
-    #[error("out of memory")]
     OutOfMemory,
     /// The journal failed, so the line has no answer: the site takes no further event.
-    #[error("the journal failed")]
     Journal,
+}
+
+impl fmt::Display for SessionFault {
+    ghost use Rattle.std.specs.Prelude.{Some};
+    ghost use Rattle.line_session.specs.Words.{session_fault_text};
+
+    ghost output = { λ fault. Some (session_fault_text fault) };
+
+    fn fmt<W: fmt::Write>(&self, f: &mut fmt::Formatter<W>) -> fmt::Result {
+        match self {
+            SessionFault::Read => f.write_str("a read failed"),
+            SessionFault::Write => f.write_str("a write failed"),
+            SessionFault::ReadsSpent => f.write_str("the reads ran out"),
+            SessionFault::OutOfMemory => f.write_str("out of memory"),
+            SessionFault::Journal => f.write_str("the journal failed"),
+        }
+    }
 }
 
 impl From<InputFault> for SessionFault {

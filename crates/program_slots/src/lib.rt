@@ -16,7 +16,6 @@ use reg_types::Program;
 use std::alloc::{AllocError, Global};
 use std::marker::Model;
 use std::sync::Arc;
-use thiserror::Error;
 pub use version::Version;
 
 /// The greatest number of versions that can be installed, in all slots together.
@@ -26,13 +25,13 @@ pub const VERSIONS: usize = 4096;
 pub const SLOTS: u32 = 16;
 
 /// Why a program wasn't installed in a slot.
-#[derive(Clone, Copy, Debug, PartialEq, Eq, Drop, Error)]
+#[derive(Clone, Copy, PartialEq, Eq, Drop)]
 pub enum SlotFault {
-    #[error("there is no such slot: they are 0 to 15 (S32)")]
+    /// S32: the slots are 0 to 15.
     NoSuchSlot,
-    #[error("all 4,096 versions are used (S30)")]
+    /// S30: all 4,096 versions are used.
     VersionsFull,
-    #[error("out of memory (S31)")]
+    /// S31.
     OutOfMemory,
 }
 

@@ -1,5 +1,6 @@
 pub mod Opening
 pub mod Fitting
+pub mod Words
 pub mod Limits
 pub mod State
 pub mod Context

@@ -10,8 +10,8 @@ use crate::same::{are_same_counters, are_same_points, are_same_rules};
 use counters::Counters;
 use fuelling_point::Point;
 use program_slots::Version;
+use std::fmt;
 use std::marker::Model;
-use thiserror::Error;
 
 /// The greatest number that a point's newest transaction may have in an opening. A day has 1,048,576 entries at most,
 /// so the numbers of a day stay below 2^32.
@@ -24,28 +24,46 @@ const MOST_CLEARED: u64 = 1_000_000_000_000_000_000;
 const MOST_VERSIONS: u32 = 4_290_000_000;
 
 /// Why a site can't begin with an opening.
-#[derive(Clone, Copy, Debug, PartialEq, Eq, Drop, Error)]
+#[derive(Clone, Copy, PartialEq, Eq, Drop)]
 pub enum OpeningFault {
-    #[error("the opening has another number of points than the configuration")]
     Points,
-    #[error("a price of the opening is over 9,999,999")]
     Prices,
-    #[error("a point's newest transaction has a number over 4,290,000,000")]
     Transactions,
-    #[error("the cleared total is over 10^18 cents")]
     Cleared,
-    #[error("more than 10^18 transactions were cleared")]
     Clears,
-    #[error("more than 4,290,000,000 versions were loaded")]
     Versions,
-    #[error("the opening hasn't 16 slots")]
     Slots,
-    #[error("a slot of the opening has a version that was never loaded")]
     Rules,
-    #[error("two slots of the opening have one version")]
     Twice,
-    #[error("out of memory (S31)")]
     OutOfMemory,
+}
+
+impl fmt::Display for OpeningFault {
+    ghost use Rattle.std.specs.Prelude.{Some};
+    ghost use Rattle.site_core.specs.Words.{opening_fault_text};
+
+    ghost output = { λ fault. Some (opening_fault_text fault) };
+
+    fn fmt<W: fmt::Write>(&self, f: &mut fmt::Formatter<W>) -> fmt::Result {
+        match self {
+            OpeningFault::Points => f.write_str(
+                "the opening has another number of points than the configuration",
+            ),
+            OpeningFault::Prices => f.write_str("a price of the opening is over 9,999,999"),
+            OpeningFault::Transactions => f.write_str(
+                "a point's newest transaction has a number over 4,290,000,000",
+            ),
+            OpeningFault::Cleared => f.write_str("the cleared total is over 10^18 cents"),
+            OpeningFault::Clears => f.write_str("more than 10^18 transactions were cleared"),
+            OpeningFault::Versions => f.write_str("more than 4,290,000,000 versions were loaded"),
+            OpeningFault::Slots => f.write_str("the opening hasn't 16 slots"),
+            OpeningFault::Rules => f.write_str(
+                "a slot of the opening has a version that was never loaded",
+            ),
+            OpeningFault::Twice => f.write_str("two slots of the opening have one version"),
+            OpeningFault::OutOfMemory => f.write_str("out of memory (S31)"),
+        }
+    }
 }
 
 /// What a site keeps from one day to the next.

@@ -3,21 +3,38 @@ use super::halted::Halted;
 use super::journal::{Journal, NoJournal};
 use super::pass::{Pass, SiteLedger};
 use site_core::Site;
-use thiserror::Error;
+use std::fmt;
 
 /// Why a forecourt wasn't closed.
-#[derive(Clone, Copy, Debug, PartialEq, Eq, Drop, Error)]
+#[derive(Clone, Copy, PartialEq, Eq, Drop)]
 pub enum CloseRefusal {
     /// C1: the passes given to the close aren't exactly the passes of the forecourt, each once.
-    #[error("the passes handed in aren't all of the site's, each once")]
     PassMissing,
     /// C2: the receipt of this pass and number isn't the entry of that number; or the entry of this pass and number has
     /// no receipt, such as the entry at which a journal failed.
-    #[error("entry {1} of the history isn't what pass {0} was answered")]
     NotInHistory(u32, u32),
     /// C3: the site has another configuration than the forecourt was made for.
-    #[error("the site has another configuration")]
     OtherConfig,
+}
+
+impl fmt::Display for CloseRefusal {
+    ghost use Rattle.std.specs.Prelude.{Some};
+    ghost use Rattle.site_lock.specs.Words.{close_refusal_text};
+
+    ghost output = { λ why. Some (close_refusal_text why) };
+
+    fn fmt<W: fmt::Write>(&self, f: &mut fmt::Formatter<W>) -> fmt::Result {
+        match self {
+            CloseRefusal::PassMissing => f.write_str(
+                "the passes handed in aren't all of the site's, each once",
+            ),
+            CloseRefusal::NotInHistory(pass, number) => write!(
+                f,
+                "entry {number} of the history isn't what pass {pass} was answered"
+            ),
+            CloseRefusal::OtherConfig => f.write_str("the site has another configuration"),
+        }
+    }
 }
 
 /// The error of a close: why the forecourt wasn't closed, the forecourt itself, which is unchanged, and the given

@@ -5,3 +5,4 @@ pub mod Limits
 pub mod Pauses
 pub mod Plans
 pub mod Tasks
+pub mod Words

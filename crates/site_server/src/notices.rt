@@ -13,6 +13,11 @@ pub enum SessionFailure {
 }
 
 impl fmt::Display for SessionFailure {
+    ghost use Rattle.std.specs.Prelude.{Some};
+    ghost use Rattle.site_server.specs.Words.{session_failure_text};
+
+    ghost output = { λ failure. Some (session_failure_text failure) };
+
     fn fmt<W: fmt::Write>(&self, f: &mut fmt::Formatter<W>) -> fmt::Result {
         match self {
             SessionFailure::Line(LineFault::TooLong) => {
@@ -20,7 +25,7 @@ impl fmt::Display for SessionFailure {
             }
             // Besides a line that is too long, only a line without its LF ends a session.
             SessionFailure::Line(_) => f.write_str("ended in mid-line"),
-            SessionFailure::Session(fault) => write!(f, "{fault}"),
+            SessionFailure::Session(fault) => fault.fmt(f),
         }
     }
 }

@@ -20,7 +20,6 @@ use std::sync::ledger::Blank;
 use std::thread;
 use std::thread::Threads;
 use std::time::Clock;
-use thiserror::Error;
 
 /// A site to be served, with its journal, its crew, and the limits for its connections.
 #[derive(Drop)]
@@ -55,16 +54,13 @@ pub struct Served<J: Journal = NoJournal> {
 }
 
 /// Why a site that was served couldn't be closed.
-#[derive(Clone, Copy, Debug, PartialEq, Eq, Drop, Error)]
+#[derive(Clone, Copy, PartialEq, Eq, Drop)]
 pub enum ServeFault {
-    #[error("out of memory")]
     OutOfMemory,
     /// The journal failed, so the act of the last entry was never answered.
-    #[error("a write to the journal failed: the site took no further event")]
     Journal,
     /// The receipts of the workers aren't the site's history. A pass is missing (C1), an answer isn't in the history
     /// (C2), or a pass is of another configuration (C3).
-    #[error("{0}")]
     NotClosed(CloseRefusal),
 }
 

@@ -5,11 +5,9 @@ ghost use Rattle.till_request.specs.Count.{RoseBy, one_if};
 ghost use Rattle.till_request.specs.Line.{IsLine, TakesHeld};
 
 use std::alloc::AllocError;
-use thiserror::Error;
 
 /// The error of a read or a write that failed. The cause isn't kept.
-#[derive(Clone, Copy, Debug, PartialEq, Eq, Drop, Error)]
-#[error("the device failed")]
+#[derive(Clone, Copy, PartialEq, Eq, Drop)]
 pub struct DeviceFault;
 
 /// A source of bytes that lines are read from: a file, a socket, a list in memory.
