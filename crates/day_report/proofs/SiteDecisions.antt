@@ -44,7 +44,8 @@ use Rattle.site_core.proofs.Decisions.{decided-refused, decided-none, decided-so
 use Rattle.site_core.proofs.Grants.{verdict-deny, verdict-grant}
 use Rattle.site_core.proofs.Undecided.{refuses, release-no, preset-no, price-no}
 use Rattle.day_report.specs.Decisions as told
-use Rattle.day_report.specs.Decisions.{asked_by, verdict_of, decision_of, loaded_at, load_of, loads, moment_after}
+use Rattle.decision_journal.specs.Tally.{verdict_of}
+use Rattle.day_report.specs.Decisions.{asked_by, decision_of, loaded_at, load_of, loads, moment_after}
 use Rattle.day_report.specs.Carried.{carried_from, carried_rules, OpensRightly}
 use Rattle.day_report.specs.Totals.{is_release, is_preset, is_price, is_wanted, versions_of}
 use Rattle.day_report.specs.Laws.{decided_in_all, VersionsTellAllDecisions}

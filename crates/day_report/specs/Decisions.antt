@@ -1,7 +1,8 @@
 -- Definitions: what rules decided, what was refused, which prices were changed, and which programs were loaded.
-use Rattle.std.specs.Prelude.{ℕ, ◌==◌, if◌then◌else◌, List, [], ◌∷◌, Option, Some, None, Bool, true, false}
+use Rattle.std.specs.Prelude.{ℕ, ◌==◌, if◌then◌else◌, List, [], ◌∷◌, Option, Some, None}
 use Rattle.std.specs.List.{cons_option}
 use Rattle.decision_journal.specs.declared.entries.Entry.{Entry}
+use Rattle.decision_journal.specs.Tally.{verdict_of}
 use Rattle.till_request.specs.declared.act.Request.{Request}
 use Rattle.till_request.specs.declared.act.Request.TheVariants as request
 use Rattle.till_request.specs.declared.act.Act.{Act}
@@ -20,13 +21,6 @@ asked_by (request.Release n amount) = Some asked.Release
 asked_by (request.Preset n amount) = Some asked.Preset
 asked_by (request.Price product price) = Some asked.Price
 asked_by _ = None
-
--- The version that decided, and whether it granted. A grant has its version, and so has S24, the denial by a rule.
--- Other replies are no decisions.
-abbrev pub verdict_of : Reply → Option (ℕ × Bool)
-verdict_of (reply.Granted amount version) = Some (version, true)
-verdict_of (reply.Refused number (Some version)) = if number == 24 then Some (version, false) else None
-verdict_of _ = None
 
 -- The decision of the rule that gave an act this reply; None if no rule decided.
 abbrev pub decided : Act → Reply → Option Decision

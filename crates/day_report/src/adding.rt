@@ -20,7 +20,7 @@ use crate::opening::{CarriedRule, carried_rules, rules_in};
 use crate::pushing::push_some;
 use crate::rulings::{Decision, PriceChange, decisions, price_changes, refusals};
 use crate::sales::{Part, Sale, Sum, find_sales, sum_of};
-use decision_journal::Entry;
+use decision_journal::{Entry, FIRST_REFUSAL, REFUSALS};
 use fuelling_point::{Point, Transaction};
 use site_core::{Config, Opening};
 use std::alloc::{AllocError, Global};
@@ -33,12 +33,6 @@ pub const TILLS: u32 = 64;
 
 /// How many hours a day has.
 const HOURS: u32 = 24;
-
-/// The number of the first refusal: refusals are numbered S20 to S34.
-pub const FIRST_REFUSAL: u32 = 20;
-
-/// How many numbers of refusals there are: S20 to S34.
-pub const REFUSALS: u32 = 15;
 
 /// The totals of a history.
 #[derive(Drop)]

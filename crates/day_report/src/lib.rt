@@ -12,8 +12,9 @@ mod sales;
 mod steps;
 mod walk;
 
-pub use adding::{CarriedIn, FIRST_REFUSAL, REFUSALS, TILLS, Totals, Unpaid, add_up, carried_in};
+pub use adding::{CarriedIn, TILLS, Totals, Unpaid, add_up, carried_in};
 pub use counting::{Deciding, Outcomes, count_of, tally};
+pub use decision_journal::{FIRST_REFUSAL, REFUSALS};
 pub use laws::{law_of_decisions, law_of_sales};
 pub use loading::{Load, loads};
 pub use opening::{CarriedRule, carried_rules, opening_points, opening_prices};

@@ -1,2 +1,1 @@
 pub mod Health
-pub mod Tally

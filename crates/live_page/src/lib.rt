@@ -6,11 +6,9 @@ mod parts;
 mod samples;
 mod sections;
 mod station;
-mod tally;
 mod words;
 
 pub use checking::health;
 pub use samples::metrics;
 pub use sections::page;
 pub use station::{Health, JournalFile, Peers, Station, Times};
-pub use tally::Tally;

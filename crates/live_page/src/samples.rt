@@ -1,10 +1,9 @@
 //! Metrics of a station, in the text format of Prometheus, version 0.0.4.
 use crate::parts::{ENTRIES, digits};
 use crate::station::{JournalFile, Peers, Station, Times};
-use crate::tally::{Decided, NOTHING, Tally};
 use crate::words::role_name;
 use day_page::{STATES, Sheet, Text, number, numbered, state_name};
-use day_report::{FIRST_REFUSAL, REFUSALS};
+use decision_journal::{Decided, FIRST_REFUSAL, NOTHING, REFUSALS, Tally};
 use fuelling_point::{Point, State};
 use program_slots::Version;
 use site_core::Opening;

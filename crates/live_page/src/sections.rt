@@ -2,11 +2,9 @@
 use crate::checking::health;
 use crate::parts::{ENTRIES, NONE, digits, hundredths, thousands};
 use crate::station::{Health, Peers, Station};
-use crate::tally::Tally;
 use crate::words::{add_entry, order_name, role_name};
 use day_page::{HEAD, STYLE, Sheet, Text, add_figure, add_row, number, numbered, state_name};
-use day_report::{FIRST_REFUSAL, REFUSALS};
-use decision_journal::Entry;
+use decision_journal::{Entry, FIRST_REFUSAL, REFUSALS, Tally};
 use fuelling_point::{Point, Transaction};
 use program_slots::Version;
 use site_core::Opening;

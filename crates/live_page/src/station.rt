@@ -1,6 +1,5 @@
 //! What is shown of a station.
-use crate::tally::Tally;
-use decision_journal::Entry;
+use decision_journal::{Entry, Tally};
 use site_core::Opening;
 use std::fmt;
 use till_request::Role;

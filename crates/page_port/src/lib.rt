@@ -4,7 +4,6 @@
 mod asked;
 mod client;
 mod connections;
-mod followed;
 mod journal_counts;
 mod port;
 mod service;

@@ -1,7 +1,6 @@
 //! The port on which somebody looks at a served site.
 use crate::client::{Client, Turn};
 use crate::connections::Connections;
-use crate::followed::Followed;
 use crate::journal_counts::JournalCounts;
 use crate::service::Answers;
 use crate::timings::Timings;
@@ -15,8 +14,8 @@ use std::hash::RandomState;
 use std::io::{self, ErrorKind};
 use std::net::{Net, Shutdown, SocketAddr, TcpListener, TcpStream};
 use std::os::fd::OwnedFd;
+use std::sync::Wait;
 use std::sync::atomic::{AtomicBool, Ordering};
-use std::sync::{Mutex, Wait};
 use std::thread::{self, Threads};
 use std::time::{Clock, Duration};
 
@@ -205,12 +204,12 @@ impl Watcher for PagePort<'_> {
         rt: &R,
         forecourt: &Forecourt<L, J>,
     ) {
-        let followed = Mutex::new(Followed::new(self.alloc()));
+        // The first look counts all entries. If memory runs out for that, the next one does.
+        let _ = forecourt.look(rt, 0);
         let mut answers = Answers {
             rt,
             port: self,
             forecourt,
-            followed: &followed,
         };
         let mut clients = Vec::new(self.alloc());
         let mut has_failed = false;

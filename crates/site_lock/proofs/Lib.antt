@@ -1,6 +1,5 @@
 pub mod Fresh
 pub mod Loops
-pub mod Counting
 pub mod Ends
 pub mod Fitting
 pub mod Standing

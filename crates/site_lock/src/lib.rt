@@ -27,6 +27,6 @@ pub use gate::{Gate, Straight};
 pub use halted::Halted;
 pub use journal::{Journal, LineJournal, NoJournal};
 pub use line_session::{Clock, Desk, Doors, Ended, SessionFault, session, worker};
-pub use look::{Counted, EntryCounter, Look};
+pub use look::{Excerpt, Look};
 pub use pass::{Pass, Receipt, SiteLedger};
 pub use programs::verify_all;
