@@ -1,6 +1,6 @@
 -- A line of at most 8,400 bytes that can't be read as an act is a bad line or has a bad number.
 use Rattle.std.proofs.Common.{◌≡◌, ℕ, List, [], ◌∷◌, ◌++◌, Bool, true, false, cond, Option, Some, None, Result, Ok, Err, subst, sym, ap, ◌∙◌, ◌≤◌, length, find}
-use Rattle.std.proofs.Common.{nat_lt, ◌&&◌, ◌^◌, inr}
+use Rattle.std.proofs.Common.{nat_lt, ◌&&◌, ◌^◌, inr, refl}
 use Rattle.std.proofs.lemmas.Bool.{le-ltb}
 use Rattle.std.specs.Io.KnownBytes.{Consumes}
 use Rattle.std.specs.Str.Parse.{digits_value}
@@ -22,7 +22,7 @@ use Rattle.till_request.specs.declared.line.LineReadFault.TheVariants as reading
 use Rattle.till_request.specs.Gives.{Fails}
 use Rattle.till_request.specs.Line.{IsLine, TakesFault}
 use Rattle.till_request.specs.Grammar.{number, is_decimal, bytes_from, ◌>>=◌, amount_of, point_of, transaction_of, report_of, up_of, flow_of, load_of, act_in}
-use Rattle.till_request.specs.Grammar.{act_by, act_of_line, act_said, own_act, names_point, names_till, line_read, suits, all_forms, words}
+use Rattle.till_request.specs.Grammar.{act_by, act_of_line, act_said, own_act, names_point, names_till, line_read, suits, all_forms, words, IsLoad}
 
 -- the result is Ok, or its fault is BadLine or BadNumber
 abbrev pub IsBad : {A : Type 0} → Result A LineFault → Type 0
@@ -121,11 +121,11 @@ pub short_read : (role : Role) (line : List ℕ) → length line ≤ 8400 → li
 short_read role line l = ap (λ b. cond b (Err TooLong) (act_of_line role line)) (le-ltb 8400 (length line) l)
 
 -- if a line was read with its LF, and parsing it gave a fault, then `TakesFault` holds for this fault
-pub fault_taken : (fault : LineFault) (old new : Option (List ℕ)) (role : Role) (line : List ℕ) → Consumes old new (line ++ 10 ∷ []) → IsLine line
-    → Fails fault (line_read role line)
-    → TakesFault old new role (reading.Line fault)
-fault_taken TooLong old new role line t l e = absurd (bad_along (sym (short_read role line l.1) ∙ e) (IsBad-act_of_line role line))
-fault_taken BadLine old new role line t l e = (line, t, l, e)
-fault_taken BadNumber old new role line t l e = (line, t, l, e)
-fault_taken CutLine old new role line t l e = absurd (bad_along (sym (short_read role line l.1) ∙ e) (IsBad-act_of_line role line))
-fault_taken OutOfMemory old new role line t l e = inr (line, t, l)
+pub fault_taken : (fault : LineFault) (old new : Option (List ℕ)) (role : Role) (before after : ℕ) (line : List ℕ)
+    → Consumes old new (line ++ 10 ∷ []) → IsLine line → Fails fault (line_read role line)
+    → (fault ≡ OutOfMemory → IsLoad role (words line)) → TakesFault old new role before after (reading.Line fault)
+fault_taken TooLong old new role before after line t l e load = absurd (bad_along (sym (short_read role line l.1) ∙ e) (IsBad-act_of_line role line))
+fault_taken BadLine old new role before after line t l e load = (line, t, l, e)
+fault_taken BadNumber old new role before after line t l e load = (line, t, l, e)
+fault_taken CutLine old new role before after line t l e load = absurd (bad_along (sym (short_read role line l.1) ∙ e) (IsBad-act_of_line role line))
+fault_taken OutOfMemory old new role before after line t l e load = inr (line, t, l, load refl)

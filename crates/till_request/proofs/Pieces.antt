@@ -7,8 +7,8 @@ use Rattle.std.proofs.lemmas.Bool.{eq-eqb, eqb-true}
 use Rattle.std.proofs.lemmas.Bool.Decides.{nat_tests}
 use Rattle.memchr.specs.Find.{IsFirstByte, Nowhere, Passes, is_byte}
 use Rattle.std.specs.Prelude.{◌==◌, if◌then◌else◌}
-use Rattle.std.specs.Io.KnownBytes.{Consumes, IsAtEnd, Keeps, prepend_known}
-use Rattle.till_request.specs.Line.{HasNoLf, IsLine, Takes, TakesHeld, TakesTooLong}
+use Rattle.std.specs.Io.KnownBytes.{Consumes, IsAtEnd, Keeps, append_known, prepend_known}
+use Rattle.till_request.specs.Line.{HasNoLf, IsLine, LacksRoom, Takes, TakesHeld, TakesTooLong}
 use Rattle.till_request.specs.Blocks.{Belongs, EndsBehind, GivesHeld, LineGrows, LosesPart}
 use Rattle.till_request.specs.declared.block.Piece.TheVariants.{Ended, TooLong}
 use Rattle.till_request.specs.declared.line.NextLine.{NextLine}
@@ -79,13 +79,14 @@ ends_nowhere there line room l e h o =
     (no_lf_less (length there) (room + 1) there (omega (arith, o)) (subst (λ l. HasNoLf l) (sym (take_all (length there) there (omega arith))) h))
 
 -- if bytes without an LF were removed from the block, and the line has room for them but wasn't kept, `LosesPart` holds
-pub part_lost : (there line left : List ℕ) (count : ℕ) → IsLine line → HasNoLf (take count there) → count ≤ length there
-    → count ≤ 8400 - length line → 0 < count → left ≡ drop count there → LosesPart there line left
-part_lost there line left count l h long room some rest = (
+pub part_lost : (there line left : List ℕ) (count place : ℕ) → IsLine line → HasNoLf (take count there) → count ≤ length there
+    → count ≤ 8400 - length line → 0 < count → place < length line + count → left ≡ drop count there → LosesPart there line place left
+part_lost there line left count place l h long room some full rest = (
   take count there,
   sym (ap (λ r. take count there ++ r) rest ∙ take-append-drop count there),
   (no_lf_both line (take count there) l.0 h, omega (arith, length-append line (take count there), length-take-le count there long, l.1, room)),
   omega (arith, length-take-le count there long, some),
+  omega (arith, length-append line (take count there), length-take-le count there long, full),
 )
 
 -- if the bytes before the LF were appended to the line, which has room for them, and the LF was removed, the line has
@@ -171,6 +172,35 @@ held_taken there line grown left room n count l e belongs few is rest =
     ) in
     (bytes, sym (ap (λ r. bytes ++ r) rest ∙ take-append-drop count there), is, subst (λ w. IsLine w) (sym is) whole, long)
 
+-- if `count` bytes, of those that belong to the line, have no place in its room, then `LacksRoom` holds of the block
+pub held_lacks : (there line : List ℕ) (free n count place most : ℕ) → IsLine line → free ≡ 8400 - length line → Belongs there free n
+    → count ≤ n → count ≤ most → length line ≤ place → place < length line + count → LacksRoom (Some there) line place most most
+held_lacks there line free n count place most l e belongs few within fits full =
+    let bytes : List ℕ = take count there in
+    let long : length bytes ≡ count = omega (arith, few, belongs.0, length-take count there) in
+    let both : length (line ++ bytes) ≡ length line + length bytes = length-append line bytes in (
+      bytes,
+      Some (drop count there),
+      sym (take-append-drop count there),
+      (no_lf_both line bytes l.0 (no_lf_less n count there few belongs.1), omega (arith, both, long, few, belongs.2, e, l.1)),
+      omega (arith, long, fits, full),
+      omega (arith, both, long, full),
+      omega arith,
+      omega (arith, long, within),
+    )
+
+consumes_ahead : (there rest bytes : List ℕ) (left : Option (List ℕ)) → Consumes (Some there) left bytes
+    → Consumes (Some (there ++ rest)) (append_known left rest) bytes
+consumes_ahead there rest bytes None h = absurd h
+consumes_ahead there rest bytes (Some left) h = ap (λ t. t ++ rest) h ∙ append_assoc bytes left rest
+
+-- bytes of a block that have no place come next in the bytes of the block and the device together
+pub lacks_ahead : (ahead : Option (List ℕ)) (there line : List ℕ) (place most : ℕ) → LacksRoom (Some there) line place most most
+    → LacksRoom (prepend_known there ahead) line place most most
+lacks_ahead None there line place most h = (h.0, None, tt, h.3, h.4, h.5, h.6, h.7)
+lacks_ahead (Some rest) there line place most h =
+    (h.0, append_known h.1 rest, consumes_ahead there rest h.0 h.1 h.2, h.3, h.4, h.5, h.6, h.7)
+
 -- bytes that were moved from a block to a line were taken from the bytes of the block and the device together
 pub held_ahead : (ahead : Option (List ℕ)) (there line left grown : List ℕ) (count : ℕ) → GivesHeld there line left grown count
     → TakesHeld (prepend_known there ahead) (prepend_known left ahead) line grown
@@ -185,5 +215,5 @@ pub too_long_shorter : (there line left grown : List ℕ) → IsLine line → Li
 too_long_shorter there line left grown l g =
     omega (arith, ap length g.1, length-append g.0 left, length-append line g.0, g.3, l.1)
 
-pub lost_shorter : (there line left : List ℕ) → LosesPart there line left → length left < length there
-lost_shorter there line left g = omega (arith, ap length g.1, length-append g.0 left, g.3)
+pub lost_shorter : (there line left : List ℕ) (place : ℕ) → LosesPart there line place left → length left < length there
+lost_shorter there line left place g = omega (arith, ap length g.1, length-append g.0 left, g.3)

@@ -1,7 +1,7 @@
 -- Bytes that are read or written piece by piece add up.
-use Rattle.std.proofs.Common.{◌≡◌, ◌≢◌, ℕ, List, [], ◌∷◌, ◌++◌, Some, None, Option, Result, Ok, Err, OnErr, sym, ◌∙◌, ap, subst, append_assoc, append-nil, MatchOption, IfOk}
+use Rattle.std.proofs.Common.{◌≡◌, ◌≢◌, ◌≤◌, ◌+◌, ℕ, arith, length, length-append, List, [], ◌∷◌, ◌++◌, Some, None, Option, Result, Ok, Err, OnErr, sym, ◌∙◌, ap, subst, append_assoc, append-nil, MatchOption, IfOk}
 use Rattle.std.specs.Io.KnownBytes.{Consumes, Appends, IsAtEnd}
-use Rattle.till_request.specs.Line.{GoesOn, GoesPart, HasNoLf, IsLine, TakesHeld, TakesPart}
+use Rattle.till_request.specs.Line.{GoesOn, GoesPart, HasNoLf, IsLine, LacksRoom, TakesHeld, TakesPart}
 
 pub consumes_more : (a b c : Option (List ℕ)) (xs ys : List ℕ) → Consumes a b xs → Consumes b c ys → Consumes a c (xs ++ ys)
 consumes_more None b c xs ys h k = tt
@@ -54,3 +54,33 @@ pub goes_part : {T E : Type 0} (a b c : Option (List ℕ)) (line grown : List �
     → OnErr r (Consumes b c []) → OnErr r (GoesPart a c line)
 goes_part a b c line grown (Ok x) h k = tt
 goes_part a b c line grown (Err e) h k = (h.0, nothing_more a b c h.0 h.1 k, subst (λ l. IsLine l) h.2 h.3)
+
+-- if a line was read, and the bytes behind it have no place with it, then all these bytes have no place
+pub lacks_behind : (a b : Option (List ℕ)) (line : List ℕ) (least room all before after : ℕ) → Consumes a b line → least ≤ room
+    → length line + before ≡ all → LacksRoom b line room before after → LacksRoom a [] least all after
+lacks_behind a b line least room all before after h fits counted l =
+    let long : length (line ++ l.0) ≡ length line + length l.0 = length-append line l.0 in (
+      line ++ l.0,
+      l.1,
+      consumes_more a b l.1 line l.0 h l.2,
+      l.3,
+      omega (arith, long, l.4),
+      omega (arith, fits, l.5),
+      omega (arith, long, counted, l.6),
+      omega (arith, long, counted, l.7),
+    )
+
+-- if a line and a byte behind it were read, and the line has no place for the byte, then all these bytes have no place
+pub lacks_byte : (a c : Option (List ℕ)) (line : List ℕ) (byte room all after : ℕ) → Consumes a c (line ++ byte ∷ []) → IsLine (line ++ byte ∷ [])
+    → room ≤ length line → length line + after + 1 ≡ all → LacksRoom a [] room all after
+lacks_byte a c line byte room all after h whole full counted =
+    let long : length (line ++ byte ∷ []) ≡ length line + 1 = length-append line (byte ∷ []) in (
+      line ++ byte ∷ [],
+      c,
+      h,
+      whole,
+      omega (arith, long),
+      omega (arith, long, full),
+      omega (arith, long, counted),
+      omega (arith, long, counted),
+    )

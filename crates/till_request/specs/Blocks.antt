@@ -29,9 +29,11 @@ LineGrows there line left grown Ended = (bytes : List ℕ) × (there ≡ bytes +
 LineGrows there line left grown TooLong = (bytes : List ℕ) × (there ≡ bytes ++ left) × HasNoLf (line ++ bytes) × (length (line ++ bytes) ≡ 8401)
 LineGrows there line left grown More = (left ≡ []) × (grown ≡ line ++ there) × IsLine grown
 
--- at least one byte that belongs to the line was removed from the block and is lost
-abbrev pub LosesPart : List ℕ → List ℕ → List ℕ → Type 0
-LosesPart there line left = (bytes : List ℕ) × (there ≡ bytes ++ left) × IsLine (line ++ bytes) × (0 < length bytes)
+-- at least one byte that belongs to the line was removed from the block and is lost, since the line had no place for
+-- the removed bytes in `room` bytes
+abbrev pub LosesPart : List ℕ → List ℕ → ℕ → List ℕ → Type 0
+LosesPart there line room left =
+    (bytes : List ℕ) × (there ≡ bytes ++ left) × IsLine (line ++ bytes) × (0 < length bytes) × (room < length (line ++ bytes))
 
 -- `count` is how many of the bytes belong to the line: those before the first LF, or all if there is no LF, but at most
 -- `room`

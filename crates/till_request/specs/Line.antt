@@ -1,10 +1,10 @@
 -- Promises: which bytes are read from an input that is read line by line: it had the bytes `old`, and then has `new`.
 -- IsLine and Takes are also definitions. A line has no LF and at most 8,400 bytes. With one byte more it is too long.
 -- If the input ends after at least one byte and without an LF, the line is cut.
-use Rattle.std.specs.Prelude.{◌≡◌, ◌≢◌, ◌⊎◌, ℕ, ◌<◌, ◌≤◌, List, [], ◌∷◌, ◌++◌, length, Option, Some, None, Result, Ok, Err, Bool, true, false}
+use Rattle.std.specs.Prelude.{◌≡◌, ◌≢◌, ◌⊎◌, ℕ, ◌+◌, ◌<◌, ◌≤◌, List, [], ◌∷◌, ◌++◌, length, Option, Some, None, Result, Ok, Err, Bool, true, false}
 use Rattle.std.specs.List.{AllByRecursion}
 use Rattle.std.specs.Io.KnownBytes.{Consumes, IsAtEnd}
-use Rattle.till_request.specs.Grammar.{line_read}
+use Rattle.till_request.specs.Grammar.{IsLoad, line_read, words}
 use Rattle.till_request.specs.declared.act.Act.{Act}
 use Rattle.till_request.specs.declared.act.Role.{Role}
 use Rattle.till_request.specs.declared.act.LineFault.{LineFault}
@@ -38,9 +38,23 @@ TakesCut old new = (bytes : List ℕ) × Consumes old new bytes × IsLine bytes 
 abbrev pub TakesPart : Option (List ℕ) → Option (List ℕ) → Type 0
 TakesPart old new = (bytes : List ℕ) × Consumes old new bytes × IsLine bytes
 
--- zero or more bytes of a line were read, or a whole line with its LF
-abbrev pub TakesUpTo : Option (List ℕ) → Option (List ℕ) → Type 0
-TakesUpTo old new = TakesPart old new ⊎ ((line : List ℕ) × Consumes old new (line ++ 10 ∷ []) × IsLine line)
+-- at least one byte of a line was read, and not its LF
+abbrev pub TakesBytes : Option (List ℕ) → Option (List ℕ) → Type 0
+TakesBytes old new = (bytes : List ℕ) × Consumes old new bytes × IsLine bytes × (0 < length bytes)
+
+-- Bytes come next in the input that belong to the line, at least one, and the line has no place for them in `room`
+-- bytes. `before` reads of one byte were allowed, and `after` of them are left: the bytes are at most as many as were
+-- allowed, and at least as many as were made.
+abbrev pub LacksRoom : Option (List ℕ) → List ℕ → ℕ → ℕ → ℕ → Type 0
+LacksRoom old line room before after =
+    (bytes : List ℕ) × (rest : Option (List ℕ)) × Consumes old rest bytes × IsLine (line ++ bytes) × (0 < length bytes)
+    × (room < length (line ++ bytes)) × (before ≤ after + length bytes) × (length bytes ≤ before)
+
+-- memory ran out: in the middle of a line, whose bytes had no place, or behind a whole line with its LF, which is a load
+abbrev pub TakesUpTo : Option (List ℕ) → Option (List ℕ) → Role → ℕ → ℕ → Type 0
+TakesUpTo old new role before after =
+    (TakesPart old new × LacksRoom old [] 0 before after)
+    ⊎ ((line : List ℕ) × Consumes old new (line ++ 10 ∷ []) × IsLine line × IsLoad role (words line))
 
 -- zero or more bytes were read and appended to the line, which then has at most 8,400 bytes and no LF
 abbrev pub TakesHeld : Option (List ℕ) → Option (List ℕ) → List ℕ → List ℕ → Type 0
@@ -83,15 +97,15 @@ abbrev pub TakesAct : Option (List ℕ) → Option (List ℕ) → Role → Optio
 TakesAct old new role (Some act) = TakesLine old new role (Ok act)
 TakesAct old new role None = Consumes old new [] × IsAtEnd new
 
--- what was read, for each fault
-abbrev pub TakesFault : Option (List ℕ) → Option (List ℕ) → Role → LineReadFault → Type 0
-TakesFault old new role (reading.Line line.TooLong) = TakesTooLong old new
-TakesFault old new role (reading.Line line.BadLine) = TakesLine old new role (Err line.BadLine)
-TakesFault old new role (reading.Line line.BadNumber) = TakesLine old new role (Err line.BadNumber)
-TakesFault old new role (reading.Line line.CutLine) = TakesCut old new
-TakesFault old new role (reading.Line line.OutOfMemory) = TakesUpTo old new
-TakesFault old new role reading.Read = TakesPart old new
-TakesFault old new role reading.ReadsSpent = TakesPart old new
+-- what was read, for each fault; `before` reads were allowed, and `after` of them are left
+abbrev pub TakesFault : Option (List ℕ) → Option (List ℕ) → Role → ℕ → ℕ → LineReadFault → Type 0
+TakesFault old new role before after (reading.Line line.TooLong) = TakesTooLong old new
+TakesFault old new role before after (reading.Line line.BadLine) = TakesLine old new role (Err line.BadLine)
+TakesFault old new role before after (reading.Line line.BadNumber) = TakesLine old new role (Err line.BadNumber)
+TakesFault old new role before after (reading.Line line.CutLine) = TakesCut old new
+TakesFault old new role before after (reading.Line line.OutOfMemory) = TakesUpTo old new role before after
+TakesFault old new role before after reading.Read = TakesPart old new
+TakesFault old new role before after reading.ReadsSpent = TakesPart old new
 
 -- the result is that the device failed
 abbrev pub is_input_fault : {T : Type 0} → Result T InputFault → Bool

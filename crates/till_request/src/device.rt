@@ -1,8 +1,9 @@
 //! The sources that lines are read from, and the sinks that answers are written to.
-ghost use Rattle.std.specs.Prelude.{◌≡◌, ◌<◌, ◌≤◌, ◌-◌, ℕ, List, [], Option, length, IfOk, OnOk, OnErr, is_err};
+ghost use Rattle.std.specs.Prelude.{◌≡◌, ◌<◌, ◌≤◌, ◌+◌, ◌-◌, ℕ, List, [], Option, length, IfOk, OnOk, OnErr, is_err};
+ghost use Rattle.std.specs.Prelude.{vec_capacity};
 ghost use Rattle.std.specs.Io.KnownBytes.{Consumes, ReadConsumes, WriteAppends};
 ghost use Rattle.till_request.specs.Count.{RoseBy, one_if};
-ghost use Rattle.till_request.specs.Line.{IsLine, TakesHeld};
+ghost use Rattle.till_request.specs.Line.{IsLine, LacksRoom, TakesHeld};
 
 use std::alloc::AllocError;
 
@@ -35,7 +36,8 @@ pub trait LineIn {
 
     /// Moves bytes that the source has buffered to the end of `line`: only bytes before the next LF, and only until
     /// `line` has 8,400. Each byte counts as a read of one byte and subtracts 1 from `left`. A source without a buffer
-    /// moves nothing. The error is that memory ran out; nothing was moved then.
+    /// moves nothing. The error is that memory ran out, since the bytes to be moved have no place in the room of
+    /// `line`; nothing was moved then.
     fn read_held(&mut self, line: &mut Vec<u8>, left: &mut u32) -> Result<(), AllocError>
         requires { IsLine line.old.items }
         ensures taken { OnOk result
@@ -43,6 +45,10 @@ pub trait LineIn {
         ensures kept { OnErr result (Consumes (remaining self.old) (remaining self.new) []) }
         ensures left { left.new ≤ left.old }
         ensures unused { OnErr result (left.new ≡ left.old) }
+        ensures each { OnOk result (length line.new.items + left.new ≡ length line.old.items + left.old) }
+        ensures room { vec_capacity line.old ≤ vec_capacity line.new }
+        ensures memory { OnErr result
+            (LacksRoom (remaining self.old) line.old.items (vec_capacity line.old) left.old left.new) }
         ensures counted { RoseBy (left.old - left.new) (reads self.old) (reads self.new) }
         ensures asked_for { RoseBy (left.old - left.new) (asked self.old) (asked self.new) }
         ensures failed { RoseBy 0 (failures self.old) (failures self.new) }

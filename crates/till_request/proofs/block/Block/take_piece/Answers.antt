@@ -37,8 +37,9 @@ returns-in_err-take_into-in-Some-clause-err g c =
     let there = c.args.self.now in
     let ends : EndsBehind c.in-Some.count c.args.self.now = subst (λ l. EndsBehind c.in-Some.count l) c.ahead.ensures c.in-Some.ensures in
     on_err_always _
-    (part_lost there c.args.line.now.items c.take_into.new.self c.in-Some.count c.requires.line ends.1 (omega (arith, ends.0))
-    (omega (arith, c.if-count-room.true, c.len-room.ensures)) c.in_err-take_into-in-Some.ensures.some c.take_into.ensures.taken)
+    (part_lost there c.args.line.now.items c.take_into.new.self c.in-Some.count c.args.line.now.cap c.requires.line ends.1 (omega (arith, ends.0))
+    (omega (arith, c.if-count-room.true, c.len-room.ensures)) c.in_err-take_into-in-Some.ensures.some c.in_err-take_into-in-Some.ensures.room
+    c.take_into.ensures.taken)
 
 pub returns-in_err-take_into-in-None-clause-err : goal.returns-in_err-take_into-in-None-clause-err
 returns-in_err-take_into-in-None-clause-err g c =
@@ -48,5 +49,6 @@ returns-in_err-take_into-in-None-clause-err g c =
     subst (λ l. HasNoLf l) (sym (take_all count there (omega (arith, ap length c.ahead-there.ensures))))
     (subst (λ l. HasNoLf l) c.ahead.ensures c.in-None.ensures) in
     on_err_always _
-    (part_lost there c.args.line.now.items c.take_into-in-None.new.self count c.requires.line all (omega (arith, ap length c.ahead-there.ensures))
-    (omega (arith, c.if-there-room.true, c.len-room.ensures)) c.in_err-take_into-in-None.ensures.some c.take_into-in-None.ensures.taken)
+    (part_lost there c.args.line.now.items c.take_into-in-None.new.self count c.args.line.now.cap c.requires.line all (omega (arith, ap length c.ahead-there.ensures))
+    (omega (arith, c.if-there-room.true, c.len-room.ensures)) c.in_err-take_into-in-None.ensures.some c.in_err-take_into-in-None.ensures.room
+    c.take_into-in-None.ensures.taken)
