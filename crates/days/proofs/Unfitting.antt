@@ -40,15 +40,15 @@ misfit_none config o (misfit.Counter c value bound) h fits =
 misfit_none config o (misfit.Till at t tills) h fits = till_none config o at t tills h.0 h.1 h.2 fits
 
 pub faulty_none : (count : ℕ) (o : OpeningValue) (f : OpeningFault) → IsFaulty count o f → IsOpening count o → f ≡ fault.OutOfMemory
-faulty_none count o fault.Points h good = absurd (h good.points)
-faulty_none count o fault.Prices h good = absurd (h good.prices)
-faulty_none count o fault.Transactions h good = absurd (h good.last)
-faulty_none count o fault.Cleared h good = absurd (h good.cleared)
-faulty_none count o fault.Clears h good = absurd (h good.clears)
-faulty_none count o fault.Versions h good = absurd (h good.versions)
-faulty_none count o fault.Slots h good = absurd (h good.slots)
-faulty_none count o fault.Rules h good = absurd (h good.rules)
-faulty_none count o fault.Twice h good = absurd (h good.distinct)
+faulty_none count o fault.Points h good = absurd (h.1 good.points)
+faulty_none count o fault.Prices h good = absurd (h.1 good.prices)
+faulty_none count o fault.Transactions h good = absurd (h.1 good.last)
+faulty_none count o fault.Cleared h good = absurd (h.1 good.cleared)
+faulty_none count o fault.Clears h good = absurd (h.1 good.clears)
+faulty_none count o fault.Versions h good = absurd (h.1 good.versions)
+faulty_none count o fault.Slots h good = absurd (h.1 good.slots)
+faulty_none count o fault.Rules h good = absurd (h.1 good.rules)
+faulty_none count o fault.Twice h good = absurd (h.1 good.distinct)
 faulty_none count o fault.OutOfMemory h good = refl
 
 -- the counters of a site that begins with an opening are told by their values and bounds

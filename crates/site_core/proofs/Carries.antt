@@ -77,15 +77,15 @@ holders_kept config past s l first = after_all config.tills (AreHeld config.till
 
 pub outgrown : (count : ℕ) (o : OpeningValue) (f : OpeningFault) → length o.points ≡ count → All (λ price. price ≤ 9999999) o.prices → length o.rules ≡ 16
     → All (IsRule o.versions) o.rules → HaveOwnNumbers o.rules → Misfits count o f → IsOutgrown f
-outgrown count o fault.Points points prices slots rules own bad = bad points
-outgrown count o fault.Prices points prices slots rules own bad = bad prices
+outgrown count o fault.Points points prices slots rules own bad = bad.1 points
+outgrown count o fault.Prices points prices slots rules own bad = bad.1 prices
 outgrown count o fault.Transactions points prices slots rules own bad = tt
 outgrown count o fault.Cleared points prices slots rules own bad = tt
 outgrown count o fault.Clears points prices slots rules own bad = tt
 outgrown count o fault.Versions points prices slots rules own bad = tt
-outgrown count o fault.Slots points prices slots rules own bad = bad slots
-outgrown count o fault.Rules points prices slots rules own bad = bad rules
-outgrown count o fault.Twice points prices slots rules own bad = bad own
+outgrown count o fault.Slots points prices slots rules own bad = bad.1 slots
+outgrown count o fault.Rules points prices slots rules own bad = bad.1 rules
+outgrown count o fault.Twice points prices slots rules own bad = bad.1 own
 outgrown count o fault.OutOfMemory points prices slots rules own bad = tt
 
 -- So the fault of what a site leaves is one of a number that only grows.

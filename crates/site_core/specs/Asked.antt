@@ -91,7 +91,7 @@ Compares config s slots draft (Ok q) = StillAsked config s slots draft q
 Compares config s slots draft (Err why) = Differs (basis_in config s slots draft) draft why
 
 -- Why a draft that was run isn't settled in a state with this basis: it is stale, and this is the first difference; or
--- memory ran out, which says nothing about the draft.
+-- it isn't stale, and memory ran out.
 abbrev pub DiffersIfStale : Basis → DraftValue → Unsettled → Type 0
 DiffersIfStale now draft (unsettled.Stale why) = Differs now draft why
-DiffersIfStale now draft unsettled.OutOfMemory = Unit {0}
+DiffersIfStale now draft unsettled.OutOfMemory = IsFresh now draft

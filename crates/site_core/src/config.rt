@@ -134,11 +134,13 @@ impl Config {
     }
 
     /// Returns the configuration of a site that begins with this opening, in place of any other. The error is why no
-    /// site with these points can begin with it, or that memory ran out.
+    /// site with these points can begin with it, or, if one can, that memory ran out.
     pub fn opened(self, alloc: Global, opening: Opening) -> Result<Config, OpeningFault>
         ensures value { IfOk result (λ config. config ≡ record self { opening = Some opening }) }
         ensures fits { OnOk result (IsOpening (length self.points) opening) }
         ensures fault { IfErr result (λ fault. Misfits (length self.points) opening fault) }
+        ensures memory { IfErr result (λ fault. fault ≡ OpeningFault.OutOfMemory
+            → IsOpening (length self.points) opening) }
     {
         if let Some(fault) = opening.fault(self.points.len()) {
             return Err(fault);

@@ -1,6 +1,6 @@
 //! The opening: what a site keeps from one day to the next.
 
-ghost use Rattle.std.specs.Prelude.{◌≡◌, ◌↔◌, ◌≤◌, All, IsTrue, MatchOption};
+ghost use Rattle.std.specs.Prelude.{◌≡◌, ◌≢◌, ◌↔◌, ◌≤◌, All, IfSome, IsTrue, MatchOption};
 ghost use Rattle.fuelling_point.specs.Table.{PointState};
 ghost use Rattle.program_slots.specs.Slots.{IsRule};
 ghost use Rattle.site_core.specs.Opening.{HaveOwnNumbers, IsNewNumber, IsOpening};
@@ -23,7 +23,8 @@ const MOST_CLEARED: u64 = 1_000_000_000_000_000_000;
 /// The greatest number of versions that an opening counts.
 const MOST_VERSIONS: u32 = 4_290_000_000;
 
-/// Why a site can't begin with an opening.
+/// Why a site can't begin with an opening: the first fault that the opening has, in the order of these cases, or that
+/// memory ran out.
 #[derive(Clone, Copy, PartialEq, Eq, Drop)]
 pub enum OpeningFault {
     Points,
@@ -101,9 +102,11 @@ impl Model for Opening {
 }
 
 impl Opening {
-    /// Returns why a site with this many points can't begin with the opening, or `None` if it can.
+    /// Returns why a site with this many points can't begin with the opening, or `None` if it can. An opening may have
+    /// more than one fault; the first one is returned, in the order of `OpeningFault`. It is never `OutOfMemory`.
     pub(crate) fn fault(&self, count: usize) -> Option<OpeningFault>
-        ensures { MatchOption result (IsOpening count self.now) (λ fault. Misfits count self.now fault) }
+        ensures first { MatchOption result (IsOpening count self.now) (λ fault. Misfits count self.now fault) }
+        ensures memory { IfSome result (λ fault. fault ≢ OpeningFault.OutOfMemory) }
     {
         if self.points.len() != count {
             return Some(OpeningFault::Points);

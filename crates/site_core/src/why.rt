@@ -17,7 +17,7 @@ pub enum Why {
     Counter(u32, u64),
 }
 
-/// Why a run wasn't settled: the site has changed since its draft was made, or memory ran out.
+/// Why a run wasn't settled: the site has changed since its draft was made, or it hasn't, and memory ran out.
 #[derive(Drop)]
 pub enum Unsettled {
     Stale(Why),
