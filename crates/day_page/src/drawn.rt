@@ -45,7 +45,7 @@ fn add_place(sheet: &mut Sheet, axis: Axis, quarters: usize, foot: usize) {
 /// day.
 fn name_at(axis: Axis, quarters: usize) -> Text {
     match axis {
-        Axis::Entries(count) => Text::Entry(step_of(quarters as u128, 4, count).max(1) as u64),
+        Axis::Entries(count) => Text::Entry(step_of(quarters as u64, 4, count).max(1) as u64),
         Axis::Time(first, last) => {
             let quarter = last.saturating_sub(first) / 4;
             Text::Clock(first.saturating_add(quarter.saturating_mul(quarters as u64)))

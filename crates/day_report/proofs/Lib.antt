@@ -3,3 +3,5 @@ pub mod OneMore
 pub mod SiteSteps
 pub mod SiteSales
 pub mod SiteDecisions
+pub mod Axes
+pub mod Cuts

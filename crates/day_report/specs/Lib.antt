@@ -5,3 +5,4 @@ pub mod Sales
 pub mod Decisions
 pub mod Totals
 pub mod Laws
+pub mod Picture

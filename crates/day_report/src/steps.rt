@@ -1,8 +1,10 @@
 //! The states of the points in each step of a picture's axis.
 
-ghost use Rattle.std.specs.Prelude.{◌≡◌, ◌+◌, ◌≤◌, ℕ, OnOk, length};
+ghost use Rattle.std.specs.Prelude.{◌≡◌, ◌+◌, ◌≤◌, ℕ, IfOk, IfSome, OnOk, length};
 ghost use Rattle.site_core.specs.declared.site.TheConstants.{ENTRIES};
+ghost use Rattle.site_core.specs.State.{opening_state};
 ghost use Rattle.day_report.specs.Following.{AreWithin, HaveRoom};
+ghost use Rattle.day_report.specs.Picture.{step_of, steps_along, step_at, axis_of, point_named, first_or, with_cut, AreCuts};
 ghost use Rattle.day_report.specs.Walk.{stand};
 
 use crate::opening::opening_points;
@@ -29,20 +31,29 @@ pub enum Axis {
     Time(u64, u64),
 }
 
+/// Returns the first of two moments that is one. A moment of 0 is none.
+fn first_or(first: u64, moment: u64) -> u64
+    ensures { result ≡ first_or first moment }
+{
+    if first == 0 { moment } else { first }
+}
+
 /// Returns the axis for a history: time, if its moments never decrease and span at least ten minutes; else its entries.
-pub fn axis_of(entries: &[Entry]) -> Axis {
+#[tactic(auto, unfolding(crate::specs::Picture::axis_of))]
+pub fn axis_of(entries: &[Entry]) -> Axis
+    ensures { result ≡ axis_of entries.now }
+{
     let mut first = 0;
     let mut last = 0;
     for entry in entries {
-        if entry.moment != 0 {
-            if entry.moment < last {
-                return Axis::Entries(entries.len());
-            }
-            if first == 0 {
-                first = entry.moment;
-            }
-            last = entry.moment;
+        if entry.moment == 0 {
+            continue;
         }
+        if entry.moment < last {
+            return Axis::Entries(entries.len());
+        }
+        first = first_or(first, entry.moment);
+        last = entry.moment;
     }
     if last.saturating_sub(first) < SPAN {
         return Axis::Entries(entries.len());
@@ -52,17 +63,21 @@ pub fn axis_of(entries: &[Entry]) -> Axis {
 
 /// Returns the number of the step, counted from 0, that `at` belongs to. The range from 0 to `most` is divided into
 /// `steps` equal steps.
-pub fn step_of(at: u128, most: u128, steps: usize) -> usize
-    ensures { result ≤ steps }
+pub fn step_of(at: u64, most: u128, steps: usize) -> usize
+    ensures step { result ≡ step_of at most steps }
+    ensures few { result ≤ steps }
 {
     if most == 0 {
         return 0;
     }
-    (at.saturating_mul(steps as u128) / most).min(steps as u128) as usize
+    let scaled = at as u128 * steps as u128;
+    (scaled / most).min(steps as u128) as usize
 }
 
 /// Returns how many steps a picture has along this axis.
-fn steps_of(axis: Axis) -> usize {
+fn steps_of(axis: Axis) -> usize
+    ensures { result ≡ steps_along axis }
+{
     match axis {
         Axis::Entries(count) => count.min(STEPS),
         Axis::Time(first, last) => last.saturating_sub(first).min(STEPS as u64) as usize,
@@ -70,17 +85,31 @@ fn steps_of(axis: Axis) -> usize {
 }
 
 /// Returns the step that the entry at this place belongs to, or `None` if the axis is time and the entry has no moment.
-fn step_at(axis: Axis, place: usize, entry: &Entry, steps: usize) -> Option<usize> {
+fn step_at(axis: Axis, place: usize, entry: &Entry, steps: usize) -> Option<usize>
+    ensures step { result ≡ step_at axis place entry.now.moment steps }
+    ensures few { IfSome result (λ step. step ≤ steps) }
+{
     match axis {
-        Axis::Entries(count) => Some(step_of(place as u128, count as u128, steps)),
+        Axis::Entries(count) => Some(step_of(place as u64, count as u128, steps)),
         Axis::Time(first, last) => {
             if entry.moment == 0 {
                 return None;
             }
             let since = entry.moment.saturating_sub(first);
-            let span = last.saturating_sub(first).saturating_add(1);
-            Some(step_of(since as u128, span as u128, steps))
+            let span = last.saturating_sub(first) as u128 + 1;
+            Some(step_of(since, span, steps))
         }
+    }
+}
+
+/// Appends `place` to the cuts until there is one for each step before this one. Without a step nothing is appended. The
+/// error is that memory ran out.
+fn cut_at(cuts: &mut Vec<usize>, step: Option<usize>, place: usize) -> Result<(), AllocError>
+    ensures { OnOk result (cuts.new.items ≡ with_cut cuts.old.items step place) }
+{
+    match step {
+        Some(step) => cuts.resize(step.max(cuts.len()), place),
+        None => Ok(()),
     }
 }
 
@@ -91,18 +120,14 @@ fn cuts(
     entries: &[Entry],
     axis: Axis,
     steps: usize,
-) -> Result<Vec<usize>, AllocError> {
+) -> Result<Vec<usize>, AllocError>
+    ensures { IfOk result (λ cuts. AreCuts axis steps entries.now cuts.items) }
+{
     let mut cuts = Vec::new(alloc);
     for (place, entry) in entries.iter().enumerate() {
-        if let Some(step) = step_at(axis, place, entry, steps) {
-            for _ in cuts.len()..step {
-                cuts.push(place)?;
-            }
-        }
+        cut_at(&mut cuts, step_at(axis, place, entry, steps), place)?;
     }
-    for _ in cuts.len()..steps {
-        cuts.push(entries.len())?;
-    }
+    cut_at(&mut cuts, Some(steps), entries.len())?;
     Ok(cuts)
 }
 
@@ -115,7 +140,9 @@ pub struct Bands {
 }
 
 /// Returns the number of the point that an entry's act names, if the act can change a point.
-fn point_of(entry: &Entry) -> Option<u32> {
+fn point_of(entry: &Entry) -> Option<u32>
+    ensures { result ≡ point_named entry.now.act }
+{
     match &entry.act {
         Act::Till { request, .. } => match request {
             Request::Price(_, _) | Request::Show(_) => None,
@@ -186,6 +213,8 @@ pub fn follow_states(
     axis: Axis,
 ) -> Result<Bands, AllocError>
     requires { length entries.now ≤ ENTRIES }
+    ensures steps { IfOk result (λ bands. bands.steps ≡ steps_along axis) }
+    ensures points { IfOk result (λ bands. bands.points ≡ length (opening_state config.now).points) }
 {
     let steps = steps_of(axis);
     let cuts = cuts(alloc, entries, axis, steps)?;

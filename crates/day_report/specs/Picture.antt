@@ -1,0 +1,105 @@
+-- Definitions: how the picture of a day divides its history (this profile). Its axis is time or the entries, and it is
+-- divided into equal steps.
+use Rattle.std.specs.Prelude.{◌≡◌, ◌<◌, ◌++◌, replicate, slice_index, ℕ, ◌+◌, ◌-◌, ◌*◌, ◌/◌, ◌==◌, ◌&&◌, nat_le, nat_lt, min, if◌then◌else◌, List, [], ◌∷◌, length, Option, Some, None, Bool, true, false}
+use Rattle.decision_journal.specs.declared.entries.Entry.{Entry}
+use Rattle.till_request.specs.declared.act.Request.{Request}
+use Rattle.till_request.specs.declared.act.Request.TheVariants as request
+use Rattle.till_request.specs.declared.act.Act.{Act}
+use Rattle.till_request.specs.declared.act.Act.TheVariants as act
+use Rattle.day_report.specs.declared.steps.Axis.{Axis}
+use Rattle.day_report.specs.declared.steps.Axis.TheVariants as axis
+
+-- The step, counted from 0, that `at` belongs to, where the range from 0 to `most` is divided into `steps` equal steps.
+-- The end of the range and all behind it belong to step `steps`. In an empty range all belongs to step 0.
+abbrev pub step_of : ℕ → ℕ → ℕ → ℕ
+step_of at most steps = if most == 0 then 0 else min (at * steps / most) steps
+
+-- How many steps a picture has: one for each entry or second of its axis, and at most 2,000.
+abbrev pub steps_along : Axis → ℕ
+steps_along (axis.Entries count) = min count 2000
+steps_along (axis.Time first last) = min (last - first) 2000
+
+-- The step that an entry belongs to, by its place in the history, counted from 0, or by its moment. None if the axis is
+-- time and the entry has no moment. The last second of the axis lies within it.
+abbrev pub step_at : Axis → ℕ → ℕ → ℕ → Option ℕ
+step_at (axis.Entries count) place moment steps = Some (step_of place count steps)
+step_at (axis.Time first last) place moment steps =
+    if moment == 0 then None else Some (step_of (moment - first) (last - first + 1) steps)
+
+-- The moments that the entries have, in their order. An entry whose moment is 0 has none.
+abbrev pub moments_in : List Entry → List ℕ
+moments_in [] = []
+moments_in (entry ∷ entries) = if entry.moment == 0 then moments_in entries else entry.moment ∷ moments_in entries
+
+-- Whether none of the numbers is less than the one before it, and the first isn't less than n.
+abbrev pub never_fall : ℕ → List ℕ → Bool
+never_fall n [] = true
+never_fall n (m ∷ numbers) = nat_le n m && never_fall m numbers
+
+-- the first of the numbers; 0 if there is none
+abbrev pub first_in : List ℕ → ℕ
+first_in [] = 0
+first_in (m ∷ numbers) = m
+
+-- the last of the numbers; n if there is none
+abbrev pub last_in : ℕ → List ℕ → ℕ
+last_in n [] = n
+last_in n (m ∷ numbers) = last_in m numbers
+
+-- The axis for these moments: time, if they never fall and span at least ten minutes; else the entries.
+abbrev pub axis_by : ℕ → Bool → ℕ → ℕ → Axis
+axis_by count steady first last =
+    if steady && nat_le 600 (last - first) then axis.Time first last else axis.Entries count
+
+unfoldable pub axis_of : List Entry → Axis
+axis_of entries =
+    axis_by (length entries) (never_fall 0 (moments_in entries)) (first_in (moments_in entries)) (last_in 0 (moments_in entries))
+
+-- the point that a till's request can change; None if it changes no point
+abbrev pub point_asked : Request → Option ℕ
+point_asked (request.Price product price) = None
+point_asked (request.Show product) = None
+point_asked (request.Release n amount) = Some n
+point_asked (request.Preset n amount) = Some n
+point_asked (request.Lock n number) = Some n
+point_asked (request.Unlock n number) = Some n
+point_asked (request.Clear n number) = Some n
+point_asked (request.OpenPoint n) = Some n
+point_asked (request.ClosePoint n) = Some n
+point_asked (request.Suspend n) = Some n
+point_asked (request.Resume n) = Some n
+point_asked (request.Stop n) = Some n
+
+-- the point that an act can change; None if it changes no point
+abbrev pub point_named : Act → Option ℕ
+point_named (act.Till till request) = point_asked request
+point_named (act.Dispenser n event) = Some n
+point_named (act.Load slot mask layout bytes) = None
+
+-- whether an entry of this step is behind step k; one without a step is behind none
+abbrev pub is_behind : ℕ → Option ℕ → Bool
+is_behind k None = false
+is_behind k (Some step) = nat_lt k step
+
+-- How many entries stand before the first that is behind step k. The first of the list has the place `place`.
+abbrev pub cut_from : Axis → ℕ → ℕ → ℕ → List Entry → ℕ
+cut_from axis steps k place [] = place
+cut_from axis steps k place (entry ∷ entries) =
+    if is_behind k (step_at axis place entry.moment steps) then place else cut_from axis steps k (place + 1) entries
+
+-- For each step, how many entries belong to it or to an earlier one. An entry without a step belongs to that of the
+-- entry before it.
+pub record AreCuts (axis : Axis) (steps : ℕ) (entries : List Entry) (cuts : List ℕ) : Type 0 where
+  pub long : length cuts ≡ steps
+  pub each : (k : ℕ) → k < steps → slice_index cuts k ≡ cut_from axis steps k 0 entries
+
+-- ---- promises of private functions
+
+-- the first of two moments that is one; a moment of 0 is none
+abbrev pub first_or : ℕ → ℕ → ℕ
+first_or first moment = if first == 0 then moment else first
+
+-- the cuts, with `place` appended until there is one for each step before this one
+abbrev pub with_cut : List ℕ → Option ℕ → ℕ → List ℕ
+with_cut cuts None place = cuts
+with_cut cuts (Some step) place = cuts ++ replicate (step - length cuts) place
