@@ -180,8 +180,8 @@ impl Ready {
 
     /// Carries out what the program answered and returns its entry, with this number and pass, if nothing that the run
     /// depends on has changed since. Else the error is the first change that was found, or, if nothing has changed, that
-    /// memory ran out; then the station is unchanged. Counters that the program doesn't declare keep their current values. If the till asked to
-    /// release fuel, it is granted at most the amount that is preset at the point now, if one is.
+    /// memory ran out; then the station is unchanged. Counters that the program doesn't declare keep their current values.
+    /// If the till asked to release fuel, it is granted at most the amount that is preset at the point now, if one is.
     pub(crate) fn settle(
         &self,
         alloc: Global,
