@@ -1,6 +1,6 @@
 //! What a line asks for or reports (requests, acts), and what it is answered (replies, answers).
 
-ghost use Rattle.std.specs.Prelude.{◌≡◌, ◌==◌, ◌↔◌, IsTrue, IfOk};
+ghost use Rattle.std.specs.Prelude.{◌≡◌, ◌==◌, ◌↔◌, ◌<◌, IsTrue, IfOk, OnErr, length};
 ghost use Rattle.std.proofs.Common.{rules};
 ghost use Rattle.std.specs.Cmp.Rules.{comparing};
 ghost use Rattle.std.specs.Cmp.Lexicographic.{pointwise};
@@ -32,13 +32,15 @@ impl Bytes {
         Bytes { items }
     }
 
-    /// Makes a `Bytes` with a copy of a slice's bytes. The error is that memory ran out.
+    /// Makes a `Bytes` with a copy of a slice's bytes. The error is that memory ran out, which an empty slice doesn't
+    /// need.
     pub fn from_slice(alloc: Global, items: &[u8]) -> Result<Self, AllocError>
-        ensures { IfOk result (λ b. b ≡ items.now) }
+        ensures same { IfOk result (λ b. b ≡ items.now) }
+        ensures memory { OnErr result (0 < length items.now) }
     {
-        Ok(Bytes {
-            items: Vec::from_slice(alloc, items)?,
-        })
+        let mut copy = Vec::with_capacity(alloc, items.len())?;
+        copy.extend_from_slice(items)?;
+        Ok(Bytes { items: copy })
     }
 
     /// Returns whether both lists have the same bytes in the same order.
