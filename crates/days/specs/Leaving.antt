@@ -1,13 +1,13 @@
 -- Promises: why a day's site leaves no opening for the next day.
-use Rattle.std.specs.Prelude.{◌≡◌, ℕ, length}
+use Rattle.std.specs.Prelude.{◌≡◌, ◌≢◌, ℕ, length}
 use Rattle.site_core.specs.Days.{carried}
 use Rattle.site_core.specs.Fitting.{Misfits as IsFaulty}
 use Rattle.site_core.specs.Site.{SiteValue}
 use Rattle.days.specs.declared.file.Uncarried.{Uncarried}
 use Rattle.days.specs.declared.file.Uncarried.TheVariants.{Fault, LastDay}
 
--- Why the site of day `number` leaves no opening: there is no next number, or no site with this number of points can
--- begin with what the site leaves. If memory ran out, nothing is claimed.
+-- Why the site of day `number` leaves no opening: there is no next number; or there is one, and no site with this number
+-- of points can begin with what the site leaves. If memory ran out, it is only claimed that there is a next number.
 abbrev pub IsUncarried : ℕ → SiteValue → Uncarried → Type 0
 IsUncarried number site LastDay = number ≡ 4294967295
-IsUncarried number site (Fault fault) = IsFaulty (length site.config.points) (carried site) fault
+IsUncarried number site (Fault fault) = (number ≢ 4294967295) × IsFaulty (length site.config.points) (carried site) fault

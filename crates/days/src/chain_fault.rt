@@ -44,7 +44,9 @@ pub enum Unclosed<J> {
     Text(J, JournalFault),
     /// The configuration that the day's site begins with, and why it can't have the entries of the journal.
     History(Config, AuditFault),
-    OutOfMemory,
+    /// Memory ran out before the journal was read: the device of the journal, if the day has one, from which nothing
+    /// was read.
+    OutOfMemory(Option<J>),
 }
 
 /// Why days don't follow one another.

@@ -235,6 +235,6 @@ fn refuse_unclosed(rt: &HostRuntime, path: &str, why: Unclosed<Journal<'_>>) -> 
             explain_journal(rt, path, config);
             refused(rt, fault)
         }
-        Unclosed::OutOfMemory => Stop::Said(out_of_memory(rt)),
+        Unclosed::OutOfMemory(_unread) => Stop::Said(out_of_memory(rt)),
     }
 }
