@@ -22,7 +22,7 @@ front_taken a b text h =
     let P : List ℕ → Type 0 = λ t. Appends a b t in
     (length h.front, subst P (sym (ap (take (length h.front)) h.begins ∙ take_front h.front h.after)) h.written)
 
-pub breaks_none : {S : Type 0} (says : S → List ℕ → List ℕ → S → Type 0) (drops : S → List ℕ → S → Type 0) (s : S) (i o : Option (List ℕ))
+pub breaks_none : {S : Type 0} (says : S → List ℕ → List ℕ → S → Type 0) (drops : HandlerError → S → List ℕ → S → Type 0) (s : S) (i o : Option (List ℕ))
     → Breaks says drops s s i i o o
 breaks_none says drops s i o = record {
   lines = [];
@@ -53,10 +53,10 @@ broken_from (Ok x) a b m left i j o p same h = tt
 broken_from (Err e) a b m left i j o p same h =
     let P : SiteValue → Type 0 = λ s. Breaks Plays drops_none (0, s) (m, left) i j o p in record { moment = m; left = left; breaks = subst P same h }
 
-pub stops_none : {S : Type 0} (says : S → List ℕ → List ℕ → S → Type 0) (drops : S → List ℕ → S → Type 0) (takes : List ℕ → Type 0) (fault : SessionFault)
-    (s : S) (i o : Option (List ℕ)) → Stops says drops takes fault s s i i o o
+pub stops_none : {S : Type 0} (says : S → List ℕ → List ℕ → S → Type 0) (drops : HandlerError → S → List ℕ → S → Type 0) (takes : List ℕ → Type 0) (s : S)
+    (i o : Option (List ℕ)) → Stops says drops takes session.OutOfMemory s s i i o o
 unfolding breaks_none
-stops_none says drops takes fault s i o = (breaks_none says drops s i o, refl, refl, λ e. inl (refl, is_line_empty))
+stops_none says drops takes s i o = (breaks_none says drops s i o, refl, refl, inl (refl, is_line_empty))
 
 pub stopped_from : {T : Type 0} (r : Result T SessionFault) (a b : SiteValue) (m : ℕ) (left : SiteValue) (i j o p : Option (List ℕ)) → a ≡ b
     → IfErr r (λ e. ¬ (e ≡ session.Write) → Stops Plays drops_none TakesMemory e (0, a) (m, left) i j o p)
@@ -65,6 +65,16 @@ stopped_from (Ok x) a b m left i j o p same h = tt
 stopped_from (Err e) a b m left i j o p same h =
     let P : SiteValue → Type 0 = λ s. Stops Plays drops_none TakesMemory e (0, s) (m, left) i j o p in
     λ other. record { moment = m; left = left; stops = subst P same (h other) }
+
+-- no line is dropped since the journal failed, so no play fails with that
+pub no_journal : {T : Type 0} (r : Result T SessionFault) (a : SiteValue) (m : ℕ) (left : SiteValue) (i j o p : Option (List ℕ))
+    → IfErr r (λ e. ¬ (e ≡ session.Write) → Stops Plays drops_none TakesMemory e (0, a) (m, left) i j o p) → ¬ (r ≡ Err session.Journal)
+no_journal (Ok x) a m left i j o p h is = absurd (cc)
+no_journal (Err session.Read) a m left i j o p h is = absurd (cc)
+no_journal (Err session.Write) a m left i j o p h is = absurd (cc)
+no_journal (Err session.ReadsSpent) a m left i j o p h is = absurd (cc)
+no_journal (Err session.OutOfMemory) a m left i j o p h is = absurd (cc)
+no_journal (Err session.Journal) a m left i j o p h is = (h (λ e. absurd (cc))).3.3
 
 -- if writing an answer failed, the device took only a beginning of the answer's text
 module _ {S O : Type 0} (out : O → Option (List ℕ)) (says : S → List ℕ → List ℕ → S → Type 0) (line text : List ℕ) (s s' : S) (o o' : O)

@@ -10,6 +10,10 @@ use Rattle.till_request.specs.Answer.{answer_line}
 use Rattle.till_request.specs.Line.{IsLine}
 use Rattle.line_session.specs.Found.{IsEnd}
 use Rattle.line_session.specs.Answering.{with_lf, cut_line, cut_count, all_texts, AnswersLines, IsCut, AnswersCut, IsUpToLine, Ends, Breaks, Stops, StopsAtDoor}
+use Rattle.till_request.specs.declared.line.InputFault.{InputFault}
+use Rattle.line_session.specs.Faults.{fault_of_input}
+use Rattle.line_session.specs.declared.line_handler.HandlerError.{HandlerError}
+use Rattle.line_session.specs.declared.line_handler.HandlerError.TheVariants as error
 use Rattle.line_session.specs.declared.answering.Ended.{Ended}
 use Rattle.line_session.specs.declared.answering.SessionFault.{SessionFault}
 use Rattle.line_session.specs.declared.answering.SessionFault.TheVariants as session
@@ -117,7 +121,7 @@ module _ {C D : Type 0} (says : C × D → List ℕ → List ℕ → C × D → 
         counted = x.as_if_out.counted;
       }
 
-  module _ (drops : C × D → List ℕ → C × D → Type 0) where
+  module _ (drops : HandlerError → C × D → List ℕ → C × D → Type 0) where
     -- a session that broke off after writing a text would also have broken off after only a beginning of the text
     part_out : (s m : C × D) (i k o q : Option (List ℕ)) (text sent lost : List ℕ) → Breaks says drops s m i k (Some []) (Some text) → sent ++ lost ≡ text
         → Appends o q sent → Breaks says drops s m i k o q
@@ -205,8 +209,9 @@ module _ {C D : Type 0} (says : C × D → List ℕ → List ℕ → C × D → 
 
     module _ (takes : List ℕ → Type 0) where
       -- if the session failed, but not in a write, then `Stops` holds for what was written and what is buffered
-      pub stops_read : (fault : SessionFault) (s m : C × D) (i j k o p : Option (List ℕ)) (waiting : List ℕ) (count : ℕ) (more : List ℕ)
-          → Waits (Answers s m i j count) o p waiting → Consumes j k more → IsLine more → Waits (Stops says drops takes fault s m i k) o p waiting
+      pub stops_read : (fault : InputFault) (s m : C × D) (i j k o p : Option (List ℕ)) (waiting : List ℕ) (count : ℕ) (more : List ℕ)
+          → Waits (Answers s m i j count) o p waiting → Consumes j k more → IsLine more
+          → Waits (Stops says drops takes (fault_of_input fault) s m i k) o p waiting
       stops_read fault s m i j k o p waiting count more w taken line = record {
         sent = w.sent;
         as_if_out = stops_here says drops takes fault s m i j (Some []) (Some (w.sent ++ waiting)) count k more w.as_if_out taken line;
@@ -214,12 +219,13 @@ module _ {C D : Type 0} (says : C × D → List ℕ → List ℕ → C × D → 
       }
 
       stops_want : (s m s' : C × D) (i j k o p : Option (List ℕ)) (count : ℕ) (l : List ℕ)
-          → AnswersLines says s m i j o p count [] [] → IsLine l → Consumes j k (l ++ 10 ∷ []) → (takes l × (s' ≡ m)) ⊎ drops m l s'
+          → AnswersLines says s m i j o p count [] [] → IsLine l → Consumes j k (l ++ 10 ∷ []) → (takes l × (s' ≡ m)) ⊎ drops error.OutOfMemory m l s'
           → Stops says drops takes session.OutOfMemory s s' i k o p
       stops_want s m s' i j k o p count l t whole taken (inl load) =
-          rw load.1 (stops_silent says drops takes session.OutOfMemory s m i j k o p count l t whole taken load.0)
+          rw load.1 (stops_silent says drops takes s m i j k o p count l t whole taken load.0)
       stops_want s m s' i j k o p count l t whole taken (inr dropped) =
-          stops_dropped says drops takes session.OutOfMemory s m s' i j k o p count l t whole taken dropped
+          stops_dropped says drops takes session.OutOfMemory error.OutOfMemory s m s' i j k o p count l t whole taken dropped
+          (inr (l, whole, refl, inr dropped))
 
       pub stops_said : (fault : SessionFault) (s m s' : C × D) (i j k o p q : Option (List ℕ)) (waiting after : List ℕ) (count : ℕ) (l : List ℕ)
           → Waits (Answers s m i j count) o p waiting → IsLine l → Consumes j k (l ++ 10 ∷ [])
@@ -234,7 +240,8 @@ module _ {C D : Type 0} (says : C × D → List ℕ → List ℕ → C × D → 
       }
       stops_said session.Journal s m s' i j k o p q waiting after count l w whole taken a other = rw (a.0.waits, a.0.out) record {
         sent = w.sent;
-        as_if_out = stops_dropped says drops takes session.Journal s m s' i j k (Some []) (Some (w.sent ++ waiting)) count l w.as_if_out whole taken a.1;
+        as_if_out = stops_dropped says drops takes session.Journal error.Journal s m s' i j k (Some []) (Some (w.sent ++ waiting)) count l w.as_if_out whole
+            taken a.1 (l, whole, refl, a.1);
         out = w.out;
       }
 

@@ -34,7 +34,3 @@ module _ {T : Type 0} where
   pub write_no_spent : (r : Result T SessionFault) → IfErr r (λ e. e ≡ session.Write) → r ≡ Err session.ReadsSpent → ⊥
   write_no_spent (Ok x) h is = absurd (cc)
   write_no_spent (Err e) h is = absurd (cc)
-
-  pub write_no_journal : (r : Result T SessionFault) → IfErr r (λ e. e ≡ session.Write) → r ≡ Err session.Journal → ⊥
-  write_no_journal (Ok x) h is = absurd (cc)
-  write_no_journal (Err e) h is = absurd (cc)

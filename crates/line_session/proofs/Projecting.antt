@@ -4,19 +4,20 @@ use Rattle.till_request.specs.declared.act.Act.{Act}
 use Rattle.till_request.specs.declared.act.Role.{Role}
 use Rattle.till_request.specs.declared.act.LineFault.{LineFault}
 use Rattle.till_request.specs.declared.act.Answer.{Answer}
-use Rattle.till_request.specs.declared.act.Answer.TheVariants.{JournalFailed}
 use Rattle.till_request.specs.Grammar.{line_read}
 use Rattle.line_session.specs.declared.answering.Ended.{Ended}
+use Rattle.line_session.specs.declared.line_handler.HandlerError.{HandlerError}
+use Rattle.line_session.specs.declared.line_handler.HandlerError.TheVariants as error
 use Rattle.line_session.specs.declared.answering.SessionFault.{SessionFault}
-use Rattle.line_session.specs.Session.{AnswersAct, desk_says, desk_drops, desk_fails}
-use Rattle.line_session.specs.Answering.{SaysAll, AnswersLines, Ends, DropsNext, Breaks, FailsAt, StopsAtDoor, WantsNext}
+use Rattle.line_session.specs.declared.answering.SessionFault.TheVariants as session
+use Rattle.line_session.specs.Session.{AnswersAct, desk_says, desk_drops}
+use Rattle.line_session.specs.Answering.{SaysAll, AnswersLines, Ends, DropsFor, DropsNext, Breaks, ReadsOn, StopsAtDoor, StopsFor, WantsNext}
 use Rattle.line_session.specs.Serving.{Outcome, Sits, Visits, VisitsAll, Serves}
 
-module _ {S T : Type 0} (f : S → T) (says : S → List ℕ → List ℕ → S → Type 0) (drops fails : S → List ℕ → S → Type 0)
-    (seen : T → List ℕ → List ℕ → T → Type 0) (lost failed : T → List ℕ → T → Type 0) (takes : List ℕ → Type 0)
+module _ {S T : Type 0} (f : S → T) (says : S → List ℕ → List ℕ → S → Type 0) (drops : HandlerError → S → List ℕ → S → Type 0)
+    (seen : T → List ℕ → List ℕ → T → Type 0) (lost : HandlerError → T → List ℕ → T → Type 0) (takes : List ℕ → Type 0)
     (shows : (s : S) (line text : List ℕ) (s' : S) → says s line text s' → seen (f s) line text (f s'))
-    (loses : (s : S) (line : List ℕ) (s' : S) → drops s line s' → lost (f s) line (f s'))
-    (stops : (s : S) (line : List ℕ) (s' : S) → fails s line s' → failed (f s) line (f s')) where
+    (loses : (why : HandlerError) (s : S) (line : List ℕ) (s' : S) → drops why s line s' → lost why (f s) line (f s')) where
   all_seen : (lines : List (List ℕ)) (s : S) (texts : List (List ℕ)) (s' : S) → SaysAll says lines s texts s' → SaysAll seen lines (f s) texts (f s')
   all_seen [] s [] s' h = ap f h
   all_seen (line ∷ lines) s (text ∷ texts) s' h = (f h.0, shows s line text h.0 h.1, all_seen lines h.0 texts s' h.2)
@@ -45,9 +46,12 @@ module _ {S T : Type 0} (f : S → T) (says : S → List ℕ → List ℕ → S 
     counted = e.counted;
   }
 
+  drop_seen : (why : HandlerError) (s s' : S) (rest : List ℕ) → DropsFor drops why s s' rest → DropsFor lost why (f s) (f s') rest
+  drop_seen why s s' rest d = (d.0, d.1, d.2, loses why s d.0 s' d.3)
+
   drops_seen : (s s' : S) (rest : List ℕ) → DropsNext drops s s' rest → DropsNext lost (f s) (f s') rest
   drops_seen s s' rest (inl same) = inl (ap f same)
-  drops_seen s s' rest (inr d) = inr (d.0, d.1, d.2, loses s d.0 s' d.3)
+  drops_seen s s' rest (inr d) = inr (d.0, drop_seen d.0 s s' rest d.1)
 
   breaks_seen : (s s' : S) (i j o p : Option (List ℕ)) → Breaks says drops s s' i j o p → Breaks seen lost (f s) (f s') i j o p
   breaks_seen s s' i j o p b = record {
@@ -67,26 +71,34 @@ module _ {S T : Type 0} (f : S → T) (says : S → List ℕ → List ℕ → S 
     begins = b.begins;
   }
 
-  wants_more : (s s' : S) (line : List ℕ) → ((s' ≡ s) × takes line) ⊎ drops s line s' → ((f s' ≡ f s) × takes line) ⊎ lost (f s) line (f s')
+  wants_more : (s s' : S) (line : List ℕ) → ((s' ≡ s) × takes line) ⊎ drops error.OutOfMemory s line s'
+      → ((f s' ≡ f s) × takes line) ⊎ lost error.OutOfMemory (f s) line (f s')
   wants_more s s' line (inl same) = inl (ap f same.0, same.1)
-  wants_more s s' line (inr dropped) = inr (loses s line s' dropped)
+  wants_more s s' line (inr dropped) = inr (loses error.OutOfMemory s line s' dropped)
 
   wants_seen : (s s' : S) (rest : List ℕ) → WantsNext drops takes s s' rest → WantsNext lost takes (f s) (f s') rest
   wants_seen s s' rest (inl line) = inl (ap f line.0, line.1)
   wants_seen s s' rest (inr next) = inr (next.0, next.1, next.2, wants_more s s' next.0 next.3)
 
+  reads_seen : (s s' : S) (rest : List ℕ) → ReadsOn s s' rest → ReadsOn (f s) (f s') rest
+  reads_seen s s' rest h = (ap f h.0, h.1)
+
+  cause_seen : (fault : SessionFault) (s s' : S) (rest : List ℕ) → StopsFor drops takes fault s s' rest → StopsFor lost takes fault (f s) (f s') rest
+  cause_seen session.Write s s' rest h = h
+  cause_seen session.Read s s' rest h = reads_seen s s' rest h
+  cause_seen session.ReadsSpent s s' rest h = reads_seen s s' rest h
+  cause_seen session.OutOfMemory s s' rest h = wants_seen s s' rest h
+  cause_seen session.Journal s s' rest h = drop_seen error.Journal s s' rest h
+
   door_seen : (fault : SessionFault) (s s' : S) (i j o p : Option (List ℕ)) → StopsAtDoor says drops takes fault s s' i j o p
       → StopsAtDoor seen lost takes fault (f s) (f s') i j o p
   unfolding breaks_seen
-  door_seen fault s s' i j o p h = (breaks_seen s s' i j o p h.0, h.1, h.2, λ e. wants_seen h.0.answered s' h.0.rest (h.3 e))
-
-  fails_seen : (s' : S) → FailsAt fails s' → FailsAt failed (f s')
-  fails_seen s' h = (f h.0, h.1, stops h.0 h.1 s' h.2)
+  door_seen fault s s' i j o p h = (breaks_seen s s' i j o p h.0, h.1, h.2, cause_seen fault h.0.answered s' h.0.rest h.3)
 
   module _ {I O : Type 0} (remaining : I → Option (List ℕ)) (reads read_failures : I → ℕ) (written : O → Option (List ℕ)) (write_failures : O → ℕ) where
     sits_seen : (result : Result Ended SessionFault) (i : I) (o : O) (s s' : S)
-        → Sits says drops fails takes remaining reads read_failures written write_failures result i o s s'
-        → Sits seen lost failed takes remaining reads read_failures written write_failures result i o (f s) (f s')
+        → Sits says drops takes remaining reads read_failures written write_failures result i o s s'
+        → Sits seen lost takes remaining reads read_failures written write_failures result i o (f s) (f s')
     sits_seen (Ok ended) i o s s' t = record {
       input = t.input;
       output = t.output;
@@ -98,7 +110,6 @@ module _ {S T : Type 0} (f : S → T) (says : S → List ℕ → List ℕ → S 
       few = t.few;
       counted = t.counted;
       spent = t.spent;
-      journal = λ e. fails_seen s' (t.journal e);
       stopped = t.stopped;
     }
     sits_seen (Err fault) i o s s' t = record {
@@ -112,26 +123,25 @@ module _ {S T : Type 0} (f : S → T) (says : S → List ℕ → List ℕ → S 
       few = t.few;
       counted = t.counted;
       spent = t.spent;
-      journal = λ e. fails_seen s' (t.journal e);
       stopped = λ other. door_seen fault s s' _ _ _ _ (t.stopped other);
     }
 
     module _ {D : Type 0} (opens : D → I → O → D → Type 0) (stays : D → D → Type 0) where
       visits_seen : (outcome : Outcome) (d : D) (s : S) (d' : D) (s' : S)
-          → Visits opens stays (Sits says drops fails takes remaining reads read_failures written write_failures) outcome d s d' s'
-          → Visits opens stays (Sits seen lost failed takes remaining reads read_failures written write_failures) outcome d (f s) d' (f s')
+          → Visits opens stays (Sits says drops takes remaining reads read_failures written write_failures) outcome d s d' s'
+          → Visits opens stays (Sits seen lost takes remaining reads read_failures written write_failures) outcome d (f s) d' (f s')
       visits_seen None d s d' s' v = (v.0, ap f v.1)
       visits_seen (Some result) d s d' s' v = (v.0, v.1, v.2, sits_seen result v.0 v.1 s s' v.3)
 
       all_visits_seen : (outcomes : List Outcome) (d : D) (s : S) (d' : D) (s' : S)
-          → VisitsAll (Visits opens stays (Sits says drops fails takes remaining reads read_failures written write_failures)) outcomes d s d' s'
-          → VisitsAll (Visits opens stays (Sits seen lost failed takes remaining reads read_failures written write_failures)) outcomes d (f s) d' (f s')
+          → VisitsAll (Visits opens stays (Sits says drops takes remaining reads read_failures written write_failures)) outcomes d s d' s'
+          → VisitsAll (Visits opens stays (Sits seen lost takes remaining reads read_failures written write_failures)) outcomes d (f s) d' (f s')
       all_visits_seen [] d s d' s' h = (h.0, ap f h.1)
       all_visits_seen (outcome ∷ outcomes) d s d' s' h = (h.0, f h.1, visits_seen outcome d s h.0 h.1 h.2, all_visits_seen outcomes h.0 h.1 d' s' h.3)
 
       pub serves_seen : (asked clean : ℕ) (d : D) (s : S) (d' : D) (s' : S)
-          → Serves (Visits opens stays (Sits says drops fails takes remaining reads read_failures written write_failures)) asked clean d s d' s'
-          → Serves (Visits opens stays (Sits seen lost failed takes remaining reads read_failures written write_failures)) asked clean d (f s) d' (f s')
+          → Serves (Visits opens stays (Sits says drops takes remaining reads read_failures written write_failures)) asked clean d s d' s'
+          → Serves (Visits opens stays (Sits seen lost takes remaining reads read_failures written write_failures)) asked clean d (f s) d' (f s')
       serves_seen asked clean d s d' s' h = record {
         outcomes = h.outcomes;
         each = all_visits_seen h.outcomes d s d' s' h.each;
@@ -157,10 +167,6 @@ module _ {C C' D D' : Type 0} (f : C → C') (g : D → D') (step : D → Act �
     text_is = h.text_is;
   }
 
-  pub desk_lost : (role : Role) (s : C × D) (line : List ℕ) (s' : C × D) → desk_drops step tick role s line s'
-      → desk_drops step' tick' role (f s.0, g s.1) line (f s'.0, g s'.1)
-  desk_lost role s line s' h = (h.0, h.1, h.2, h.3, h.4, ticks s.0 h.1 s'.0 h.5, steps s.1 h.0 h.1 h.2 s'.1 h.6)
-
-  pub desk_failed : (role : Role) (s : C × D) (line : List ℕ) (s' : C × D) → desk_fails step tick role s line s'
-      → desk_fails step' tick' role (f s.0, g s.1) line (f s'.0, g s'.1)
-  desk_failed role s line s' h = (h.0, h.1, h.2, ticks s.0 h.1 s'.0 h.3, steps s.1 h.0 h.1 JournalFailed s'.1 h.4)
+  pub desk_lost : (role : Role) (why : HandlerError) (s : C × D) (line : List ℕ) (s' : C × D) → desk_drops step tick role why s line s'
+      → desk_drops step' tick' role why (f s.0, g s.1) line (f s'.0, g s'.1)
+  desk_lost role why s line s' h = (h.0, h.1, h.2, h.3, h.4, ticks s.0 h.1 s'.0 h.5, steps s.1 h.0 h.1 h.2 s'.1 h.6)

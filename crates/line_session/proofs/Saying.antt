@@ -14,9 +14,11 @@ use Rattle.line_session.specs.declared.line_handler.HandlerError.TheVariants as 
 use Rattle.line_session.specs.declared.answering.Ended.{Ended}
 use Rattle.line_session.specs.declared.answering.SessionFault.{SessionFault}
 use Rattle.line_session.specs.declared.answering.SessionFault.TheVariants as session
-use Rattle.line_session.specs.Faults.{fault_of_handler}
+use Rattle.till_request.specs.declared.line.InputFault.{InputFault}
+use Rattle.till_request.specs.declared.line.InputFault.TheVariants as input
+use Rattle.line_session.specs.Faults.{fault_of_handler, fault_of_input}
 use Rattle.line_session.specs.Found.{IsEnd}
-use Rattle.line_session.specs.Answering.{FallsShort, Half, Dropped, with_lf, Said, SaysAll, AnswersLines, IsCut, IsUpToLine, Ends, Breaks, Stops, cut_line, cut_count}
+use Rattle.line_session.specs.Answering.{FallsShort, Half, Dropped, with_lf, Said, SaysAll, AnswersLines, IsCut, IsUpToLine, Ends, Breaks, Stops, StopsFor, cut_line, cut_count}
 
 pub is_line_empty : IsLine []
 is_line_empty = (tt, omega arith)
@@ -89,7 +91,7 @@ module _ {C D : Type 0} (says : C × D → List ℕ → List ℕ → C × D → 
         counted = refl;
       })
 
-  module _ (drops : C × D → List ℕ → C × D → Type 0) where
+  module _ (drops : HandlerError → C × D → List ℕ → C × D → Type 0) where
     pub breaks_here : (s m : C × D) (i j o p : Option (List ℕ)) (count : ℕ) (k : Option (List ℕ)) (more : List ℕ)
         → AnswersLines says s m i j o p count [] [] → Consumes j k more → IsUpToLine more → Breaks says drops s m i k o p
     breaks_here s m i j o p count k more t taken is = record {
@@ -110,16 +112,16 @@ module _ {C D : Type 0} (says : C × D → List ℕ → List ℕ → C × D → 
     }
 
     -- if the next line was read and dropped, then the session breaks off there
-    dropped_next : (s m s' : C × D) (i j k o p : Option (List ℕ)) (count : ℕ) (l : List ℕ)
-        → AnswersLines says s m i j o p count [] [] → IsLine l → Consumes j k (l ++ 10 ∷ []) → drops m l s' → Breaks says drops s s' i k o p
-    dropped_next s m s' i j k o p count l t whole taken d = record {
+    dropped_next : (why : HandlerError) (s m s' : C × D) (i j k o p : Option (List ℕ)) (count : ℕ) (l : List ℕ)
+        → AnswersLines says s m i j o p count [] [] → IsLine l → Consumes j k (l ++ 10 ∷ []) → drops why m l s' → Breaks says drops s s' i k o p
+    dropped_next why s m s' i j k o p count l t whole taken d = record {
       lines = t.lines;
       texts = t.texts;
       each = t.each;
       answered = m;
       said = t.said;
       rest = l ++ 10 ∷ [];
-      dropped = inr (l, whole, refl, d);
+      dropped = inr (why, (l, whole, refl, d));
       taken = consumes_more i j k (flat_map with_lf t.lines) (with_lf l) (rw append-nil at t.taken) taken;
       cut = None;
       is_cut = inr (l, whole, refl);
@@ -129,10 +131,11 @@ module _ {C D : Type 0} (says : C × D → List ℕ → List ℕ → C × D → 
       begins = refl;
     }
 
-    breaks_dropped : {O : Type 0} (out : O → Option (List ℕ)) (s m s' : C × D) (i j k o : Option (List ℕ)) (p q : O) (count : ℕ) (l : List ℕ)
-        → AnswersLines says s m i j o (out p) count [] [] → IsLine l → Consumes j k (l ++ 10 ∷ []) → Dropped drops l m s' p q
+    breaks_dropped : {O : Type 0} (out : O → Option (List ℕ)) (why : HandlerError) (s m s' : C × D) (i j k o : Option (List ℕ)) (p q : O) (count : ℕ)
+        (l : List ℕ) → AnswersLines says s m i j o (out p) count [] [] → IsLine l → Consumes j k (l ++ 10 ∷ []) → Dropped (drops why) l m s' p q
         → Breaks says drops s s' i k o (out q)
-    breaks_dropped out s m s' i j k o p q count l t whole taken a = rw a.output (dropped_next s m s' i j k o (out p) count l t whole taken a.drops_it)
+    breaks_dropped out why s m s' i j k o p q count l t whole taken a =
+        rw a.output (dropped_next why s m s' i j k o (out p) count l t whole taken a.drops_it)
 
     breaks_half : (s m s' : C × D) (i j k o p q : Option (List ℕ)) (count : ℕ) (l : List ℕ)
         → AnswersLines says s m i j o p count [] [] → IsLine l → Consumes j k (l ++ 10 ∷ []) → Half says l m s' p q
@@ -161,8 +164,10 @@ module _ {C D : Type 0} (says : C × D → List ℕ → List ℕ → C × D → 
         → Breaks says drops s s' i k o (out q)
     breaks_line out s m s' i j k o p q count l t whole taken takes error.OutOfMemory (inl a) =
         rw (a.state, a.output) (breaks_here s m i j o (out p) count k (l ++ 10 ∷ []) t taken (inr (l, whole, refl)))
-    breaks_line out s m s' i j k o p q count l t whole taken takes error.OutOfMemory (inr a) = breaks_dropped out s m s' i j k o p q count l t whole taken a
-    breaks_line out s m s' i j k o p q count l t whole taken takes error.Journal a = breaks_dropped out s m s' i j k o p q count l t whole taken a
+    breaks_line out s m s' i j k o p q count l t whole taken takes error.OutOfMemory (inr a) =
+        breaks_dropped out error.OutOfMemory s m s' i j k o p q count l t whole taken a
+    breaks_line out s m s' i j k o p q count l t whole taken takes error.Journal a =
+        breaks_dropped out error.Journal s m s' i j k o p q count l t whole taken a
     breaks_line out s m s' i j k o p q count l t whole taken takes error.Write a = breaks_half s m s' i j k o (out p) (out q) count l t whole taken a
 
     breaks_cut : (s m : C × D) (i j k o p q : Option (List ℕ)) (count : ℕ) (more : List ℕ) (fault : LineFault) (kept : ℕ)
@@ -194,24 +199,34 @@ module _ {C D : Type 0} (says : C × D → List ℕ → List ℕ → C × D → 
         let P : Option LineFault → Type 0 = λ c. IsCut c k more in
         breaks_cut s m i j k o p q count more h.0 h.2 t taken (subst P h.1 is) h.3
 
+    -- what a session's fault says if it came while the next line was read
+    stops_reading : (takes : List ℕ → Type 0) (fault : InputFault) (s : C × D) (more : List ℕ) → IsLine more
+        → StopsFor drops takes (fault_of_input fault) s s more
+    stops_reading takes input.Read s more line = (refl, line)
+    stops_reading takes input.ReadsSpent s more line = (refl, line)
+    stops_reading takes input.OutOfMemory s more line = inl (refl, line)
+
     -- if the session failed, but not in a write, then `Stops` holds
-    pub stops_here : (takes : List ℕ → Type 0) (fault : SessionFault) (s m : C × D) (i j o p : Option (List ℕ)) (count : ℕ) (k : Option (List ℕ))
-        (more : List ℕ) → AnswersLines says s m i j o p count [] [] → Consumes j k more → IsLine more → Stops says drops takes fault s m i k o p
+    pub stops_here : (takes : List ℕ → Type 0) (fault : InputFault) (s m : C × D) (i j o p : Option (List ℕ)) (count : ℕ) (k : Option (List ℕ))
+        (more : List ℕ) → AnswersLines says s m i j o p count [] [] → Consumes j k more → IsLine more
+        → Stops says drops takes (fault_of_input fault) s m i k o p
     unfolding breaks_here
     stops_here takes fault s m i j o p count k more t taken line =
-        (breaks_here s m i j o p count k more t taken (inl line), refl, refl, λ e. inl (refl, line))
+        (breaks_here s m i j o p count k more t taken (inl line), refl, refl, stops_reading takes fault m more line)
 
-    pub stops_silent : (takes : List ℕ → Type 0) (fault : SessionFault) (s m : C × D) (i j k o p : Option (List ℕ)) (count : ℕ) (l : List ℕ)
-        → AnswersLines says s m i j o p count [] [] → IsLine l → Consumes j k (l ++ 10 ∷ []) → takes l → Stops says drops takes fault s m i k o p
+    pub stops_silent : (takes : List ℕ → Type 0) (s m : C × D) (i j k o p : Option (List ℕ)) (count : ℕ) (l : List ℕ)
+        → AnswersLines says s m i j o p count [] [] → IsLine l → Consumes j k (l ++ 10 ∷ []) → takes l
+        → Stops says drops takes session.OutOfMemory s m i k o p
     unfolding breaks_here
-    stops_silent takes fault s m i j k o p count l t whole taken h =
-        (breaks_here s m i j o p count k (l ++ 10 ∷ []) t taken (inr (l, whole, refl)), refl, refl, λ e. inr (l, whole, refl, inl (refl, h)))
+    stops_silent takes s m i j k o p count l t whole taken h =
+        (breaks_here s m i j o p count k (l ++ 10 ∷ []) t taken (inr (l, whole, refl)), refl, refl, inr (l, whole, refl, inl (refl, h)))
 
-    pub stops_dropped : (takes : List ℕ → Type 0) (fault : SessionFault) (s m s' : C × D) (i j k o p : Option (List ℕ)) (count : ℕ) (l : List ℕ)
-        → AnswersLines says s m i j o p count [] [] → IsLine l → Consumes j k (l ++ 10 ∷ []) → drops m l s' → Stops says drops takes fault s s' i k o p
+    pub stops_dropped : (takes : List ℕ → Type 0) (fault : SessionFault) (why : HandlerError) (s m s' : C × D) (i j k o p : Option (List ℕ)) (count : ℕ)
+        (l : List ℕ) → AnswersLines says s m i j o p count [] [] → IsLine l → Consumes j k (l ++ 10 ∷ []) → drops why m l s'
+        → StopsFor drops takes fault m s' (l ++ 10 ∷ []) → Stops says drops takes fault s s' i k o p
     unfolding dropped_next
-    stops_dropped takes fault s m s' i j k o p count l t whole taken d =
-        (dropped_next s m s' i j k o p count l t whole taken d, refl, refl, λ e. inr (l, whole, refl, inr d))
+    stops_dropped takes fault why s m s' i j k o p count l t whole taken d is =
+        (dropped_next why s m s' i j k o p count l t whole taken d, refl, refl, is)
 
     pub stops_line : {O : Type 0} (out : O → Option (List ℕ)) (s m s' : C × D) (i j k o : Option (List ℕ)) (p q : O) (count : ℕ) (l : List ℕ)
         → AnswersLines says s m i j o (out p) count [] [] → IsLine l → Consumes j k (l ++ 10 ∷ [])
@@ -219,8 +234,10 @@ module _ {C D : Type 0} (says : C × D → List ℕ → List ℕ → C × D → 
         → Stops says drops takes (fault_of_handler fault) s s' i k o (out q)
     stops_line out s m s' i j k o p q count l t whole taken takes error.Write a other = absurd (other refl)
     stops_line out s m s' i j k o p q count l t whole taken takes error.OutOfMemory (inl a) other =
-        rw (a.state, a.output) (stops_silent takes session.OutOfMemory s m i j k o (out p) count l t whole taken a.takes_it)
+        rw (a.state, a.output) (stops_silent takes s m i j k o (out p) count l t whole taken a.takes_it)
     stops_line out s m s' i j k o p q count l t whole taken takes error.OutOfMemory (inr a) other =
-        rw a.output (stops_dropped takes session.OutOfMemory s m s' i j k o (out p) count l t whole taken a.drops_it)
+        rw a.output (stops_dropped takes session.OutOfMemory error.OutOfMemory s m s' i j k o (out p) count l t whole taken a.drops_it
+        (inr (l, whole, refl, inr a.drops_it)))
     stops_line out s m s' i j k o p q count l t whole taken takes error.Journal a other =
-        rw a.output (stops_dropped takes session.Journal s m s' i j k o (out p) count l t whole taken a.drops_it)
+        rw a.output (stops_dropped takes session.Journal error.Journal s m s' i j k o (out p) count l t whole taken a.drops_it
+        (l, whole, refl, a.drops_it))

@@ -28,14 +28,14 @@ pub record Half {S : Type 0} (says : S → List ℕ → List ℕ → S → Type 
   pub kept : ℕ
   pub written : Appends out_old out_new (take kept text)
 
--- the line has no answer, since memory ran out or the journal failed, and nothing was written
+-- the line has no answer, and nothing was written
 pub record Dropped {S O : Type 0} (drops : S → List ℕ → S → Type 0) (line : List ℕ) (s s' : S) (o o' : O) : Type 0 where
   pub drops_it : drops s line s'
   pub output : o' ≡ o
 
--- a line is never dropped, as each line that changes something has an answer
-abbrev pub drops_none : {S : Type 0} → S → List ℕ → S → Type 0
-drops_none s line s' = ⊥
+-- no line is ever dropped, as each line that changes something has an answer
+abbrev pub drops_none : {S : Type 0} → HandlerError → S → List ℕ → S → Type 0
+drops_none why s line s' = ⊥
 
 -- the line needs memory, which ran out, and nothing changed
 pub record Silent {S O : Type 0} (takes : List ℕ → Type 0) (line : List ℕ) (s s' : S) (o o' : O) : Type 0 where
@@ -44,20 +44,13 @@ pub record Silent {S O : Type 0} (takes : List ℕ → Type 0) (line : List ℕ)
   pub output : o' ≡ o
 
 -- Why the whole answer to a line wasn't written. `Write`: the device failed after a beginning of the answer.
--- `OutOfMemory`: the line needed memory and changed nothing, or was dropped. `Journal`: the line was dropped.
-abbrev pub FallsShort : {S O : Type 0} → (S → List ℕ → List ℕ → S → Type 0) → (S → List ℕ → S → Type 0) → (List ℕ → Type 0) → (O → Option (List ℕ))
-    → HandlerError → List ℕ → S → S → O → O → Type 0
+-- `OutOfMemory`: the line needed memory and changed nothing, or was dropped since memory ran out. `Journal`: the line
+-- was dropped since the journal failed.
+abbrev pub FallsShort : {S O : Type 0} → (S → List ℕ → List ℕ → S → Type 0) → (HandlerError → S → List ℕ → S → Type 0) → (List ℕ → Type 0)
+    → (O → Option (List ℕ)) → HandlerError → List ℕ → S → S → O → O → Type 0
 FallsShort says drops takes out error.Write line s s' o o' = Half says line s s' (out o) (out o')
-FallsShort says drops takes out error.OutOfMemory line s s' o o' = Silent takes line s s' o o' ⊎ Dropped drops line s s' o o'
-FallsShort says drops takes out error.Journal line s s' o o' = Dropped drops line s s' o o'
-
--- the state may follow a line at which the journal failed
-abbrev pub FailsAt : {S : Type 0} → (S → List ℕ → S → Type 0) → S → Type 0
-FailsAt {S} fails s' = (s : S) × (line : List ℕ) × fails s line s'
-
--- the journal never fails, as none is kept
-abbrev pub fails_none : {S : Type 0} → S → List ℕ → S → Type 0
-fails_none s line s' = ⊥
+FallsShort says drops takes out error.OutOfMemory line s s' o o' = Silent takes line s s' o o' ⊎ Dropped (drops error.OutOfMemory) line s s' o o'
+FallsShort says drops takes out error.Journal line s s' o o' = Dropped (drops error.Journal) line s s' o o'
 
 -- a line with its LF
 abbrev pub with_lf : List ℕ → List ℕ
@@ -128,13 +121,17 @@ abbrev pub AnswersCut : Option LineFault → Option (List ℕ) → List ℕ → 
 AnswersCut None in_new rest = IsUpToLine rest
 AnswersCut (Some fault) in_new rest = IsCut (Some fault) in_new rest
 
+-- the next line was read whole, and dropped for this reason
+abbrev pub DropsFor : {S : Type 0} → (HandlerError → S → List ℕ → S → Type 0) → HandlerError → S → S → List ℕ → Type 0
+DropsFor drops why s s' rest = (line : List ℕ) × IsLine line × (rest ≡ with_lf line) × drops why s line s'
+
 -- no further line was handled, or the next one was dropped
-abbrev pub DropsNext : {S : Type 0} → (S → List ℕ → S → Type 0) → S → S → List ℕ → Type 0
-DropsNext drops s s' rest = (s' ≡ s) ⊎ ((line : List ℕ) × IsLine line × (rest ≡ with_lf line) × drops s line s')
+abbrev pub DropsNext : {S : Type 0} → (HandlerError → S → List ℕ → S → Type 0) → S → S → List ℕ → Type 0
+DropsNext drops s s' rest = (s' ≡ s) ⊎ ((why : HandlerError) × DropsFor drops why s s' rest)
 
 -- the session failed, and a beginning of the answers was written
-pub record Breaks {S : Type 0} (says : S → List ℕ → List ℕ → S → Type 0) (drops : S → List ℕ → S
-    → Type 0) (s s' : S) (in_old in_new out_old out_new : Option (List ℕ)) : Type 0 where
+pub record Breaks {S : Type 0} (says : S → List ℕ → List ℕ → S → Type 0) (drops : HandlerError → S → List ℕ → S → Type 0) (s s' : S)
+    (in_old in_new out_old out_new : Option (List ℕ)) : Type 0 where
   pub lines : List (List ℕ)
   pub texts : List (List ℕ)
   pub each : AllByRecursion IsLine lines
@@ -150,27 +147,39 @@ pub record Breaks {S : Type 0} (says : S → List ℕ → List ℕ → S → Typ
   pub written : Appends out_old out_new front
   pub begins : all_texts texts ++ cut_line cut ≡ front ++ after
 
+-- nothing was handled after the last answered line, and of the next line at most a beginning was read
+abbrev pub ReadsOn : {S : Type 0} → S → S → List ℕ → Type 0
+ReadsOn s s' rest = (s' ≡ s) × IsLine rest
+
 -- Where memory ran out: while the next line was read; or after that, and then the line needs memory and nothing
--- changed, or the line was dropped.
-abbrev pub WantsNext : {S : Type 0} → (S → List ℕ → S → Type 0) → (List ℕ → Type 0) → S → S → List ℕ → Type 0
-WantsNext drops takes s s' rest = ((s' ≡ s) × IsLine rest)
-    ⊎ ((line : List ℕ) × IsLine line × (rest ≡ with_lf line) × (((s' ≡ s) × takes line) ⊎ drops s line s'))
+-- changed, or the line was dropped since memory ran out.
+abbrev pub WantsNext : {S : Type 0} → (HandlerError → S → List ℕ → S → Type 0) → (List ℕ → Type 0) → S → S → List ℕ → Type 0
+WantsNext drops takes s s' rest =
+    ReadsOn s s' rest ⊎ ((line : List ℕ) × IsLine line × (rest ≡ with_lf line) × (((s' ≡ s) × takes line) ⊎ drops error.OutOfMemory s line s'))
+
+-- Why a session failed although no write did. `Read`, `ReadsSpent`: while the next line was read. `OutOfMemory`: there
+-- was something that needed memory. `Journal`: the next line was dropped since the journal failed.
+abbrev pub StopsFor : {S : Type 0} → (HandlerError → S → List ℕ → S → Type 0) → (List ℕ → Type 0) → SessionFault → S → S → List ℕ → Type 0
+StopsFor drops takes session.Write s s' rest = ⊥
+StopsFor drops takes session.Read s s' rest = ReadsOn s s' rest
+StopsFor drops takes session.ReadsSpent s s' rest = ReadsOn s s' rest
+StopsFor drops takes session.OutOfMemory s s' rest = WantsNext drops takes s s' rest
+StopsFor drops takes session.Journal s s' rest = DropsFor drops error.Journal s s' rest
 
 -- The session failed although no write did. The whole answers to all handled lines were written, and no answer to a
--- fault of a line. If it failed because memory ran out, then there was something that needed memory.
-abbrev pub Stops : {S : Type 0} → (S → List ℕ → List ℕ → S → Type 0) → (S → List ℕ → S → Type 0) → (List ℕ → Type 0) → SessionFault → S → S
-    → Option (List ℕ) → Option (List ℕ) → Option (List ℕ) → Option (List ℕ) → Type 0
+-- fault of a line. The fault has its cause at the next line.
+abbrev pub Stops : {S : Type 0} → (S → List ℕ → List ℕ → S → Type 0) → (HandlerError → S → List ℕ → S → Type 0) → (List ℕ → Type 0) → SessionFault → S
+    → S → Option (List ℕ) → Option (List ℕ) → Option (List ℕ) → Option (List ℕ) → Type 0
 Stops says drops takes fault s s' in_old in_new out_old out_new =
-    (b : Breaks says drops s s' in_old in_new out_old out_new) × (b.cut ≡ None) × (b.after ≡ [])
-    × (fault ≡ session.OutOfMemory → WantsNext drops takes b.answered s' b.rest)
+    (b : Breaks says drops s s' in_old in_new out_old out_new) × (b.cut ≡ None) × (b.after ≡ []) × StopsFor drops takes fault b.answered s' b.rest
 
 -- A session that buffers answers failed although no write did. Then `Stops` holds, except that after a failed read the
 -- buffered answers are not written.
-abbrev pub StopsAtDoor : {S : Type 0} → (S → List ℕ → List ℕ → S → Type 0) → (S → List ℕ → S → Type 0) → (List ℕ → Type 0) → SessionFault → S → S
-    → Option (List ℕ) → Option (List ℕ) → Option (List ℕ) → Option (List ℕ) → Type 0
+abbrev pub StopsAtDoor : {S : Type 0} → (S → List ℕ → List ℕ → S → Type 0) → (HandlerError → S → List ℕ → S → Type 0) → (List ℕ → Type 0)
+    → SessionFault → S → S → Option (List ℕ) → Option (List ℕ) → Option (List ℕ) → Option (List ℕ) → Type 0
 StopsAtDoor says drops takes fault s s' in_old in_new out_old out_new =
     (b : Breaks says drops s s' in_old in_new out_old out_new) × (b.cut ≡ None) × (fault ≢ session.Read → b.after ≡ [])
-    × (fault ≡ session.OutOfMemory → WantsNext drops takes b.answered s' b.rest)
+    × StopsFor drops takes fault b.answered s' b.rest
 
 -- whether the result is that a read failed
 abbrev pub is_read : {T : Type 0} → Result T SessionFault → Bool

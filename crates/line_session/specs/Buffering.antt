@@ -1,6 +1,8 @@
 -- Promises: the answers of a session while some of them are buffered to be written together.
 use Rattle.std.specs.Prelude.{◌≡◌, ◌⊎◌, ℕ, List, [], ◌++◌, Option, Some}
 use Rattle.std.specs.Io.KnownBytes.{Appends}
+use Rattle.line_session.specs.declared.line_handler.HandlerError.{HandlerError}
+use Rattle.line_session.specs.declared.line_handler.HandlerError.TheVariants as error
 use Rattle.line_session.specs.declared.answering.SessionFault.{SessionFault}
 use Rattle.line_session.specs.declared.answering.SessionFault.TheVariants as session
 
@@ -38,13 +40,13 @@ pub record Keeps (waiting after : List ℕ) (out_old out_new : Option (List ℕ)
   pub out : out_new ≡ out_old
 
 -- Why the answer to a line is neither written nor buffered. `Write`: a write failed, and the rest of the buffered bytes
--- and the answer is lost. `OutOfMemory`: the line needed memory and changed nothing, or was dropped. `Journal`: the
--- line was dropped.
-abbrev pub StaysOff : {S : Type 0} → (S → List ℕ → List ℕ → S → Type 0) → (S → List ℕ → S → Type 0) → (List ℕ → Type 0) → SessionFault → List ℕ → S → S
-    → List ℕ → List ℕ → Option (List ℕ) → Option (List ℕ) → Type 0
+-- and the answer is lost. `OutOfMemory`: the line needed memory and changed nothing, or was dropped since memory ran
+-- out. `Journal`: the line was dropped since the journal failed.
+abbrev pub StaysOff : {S : Type 0} → (S → List ℕ → List ℕ → S → Type 0) → (HandlerError → S → List ℕ → S → Type 0) → (List ℕ → Type 0) → SessionFault
+    → List ℕ → S → S → List ℕ → List ℕ → Option (List ℕ) → Option (List ℕ) → Type 0
 StaysOff says drops takes session.Write line s s' waiting after out_old out_new = LosesSome says line s s' waiting out_old out_new
 StaysOff says drops takes session.OutOfMemory line s s' waiting after out_old out_new =
-    Keeps waiting after out_old out_new × ((takes line × (s' ≡ s)) ⊎ drops s line s')
-StaysOff says drops takes session.Journal line s s' waiting after out_old out_new = Keeps waiting after out_old out_new × drops s line s'
+    Keeps waiting after out_old out_new × ((takes line × (s' ≡ s)) ⊎ drops error.OutOfMemory s line s')
+StaysOff says drops takes session.Journal line s s' waiting after out_old out_new = Keeps waiting after out_old out_new × drops error.Journal s line s'
 StaysOff says drops takes session.Read line s s' waiting after out_old out_new = ⊥
 StaysOff says drops takes session.ReadsSpent line s s' waiting after out_old out_new = ⊥

@@ -7,9 +7,10 @@ use Rattle.till_request.specs.declared.act.Answer.{Answer}
 use Rattle.till_request.specs.Count.{RoseBy, one_if}
 use Rattle.line_session.specs.declared.answering.Ended.{Ended}
 use Rattle.line_session.specs.declared.answering.SessionFault.{SessionFault}
-use Rattle.line_session.specs.declared.answering.SessionFault.TheVariants.{Journal, ReadsSpent, Write}
-use Rattle.line_session.specs.Answering.{Ends, Breaks, FailsAt, StopsAtDoor, is_read, is_write, session_reads}
-use Rattle.line_session.specs.Session.{desk_says, desk_drops, desk_fails, desk_takes}
+use Rattle.line_session.specs.declared.answering.SessionFault.TheVariants.{ReadsSpent, Write}
+use Rattle.line_session.specs.declared.line_handler.HandlerError.{HandlerError}
+use Rattle.line_session.specs.Answering.{Ends, Breaks, StopsAtDoor, is_read, is_write, session_reads}
+use Rattle.line_session.specs.Session.{desk_says, desk_drops, desk_takes}
 
 -- how a connection went: None if it couldn't be opened, or else how its session ended
 abbrev pub Outcome : Type 0
@@ -29,7 +30,7 @@ good (outcome ∷ outcomes) = one_good outcome + good outcomes
 -- A session over this input and output had this result. Either all lines were answered, or the session failed and a
 -- beginning of the answers was written. Each fault has its cause: a device failed, all reads were made, the journal
 -- failed at a line, or something needed memory.
-pub record Sits {S I O : Type 0} (says : S → List ℕ → List ℕ → S → Type 0) (drops fails : S → List ℕ → S → Type 0) (takes : List ℕ → Type 0)
+pub record Sits {S I O : Type 0} (says : S → List ℕ → List ℕ → S → Type 0) (drops : HandlerError → S → List ℕ → S → Type 0) (takes : List ℕ → Type 0)
     (remaining : I → Option (List ℕ)) (reads read_failures : I → ℕ) (written : O → Option (List ℕ)) (write_failures : O → ℕ)
     (result : Result Ended SessionFault) (i : I) (o : O) (s s' : S) : Type 0 where
   pub input : I
@@ -42,14 +43,13 @@ pub record Sits {S I O : Type 0} (says : S → List ℕ → List ℕ → S → T
   pub few : count ≤ session_reads
   pub counted : RoseBy count (reads i) (reads input)
   pub spent : result ≡ Err ReadsSpent → count ≡ session_reads
-  pub journal : result ≡ Err Journal → FailsAt fails s'
   pub stopped : IfErr result
       (λ fault. fault ≢ Write → StopsAtDoor says drops takes fault s s' (remaining i) (remaining input) (written o) (written output))
 
 -- `Sits` holds for a session of this role with a desk and a clock
 abbrev pub SitsAtDesk : {C D I O : Type 0} → (D → Act → ℕ → Answer → D → Type 0) → (C → ℕ → C → Type 0) → Role → (I → Option (List ℕ)) → (I → ℕ) → (I → ℕ)
     → (O → Option (List ℕ)) → (O → ℕ) → Result Ended SessionFault → I → O → C × D → C × D → Type 0
-SitsAtDesk step tick role = Sits (desk_says step tick role) (desk_drops step tick role) (desk_fails step tick role) (desk_takes role)
+SitsAtDesk step tick role = Sits (desk_says step tick role) (desk_drops step tick role) (desk_takes role)
 
 -- one connection: it couldn't be opened, and clock and desk weren't asked; or it was opened, and a session ran over it
 abbrev pub Visits : {D S I O : Type 0} → (D → I → O → D → Type 0) → (D → D → Type 0) → (Result Ended SessionFault → I → O → S → S → Type 0) → Outcome

@@ -62,16 +62,12 @@ pub record SpeaksAt {C D : Type 0} (step : D → Act → ℕ → Answer → D �
 abbrev pub desk_says : {C D : Type 0} → (D → Act → ℕ → Answer → D → Type 0) → (C → ℕ → C → Type 0) → Role → C × D → List ℕ → List ℕ → C × D → Type 0
 desk_says step tick role s line text s' = SpeaksAt step tick role line text s.0 s.1 s'.0 s'.1
 
--- the desk's answer to the line isn't written: memory ran out, or the journal failed
-abbrev pub desk_drops : {C D : Type 0} → (D → Act → ℕ → Answer → D → Type 0) → (C → ℕ → C → Type 0) → Role → C × D → List ℕ → C × D → Type 0
-desk_drops step tick role s line s' =
-    (act : Act) × (moment : ℕ) × (answer : Answer) × (ends_unsaid answer ≡ true) × (line_read role line ≡ Ok act) × tick s.0 moment s'.0
+-- the desk's answer to the line isn't written, and the reason is this error: memory ran out, or the journal failed
+abbrev pub desk_drops : {C D : Type 0} → (D → Act → ℕ → Answer → D → Type 0) → (C → ℕ → C → Type 0) → Role → HandlerError → C × D → List ℕ → C × D
+    → Type 0
+desk_drops step tick role why s line s' =
+    (act : Act) × (moment : ℕ) × (answer : Answer) × IsUnsaid why answer × (line_read role line ≡ Ok act) × tick s.0 moment s'.0
     × step s.1 act moment answer s'.1
-
--- the desk's answer to the line is that the journal failed
-abbrev pub desk_fails : {C D : Type 0} → (D → Act → ℕ → Answer → D → Type 0) → (C → ℕ → C → Type 0) → Role → C × D → List ℕ → C × D → Type 0
-desk_fails step tick role s line s' =
-    (act : Act) × (moment : ℕ) × (line_read role line ≡ Ok act) × tick s.0 moment s'.0 × step s.1 act moment JournalFailed s'.1
 
 -- only a load needs memory before the desk is asked
 abbrev pub desk_takes : Role → List ℕ → Type 0

@@ -4,7 +4,7 @@ ghost use Rattle.std.specs.Io.KnownBytes.{Appends};
 ghost use Rattle.till_request.specs.Count.{RoseBy, one_if};
 ghost use Rattle.till_request.specs.Answer.{answer_line};
 ghost use Rattle.till_request.specs.declared.act.LineFault.{LineFault};
-ghost use Rattle.line_session.specs.Answering.{Ends, Breaks, FailsAt, SpendsReads, Stops, is_read, is_write, session_reads};
+ghost use Rattle.line_session.specs.Answering.{Ends, Breaks, SpendsReads, Stops, is_read, is_write, session_reads};
 ghost use Rattle.line_session.specs.Answering.{cut_line};
 ghost use Rattle.line_session.specs.Found.{IsEnd, cut_by};
 
@@ -153,7 +153,6 @@ pub fn answer_lines_within<I: LineIn, O: LineOut, C, D, S: LineHandler<C, D>>(
     ensures spent { result ≡ Err SessionFault.ReadsSpent → left.new ≡ 0 }
     ensures counted { RoseBy (left.old - left.new) (I.reads input.old) (I.reads input.new) }
     ensures asked { RoseBy (left.old - left.new) (I.asked input.old) (I.asked input.new) }
-    ensures journal { result ≡ Err SessionFault.Journal → FailsAt (S.fails handler.now) (clock.new, desk.new) }
     ensures stopped { IfErr result (λ fault. fault ≢ SessionFault.Write
         → Stops (S.says handler.now) (S.drops handler.now) (S.takes handler.now) fault (clock.old, desk.old)
         (clock.new, desk.new) (I.remaining input.old) (I.remaining input.new) (O.written output.old)
@@ -189,7 +188,6 @@ pub fn answer_lines<I: LineIn, O: LineOut, C, D, S: LineHandler<C, D>>(
     ensures write_fault { RoseBy (one_if (is_write result)) (O.failures output.old) (O.failures output.new) }
     ensures reads { SpendsReads session_reads result (I.reads input.old) (I.reads input.new) (I.asked input.old)
         (I.asked input.new) }
-    ensures journal { result ≡ Err SessionFault.Journal → FailsAt (S.fails handler.now) (clock.new, desk.new) }
     ensures stopped { IfErr result (λ fault. fault ≢ SessionFault.Write
         → Stops (S.says handler.now) (S.drops handler.now) (S.takes handler.now) fault (clock.old, desk.old)
         (clock.new, desk.new) (I.remaining input.old) (I.remaining input.new) (O.written output.old)

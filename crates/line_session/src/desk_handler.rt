@@ -74,13 +74,11 @@ pub struct DeskHandler {
 }
 
 impl<C: Clock, D: Desk> LineHandler<C, D> for DeskHandler {
-    ghost use Rattle.line_session.specs.Session.{desk_says, desk_drops, desk_fails, desk_takes};
+    ghost use Rattle.line_session.specs.Session.{desk_says, desk_drops, desk_takes};
 
     ghost says = { λ a. desk_says D.step C.tick a.role };
 
     ghost drops = { λ a. desk_drops D.step C.tick a.role };
-
-    ghost fails = { λ a. desk_fails D.step C.tick a.role };
 
     ghost takes = { λ a. desk_takes a.role };
 

@@ -1,8 +1,8 @@
 //! Sessions of a role at a desk.
-ghost use Rattle.std.specs.Prelude.{◌≡◌, ◌≢◌, ◌≤◌, ℕ, IfOk, IfErr, OnErr, Err};
+ghost use Rattle.std.specs.Prelude.{◌≢◌, IfOk, IfErr, OnErr};
 ghost use Rattle.till_request.specs.Count.{RoseBy, one_if};
-ghost use Rattle.line_session.specs.Answering.{Ends, Breaks, FailsAt, SpendsReads, Stops, is_read, is_write, session_reads};
-ghost use Rattle.line_session.specs.Session.{desk_says, desk_drops, desk_fails, desk_takes};
+ghost use Rattle.line_session.specs.Answering.{Ends, Breaks, SpendsReads, Stops, is_read, is_write, session_reads};
+ghost use Rattle.line_session.specs.Session.{desk_says, desk_drops, desk_takes};
 
 use crate::answering::{Ended, READS, SessionFault, answer_lines};
 use crate::desk::{Clock, Desk};
@@ -32,7 +32,6 @@ pub fn session<I: LineIn, O: LineOut, C: Clock, D: Desk>(
     ensures write_fault { RoseBy (one_if (is_write result)) (O.failures output.old) (O.failures output.new) }
     ensures reads { SpendsReads session_reads result (I.reads input.old) (I.reads input.new) (I.asked input.old)
         (I.asked input.new) }
-    ensures journal { result ≡ Err SessionFault.Journal → FailsAt (desk_fails D.step C.tick role) (clock.new, desk.new) }
     ensures stopped { IfErr result (λ fault. fault ≢ SessionFault.Write
         → Stops (desk_says D.step C.tick role) (desk_drops D.step C.tick role) (desk_takes role) fault
         (clock.old, desk.old) (clock.new, desk.new) (I.remaining input.old) (I.remaining input.new)

@@ -15,19 +15,17 @@ pub enum HandlerError {
 /// A handler of lines. It answers each line with a text, and can use and change the clock and the desk, which answers
 /// acts.
 pub trait LineHandler<C, D> {
-    ghost use Rattle.std.specs.Prelude.{◌≡◌, List, ℕ, OnOk, IfErr, Err};
+    ghost use Rattle.std.specs.Prelude.{List, ℕ, OnOk, IfErr};
     ghost use Rattle.till_request.specs.Count.{RoseBy, one_if};
     ghost use Rattle.line_session.specs.Answering.{FallsShort, Said, is_write_fault};
+    ghost use Rattle.line_session.specs.declared.line_handler.HandlerError.{HandlerError};
 
     /// States what the answer to a line may be, and the states of the clock and the desk after it.
     ghost says: { Self → (C × D) → List ℕ → List ℕ → (C × D) → Type 0 };
 
-    /// States which states the clock and the desk may have after a line without an answer, as memory ran out or the
-    /// journal failed.
-    ghost drops: { Self → (C × D) → List ℕ → (C × D) → Type 0 };
-
-    /// States which states the clock and the desk may have after a line at which the journal failed.
-    ghost fails: { Self → (C × D) → List ℕ → (C × D) → Type 0 };
+    /// States which states the clock and the desk may have after a line without an answer, and for which error: memory
+    /// ran out, or the journal failed.
+    ghost drops: { Self → HandlerError → (C × D) → List ℕ → (C × D) → Type 0 };
 
     /// States for which lines the handler may run out of memory before anything has changed.
     ghost takes: { Self → List ℕ → Type 0 };
@@ -47,7 +45,5 @@ pub trait LineHandler<C, D> {
         ensures err { IfErr result
             (λ fault. FallsShort (says self.now) (drops self.now) (takes self.now) O.written fault line.now (clock.old, desk.old)
             (clock.new, desk.new) output.old output.new) }
-        ensures journal { result ≡ Err HandlerError.Journal
-            → fails self.now (clock.old, desk.old) line.now (clock.new, desk.new) }
         ensures failed { RoseBy (one_if (is_write_fault result)) (O.failures output.old) (O.failures output.new) };
 }

@@ -5,8 +5,8 @@ ghost use Rattle.till_request.specs.Answer.{answer_line};
 ghost use Rattle.till_request.specs.Count.{RoseBy, one_if};
 ghost use Rattle.till_request.specs.declared.act.LineFault.{LineFault};
 ghost use Rattle.line_session.specs.Buffering.{SaysOn, Sends, StaysOff, Waits};
-ghost use Rattle.line_session.specs.Session.{desk_says, desk_drops, desk_fails, desk_takes};
-ghost use Rattle.line_session.specs.Answering.{Ends, Breaks, FailsAt, SpendsReads, Stops, StopsAtDoor};
+ghost use Rattle.line_session.specs.Session.{desk_says, desk_drops, desk_takes};
+ghost use Rattle.line_session.specs.Answering.{Ends, Breaks, SpendsReads, Stops, StopsAtDoor};
 ghost use Rattle.line_session.specs.Answering.{cut_line, is_read, is_write, session_reads};
 ghost use Rattle.line_session.specs.Found.{IsEnd};
 
@@ -79,8 +79,6 @@ impl Progress {
             self.old.waiting.held.bytes.items self.new.waiting.held.bytes.items (O.written output.old)
             (O.written output.new)) }
         ensures failed { RoseBy (one_if (is_write result)) (O.failures output.old) (O.failures output.new) }
-        ensures journal { result ≡ Err SessionFault.Journal
-            → desk_fails D.step C.tick role (clock.old, desk.old) line.now (clock.new, desk.new) }
         ensures left { self.new.left ≡ self.old.left }
     {
         let alloc = self.alloc;
@@ -158,8 +156,6 @@ impl Progress {
             (S.In.reads connection.new.input) }
         ensures asked { RoseBy (self.old.left - self.new.left) (S.In.asked connection.old.input)
             (S.In.asked connection.new.input) }
-        ensures journal { result ≡ Err SessionFault.Journal
-            → FailsAt (desk_fails D.step C.tick role) (clock.new, desk.new) }
     {
         let alloc = self.alloc;
         let mut line = Vec::new(alloc);
@@ -211,7 +207,6 @@ pub fn pipelined_session<S: Doors, C: Clock, D: Desk>(
         (S.Out.failures connection.new.output) }
     ensures reads { SpendsReads session_reads result (S.In.reads connection.old.input)
         (S.In.reads connection.new.input) (S.In.asked connection.old.input) (S.In.asked connection.new.input) }
-    ensures journal { result ≡ Err SessionFault.Journal → FailsAt (desk_fails D.step C.tick role) (clock.new, desk.new) }
     ensures stopped { IfErr result (λ fault. fault ≢ SessionFault.Write
         → StopsAtDoor (desk_says D.step C.tick role) (desk_drops D.step C.tick role) (desk_takes role) fault
         (clock.old, desk.old) (clock.new, desk.new) (S.In.remaining connection.old.input)

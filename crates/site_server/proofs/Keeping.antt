@@ -38,7 +38,7 @@ module _ (config : ConfigValue) (may_fail : Type 0) where
 
     drop_keeps : (s t : ℕ × PassView) (rest : List ℕ) → DropsNext (desk_drops (pass_answers config may_fail) tells role) s t rest → t.1.id ≡ s.1.id
     drop_keeps s t rest (inl same) = ap (λ (x : ℕ × PassView). x.1.id) same
-    drop_keeps s t rest (inr d) = answer_keeps d.3.2 s.1 t.1 d.3.0 d.3.1 d.3.6
+    drop_keeps s t rest (inr d) = answer_keeps d.1.3.2 s.1 t.1 d.1.3.0 d.1.3.1 d.1.3.6
 
     module _ {I O D : Type 0} (remaining : I → Option (List ℕ)) (reads read_failures : I → ℕ) (written : O → Option (List ℕ)) (write_failures : O → ℕ)
         (opens : D → I → O → D → Type 0) (fails : D → D → Type 0) where

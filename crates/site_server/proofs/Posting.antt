@@ -4,9 +4,9 @@ use Rattle.std.proofs.Common.{◌≡◌, ℕ, List, Option}
 use Rattle.till_request.specs.declared.act.Act.{Act}
 use Rattle.till_request.specs.declared.act.Role.{Role}
 use Rattle.till_request.specs.declared.act.Answer.{Answer}
-use Rattle.line_session.specs.Session.{desk_says, desk_drops, desk_fails, desk_takes}
+use Rattle.line_session.specs.Session.{desk_says, desk_drops, desk_takes}
 use Rattle.line_session.specs.Serving.{SitsAtDesk, Visits, Serves}
-use Rattle.line_session.proofs.Projecting.{serves_seen, desk_seen, desk_lost, desk_failed}
+use Rattle.line_session.proofs.Projecting.{serves_seen, desk_seen, desk_lost}
 use Rattle.site_core.specs.Limits.{ConfigValue}
 use Rattle.site_lock.specs.Passes.{PassView}
 use Rattle.site_lock.specs.Desks.{DeskAnswers}
@@ -24,12 +24,10 @@ module _ {C P D I O : Type 0} (last : C → ℕ) (pass : P → PassView) (config
   serves_so : (asked clean : ℕ) (d : D) (s : C × P) (d' : D) (s' : C × P)
       → Serves (Visits opens fails (SitsAtDesk step tick role remaining reads read_failures written write_failures)) asked clean d s d' s'
       → Serves (Visits opens fails (SitsAtDesk (pass_answers config may_fail) tells role remaining reads read_failures written write_failures)) asked clean d (see s) d' (see s')
-  serves_so = serves_seen {S = C × P} {T = ℕ × PassView} see (desk_says step tick role) (desk_drops step tick role) (desk_fails step tick role)
-      (desk_says (pass_answers config may_fail) tells role) (desk_drops (pass_answers config may_fail) tells role)
-      (desk_fails (pass_answers config may_fail) tells role) (desk_takes role)
+  serves_so = serves_seen {S = C × P} {T = ℕ × PassView} see (desk_says step tick role) (desk_drops step tick role)
+      (desk_says (pass_answers config may_fail) tells role) (desk_drops (pass_answers config may_fail) tells role) (desk_takes role)
       (desk_seen last pass step (pass_answers config may_fail) tick tells steps ticks role)
-      (desk_lost last pass step (pass_answers config may_fail) tick tells steps ticks role)
-      (desk_failed last pass step (pass_answers config may_fail) tick tells steps ticks role) remaining reads read_failures written write_failures opens fails
+      (desk_lost last pass step (pass_answers config may_fail) tick tells steps ticks role) remaining reads read_failures written write_failures opens fails
 
   pub serves_as_pass : (asked clean : ℕ) (d : D) (c : C) (p : P) (d' : D) (c' : C) (p' : P) (m : ℕ) (q r : PassView) → last c ≡ m → pass p ≡ q → r ≡ pass p'
       → Serves (Visits opens fails (SitsAtDesk step tick role remaining reads read_failures written write_failures)) asked clean d (c, p) d' (c', p')

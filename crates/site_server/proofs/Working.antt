@@ -1,9 +1,15 @@
 -- If a worker served connections at its doors, then its pass served as many, and as many of them ended without fault.
-use Rattle.std.proofs.Common.{ℕ, List, [], ◌∷◌, Option, Some, None, Ok, Err, refl, inl, inr}
+use Rattle.std.proofs.Common.{◌≡◌, ◌≢◌, ℕ, List, [], ◌∷◌, Option, Some, None, Result, Ok, Err, refl, subst, inl, inr}
+use Rattle.till_request.specs.declared.act.Answer.{Answer}
 use Rattle.till_request.specs.declared.act.Role.{Role}
-use Rattle.line_session.specs.Session.{desk_drops}
+use Rattle.line_session.specs.declared.answering.Ended.{Ended}
+use Rattle.line_session.specs.declared.answering.SessionFault.{SessionFault}
+use Rattle.line_session.specs.declared.answering.SessionFault.TheVariants as session
+use Rattle.line_session.specs.declared.line_handler.HandlerError.TheVariants as error
+use Rattle.line_session.specs.Session.{desk_says, desk_drops, desk_takes}
 use Rattle.line_session.specs.Serving.{Outcome, SitsAtDesk, Visits, VisitsAll, Serves}
-use Rattle.line_session.specs.Answering.{DropsNext}
+use Rattle.line_session.specs.Answering.{DropsFor, DropsNext, StopsAtDoor}
+use Rattle.site_lock.specs.Desks.{DeskAnswers}
 use Rattle.site_core.specs.Limits.{ConfigValue}
 use Rattle.site_lock.specs.Passes.{PassView}
 use Rattle.site_server.specs.Tasks.{pass_answers, tells, DropsOne, Talked, TalkedAll, Worked}
@@ -13,12 +19,26 @@ module _ (config : ConfigValue) (may_fail : Type 0) (role : Role) {I O D : Type 
     (opens : D → I → O → D → Type 0) (fails : D → D → Type 0) where
   dropped : (s t : ℕ × PassView) (rest : List ℕ) → DropsNext (desk_drops (pass_answers config may_fail) tells role) s t rest → DropsOne config may_fail role s t
   dropped s t rest (inl same) = inl same
-  dropped s t rest (inr d) = inr (d.0, d.1, d.3)
+  dropped s t rest (inr d) = inr (d.0, d.1.0, d.1.1, d.1.3)
+
+  -- the desk answers that the journal failed only if it may
+  failing : (s t : ℕ × PassView) (rest : List ℕ) → DropsFor (desk_drops (pass_answers config may_fail) tells role) error.Journal s t rest → may_fail
+  failing s t rest d = let P : Answer → Type 0 = λ a. DeskAnswers config may_fail s.1 t.1 d.3.0 d.3.1 a in (subst P d.3.3 d.3.6).1
+
+  may_fail_at : (fault : SessionFault) (s t : ℕ × PassView) (i j o p : Option (List ℕ))
+      → (fault ≢ session.Write → StopsAtDoor (desk_says (pass_answers config may_fail) tells role) (desk_drops (pass_answers config may_fail) tells role)
+          (desk_takes role) fault s t i j o p)
+      → ◌≡◌ {A = Result Ended SessionFault} (Err fault) (Err session.Journal) → may_fail
+  may_fail_at session.Journal s t i j o p h e = let stops = h (λ w. absurd (cc)) in failing stops.0.answered t stops.0.rest stops.3
+  may_fail_at session.Read s t i j o p h e = absurd (cc)
+  may_fail_at session.Write s t i j o p h e = absurd (cc)
+  may_fail_at session.ReadsSpent s t i j o p h e = absurd (cc)
+  may_fail_at session.OutOfMemory s t i j o p h e = absurd (cc)
 
   talked : (outcome : Outcome) (d : D) (s : ℕ × PassView) (e : D) (t : ℕ × PassView)
       → Visits opens fails (SitsAtDesk (pass_answers config may_fail) tells role remaining reads read_failures written write_failures) outcome d s e t → Talked config may_fail role outcome s t
   talked None d s e t v = v.1
-  talked (Some (Ok ended)) d s e t v = let answering = v.3.said.answering in (answering.lines, answering.texts, t, answering.each, answering.said, inl refl, λ e. (v.3.journal e).2.4.1)
+  talked (Some (Ok ended)) d s e t v = let answering = v.3.said.answering in (answering.lines, answering.texts, t, answering.each, answering.said, inl refl, λ e. absurd (cc))
   talked (Some (Err fault)) d s e t v = let breaks =
       v.3.broken in (
         breaks.lines,
@@ -27,7 +47,7 @@ module _ (config : ConfigValue) (may_fail : Type 0) (role : Role) {I O D : Type 
         breaks.each,
         breaks.said,
         dropped breaks.answered t breaks.rest breaks.dropped,
-        λ e. (v.3.journal e).2.4.1,
+        may_fail_at fault s t _ _ _ _ v.3.stopped,
       )
 
   all_talked : (outcomes : List Outcome) (d : D) (s : ℕ × PassView) (e : D) (t : ℕ × PassView)

@@ -6,6 +6,7 @@ use Rattle.till_request.specs.Line.{IsLine}
 use Rattle.till_request.specs.declared.act.Act.{Act}
 use Rattle.till_request.specs.declared.act.Answer.{Answer}
 use Rattle.till_request.specs.declared.act.Role.{Role}
+use Rattle.line_session.specs.declared.line_handler.HandlerError.{HandlerError}
 use Rattle.line_session.specs.declared.answering.SessionFault.TheVariants.{Journal}
 use Rattle.line_session.specs.Session.{desk_says, desk_drops}
 use Rattle.line_session.specs.Serving.{Outcome, good}
@@ -23,9 +24,10 @@ abbrev pub tells : ℕ → ℕ → ℕ → Type 0
 tells before moment now = now ≡ moment
 
 -- Either no further line was handled, or one more line was, but got no answer since memory ran out or the journal
--- failed.
+-- failed, as the error says.
 abbrev pub DropsOne : ConfigValue → Type 0 → Role → ℕ × PassView → ℕ × PassView → Type 0
-DropsOne config may_fail role s s' = (s' ≡ s) ⊎ ((line : List ℕ) × IsLine line × desk_drops (pass_answers config may_fail) tells role s line s')
+DropsOne config may_fail role s s' =
+    (s' ≡ s) ⊎ ((why : HandlerError) × (line : List ℕ) × IsLine line × desk_drops (pass_answers config may_fail) tells role why s line s')
 
 -- One connection. Either it couldn't be opened, or lines of this role were answered one after another. In the second
 -- case at most one more line was handled, without an answer. The session's fault is that the journal failed only if it

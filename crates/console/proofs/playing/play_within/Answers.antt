@@ -1,7 +1,7 @@
 use Rattle.site_core.specs.Site.{new_site}
 use Rattle.line_session.specs.Answering.{drops_none}
 use Rattle.console.specs.Play.{Plays, TakesMemory}
-use Rattle.console.proofs.Fronts.{breaks_none, stops_none, said_from, broken_from, stopped_from}
+use Rattle.console.proofs.Fronts.{breaks_none, stops_none, no_journal, said_from, broken_from, stopped_from}
 use Rattle.console.proofs.playing.play_within.Goals as goal
 
 pub returns-in_default-clause-broken : goal.returns-in_default-clause-broken
@@ -19,11 +19,12 @@ returns-clause-broken g c =
     c.answer_lines_within.ensures.broken
 
 pub returns-clause-journal : goal.returns-clause-journal
-returns-clause-journal g c = λ e. (c.answer_lines_within.ensures.journal e).2
+returns-clause-journal g c =
+    no_journal c.answer_lines_within.result c.in-Ok.site c.answer_lines_within.new.clock c.answer_lines_within.new.desk _ _ _ _ c.answer_lines_within.ensures.stopped
 
 pub returns-in_default-clause-stopped : goal.returns-in_default-clause-stopped
 returns-in_default-clause-stopped g c =
-    λ _. record { moment = 0; left = new_site c.args.config; stops = stops_none Plays drops_none TakesMemory _ (0, new_site c.args.config) _ _ }
+    λ _. record { moment = 0; left = new_site c.args.config; stops = stops_none Plays drops_none TakesMemory (0, new_site c.args.config) _ _ }
 
 pub returns-clause-stopped : goal.returns-clause-stopped
 returns-clause-stopped g c =

@@ -1,8 +1,8 @@
 use Rattle.std.proofs.Common.{arith, rules, inl}
 use Rattle.till_request.proofs.Taken.{on_err_always}
 use Rattle.till_request.proofs.Counts.{rose_more, rose_left}
-use Rattle.line_session.proofs.Failing.{spoke, if_handed}
-use Rattle.line_session.proofs.Found.{cut_found, write_alone, write_no_read, write_no_spent, write_no_journal}
+use Rattle.line_session.proofs.Failing.{if_handed}
+use Rattle.line_session.proofs.Found.{cut_found, write_alone, write_no_read, write_no_spent}
 use Rattle.line_session.proofs.Saying.{talks_none, talks_more, ends_said, breaks_here, breaks_line, breaks_end, stops_here, stops_line}
 use Rattle.line_session.proofs.answering.answer_lines_within.Goals as goal
 
@@ -44,9 +44,6 @@ returns-in_default-clause-read_fault g c = rw (write_no_read c.end.result c.end.
 pub returns-in_default-clause-spent : goal.returns-in_default-clause-spent
 returns-in_default-clause-spent g c = λ is. absurd (write_no_spent c.end.result c.end.ensures.cause is)
 
-pub returns-in_default-clause-journal : goal.returns-in_default-clause-journal
-returns-in_default-clause-journal g c = λ is. absurd (write_no_journal c.end.result c.end.ensures.cause is)
-
 pub returns-in_default-clause-stopped : goal.returns-in_default-clause-stopped
 returns-in_default-clause-stopped g c = write_alone c.end.result _ c.end.ensures.cause
 
@@ -63,14 +60,6 @@ turns-preserved g c =
       read = rose_more c.turns.invariant.read c.in_ok-found.ensures.failed;
       write = rose_more c.turns.invariant.write c.in_ok-handle_line-in-Line.ensures.failed;
     }
-
-pub returns-in_err-handle_line-in-Line-clause-journal : goal.returns-in_err-handle_line-in-Line-clause-journal
-returns-in_err-handle_line-in-Line-clause-journal g c = λ e. (
-  (c.turns.clock, c.turns.desk),
-  c.deref.result.now,
-  c.in_err-handle_line-in-Line.ensures.journal
-      (spoke c.from_residual-in_err-handle_line-in-Line.result c.in_err-handle_line-in-Line.field-0.0 c.from_residual-in_err-handle_line-in-Line.ensures e),
-)
 
 pub returns-in_err-found-clause-stopped : goal.returns-in_err-found-clause-stopped
 returns-in_err-found-clause-stopped g c =

@@ -1,8 +1,8 @@
 use Rattle.std.proofs.Common.{arith, rules}
 use Rattle.till_request.proofs.Counts.{rose_more, rose_left}
 use Rattle.line_session.specs.Session.{desk_says, desk_drops, desk_takes}
-use Rattle.line_session.proofs.Failing.{handed, if_handed}
-use Rattle.line_session.proofs.Found.{cut_found, write_alone, write_no_spent, write_no_journal}
+use Rattle.line_session.proofs.Failing.{if_handed}
+use Rattle.line_session.proofs.Found.{cut_found, write_alone, write_no_spent}
 use Rattle.line_session.proofs.Buffered.{waits_none, waits_on, waits_more, breaks_gone, breaks_said, breaks_cut_off, stops_read, stops_said, ends_all}
 use Rattle.line_session.proofs.pipelined.Progress.answer_lines.Goals as goal
 
@@ -45,15 +45,6 @@ returns-in_err-answer_line-in-Line-clause-stopped g c =
     (stops_said (desk_says g.D.Desk.step g.C.Clock.tick c.args.role) (desk_drops g.D.Desk.step g.C.Clock.tick c.args.role) (desk_takes c.args.role) _ _ _ _ _ _ _ _ _ _ _ _
     c.turns.count c.find_line.new.line.items way t.1 t.0 (rw c.deref.ensures.value at c.in_err-answer_line-in-Line.ensures.err))
 
-pub returns-in_err-answer_line-in-Line-clause-journal : goal.returns-in_err-answer_line-in-Line-clause-journal
-returns-in_err-answer_line-in-Line-clause-journal g c = λ e. (
-  (c.turns.clock, c.turns.desk),
-  c.deref.result.now,
-  c.in_err-answer_line-in-Line.ensures.journal
-      (handed c.from_residual-in_err-answer_line-in-Line.result c.in_err-answer_line-in-Line.field-0.0
-      c.from_residual-in_err-answer_line-in-Line.ensures e),
-)
-
 pub returns-in_default-clause-said : goal.returns-in_default-clause-said
 returns-in_default-clause-said g c =
     let way = waits_on _ _ _ _ _ _ c.turns.invariant.answering c.in_ok-flush_unless_more.ensures.ok in
@@ -70,9 +61,6 @@ returns-in_default-clause-broken g c =
 
 pub returns-in_default-clause-spent : goal.returns-in_default-clause-spent
 returns-in_default-clause-spent g c = λ is. absurd (write_no_spent c.end.result c.end.ensures.cause is)
-
-pub returns-in_default-clause-journal : goal.returns-in_default-clause-journal
-returns-in_default-clause-journal g c = λ is. absurd (write_no_journal c.end.result c.end.ensures.cause is)
 
 pub returns-in_default-clause-stopped : goal.returns-in_default-clause-stopped
 returns-in_default-clause-stopped g c = write_alone c.end.result _ c.end.ensures.cause
