@@ -92,6 +92,11 @@ impl<'a, H: Wait + Clock> Operator<'a, H> {
 }
 
 impl<H: Wait + Clock> Notices for Operator<'_, H> {
+    // What is printed on standard error has no contract.
+    ghost failure_told = { λ _ _ _. Unit {0} };
+
+    ghost end_told = { λ _ _. Unit {0} };
+
     fn accept_failed(&self, role: Role, pass: u32, error: &io::Error) {
         if self.is_admitted() {
             let who = Peer(role);

@@ -126,22 +126,22 @@ module _ {S T : Type 0} (f : S → T) (says : S → List ℕ → List ℕ → S 
       stopped = λ other. door_seen fault s s' _ _ _ _ (t.stopped other);
     }
 
-    module _ {D : Type 0} (opens : D → I → O → D → Type 0) (stays : D → D → Type 0) where
+    module _ {D : Type 0} (opens : D → I → O → D → Type 0) (stays : D → D → Type 0) (told : D → Result Ended SessionFault → Type 0) where
       visits_seen : (outcome : Outcome) (d : D) (s : S) (d' : D) (s' : S)
-          → Visits opens stays (Sits says drops takes remaining reads read_failures written write_failures) outcome d s d' s'
-          → Visits opens stays (Sits seen lost takes remaining reads read_failures written write_failures) outcome d (f s) d' (f s')
+          → Visits opens stays told (Sits says drops takes remaining reads read_failures written write_failures) outcome d s d' s'
+          → Visits opens stays told (Sits seen lost takes remaining reads read_failures written write_failures) outcome d (f s) d' (f s')
       visits_seen None d s d' s' v = (v.0, ap f v.1)
-      visits_seen (Some result) d s d' s' v = (v.0, v.1, v.2, sits_seen result v.0 v.1 s s' v.3)
+      visits_seen (Some result) d s d' s' v = (v.0, v.1, v.2, sits_seen result v.0 v.1 s s' v.3, v.4)
 
       all_visits_seen : (outcomes : List Outcome) (d : D) (s : S) (d' : D) (s' : S)
-          → VisitsAll (Visits opens stays (Sits says drops takes remaining reads read_failures written write_failures)) outcomes d s d' s'
-          → VisitsAll (Visits opens stays (Sits seen lost takes remaining reads read_failures written write_failures)) outcomes d (f s) d' (f s')
+          → VisitsAll (Visits opens stays told (Sits says drops takes remaining reads read_failures written write_failures)) outcomes d s d' s'
+          → VisitsAll (Visits opens stays told (Sits seen lost takes remaining reads read_failures written write_failures)) outcomes d (f s) d' (f s')
       all_visits_seen [] d s d' s' h = (h.0, ap f h.1)
       all_visits_seen (outcome ∷ outcomes) d s d' s' h = (h.0, f h.1, visits_seen outcome d s h.0 h.1 h.2, all_visits_seen outcomes h.0 h.1 d' s' h.3)
 
       pub serves_seen : (asked clean : ℕ) (d : D) (s : S) (d' : D) (s' : S)
-          → Serves (Visits opens stays (Sits says drops takes remaining reads read_failures written write_failures)) asked clean d s d' s'
-          → Serves (Visits opens stays (Sits seen lost takes remaining reads read_failures written write_failures)) asked clean d (f s) d' (f s')
+          → Serves (Visits opens stays told (Sits says drops takes remaining reads read_failures written write_failures)) asked clean d s d' s'
+          → Serves (Visits opens stays told (Sits seen lost takes remaining reads read_failures written write_failures)) asked clean d (f s) d' (f s')
       serves_seen asked clean d s d' s' h = record {
         outcomes = h.outcomes;
         each = all_visits_seen h.outcomes d s d' s' h.each;

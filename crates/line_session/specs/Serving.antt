@@ -51,11 +51,12 @@ abbrev pub SitsAtDesk : {C D I O : Type 0} → (D → Act → ℕ → Answer →
     → (O → Option (List ℕ)) → (O → ℕ) → Result Ended SessionFault → I → O → C × D → C × D → Type 0
 SitsAtDesk step tick role = Sits (desk_says step tick role) (desk_drops step tick role) (desk_takes role)
 
--- one connection: it couldn't be opened, and clock and desk weren't asked; or it was opened, and a session ran over it
-abbrev pub Visits : {D S I O : Type 0} → (D → I → O → D → Type 0) → (D → D → Type 0) → (Result Ended SessionFault → I → O → S → S → Type 0) → Outcome
-    → D → S → D → S → Type 0
-Visits opens fails sits None d s d' s' = fails d d' × (s' ≡ s)
-Visits {D} {S} {I} {O} opens fails sits (Some result) d s d' s' = (i : I) × (o : O) × opens d i o d' × sits result i o s s'
+-- One connection: it couldn't be opened, and clock and desk weren't asked. Or it was opened, a session ran over it, and
+-- how the session ended was told at the doors.
+abbrev pub Visits : {D S I O : Type 0} → (D → I → O → D → Type 0) → (D → D → Type 0) → (D → Result Ended SessionFault → Type 0)
+    → (Result Ended SessionFault → I → O → S → S → Type 0) → Outcome → D → S → D → S → Type 0
+Visits opens fails told sits None d s d' s' = fails d d' × (s' ≡ s)
+Visits {D} {S} {I} {O} opens fails told sits (Some result) d s d' s' = (i : I) × (o : O) × opens d i o d' × sits result i o s s' × told d' result
 
 -- these connections came one after another, and `Visits` holds for each
 abbrev pub VisitsAll : {D S : Type 0} → (Outcome → D → S → D → S → Type 0) → List Outcome → D → S → D → S → Type 0

@@ -9,13 +9,18 @@ pub trait Doors {
 
     type Out: LineOut + Drop;
 
-    ghost use Rattle.std.specs.Prelude.{IfOk, OnErr};
+    ghost use Rattle.std.specs.Prelude.{Result, IfOk, OnErr};
+    ghost use Rattle.line_session.specs.declared.answering.Ended.{Ended};
+    ghost use Rattle.line_session.specs.declared.answering.SessionFault.{SessionFault};
 
     /// States which connection may be opened, and the state of the doors after that.
     ghost opens: { Self → Self.In → Self.Out → Self → Type 0 };
 
     /// States which state the doors may have after a connection couldn't be opened.
     ghost fails: { Self → Self → Type 0 };
+
+    /// States that whoever hears of the sessions at these doors was told that one of them ended so.
+    ghost told: { Self → Result Ended SessionFault → Type 0 };
 
     /// Waits for the next connection, and returns its input and its output. The error is that it couldn't be opened.
     fn next(&mut self) -> Result<(Self::In, Self::Out), DeviceFault>
@@ -28,6 +33,7 @@ pub trait Doors {
         false
     }
 
-    /// Reports how the session over one of the connections ended. The default does nothing.
-    fn ended(&self, _outcome: &Result<Ended, SessionFault>) {}
+    /// Reports how the session over one of the connections ended.
+    fn ended(&self, outcome: &Result<Ended, SessionFault>)
+        ensures { told self.now outcome.now };
 }

@@ -18,7 +18,7 @@ fn serve_connection<S: Doors, C: Clock, D: Desk>(
     clock: &mut C,
     desk: &mut D,
 ) -> Option<Result<Ended, SessionFault>>
-    ensures { Visits S.opens S.fails
+    ensures { Visits S.opens S.fails S.told
         (SitsAtDesk D.step C.tick role S.In.remaining S.In.reads S.In.failures S.Out.written S.Out.failures)
         result doors.old (clock.old, desk.old) doors.new (clock.new, desk.new) }
 {
@@ -57,7 +57,7 @@ pub fn worker<S: Doors, C: Clock, D: Desk>(
     connections: u32,
 ) -> u64
     ensures { Serves
-        (Visits S.opens S.fails
+        (Visits S.opens S.fails S.told
         (SitsAtDesk D.step C.tick role S.In.remaining S.In.reads S.In.failures S.Out.written S.Out.failures))
         connections result doors.old (clock.old, desk.old) doors.new (clock.new, desk.new) }
 {

@@ -20,6 +20,10 @@ use till_request::Role;
 struct Silent;
 
 impl Notices for Silent {
+    ghost failure_told = { λ _ _ _. Unit {0} };
+
+    ghost end_told = { λ _ _. Unit {0} };
+
     fn accept_failed(&self, _role: Role, _pass: u32, _error: &io::Error) {}
 
     fn session_failed(&self, _role: Role, _pass: u32, _breach: SessionFailure) {}

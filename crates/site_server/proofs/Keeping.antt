@@ -6,6 +6,8 @@ use Rattle.till_request.specs.declared.act.LineFault.{LineFault}
 use Rattle.till_request.specs.declared.act.Answer.{Answer}
 use Rattle.till_request.specs.declared.act.Answer.TheVariants as answer
 use Rattle.till_request.specs.Grammar.{line_read}
+use Rattle.line_session.specs.declared.answering.Ended.{Ended}
+use Rattle.line_session.specs.declared.answering.SessionFault.{SessionFault}
 use Rattle.line_session.specs.Session.{AnswersAct, desk_says, desk_drops}
 use Rattle.line_session.specs.Answering.{SaysAll, DropsNext}
 use Rattle.line_session.specs.Serving.{Outcome, SitsAtDesk, Visits, VisitsAll, Serves}
@@ -41,19 +43,19 @@ module _ (config : ConfigValue) (may_fail : Type 0) where
     drop_keeps s t rest (inr d) = answer_keeps d.1.3.2 s.1 t.1 d.1.3.0 d.1.3.1 d.1.3.6
 
     module _ {I O D : Type 0} (remaining : I → Option (List ℕ)) (reads read_failures : I → ℕ) (written : O → Option (List ℕ)) (write_failures : O → ℕ)
-        (opens : D → I → O → D → Type 0) (fails : D → D → Type 0) where
+        (opens : D → I → O → D → Type 0) (fails : D → D → Type 0) (told : D → Result Ended SessionFault → Type 0) where
       visit_keeps : (outcome : Outcome) (d : D) (s : ℕ × PassView) (e : D) (t : ℕ × PassView)
-          → Visits opens fails (SitsAtDesk (pass_answers config may_fail) tells role remaining reads read_failures written write_failures) outcome d s e t → t.1.id ≡ s.1.id
+          → Visits opens fails told (SitsAtDesk (pass_answers config may_fail) tells role remaining reads read_failures written write_failures) outcome d s e t → t.1.id ≡ s.1.id
       visit_keeps None d s e t v = ap (λ (x : ℕ × PassView). x.1.id) v.1
       visit_keeps (Some (Ok ended)) d s e t v = let answering = v.3.said.answering in all_keep answering.lines s answering.texts t answering.said
       visit_keeps (Some (Err fault)) d s e t v = let breaks =
           v.3.broken in drop_keeps breaks.answered t breaks.rest breaks.dropped ∙ all_keep breaks.lines s breaks.texts breaks.answered breaks.said
 
       visits_keep : (outcomes : List Outcome) (d : D) (s : ℕ × PassView) (e : D) (t : ℕ × PassView)
-          → VisitsAll (Visits opens fails (SitsAtDesk (pass_answers config may_fail) tells role remaining reads read_failures written write_failures)) outcomes d s e t → t.1.id ≡ s.1.id
+          → VisitsAll (Visits opens fails told (SitsAtDesk (pass_answers config may_fail) tells role remaining reads read_failures written write_failures)) outcomes d s e t → t.1.id ≡ s.1.id
       visits_keep [] d s e t h = ap (λ (x : ℕ × PassView). x.1.id) h.1
       visits_keep (outcome ∷ outcomes) d s e t h = visits_keep outcomes h.0 h.1 e t h.3 ∙ visit_keeps outcome d s h.0 h.1 h.2
 
       pub serves_keep : (asked clean : ℕ) (d : D) (s : ℕ × PassView) (e : D) (t : ℕ × PassView)
-          → Serves (Visits opens fails (SitsAtDesk (pass_answers config may_fail) tells role remaining reads read_failures written write_failures)) asked clean d s e t → t.1.id ≡ s.1.id
+          → Serves (Visits opens fails told (SitsAtDesk (pass_answers config may_fail) tells role remaining reads read_failures written write_failures)) asked clean d s e t → t.1.id ≡ s.1.id
       serves_keep asked clean d s e t h = visits_keep h.outcomes d s e t h.each

@@ -16,7 +16,7 @@ use Rattle.site_server.specs.Tasks.{pass_answers, tells, DropsOne, Talked, Talke
 
 module _ (config : ConfigValue) (may_fail : Type 0) (role : Role) {I O D : Type 0} (remaining : I → Option (List ℕ)) (reads read_failures : I → ℕ) (written : O
     → Option (List ℕ)) (write_failures : O → ℕ)
-    (opens : D → I → O → D → Type 0) (fails : D → D → Type 0) where
+    (opens : D → I → O → D → Type 0) (fails : D → D → Type 0) (told : D → Result Ended SessionFault → Type 0) where
   dropped : (s t : ℕ × PassView) (rest : List ℕ) → DropsNext (desk_drops (pass_answers config may_fail) tells role) s t rest → DropsOne config may_fail role s t
   dropped s t rest (inl same) = inl same
   dropped s t rest (inr d) = inr (d.0, d.1.0, d.1.1, d.1.3)
@@ -27,7 +27,7 @@ module _ (config : ConfigValue) (may_fail : Type 0) (role : Role) {I O D : Type 
 
   may_fail_at : (fault : SessionFault) (s t : ℕ × PassView) (i j o p : Option (List ℕ))
       → (fault ≢ session.Write → StopsAtDoor (desk_says (pass_answers config may_fail) tells role) (desk_drops (pass_answers config may_fail) tells role)
-          (desk_takes role) fault s t i j o p)
+      (desk_takes role) fault s t i j o p)
       → ◌≡◌ {A = Result Ended SessionFault} (Err fault) (Err session.Journal) → may_fail
   may_fail_at session.Journal s t i j o p h e = let stops = h (λ w. absurd (cc)) in failing stops.0.answered t stops.0.rest stops.3
   may_fail_at session.Read s t i j o p h e = absurd (cc)
@@ -36,7 +36,7 @@ module _ (config : ConfigValue) (may_fail : Type 0) (role : Role) {I O D : Type 
   may_fail_at session.OutOfMemory s t i j o p h e = absurd (cc)
 
   talked : (outcome : Outcome) (d : D) (s : ℕ × PassView) (e : D) (t : ℕ × PassView)
-      → Visits opens fails (SitsAtDesk (pass_answers config may_fail) tells role remaining reads read_failures written write_failures) outcome d s e t → Talked config may_fail role outcome s t
+      → Visits opens fails told (SitsAtDesk (pass_answers config may_fail) tells role remaining reads read_failures written write_failures) outcome d s e t → Talked config may_fail role outcome s t
   talked None d s e t v = v.1
   talked (Some (Ok ended)) d s e t v = let answering = v.3.said.answering in (answering.lines, answering.texts, t, answering.each, answering.said, inl refl, λ e. absurd (cc))
   talked (Some (Err fault)) d s e t v = let breaks =
@@ -51,12 +51,12 @@ module _ (config : ConfigValue) (may_fail : Type 0) (role : Role) {I O D : Type 
       )
 
   all_talked : (outcomes : List Outcome) (d : D) (s : ℕ × PassView) (e : D) (t : ℕ × PassView)
-      → VisitsAll (Visits opens fails (SitsAtDesk (pass_answers config may_fail) tells role remaining reads read_failures written write_failures)) outcomes d s e t → TalkedAll config may_fail role outcomes s t
+      → VisitsAll (Visits opens fails told (SitsAtDesk (pass_answers config may_fail) tells role remaining reads read_failures written write_failures)) outcomes d s e t → TalkedAll config may_fail role outcomes s t
   all_talked [] d s e t h = h.1
   all_talked (outcome ∷ outcomes) d s e t h = (h.1, talked outcome d s h.0 h.1 h.2, all_talked outcomes h.0 h.1 e t h.3)
 
   pub worked : (asked clean : ℕ) (d : D) (p : PassView) (e : D) (moment : ℕ) (q : PassView)
-      → Serves (Visits opens fails (SitsAtDesk (pass_answers config may_fail) tells role remaining reads read_failures written write_failures)) asked clean d (0, p) e (moment, q)
+      → Serves (Visits opens fails told (SitsAtDesk (pass_answers config may_fail) tells role remaining reads read_failures written write_failures)) asked clean d (0, p) e (moment, q)
       → Worked config may_fail role asked clean p q
   worked asked clean d p e moment q h = record {
     moment = moment;

@@ -1,5 +1,5 @@
 //! The connections of a listener, which a worker opens one after another.
-ghost use Rattle.std.specs.Prelude.{◌≡◌};
+ghost use Rattle.std.specs.Prelude.{◌≡◌, IfSome};
 ghost use Rattle.till_request.specs.Count.{RoseBy};
 ghost use Rattle.site_server.specs.Pauses.{longer_pause, told_of};
 
@@ -120,12 +120,23 @@ impl<'a, R: Clock, N: Notices> SocketDoors<'a, R, N> {
     fn hold(&mut self, error: &io::Error)
         ensures asked { self.new.asked ≡ self.old.asked }
         ensures pause { self.new.pause ≡ longer_pause self.old.pause }
+        ensures role { self.new.role ≡ self.old.role }
+        ensures pass { self.new.pass ≡ self.old.pass }
     {
         if self.pause == 0 {
             self.notices.accept_failed(self.role, self.pass, error);
         }
         self.pause = longer(self.pause);
         thread::sleep(self.rt, Duration::from_millis(self.pause));
+    }
+
+    /// Reports why a session failed to an operator, unless the peer ended it after a whole line.
+    fn report(&self, outcome: &Result<Ended, SessionFault>)
+        ensures { IfSome (told_of outcome.now) (λ failure. N.failure_told self.now.role self.now.pass failure) }
+    {
+        if let Some(failure) = failure_of(outcome) {
+            self.notices.session_failed(self.role, self.pass, failure);
+        }
     }
 }
 
@@ -134,9 +145,14 @@ impl<'a, R: Clock, N: Notices> Doors for SocketDoors<'a, R, N> {
 
     type Out = StreamOut<Stream>;
 
-    ghost opens = { λ before _ _ after. RoseBy 1 before.asked after.asked × (after.pause ≡ 0) };
+    ghost opens = { λ before _ _ after. RoseBy 1 before.asked after.asked × (after.pause ≡ 0)
+        × (after.role ≡ before.role) × (after.pass ≡ before.pass) };
 
-    ghost fails = { λ before after. RoseBy 1 before.asked after.asked × (after.pause ≡ longer_pause before.pause) };
+    ghost fails = { λ before after. RoseBy 1 before.asked after.asked × (after.pause ≡ longer_pause before.pause)
+        × (after.role ≡ before.role) × (after.pass ≡ before.pass) };
+
+    ghost told = { λ doors outcome. IfSome (told_of outcome) (λ failure. N.failure_told doors.role doors.pass failure)
+        × N.end_told doors.role doors.pass };
 
     fn next(&mut self) -> Result<(Self::In, Self::Out), DeviceFault> {
         self.asked = self.asked.wrapping_add(1);
@@ -159,9 +175,7 @@ impl<'a, R: Clock, N: Notices> Doors for SocketDoors<'a, R, N> {
     }
 
     fn ended(&self, outcome: &Result<Ended, SessionFault>) {
-        if let Some(failure) = failure_of(outcome) {
-            self.notices.session_failed(self.role, self.pass, failure);
-        }
+        self.report(outcome);
         self.notices.disconnected(self.role, self.pass);
     }
 }

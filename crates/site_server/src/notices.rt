@@ -33,11 +33,23 @@ impl fmt::Display for SessionFailure {
 /// Receives reports from the workers of a site: on what went wrong, for an operator to read, and on connections, which
 /// may be counted. All workers share one receiver, and none waits until a report is read.
 pub trait Notices {
+    ghost use Rattle.std.specs.Prelude.{ℕ};
+    ghost use Rattle.till_request.specs.declared.act.Role.{Role};
+    ghost use Rattle.site_server.specs.declared.notices.SessionFailure.{SessionFailure};
+
+    /// States that a session of the worker with this role and this pass was reported to have ended with this failure.
+    ghost failure_told: { Role → ℕ → SessionFailure → Type 0 };
+
+    /// States that a session of the worker with this role and this pass was reported to have ended, with or without a
+    /// fault.
+    ghost end_told: { Role → ℕ → Type 0 };
+
     /// Reports that a connection couldn't be opened for the worker with this role and this pass.
     fn accept_failed(&self, role: Role, pass: u32, error: &io::Error);
 
     /// Reports that a session of the worker with this role and this pass ended with this failure.
-    fn session_failed(&self, role: Role, pass: u32, failure: SessionFailure);
+    fn session_failed(&self, role: Role, pass: u32, failure: SessionFailure)
+        ensures { failure_told role pass failure };
 
     /// Reports that a peer of the worker with this role and this pass sent nothing for this many seconds, so its input
     /// ended.
@@ -47,7 +59,8 @@ pub trait Notices {
     fn connected(&self, role: Role, pass: u32);
 
     /// Reports that the session of a connection of this worker ended, with or without a fault.
-    fn disconnected(&self, role: Role, pass: u32);
+    fn disconnected(&self, role: Role, pass: u32)
+        ensures { end_told role pass };
 
     /// Reports that the worker with this role and this pass has served its last connection.
     fn left(&self, role: Role, pass: u32);

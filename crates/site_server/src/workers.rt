@@ -76,7 +76,7 @@ impl<L: SiteLedger, J: Journal, N: Notices, A: Release, R: Wait + Clock> Workers
     /// with the receipts that it gained, and the number of connections that ended without fault.
     fn serve<S: Doors>(&self, pass: Pass<L>, role: Role, doors: &mut S) -> (Pass<L>, u64)
         ensures served { (moment : ℕ)
-            × Serves (Visits S.opens S.fails
+            × Serves (Visits S.opens S.fails S.told
             (SitsAtDesk (pass_answers L.config J.may_fail) tells role S.In.remaining S.In.reads S.In.failures
             S.Out.written S.Out.failures))
             self.now.connections result.1 doors.old (0, pass) doors.new (moment, result.0) }

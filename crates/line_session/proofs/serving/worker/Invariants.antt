@@ -6,8 +6,8 @@ use Rattle.line_session.proofs.serving.worker.Given as goal
 abbrev pub invariant-loop : goal.invariant-loop
 invariant-loop g l = record {
   serves : Serves
-      (Visits g.S.Doors.opens g.S.Doors.fails (SitsAtDesk g.D.Desk.step g.C.Clock.tick l.role g.S.In.LineIn.remaining g.S.In.LineIn.reads g.S.In.LineIn.failures
-      g.S.Out.LineOut.written g.S.Out.LineOut.failures))
+      (Visits g.S.Doors.opens g.S.Doors.fails g.S.Doors.told (SitsAtDesk g.D.Desk.step g.C.Clock.tick l.role g.S.In.LineIn.remaining g.S.In.LineIn.reads
+      g.S.In.LineIn.failures g.S.Out.LineOut.written g.S.Out.LineOut.failures))
       l.counter l.clean l.initial.doors (l.initial.clock, l.initial.desk) l.doors (l.clock, l.desk);
   few : l.clean ≤ l.counter;
 }
