@@ -1,5 +1,5 @@
 //! The workers of a site: whose lines each one takes, and at which door.
-ghost use Rattle.std.specs.Prelude.{◌≡◌, ◌++◌, ◌-◌, ◌^◌, ◌<◌, ◌≤◌, ◌↔◌, IfOk, IfSome, IsSome, length, min};
+ghost use Rattle.std.specs.Prelude.{◌≡◌, ◌++◌, ◌-◌, ◌^◌, ◌<◌, ◌≤◌, ◌↔◌, IfOk, IfSome, IsSome, OnErr, length, min};
 ghost use Rattle.site_server.specs.Crews.{IsCrew, all_posts, posts_at, posts_of};
 
 use crate::listener::Listener;
@@ -71,9 +71,10 @@ fn workers_of(alloc: Global, doors: Vec<OpenDoor>) -> Result<Vec<Worker>, AllocE
 impl Crew {
     /// Makes the workers of these doors, in their order. Each door gets as many workers as it asks for, each with its
     /// role and a share of its listener. The result is `None` if they aren't 1 to 96 in all. The error is that memory
-    /// ran out.
+    /// ran out for 1 to 96 workers.
     pub fn new(alloc: Global, doors: Vec<OpenDoor>) -> Result<Option<Crew>, AllocError>
         ensures there { IfOk result (λ made. IsSome made ↔ IsCrew (length (all_posts doors.items))) }
+        ensures memory { OnErr result (IsCrew (length (all_posts doors.items))) }
         ensures workers { IfOk result (λ made. IfSome made (λ crew. posts_of crew.workers.items ≡ all_posts doors.items)) }
     {
         if !(1..=96).contains(&count_workers(&doors)) {
