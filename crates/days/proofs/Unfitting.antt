@@ -1,10 +1,10 @@
 -- No site of a configuration begins with an opening that doesn't fit it, or that no site with as many points can begin
 -- with. There is at most one way to begin with an opening.
-use Rattle.std.proofs.Common.{◌≡◌, ℕ, ◌<◌, ◌≤◌, length, Option, Some, sym, ap, ◌∙◌, subst, arith, refl}
-use Rattle.std.specs.Prelude.{IfSome, slice_index_or}
-use Rattle.std.specs.List.{Contains}
+use Rattle.std.proofs.Common.{◌≡◌, ℕ, ◌<◌, ◌≤◌, List, [], ◌∷◌, length, Option, Some, None, false, sym, ap, ◌∙◌, subst, arith, refl}
+use Rattle.std.specs.Prelude.{All, IfSome, nat_lt, slice_index_or}
+use Rattle.std.proofs.lemmas.Bool.Decides.{nat_tests}
 use Rattle.std.proofs.lemmas.List.{ext_get_or}
-use Rattle.std.proofs.lemmas.List.Elements.{All-contains}
+use Rattle.std.proofs.lemmas.List.Elements.{All-head, All-tail}
 use Rattle.std.proofs.lemmas.Option.{slice_get-get_or}
 use Rattle.bpf_model.specs.Machine.{Counters, counter}
 use Rattle.fuelling_point.specs.Table.{PointState, fresh_point}
@@ -15,7 +15,7 @@ use Rattle.site_core.specs.Fitting.{Misfits as IsFaulty}
 use Rattle.site_core.specs.declared.opening.OpeningFault.{OpeningFault}
 use Rattle.site_core.specs.declared.opening.OpeningFault.TheVariants as fault
 use Rattle.days.specs.Fitting.{AreBounded, BeginsWith, Fits, HasTill}
-use Rattle.days.specs.Misfits.{CannotBegin, IsAt, IsUnfit, IsWant, Misfits}
+use Rattle.days.specs.Misfits.{CannotBegin, IsHeldOver, IsUnfit, IsWant, Misfits, first_held}
 use Rattle.days.specs.declared.beginning.Unfit.{Unfit}
 use Rattle.days.specs.declared.beginning.Unfit.TheVariants as unfit
 use Rattle.days.specs.declared.fitting.Misfit.{Misfit}
@@ -24,20 +24,30 @@ use Rattle.days.specs.declared.fitting.Misfit.TheVariants as misfit
 over_none : (value bound least : ℕ) (v : ℕ) → value ≡ v → bound ≡ least → bound < value → v ≤ least → ⊥
 over_none value bound least v a b over within = omega (arith, a, b, over, within)
 
-till_none : (config : ConfigValue) (o : OpeningValue) (at : ℕ) (t : Transaction) (tills : ℕ) → IsAt o.points at t → tills ≡ config.tills
-    → tills < t.holder → Fits config o → ⊥
-till_none config o at t tills there is over fits =
-    let own : Contains (slice_index_or o.points at fresh_point).unpaid t =
-    subst (λ (p : Option PointState). IfSome p (λ (p : PointState). Contains p.unpaid t)) (slice_get-get_or o.points at fresh_point there.0) there.1 in
-    let holds : HasTill config.tills t =
-    All-contains (HasTill config.tills) (slice_index_or o.points at fresh_point).unpaid t (fits.tills at fresh_point there.0) own in
-    omega (arith, is, over, holds)
+-- where each transaction is held by nobody or by a till that there is, no other is found
+found_not : (tills : ℕ) (ts : List Transaction) → All (HasTill tills) ts → first_held tills ts ≡ None
+found_not tills [] all = refl
+found_not tills (u ∷ ts) all =
+    let within : u.holder ≤ tills = All-head (HasTill tills) u ts all in
+    let test : nat_lt tills u.holder ≡ false = grind (arith, nat_tests) in
+    rw test (found_not tills ts (All-tail (HasTill tills) u ts all))
+
+till_none : (config : ConfigValue) (o : OpeningValue) (at : ℕ) (t : Transaction) (tills : ℕ) → tills ≡ config.tills → IsHeldOver tills o.points at t
+    → Fits config o → ⊥
+till_none config o at t tills is there fits =
+    let found : first_held tills (slice_index_or o.points at fresh_point).unpaid ≡ Some t =
+    subst (λ (p : Option PointState). IfSome p (λ (p : PointState). first_held tills p.unpaid ≡ Some t))
+    (slice_get-get_or o.points at fresh_point there.within) there.held in
+    let none : first_held tills (slice_index_or o.points at fresh_point).unpaid ≡ None =
+    found_not tills (slice_index_or o.points at fresh_point).unpaid
+    (subst (λ n. All (HasTill n) (slice_index_or o.points at fresh_point).unpaid) (sym is) (fits.tills at fresh_point there.within)) in
+    let e : ◌≡◌ {A = Option Transaction} None (Some t) = sym none ∙ found in absurd (cc)
 
 misfit_none : (config : ConfigValue) (o : OpeningValue) (m : Misfit) → Misfits config o m → Fits config o → ⊥
 misfit_none config o (misfit.Points points there) h fits = h.2 (h.0 ∙ fits.points ∙ sym h.1)
+misfit_none config o (misfit.Till at t tills) h fits = till_none config o at t tills h.1 h.2 fits
 misfit_none config o (misfit.Counter c value bound) h fits =
-    over_none value bound (counter config.counters c).1 (counter o.counters c).0 h.1 h.2 h.3 (fits.counters c h.0)
-misfit_none config o (misfit.Till at t tills) h fits = till_none config o at t tills h.0 h.1 h.2 fits
+    over_none value bound (counter config.counters c).1 (counter o.counters c).0 h.2.1 h.2.2 h.2.3 (fits.counters c h.2.0)
 
 pub faulty_none : (count : ℕ) (o : OpeningValue) (f : OpeningFault) → IsFaulty count o f → IsOpening count o → f ≡ fault.OutOfMemory
 faulty_none count o fault.Points h good = absurd (h.1 good.points)
@@ -58,8 +68,9 @@ cells_once values bounds a b h k long same = ext_get_or (0, 0) a b (long ∙ sym
 pub unfit_none : (config : ConfigValue) (o : OpeningValue) (u : Unfit) → IsUnfit config o u → (IsWant u → ⊥) → CannotBegin config o
 unfit_none config o (unfit.Misfit m) h wants begun b = misfit_none config o m h b.0
 unfit_none config o (unfit.Fault f) h wants begun b =
-    let same : b.1.0 ≡ h.0 = cells_once o.counters config.counters b.1.0 h.0 b.1.1 h.1 b.1.2.counters.many h.2 in
-    wants (ap (λ x. unfit.Fault x) (faulty_none (length config.points) (record o { counters = h.0 }) f h.3
+    let k = h.1 in
+    let same : b.1.0 ≡ k.0 = cells_once o.counters config.counters b.1.0 k.0 b.1.1 k.1 b.1.2.counters.many k.2 in
+    wants (ap (λ x. unfit.Fault x) (faulty_none (length config.points) (record o { counters = k.0 }) f k.3
     (subst (λ (cells : Counters). IsOpening (length config.points) (record o { counters = cells })) same b.1.2)))
 
 pub begins_once : (config : ConfigValue) (o : OpeningValue) (a b : ConfigValue) → BeginsWith config o a → BeginsWith config o b → a ≡ b

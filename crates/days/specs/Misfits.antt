@@ -1,41 +1,54 @@
 -- Promises: why an opening doesn't fit a configuration.
-use Rattle.std.specs.Prelude.{◌≡◌, ◌≢◌, ◌<◌, ℕ, List, IfSome, length, slice_get}
-use Rattle.std.specs.List.{Contains}
+use Rattle.std.specs.Prelude.{◌≡◌, ◌≢◌, ◌≤◌, ◌<◌, ℕ, nat_lt, List, Option, Some, IfSome, find, length, slice_get, take}
 use Rattle.bpf_model.specs.Machine.{Counters, counter}
 use Rattle.fuelling_point.specs.Table.{PointState}
 use Rattle.fuelling_point.specs.declared.kinds.Transaction.{Transaction}
 use Rattle.site_core.specs.Limits.{ConfigValue}
-use Rattle.site_core.specs.Opening.{OpeningValue}
+use Rattle.site_core.specs.Opening.{IsOpening, OpeningValue}
 use Rattle.site_core.specs.Fitting.{Misfits as IsFaulty}
 use Rattle.site_core.specs.declared.opening.OpeningFault.TheVariants.{OutOfMemory}
-use Rattle.days.specs.Fitting.{AreBounded, BeginsWith}
+use Rattle.days.specs.Fitting.{AreBounded, BeginsWith, Fits, HaveTills}
 use Rattle.days.specs.declared.beginning.Unfit.{Unfit}
 use Rattle.days.specs.declared.beginning.Unfit.TheVariants as unfit
 use Rattle.days.specs.declared.fitting.Misfit.{Misfit}
 use Rattle.days.specs.declared.fitting.Misfit.TheVariants as misfit
 
--- A counter, its value among these counters, and its smaller bound among others.
+-- The first counter whose value among these counters is over its bound among others, with both.
 abbrev pub IsOver : Counters → Counters → ℕ × ℕ × ℕ → Type 0
-IsOver values bounds m = (m.0 < 32) × (m.1 ≡ (counter values m.0).0) × (m.2 ≡ (counter bounds m.0).1) × (m.2 < m.1)
+IsOver values bounds m =
+    (m.0 < 32) × (m.1 ≡ (counter values m.0).0) × (m.2 ≡ (counter bounds m.0).1) × (m.2 < m.1)
+    × ((c : ℕ) → c < m.0 → (counter values c).0 ≤ (counter bounds c).1)
 
--- The point at this place, counted from 0, has this unpaid transaction.
-abbrev pub IsAt : List PointState → ℕ → Transaction → Type 0
-IsAt points at t = (at < length points) × IfSome (slice_get points at) (λ p. Contains p.unpaid t)
+-- The first of these transactions that is held by a till with a number over `tills`, if there is one.
+abbrev pub first_held : ℕ → List Transaction → Option Transaction
+first_held tills transactions = find (λ (t : Transaction). nat_lt tills t.holder) transactions
 
--- Why the opening doesn't fit, with the numbers of both.
+-- The point at this place, counted from 0, is the first one with an unpaid transaction that is held by a till with a
+-- number over `tills`. This is the first such transaction of the point.
+pub record IsHeldOver (tills : ℕ) (points : List PointState) (at : ℕ) (t : Transaction) : Type 0 where
+  pub within : at < length points
+  pub before : HaveTills tills (take at points)
+  pub held : IfSome (slice_get points at) (λ p. first_held tills p.unpaid ≡ Some t)
+
+-- Why the opening doesn't fit, with the numbers of both. The points are compared first, then the tills, and then the
+-- counters.
 abbrev pub Misfits : ConfigValue → OpeningValue → Misfit → Type 0
 Misfits config o (misfit.Points points there) = (points ≡ length o.points) × (there ≡ length config.points) × (points ≢ there)
-Misfits config o (misfit.Counter c value bound) = IsOver o.counters config.counters (c, value, bound)
-Misfits config o (misfit.Till at t tills) = IsAt o.points at t × (tills ≡ config.tills) × (tills < t.holder)
+Misfits config o (misfit.Till at t tills) =
+    (length o.points ≡ length config.points) × (tills ≡ config.tills) × IsHeldOver tills o.points at t
+Misfits config o (misfit.Counter c value bound) =
+    (length o.points ≡ length config.points) × HaveTills config.tills o.points × IsOver o.counters config.counters (c, value, bound)
 
--- Why no site of this configuration begins with the opening: they don't fit each other, or no site with this number of
--- points can begin with the opening once its counters have the configuration's bounds. If memory ran out, nothing is
--- claimed.
+-- Why no site of this configuration begins with the opening: they don't fit each other. Or they do, and no site with
+-- this number of points can begin with the opening once its counters have the configuration's bounds; or one can, and
+-- memory ran out.
 abbrev pub IsUnfit : ConfigValue → OpeningValue → Unfit → Type 0
 IsUnfit config o (unfit.Misfit m) = Misfits config o m
 IsUnfit config o (unfit.Fault fault) =
-    (cells : Counters) × AreBounded o.counters config.counters cells × (length cells ≡ 32)
+    Fits config o
+    × ((cells : Counters) × AreBounded o.counters config.counters cells × (length cells ≡ 32)
     × IsFaulty (length config.points) (record o { counters = cells }) fault
+    × (fault ≡ OutOfMemory → IsOpening (length config.points) (record o { counters = cells })))
 
 -- No site of this configuration begins with the opening.
 abbrev pub CannotBegin : ConfigValue → OpeningValue → Type 0

@@ -1,9 +1,35 @@
--- Definitions: the words for why the site of a day leaves no opening (this profile).
-use Rattle.std.specs.Prelude.{ℕ, List, codes}
+-- Definitions: the words for why the site of a day leaves no opening, and for why none begins with one (this profile).
+use Rattle.std.specs.Prelude.{ℕ, ◌+◌, List, ◌++◌, codes, min}
+use Rattle.std.specs.Fmt.{decimal}
+use Rattle.fuelling_point.specs.declared.kinds.Transaction.{Transaction}
 use Rattle.site_core.specs.Words.{opening_fault_text}
 use Rattle.days.specs.declared.file.Uncarried.{Uncarried}
 use Rattle.days.specs.declared.file.Uncarried.TheVariants.{LastDay, Fault}
+use Rattle.days.specs.declared.fitting.Misfit.{Misfit}
+use Rattle.days.specs.declared.fitting.Misfit.TheVariants as misfit
+use Rattle.days.specs.declared.beginning.Unfit.{Unfit}
+use Rattle.days.specs.declared.beginning.Unfit.TheVariants as unfit
 
 abbrev pub uncarried_text : Uncarried → List ℕ
 uncarried_text LastDay = codes "no day comes after day 4294967295"
 uncarried_text (Fault fault) = opening_fault_text fault
+
+-- The words for a transaction that a till holds, with how many tills the configuration has.
+abbrev pub held_by_text : Transaction → ℕ → List ℕ
+held_by_text t tills =
+    codes "transaction " ++ (decimal t.number ++ (codes " is held by till " ++ (decimal t.holder ++ (codes ", 'tills' is " ++ decimal tills))))
+
+-- The words for a counter's value in an opening, with its bound in the configuration.
+abbrev pub over_bound_text : ℕ → ℕ → List ℕ
+over_bound_text value bound = codes "has the value " ++ (decimal value ++ (codes ", its bound in the configuration is " ++ decimal bound))
+
+-- Points are counted from 1 here, up to 2^64 - 1.
+abbrev pub misfit_text : Misfit → List ℕ
+misfit_text (misfit.Points points there) =
+    codes "points: " ++ (decimal points ++ (codes " in the opening, " ++ (decimal there ++ codes " in the configuration")))
+misfit_text (misfit.Till at t tills) = codes "point " ++ (decimal (min (at + 1) 18446744073709551615) ++ (codes ": " ++ held_by_text t tills))
+misfit_text (misfit.Counter c value bound) = codes "counter " ++ (decimal c ++ (codes " " ++ over_bound_text value bound))
+
+abbrev pub unfit_text : Unfit → List ℕ
+unfit_text (unfit.Misfit why) = misfit_text why
+unfit_text (unfit.Fault fault) = opening_fault_text fault

@@ -19,6 +19,11 @@ pub enum Unfit {
 }
 
 impl Display for Unfit {
+    ghost use Rattle.std.specs.Prelude.{Some};
+    ghost use Rattle.days.specs.Words.{unfit_text};
+
+    ghost output = { λ why. Some (unfit_text why) };
+
     fn fmt<W: fmt::Write>(&self, f: &mut fmt::Formatter<W>) -> fmt::Result {
         match self {
             Unfit::Misfit(misfit) => misfit.fmt(f),
@@ -28,8 +33,8 @@ impl Display for Unfit {
 }
 
 /// Returns the configuration of a site that begins with an opening. The counters have the values of the opening, and
-/// the bounds of `config`. The error is why no site of this configuration can begin with the opening, or that memory
-/// ran out.
+/// the bounds of `config`. The error is why no site of this configuration can begin with the opening, or, if one can,
+/// that memory ran out.
 pub fn begun(alloc: Global, config: Config, opening: Opening) -> Result<Config, Unfit>
     ensures begun { IfOk result (BeginsWith config opening) }
     ensures unfit { IfErr result (IsUnfit config opening) }

@@ -1,28 +1,34 @@
 //! Whether an opening fits a configuration: both have the same number of points, each counter is within its bound in
 //! the configuration, and the configuration has each till that holds a transaction.
 ghost use Rattle.std.specs.Prelude.{◌≡◌, ◌≤◌, ◌<◌, ℕ, All, MatchOption, IfErr, IfOk, OnOk, Some, option_to_list};
-ghost use Rattle.std.specs.List.{Contains};
 ghost use Rattle.bpf_model.specs.Machine.{counter};
 ghost use Rattle.days.specs.Fitting.{AreBounded, AreWithin, Fits, HasTill, HaveTills};
-ghost use Rattle.days.specs.Misfits.{IsAt, IsOver, Misfits};
+ghost use Rattle.days.specs.Misfits.{IsHeldOver, IsOver, Misfits, first_held};
 
 use counters::Counters;
 use fuelling_point::{Point, Transaction};
 use site_core::{Config, Opening};
 use std::fmt::{self, Display};
 
-/// Why a site of a configuration can't begin with an opening.
+/// Why a site of a configuration can't begin with an opening: the first of these cases that is so.
 #[derive(Clone, Copy)]
 pub enum Misfit {
     /// How many points the opening has, and how many the configuration.
     Points(usize, usize),
-    /// A counter: its number, its value in the opening, and its smaller bound in the configuration.
-    Counter(u32, u64, u64),
-    /// The place of a point, counted from 0, its transaction, and how many tills the configuration has.
+    /// The place of the first point that has such a transaction, counted from 0; the transaction, which is held by a
+    /// till that the configuration hasn't; and how many tills the configuration has.
     Till(usize, Transaction, u32),
+    /// The first counter whose value is over its bound: its number, its value in the opening, and its smaller bound in
+    /// the configuration.
+    Counter(u32, u64, u64),
 }
 
 impl Display for Misfit {
+    ghost use Rattle.std.specs.Prelude.{Some};
+    ghost use Rattle.days.specs.Words.{misfit_text};
+
+    ghost output = { λ misfit. Some (misfit_text misfit) };
+
     fn fmt<W: fmt::Write>(&self, f: &mut fmt::Formatter<W>) -> fmt::Result {
         match *self {
             Misfit::Points(points, there) => {
@@ -31,25 +37,57 @@ impl Display for Misfit {
                     "points: {points} in the opening, {there} in the configuration"
                 )
             }
-            Misfit::Counter(counter, value, bound) => {
-                write!(
-                    f,
-                    "counter {counter} has the value {value}, its bound in the configuration is {bound}"
-                )
+            Misfit::Till(at, transaction, tills) => {
+                let point = at.saturating_add(1);
+                write!(f, "point {point}: {}", HeldBy(transaction, tills))
             }
-            Misfit::Till(at, t, tills) => {
-                let (point, number, till) = (at.saturating_add(1), t.number, t.holder);
-                write!(
-                    f,
-                    "point {point}: transaction {number} is held by till {till}, 'tills' is {tills}"
-                )
+            Misfit::Counter(counter, value, bound) => {
+                write!(f, "counter {counter} {}", OverBound(value, bound))
             }
         }
     }
 }
 
+/// A transaction that a till holds, and how many tills the configuration has.
+#[derive(Clone, Copy, Drop)]
+struct HeldBy(Transaction, u32);
+
+impl Display for HeldBy {
+    ghost use Rattle.std.specs.Prelude.{Some};
+    ghost use Rattle.days.specs.Words.{held_by_text};
+
+    ghost output = { λ h. Some (held_by_text h.0 h.1) };
+
+    fn fmt<W: fmt::Write>(&self, f: &mut fmt::Formatter<W>) -> fmt::Result {
+        let (number, till, tills) = (self.0.number, self.0.holder, self.1);
+        write!(
+            f,
+            "transaction {number} is held by till {till}, 'tills' is {tills}"
+        )
+    }
+}
+
+/// A counter's value in the opening, and its smaller bound in the configuration.
+#[derive(Clone, Copy, Drop)]
+struct OverBound(u64, u64);
+
+impl Display for OverBound {
+    ghost use Rattle.std.specs.Prelude.{Some};
+    ghost use Rattle.days.specs.Words.{over_bound_text};
+
+    ghost output = { λ o. Some (over_bound_text o.0 o.1) };
+
+    fn fmt<W: fmt::Write>(&self, f: &mut fmt::Formatter<W>) -> fmt::Result {
+        write!(
+            f,
+            "has the value {}, its bound in the configuration is {}",
+            self.0, self.1
+        )
+    }
+}
+
 /// Returns the opening with other bounds of its counters: those in the configuration. The error is why no site of this
-/// configuration can begin with it.
+/// configuration can begin with it; if there is more than one reason, the first in the order of `Misfit`.
 pub fn fitted(config: &Config, opening: Opening) -> Result<Opening, Misfit>
     ensures same { IfOk result (λ new. new ≡ record opening { counters = new.counters }) }
     ensures bounds { IfOk result (λ new. AreBounded opening.counters config.now.counters new.counters) }
@@ -72,10 +110,10 @@ pub fn fitted(config: &Config, opening: Opening) -> Result<Opening, Misfit>
     }
 }
 
-/// Returns the place of a point, counted from 0, and an unpaid transaction of this point that a till with a number over
-/// `tills` holds. Returns `None` if there is no such transaction.
+/// Returns the place of the first point, counted from 0, that has an unpaid transaction that a till with a number over
+/// `tills` holds, and the first such transaction of this point. Returns `None` if there is none.
 fn held_over(points: &[Point], tills: u32) -> Option<(usize, Transaction)>
-    ensures { MatchOption result (HaveTills tills points.now) (λ m. IsAt points.now m.0 m.1 × (tills < m.1.holder)) }
+    ensures { MatchOption result (HaveTills tills points.now) (λ m. IsHeldOver tills points.now m.0 m.1) }
 {
     for (at, point) in points.iter().enumerate() {
         if let Some(transaction) = held_at(point, tills) {
@@ -85,10 +123,11 @@ fn held_over(points: &[Point], tills: u32) -> Option<(usize, Transaction)>
     None
 }
 
-/// Returns an unpaid transaction of the point that a till with a number over `tills` holds, or `None` if there is none.
+/// Returns the first unpaid transaction of the point that a till with a number over `tills` holds, or `None` if there
+/// is none.
 fn held_at(point: &Point, tills: u32) -> Option<Transaction>
     ensures { MatchOption result (All (HasTill tills) point.now.unpaid)
-        (λ t. Contains point.now.unpaid t × (tills < t.holder)) }
+        (λ t. first_held tills point.now.unpaid ≡ Some t) }
 {
     let [first, second] = point.transactions();
     match held(first, tills) {
@@ -100,7 +139,7 @@ fn held_at(point: &Point, tills: u32) -> Option<Transaction>
 /// Returns the transaction, if there is one and the number of the till that holds it is over `tills`.
 fn held(place: Option<Transaction>, tills: u32) -> Option<Transaction>
     ensures { MatchOption result (All (HasTill tills) (option_to_list place))
-        (λ t. (place ≡ Some t) × (tills < t.holder)) }
+        (λ t. first_held tills (option_to_list place) ≡ Some t) }
 {
     let transaction = place?;
     if transaction.holder > tills {
@@ -110,8 +149,8 @@ fn held(place: Option<Transaction>, tills: u32) -> Option<Transaction>
     }
 }
 
-/// Returns the counters with their values, and with these bounds in place of theirs. The error is a counter whose value
-/// is over its bound: its number, its value and its bound.
+/// Returns the counters with their values, and with these bounds in place of theirs. The error is the first counter
+/// whose value is over its bound: its number, its value and its bound.
 fn rebounded(counters: &Counters, bounds: &[(u64, u64); 32]) -> Result<Counters, (u32, u64, u64)>
     ensures bounds { IfOk result (AreBounded counters.now bounds.now) }
     ensures within { OnOk result (AreWithin counters.now bounds.now) }
@@ -135,10 +174,11 @@ fn bounded(counters: &Counters, bounds: &[(u64, u64); 32]) -> [(u64, u64); 32]
     cells
 }
 
-/// Returns the number of a counter whose value is over its bound.
+/// Returns the number of the first counter whose value is over its bound.
 fn over(cells: &[(u64, u64); 32]) -> Option<usize>
     ensures { MatchOption result (All (λ (c : ℕ × ℕ). c.0 ≤ c.1) cells.now)
-        (λ c. (c < 32) × ((counter cells.now c).1 < (counter cells.now c).0)) }
+        (λ c. (c < 32) × ((counter cells.now c).1 < (counter cells.now c).0)
+        × ((k : ℕ) → k < c → (counter cells.now k).0 ≤ (counter cells.now k).1)) }
 {
     cells.iter().position(|(value, bound)| value > bound)
 }
