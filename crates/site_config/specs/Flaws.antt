@@ -1,11 +1,12 @@
 -- Definitions: the fault number of each flaw of a configuration, and the position that it reports (this profile).
-use Rattle.std.specs.Prelude.{◌≡◌, ℕ, ◌≤◌, List, length, Option, Some, None, Result, Ok, Err}
+use Rattle.std.specs.Prelude.{◌≡◌, ℕ, ◌≤◌, List, length, true, false, Option, Some, None, Result, Ok, Err, string_bytes}
 use Rattle.site_config.specs.declared.fault.ConfigFault.{ConfigFault}
 use Rattle.site_config.specs.declared.fault.ConfigFault.TheVariants as fault
 use Rattle.site_config.specs.declared.flaw.ConfigFlaw.{ConfigFlaw}
 use Rattle.site_config.specs.declared.flaw.ConfigFlaw.TheVariants.{NotUtf8, NotToml, UnknownKey, Missing, WrongType, OutOfRange, WrongCount, OverBound}
 use Rattle.site_config.specs.declared.flaw.ConfigFlaw.TheVariants.{BothThere, Needless, Empty, SamePort, SameSocket, SameTill, PointTwice}
 use Rattle.site_config.specs.declared.flaw.ConfigFlaw.TheVariants.{TooManyWorkers, WithoutDoor, OutOfMemory}
+use Rattle.std.specs.Str.{is_utf8}
 use Rattle.std.specs.Str.Lossy.{utf8_valid_len}
 use Rattle.site_config.specs.Positions.{position_at}
 
@@ -35,12 +36,19 @@ position_of (NotUtf8 line column) = Some (line, column)
 position_of (NotToml line column message) = Some (line, column)
 position_of flaw = None
 
--- A flaw's position in a text is right. For `NotUtf8` it is where the text stops being UTF-8. For `NotToml` it is some
--- place in the text, or its end.
+-- A text has this flaw, and its position is right. For `NotUtf8` it is where the text stops being UTF-8. For `NotToml`,
+-- which is told of UTF-8 alone, it is some place in the text, or its end. Memory runs out only at a text that is UTF-8.
 abbrev pub StandsAt : List ℕ → ConfigFlaw → Type 0
-StandsAt bytes (NotUtf8 line column) = (line, column) ≡ position_at bytes (utf8_valid_len bytes)
-StandsAt bytes (NotToml line column message) = (index : ℕ) × (index ≤ length bytes) × ((line, column) ≡ position_at bytes index)
+StandsAt bytes (NotUtf8 line column) = (is_utf8 bytes ≡ false) × ((line, column) ≡ position_at bytes (utf8_valid_len bytes))
+StandsAt bytes (NotToml line column message) =
+    (is_utf8 bytes ≡ true) × ((index : ℕ) × (index ≤ length bytes) × ((line, column) ≡ position_at bytes index))
+StandsAt bytes OutOfMemory = is_utf8 bytes ≡ true
 StandsAt bytes flaw = Unit {0}
+
+-- For `NotToml` the flaw has this message of the TOML reader. Other flaws have none.
+abbrev pub HasMessage : List ℕ → ConfigFlaw → Type 0
+HasMessage message (NotToml line column told) = string_bytes told ≡ message
+HasMessage message flaw = Unit {0}
 
 -- Replaces a flaw by its fault number.
 abbrev pub numbered : {A : Type 0} → Result A ConfigFlaw → Result A ConfigFault

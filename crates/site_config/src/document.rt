@@ -2,7 +2,7 @@
 ghost use Rattle.std.specs.Prelude.{◌≡◌, ◌≢◌, ◌<◌, ◌≤◌, IfErr, IfOk, None, Some, length};
 ghost use Rattle.toml.specs.View.{table_view};
 ghost use Rattle.site_config.specs.Document.{document_of};
-ghost use Rattle.site_config.specs.Flaws.{IsOfText, StandsAt};
+ghost use Rattle.site_config.specs.Flaws.{HasMessage, IsOfText, StandsAt};
 ghost use Rattle.site_config.specs.Positions.{past, position_behind, position_at};
 
 use crate::flaw::ConfigFlaw;
@@ -40,14 +40,15 @@ fn position_at(bytes: &[u8], at: usize) -> (usize, usize)
     position_behind(bytes.get(..at).unwrap_or(bytes))
 }
 
-/// Returns the flaw of bytes in which the TOML reader found an error at the index `at`, with the reader's message. If
+/// Returns the flaw of a text in which the TOML reader found an error at the index `at`, with the reader's message. If
 /// memory ran out, returns `OutOfMemory`.
-fn not_toml(alloc: Global, bytes: &[u8], at: usize, message: &str) -> ConfigFlaw
-    requires { at ≤ length bytes.now }
+fn not_toml(alloc: Global, text: &str, at: usize, message: &str) -> ConfigFlaw
+    requires { at ≤ length text.now }
     ensures fault { result ≢ ConfigFlaw.OutOfMemory → IsOfText result }
-    ensures position { StandsAt bytes.now result }
+    ensures position { StandsAt text.now result }
+    ensures message { HasMessage message.now result }
 {
-    let (line, column) = position_at(bytes, at);
+    let (line, column) = position_at(text.as_bytes(), at);
     match String::from_str(alloc, message) {
         Ok(message) => ConfigFlaw::NotToml {
             line,
@@ -74,7 +75,7 @@ pub fn read_document(alloc: Global, bytes: &[u8]) -> Result<Table, ConfigFlaw>
         Ok(text) => match toml::table_from_str(alloc, text) {
             Ok(table) => Ok(table),
             Err(error) => match error.span() {
-                Some(span) => Err(not_toml(alloc, bytes, span.start, error.message())),
+                Some(span) => Err(not_toml(alloc, text, span.start, error.message())),
                 None => Err(ConfigFlaw::OutOfMemory),
             },
         },
