@@ -1,5 +1,5 @@
 //! Checks the doors of `[serve]`, and makes them (K3).
-ghost use Rattle.std.specs.Prelude.{◌≡◌, ◌≤◌, ◌+◌, length, map, IfOk};
+ghost use Rattle.std.specs.Prelude.{◌≡◌, ◌≢◌, ◌≤◌, ◌+◌, length, map, IfOk, IfSome, Err};
 ghost use Rattle.site_config.specs.Document.{Finds};
 ghost use Rattle.site_config.specs.Demands.{ranged};
 ghost use Rattle.site_config.specs.Typed.{seen_serve};
@@ -73,7 +73,8 @@ fn add_point(
     value: i64,
 ) -> Result<u32, ConfigFlaw>
     requires { points ≤ POINTS }
-    ensures { Finds (λ x. x) result (with_point list place points bits value) }
+    ensures read { Finds (λ x. x) result (with_point list place points bits value) }
+    ensures memory { result ≢ Err ConfigFlaw.OutOfMemory }
 {
     let point = value_of!(in_range(item_of(list, place), value, 1, points));
     if (bits >> (point - 1)) % 2 != 0 {
@@ -84,7 +85,8 @@ fn add_point(
 
 fn add_points(list: Place, points: u32, values: &[i64]) -> Result<u32, ConfigFlaw>
     requires { points ≤ POINTS }
-    ensures { Finds (λ x. x) result (with_points list 0 points 0 values.now) }
+    ensures read { Finds (λ x. x) result (with_points list 0 points 0 values.now) }
+    ensures memory { result ≢ Err ConfigFlaw.OutOfMemory }
 {
     let mut bits = 0;
     let mut place = 0;
@@ -102,7 +104,8 @@ fn add_points(list: Place, points: u32, values: &[i64]) -> Result<u32, ConfigFla
 #[tactic(auto, unfolding(crate::specs::Doors::bits_of))]
 fn make_bits(list: Place, points: u32, values: &[i64]) -> Result<u32, ConfigFlaw>
     requires { points ≤ POINTS }
-    ensures { Finds (λ x. x) result (bits_of list points values.now) }
+    ensures read { Finds (λ x. x) result (bits_of list points values.now) }
+    ensures memory { result ≢ Err ConfigFlaw.OutOfMemory }
 {
     if values.is_empty() {
         return Err(ConfigFlaw::WrongCount(list, 0, 1, points as usize));
@@ -121,7 +124,8 @@ pub fn law_of_own_lines()
 #[tactic(auto, unfolding(crate::specs::Doors::role_of))]
 fn make_role(tills: u32, points: u32, place: Place, role: &RawRole) -> Result<Role, ConfigFlaw>
     requires { points ≤ POINTS }
-    ensures { Finds (λ x. x) result (role_of tills points place role.now) }
+    ensures read { Finds (λ x. x) result (role_of tills points place role.now) }
+    ensures memory { result ≢ Err ConfigFlaw.OutOfMemory }
 {
     match role {
         RawRole::Tills => Ok(Role::Till),
@@ -161,7 +165,8 @@ fn check_doors(alloc: Global, tills: u32, points: u32, doors: &[RawDoor]) -> Res
 
 /// Returns the flaw if two doors have the same address, or `None` otherwise.
 fn address_clash(first: &RawDoor, second: &RawDoor) -> Option<ConfigFlaw>
-    ensures { result ≡ address_clash first.now.place second.now.place first.now.address second.now.address }
+    ensures found { result ≡ address_clash first.now.place second.now.place first.now.address second.now.address }
+    ensures memory { IfSome result (λ flaw. flaw ≢ ConfigFlaw.OutOfMemory) }
 {
     match (&first.address, &second.address) {
         (RawAddress::Port(port), RawAddress::Port(other)) if port == other => {
@@ -176,7 +181,8 @@ fn address_clash(first: &RawDoor, second: &RawDoor) -> Option<ConfigFlaw>
 
 /// Returns the flaw if two doors are each for the same single till, or `None` otherwise.
 fn till_clash(first: &RawDoor, second: &RawDoor) -> Option<ConfigFlaw>
-    ensures { result ≡ till_clash first.now.place second.now.place first.now.role second.now.role }
+    ensures found { result ≡ till_clash first.now.place second.now.place first.now.role second.now.role }
+    ensures memory { IfSome result (λ flaw. flaw ≢ ConfigFlaw.OutOfMemory) }
 {
     match (&first.role, &second.role) {
         (RawRole::OneTill(till), RawRole::OneTill(other)) if till == other => {
@@ -187,7 +193,8 @@ fn till_clash(first: &RawDoor, second: &RawDoor) -> Option<ConfigFlaw>
 }
 
 fn pair_clash(first: &RawDoor, second: &RawDoor) -> Option<ConfigFlaw>
-    ensures { result ≡ pair_clash first.now second.now }
+    ensures found { result ≡ pair_clash first.now second.now }
+    ensures memory { IfSome result (λ flaw. flaw ≢ ConfigFlaw.OutOfMemory) }
 {
     match address_clash(first, second) {
         Some(flaw) => Some(flaw),
@@ -196,7 +203,8 @@ fn pair_clash(first: &RawDoor, second: &RawDoor) -> Option<ConfigFlaw>
 }
 
 fn clash_with(door: &RawDoor, others: &[RawDoor]) -> Option<ConfigFlaw>
-    ensures { result ≡ clash_with door.now others.now }
+    ensures found { result ≡ clash_with door.now others.now }
+    ensures memory { IfSome result (λ flaw. flaw ≢ ConfigFlaw.OutOfMemory) }
 {
     for other in others {
         if let Some(flaw) = pair_clash(door, other) {
@@ -209,7 +217,8 @@ fn clash_with(door: &RawDoor, others: &[RawDoor]) -> Option<ConfigFlaw>
 /// Checks that all doors have different addresses, and that each till has at most one door of its own. The error is
 /// `SamePort`, `SameSocket` or `SameTill`.
 fn check_apart(doors: &[RawDoor]) -> Result<(), ConfigFlaw>
-    ensures { Finds (λ x. x) result (without (clash_among doors.now)) }
+    ensures read { Finds (λ x. x) result (without (clash_among doors.now)) }
+    ensures memory { result ≢ Err ConfigFlaw.OutOfMemory }
 {
     let mut rest = doors;
     while let [first, others @ ..] = rest {
@@ -223,7 +232,8 @@ fn check_apart(doors: &[RawDoor]) -> Result<(), ConfigFlaw>
 
 /// Returns the flaw of the first door whose port is the page's, or `None` if no door has it.
 fn page_clash(port: i64, doors: &[RawDoor]) -> Option<ConfigFlaw>
-    ensures { result ≡ page_clash port doors.now }
+    ensures found { result ≡ page_clash port doors.now }
+    ensures memory { IfSome result (λ flaw. flaw ≢ ConfigFlaw.OutOfMemory) }
 {
     for door in doors {
         match &door.address {
@@ -241,7 +251,8 @@ fn page_clash(port: i64, doors: &[RawDoor]) -> Option<ConfigFlaw>
 /// if a door has the same port.
 #[tactic(auto, unfolding(crate::specs::Doors::page_of))]
 fn page_of(doors: &[RawDoor], port: Option<i64>) -> Result<Option<u32>, ConfigFlaw>
-    ensures { Finds (λ x. x) result (page_of doors.now port) }
+    ensures read { Finds (λ x. x) result (page_of doors.now port) }
+    ensures memory { result ≢ Err ConfigFlaw.OutOfMemory }
 {
     let Some(port) = port else {
         return Ok(None);
@@ -257,6 +268,7 @@ fn page_of(doors: &[RawDoor], port: Option<i64>) -> Result<Option<u32>, ConfigFl
 fn shared_of(key: Key, value: Option<i64>, most: u32) -> Result<u32, ConfigFlaw>
     ensures read { Finds (λ x. x) result (shared_workers key most value) }
     ensures range { IfOk result (λ n. n ≤ most) }
+    ensures memory { result ≢ Err ConfigFlaw.OutOfMemory }
 {
     match value {
         Some(value) => in_range(Place::At(Section::Serve, key), value, 1, most),
@@ -317,7 +329,8 @@ fn is_taken(side: Side, number: u32, doors: &[RawDoor]) -> bool
 /// Returns the flaw of the lowest number, from 1 to `most`, of a till or a point whose lines no door takes, or `None`
 /// if each has a door.
 fn first_left(side: Side, doors: &[RawDoor], most: u32) -> Option<ConfigFlaw>
-    ensures { result ≡ first_left side doors.now most }
+    ensures found { result ≡ first_left side doors.now most }
+    ensures memory { IfSome result (λ flaw. flaw ≢ ConfigFlaw.OutOfMemory) }
 {
     let mut number = 0;
     while number < most {
@@ -341,7 +354,8 @@ fn check_side(
     doors: &[RawDoor],
 ) -> Result<(), ConfigFlaw>
     requires { shared ≤ most }
-    ensures { Finds (λ x. x) result (side_fits side shared most numbers doors.now) }
+    ensures read { Finds (λ x. x) result (side_fits side shared most numbers doors.now) }
+    ensures memory { result ≢ Err ConfigFlaw.OutOfMemory }
 {
     let own = count_of(side, doors);
     if own > (most - shared) as usize {
@@ -405,7 +419,8 @@ fn make_doors(alloc: Global, counts: Counts, doors: &[RawDoor]) -> Result<Vec<Do
 
 /// Returns a number of `[serve]` if it is from low to high. The error is `OutOfRange`.
 fn number_of(key: Key, value: i64, low: u32, high: u32) -> Result<u32, ConfigFlaw>
-    ensures { Finds (λ x. x) result (ranged (Place.At Section.Serve key) low high value) }
+    ensures read { Finds (λ x. x) result (ranged (Place.At Section.Serve key) low high value) }
+    ensures memory { result ≢ Err ConfigFlaw.OutOfMemory }
 {
     in_range(Place::At(Section::Serve, key), value, low, high)
 }

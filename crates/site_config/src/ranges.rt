@@ -1,5 +1,6 @@
 //! Checks the ranges, lengths, counts and conditions of a configuration (K3), and makes the settings.
-ghost use Rattle.std.specs.Prelude.{◌≡◌, ◌≤◌, ◌-◌, ◌++◌, length, replicate, option_map, IfErr, IfOk, All, None, Some};
+ghost use Rattle.std.specs.Prelude.{◌≡◌, ◌≢◌, ◌≤◌, ◌-◌, ◌++◌, length, replicate, option_map, IfErr, IfOk, All};
+ghost use Rattle.std.specs.Prelude.{None, Some, Err};
 ghost use Rattle.toml.specs.Data.{Members};
 ghost use Rattle.toml.specs.View.{table_view};
 ghost use Rattle.site_core.specs.Limits.{IsCounter};
@@ -32,7 +33,8 @@ const MOST_PRICE: u32 = 9_999_999;
 
 /// Returns the number if it is not below 0. The error is `OutOfRange`.
 fn not_negative(place: Place, value: i64) -> Result<u64, ConfigFlaw>
-    ensures { Finds (λ x. x) result (ranged place 0 MOST_COUNTER value) }
+    ensures read { Finds (λ x. x) result (ranged place 0 MOST_COUNTER value) }
+    ensures memory { result ≢ Err ConfigFlaw.OutOfMemory }
 {
     match u64::try_from(value) {
         Ok(number) => Ok(number),
@@ -51,6 +53,7 @@ fn wrong_count(key: Key, count: usize, low: usize, high: usize) -> ConfigFlaw
 fn make_point(place: usize, pair: (i64, i64)) -> Result<(u32, u32), ConfigFlaw>
     ensures read { Finds (λ x. x) result (point_of place pair) }
     ensures range { IfOk result (λ p. (p.0 ≤ 15) × (p.1 ≤ 15)) }
+    ensures memory { result ≢ Err ConfigFlaw.OutOfMemory }
 {
     let section = Section::Point(place);
     let release = value_of!(in_range(Place::At(section, Key::Release), pair.0, 0, 15));
@@ -62,6 +65,7 @@ fn make_point(place: usize, pair: (i64, i64)) -> Result<(u32, u32), ConfigFlaw>
 fn make_counter(place: usize, pair: (i64, i64)) -> Result<(u64, u64), ConfigFlaw>
     ensures read { Finds (λ x. x) result (counter_of place pair) }
     ensures range { IfOk result IsCounter }
+    ensures memory { result ≢ Err ConfigFlaw.OutOfMemory }
 {
     let section = Section::Counter(place);
     let value = value_of!(not_negative(Place::At(section, Key::Value), pair.0));
@@ -76,6 +80,7 @@ fn make_counter(place: usize, pair: (i64, i64)) -> Result<(u64, u64), ConfigFlaw
 fn make_price(place: usize, value: i64) -> Result<u32, ConfigFlaw>
     ensures read { Finds (λ x. x) result (price_of place value) }
     ensures range { IfOk result (λ price. price ≤ MOST_PRICE) }
+    ensures memory { result ≢ Err ConfigFlaw.OutOfMemory }
 {
     in_range(
         Place::Item(Section::Top, Key::Prices, place),
@@ -115,6 +120,7 @@ fn eight_of(list: &[u32]) -> [u32; 8]
 #[tactic(auto, unfolding(crate::specs::Ranges::prices_of))]
 fn make_prices(alloc: Global, values: &[i64]) -> Result<[u32; 8], ConfigFlaw>
     ensures read { Finds (λ x. x) result (prices_of values.now) }
+    ensures memory { result ≡ Err ConfigFlaw.OutOfMemory → length values.now ≡ 8 }
     ensures range { IfOk result (All (λ price. price ≤ MOST_PRICE)) }
 {
     if values.len() != 8 {
@@ -139,6 +145,7 @@ fn each_point(alloc: Global, pairs: &[(i64, i64)]) -> Result<Vec<(u32, u32)>, Co
 #[tactic(auto, unfolding(crate::specs::Ranges::points_of))]
 fn make_points(alloc: Global, pairs: &[(i64, i64)]) -> Result<Vec<(u32, u32)>, ConfigFlaw>
     ensures read { Finds (λ v. v.items) result (points_of pairs.now) }
+    ensures memory { result ≡ Err ConfigFlaw.OutOfMemory → (1 ≤ length pairs.now) × (length pairs.now ≤ POINTS) }
     ensures count { IfOk result (λ v. (1 ≤ length v.items) × (length v.items ≤ POINTS)) }
     ensures range { IfOk result (λ v. All (λ p. (p.0 ≤ 15) × (p.1 ≤ 15)) v.items) }
 {
@@ -175,6 +182,7 @@ fn table_of(list: &[(u64, u64)]) -> [(u64, u64); 32]
 #[tactic(auto, unfolding(crate::specs::Ranges::counters_of))]
 fn make_counters(alloc: Global, pairs: &[(i64, i64)]) -> Result<[(u64, u64); 32], ConfigFlaw>
     ensures read { Finds (λ x. x) result (counters_of pairs.now) }
+    ensures memory { result ≡ Err ConfigFlaw.OutOfMemory → length pairs.now ≤ COUNTERS }
     ensures range { IfOk result (All IsCounter) }
 {
     if pairs.len() > 32 {

@@ -1,5 +1,5 @@
 //! Reads the table `[serve]` and the tables of doors in it, and checks their types (K2).
-ghost use Rattle.std.specs.Prelude.{◌≡◌, option_map};
+ghost use Rattle.std.specs.Prelude.{◌≡◌, ◌≢◌, Err, option_map};
 ghost use Rattle.toml.specs.View.{view, table_view, items_view};
 ghost use Rattle.toml.specs.Data.{get_member};
 ghost use Rattle.site_config.specs.Document.{Finds, with_front};
@@ -106,7 +106,8 @@ fn add_shared(
 /// there is one. The error is `Missing`, `Needless` or `WrongType`.
 #[tactic(auto, unfolding(crate::specs::Typed::workers_at))]
 fn read_workers(table: &Table, keys: (Key, Key), key: Key) -> Result<Option<i64>, ConfigFlaw>
-    ensures { Finds (λ x. x) result (workers_at keys key (table_view table.now)) }
+    ensures read { Finds (λ x. x) result (workers_at keys key (table_view table.now)) }
+    ensures memory { result ≢ Err ConfigFlaw.OutOfMemory }
 {
     if is_shared(table, keys) {
         return Ok(Some(value_of!(read_integer(table, Section::Serve, key))));
@@ -234,7 +235,8 @@ fn read_doors(alloc: Global, table: &Table) -> Result<Vec<RawDoor>, ConfigFlaw>
 }
 
 fn read_idle(table: &Table) -> Result<i64, ConfigFlaw>
-    ensures { Finds (λ x. x) result (idle_from (get_member (name_of Key.IdleSeconds) (table_view table.now))) }
+    ensures read { Finds (λ x. x) result (idle_from (get_member (name_of Key.IdleSeconds) (table_view table.now))) }
+    ensures memory { result ≢ Err ConfigFlaw.OutOfMemory }
 {
     match find_value(table, Key::IdleSeconds.name()) {
         Some(value) => integer_of(value, Place::At(Section::Serve, Key::IdleSeconds)),
@@ -244,7 +246,8 @@ fn read_idle(table: &Table) -> Result<i64, ConfigFlaw>
 
 /// Reads the port of the page, or `None` if the key is left out. The error is `WrongType`.
 fn read_page(table: &Table) -> Result<Option<i64>, ConfigFlaw>
-    ensures { Finds (λ x. x) result (page_from (get_member (name_of Key.PagePort) (table_view table.now))) }
+    ensures read { Finds (λ x. x) result (page_from (get_member (name_of Key.PagePort) (table_view table.now))) }
+    ensures memory { result ≢ Err ConfigFlaw.OutOfMemory }
 {
     match find_value(table, Key::PagePort.name()) {
         Some(value) => {

@@ -1,5 +1,5 @@
 //! Reads the values of keys, and checks which keys are given and that their values have the right types (K2).
-ghost use Rattle.std.specs.Prelude.{◌≡◌, not, option_map, string_bytes};
+ghost use Rattle.std.specs.Prelude.{◌≡◌, ◌≢◌, Err, not, option_map, string_bytes};
 ghost use Rattle.std.specs.List.{find};
 ghost use Rattle.std.specs.BTreeMap.{keys};
 ghost use Rattle.toml.specs.View.{view, table_view, items_view};
@@ -61,7 +61,8 @@ fn unknown_key(table: &Table, section: Section) -> Option<&str>
 
 /// Returns a value as a number. The error is `WrongType`.
 pub fn integer_of(value: &Value, place: Place) -> Result<i64, ConfigFlaw>
-    ensures { Finds (λ x. x) result (integer_of place (view value.now)) }
+    ensures read { Finds (λ x. x) result (integer_of place (view value.now)) }
+    ensures memory { result ≢ Err ConfigFlaw.OutOfMemory }
 {
     value
         .as_integer()
@@ -70,7 +71,8 @@ pub fn integer_of(value: &Value, place: Place) -> Result<i64, ConfigFlaw>
 
 /// Returns a value as a text. The error is `WrongType`.
 pub fn text_of(value: &Value, place: Place) -> Result<&str, ConfigFlaw>
-    ensures { Finds (λ t. t.now) result (text_of place (view value.now)) }
+    ensures read { Finds (λ t. t.now) result (text_of place (view value.now)) }
+    ensures memory { result ≢ Err ConfigFlaw.OutOfMemory }
 {
     value
         .as_str()
@@ -79,7 +81,8 @@ pub fn text_of(value: &Value, place: Place) -> Result<&str, ConfigFlaw>
 
 /// Returns a value as a table. The error is `WrongType`.
 pub fn table_of(value: &Value, place: Place) -> Result<&Table, ConfigFlaw>
-    ensures { Finds (λ t. table_view t.now) result (table_of place (view value.now)) }
+    ensures read { Finds (λ t. table_view t.now) result (table_of place (view value.now)) }
+    ensures memory { result ≢ Err ConfigFlaw.OutOfMemory }
 {
     value
         .as_table()
@@ -88,7 +91,8 @@ pub fn table_of(value: &Value, place: Place) -> Result<&Table, ConfigFlaw>
 
 /// Returns a value as an array. The error is `WrongType`.
 pub fn array_of(value: &Value, place: Place) -> Result<&Vec<Value>, ConfigFlaw>
-    ensures { Finds (λ v. items_view v.now.items) result (array_of place (view value.now)) }
+    ensures read { Finds (λ v. items_view v.now.items) result (array_of place (view value.now)) }
+    ensures memory { result ≢ Err ConfigFlaw.OutOfMemory }
 {
     value
         .as_array()
@@ -97,7 +101,8 @@ pub fn array_of(value: &Value, place: Place) -> Result<&Vec<Value>, ConfigFlaw>
 
 /// Returns the number of a key. The error is `Missing` or `WrongType`.
 pub fn read_integer(table: &Table, section: Section, key: Key) -> Result<i64, ConfigFlaw>
-    ensures { Finds (λ x. x) result (integer_at section key (table_view table.now)) }
+    ensures read { Finds (λ x. x) result (integer_at section key (table_view table.now)) }
+    ensures memory { result ≢ Err ConfigFlaw.OutOfMemory }
 {
     let place = Place::At(section, key);
     match find_value(table, key.name()) {
@@ -208,8 +213,9 @@ pub fn read_integers(
 
 /// Returns the array of a key. The error is `Missing` or `WrongType`.
 pub fn find_array(table: &Table, section: Section, key: Key) -> Result<&Vec<Value>, ConfigFlaw>
-    ensures { Finds
+    ensures read { Finds
         (λ v. items_view v.now.items) result (array_at section key (table_view table.now)) }
+    ensures memory { result ≢ Err ConfigFlaw.OutOfMemory }
 {
     let place = Place::At(section, key);
     match find_value(table, key.name()) {
