@@ -1,8 +1,8 @@
 // Flaws: the faults of an assembler text with their words, for people to read.
 
-ghost use Rattle.std.specs.Prelude.{◌≡◌, ◌-◌, [], IfOk, slice_get, unwrap_or, take};
+ghost use Rattle.std.specs.Prelude.{◌≡◌, ◌-◌, ℕ, [], true, IfOk, IsOk, slice_get, unwrap_or, take};
 ghost use Rattle.bpf_asm.specs.Program as spec;
-ghost use Rattle.bpf_asm.specs.Flaws.{line_at, begins_with_mark, ends_with_return, Explains};
+ghost use Rattle.bpf_asm.specs.Flaws.{line_at, begins_with_mark, ends_with_return, is_marked, Explains};
 ghost use Rattle.std.specs.Fmt.{WritesOnOk};
 ghost use Rattle.bpf_asm.specs.Messages.{ending, shown_byte};
 
@@ -127,7 +127,8 @@ fn has_return(line: &[u8]) -> bool
 /// Returns the flaw of a line that can't be parsed (A1): a byte order mark before it, else a CR at its end, else its
 /// text.
 fn formless<'a>(alloc: Global, text: &'a [u8], number: u64) -> Result<AsmFlaw<'a>, AllocError>
-    ensures { IfOk result (Explains text.now (AsmFault.BadLine number)) }
+    ensures flaw { IfOk result (Explains text.now (AsmFault.BadLine number)) }
+    ensures mark { is_marked text.now number ≡ true → IsOk result }
 {
     if number == 1 && has_mark(text) {
         return Ok(AsmFlaw::ByteOrderMark);
@@ -160,13 +161,15 @@ fn out_of_range<'a>(alloc: Global, text: &'a [u8], number: u64) -> Result<AsmFla
 }
 
 /// Returns the flaw for a fault of a text, with the line or the label that its message shows. The error is that memory
-/// ran out: in this call, or because the fault is `OutOfMemory`.
+/// ran out: in this call, or because the fault is `OutOfMemory`. A wrong length and a byte order mark take no memory.
 pub fn explain<'a>(
     alloc: Global,
     text: &'a [u8],
     fault: AsmFault,
 ) -> Result<AsmFlaw<'a>, AllocError>
-    ensures { IfOk result (Explains text.now fault) }
+    ensures flaw { IfOk result (Explains text.now fault) }
+    ensures length { fault ≡ AsmFault.Length → IsOk result }
+    ensures mark { (number : ℕ) → fault ≡ AsmFault.BadLine number → is_marked text.now number ≡ true → IsOk result }
 {
     match fault {
         AsmFault::BadLine(number) => formless(alloc, text, number),
