@@ -1,7 +1,7 @@
 // The lines of a text, and their parsing.
 
 ghost use Rattle.std.specs.Prelude.{◌≡◌, ◌^◌, ◌≤◌, ◌<◌, ◌+◌, length, drop, map, take, option_map, IfOk, IfErr, Some};
-ghost use Rattle.std.specs.Prelude.{None, nat_lt};
+ghost use Rattle.std.specs.Prelude.{false, nat_lt, Err, IsOk, None};
 ghost use Rattle.std.specs.List.{list_all};
 ghost use Rattle.bpf_asm.specs.Program as spec;
 ghost use Rattle.bpf_asm.specs.Grammar.{line_of as line_said};
@@ -21,7 +21,8 @@ fn is_ascii(line: &[u8]) -> bool
 }
 
 fn words_of<'a>(alloc: Global, line: &'a [u8]) -> Result<Option<Vec<&'a [u8]>>, AllocError>
-    ensures { IfOk result (λ found. option_map (λ v. map (λ t. t.now) v.items) found ≡ spec.words_of line.now) }
+    ensures found { IfOk result (λ found. option_map (λ v. map (λ t. t.now) v.items) found ≡ spec.words_of line.now) }
+    ensures other { list_all (λ b. nat_lt b 128) line.now ≡ false → IsOk result }
 {
     if is_ascii(line) {
         split(alloc, &line[..code_len(line)])
@@ -77,9 +78,11 @@ fn row_by<'a>(alloc: Global, words: &[&'a [u8]]) -> Result<Option<(Line, &'a [u8
 }
 
 /// Parses a line, and returns it with its label. That is the label that the line defines, or for an instruction its
-/// last word, which for a jump is the label of its target. Returns `None` if the line can't be parsed.
+/// last word, which for a jump is the label of its target. Returns `None` if the line can't be parsed. A line with a byte
+/// that isn't ASCII takes no memory.
 pub fn row_of<'a>(alloc: Global, line: &'a [u8]) -> Result<Option<(Line, &'a [u8])>, AllocError>
-    ensures { IfOk result (λ found. option_map (λ p. spec.row p.0 p.1.now) found ≡ spec.row_of line.now) }
+    ensures found { IfOk result (λ found. option_map (λ p. spec.row p.0 p.1.now) found ≡ spec.row_of line.now) }
+    ensures other { list_all (λ b. nat_lt b 128) line.now ≡ false → IsOk result }
 {
     match words_of(alloc, line)? {
         Some(words) => row_by(alloc, words.as_slice()),
@@ -167,11 +170,12 @@ pub fn cut<'a>(alloc: Global, text: &'a [u8]) -> Result<Vec<&'a [u8]>, AllocErro
 }
 
 /// Parses line `number`, and returns it with its label. The error is that it can't be parsed (A1), that a number in it
-/// is out of range (A3), or that memory ran out.
+/// is out of range (A3), or that memory ran out, but never for a line with a byte that isn't ASCII.
 fn row_at<'a>(alloc: Global, number: u64, line: &'a [u8]) -> Result<(Line, &'a [u8]), AsmFault>
     ensures ok { IfOk result (λ p. spec.row_of line.now ≡ Some (spec.row p.0 p.1.now)) }
     ensures none { IfOk result (λ p. spec.row_fault number (spec.row_of line.now) ≡ None) }
     ensures refused { IfErr result (λ fault. spec.IsFault (spec.row_fault number (spec.row_of line.now)) fault) }
+    ensures other { list_all (λ b. nat_lt b 128) line.now ≡ false → result ≡ Err (AsmFault.BadLine number) }
 {
     let Ok(found) = row_of(alloc, line) else {
         return Err(AsmFault::OutOfMemory);
