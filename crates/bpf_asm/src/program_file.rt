@@ -1,5 +1,5 @@
 //! Program files: the bytes of a program as hexadecimal digits, with blanks between them.
-ghost use Rattle.std.specs.Prelude.{◌≡◌, ◌*◌, ◌+◌, ◌≤◌, ◌<◌, length, filter, not, IfOk, OnOk, Err, ◌++◌, string_bytes};
+ghost use Rattle.std.specs.Prelude.{◌≡◌, ◌*◌, ◌+◌, ◌%◌, ◌≤◌, ◌<◌, length, filter, not, IfOk, OnOk, Err, ◌++◌, string_bytes};
 ghost use Rattle.bpf_asm.specs.ProgramFile.{Gives, bytes_or_fault, program_in, is_blank, line_at, unit_lines};
 ghost use Rattle.hex.specs.Hex.{decode_of};
 
@@ -64,9 +64,10 @@ fn without_blanks(alloc: Global, text: &[u8]) -> Result<Vec<u8>, AllocError>
         .collect(alloc)
 }
 
-/// Returns the bytes that hexadecimal digits spell.
+/// Returns the bytes that hexadecimal digits spell. An odd number of digits takes no memory.
 fn bytes_of(alloc: Global, digits: &[u8]) -> Result<Vec<u8>, ProgramFileFault>
-    ensures { Gives (λ bytes. bytes.items) result (bytes_or_fault (decode_of digits.now)) }
+    ensures given { Gives (λ bytes. bytes.items) result (bytes_or_fault (decode_of digits.now)) }
+    ensures odd { length digits.now % 2 ≡ 1 → result ≡ Err ProgramFileFault.BadDigits }
 {
     match hex::decode(alloc, digits) {
         Ok(bytes) => Ok(bytes),
