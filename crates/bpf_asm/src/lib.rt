@@ -2,7 +2,7 @@
 #![tactic(auto)]
 
 ghost use Rattle.std.specs.Prelude.{◌≡◌, ◌++◌, IfOk, IfErr, OnOk, map, None, ◌&&◌, nat_le, string_bytes, option_map};
-ghost use Rattle.std.specs.Prelude.{codes};
+ghost use Rattle.std.specs.Prelude.{codes, false, Err, IsOk};
 ghost use Rattle.std.specs.Fmt.{decimal};
 ghost use Rattle.bpf_model.specs.Reading.{form_of};
 ghost use Rattle.bpf_asm.specs.Numbered.{line_of_unit, numbered_from, front_line as front_of};
@@ -70,9 +70,10 @@ pub fn disassemble(alloc: Global, code: &Code) -> Result<String, AllocError>
 }
 
 /// Returns the line, with its LF, of the instruction that begins at a unit, as `disassemble` writes it; `None` if none
-/// begins there.
+/// begins there, for which no memory is taken.
 pub fn instruction_line(alloc: Global, code: &Code, unit: u32) -> Result<Option<String>, AllocError>
-    ensures { IfOk result (λ found. option_map string_bytes found ≡ line_of_unit code.now unit) }
+    ensures line { IfOk result (λ found. option_map string_bytes found ≡ line_of_unit code.now unit) }
+    ensures none { line_of_unit code.now unit ≡ None → IsOk result }
 {
     match code.units().get(unit as usize..) {
         Some(units) => front_line(alloc, units),
@@ -82,7 +83,8 @@ pub fn instruction_line(alloc: Global, code: &Code, unit: u32) -> Result<Option<
 
 /// Returns the line of the instruction that begins at the first of these units; `None` if none begins there.
 fn front_line(alloc: Global, units: &[Unit]) -> Result<Option<String>, AllocError>
-    ensures { IfOk result (λ found. option_map string_bytes found ≡ front_of units.now) }
+    ensures line { IfOk result (λ found. option_map string_bytes found ≡ front_of units.now) }
+    ensures none { front_of units.now ≡ None → IsOk result }
 {
     match units.split_first() {
         Some((Unit::First(inst), after)) => {
@@ -129,7 +131,7 @@ fn is_length(count: u64) -> bool
 }
 
 // Returns the program of parsed lines whose numbers are in range. The error is that it doesn't have 1 to 512 units,
-// else the first wrong label, or that memory ran out.
+// else the first wrong label, or that memory ran out. None is taken before the units are counted.
 fn assemble_rows(alloc: Global, rows: &[(Line, &[u8])]) -> Result<Code, AsmFault>
     requires fits { spec.AreRight (map (λ p. spec.row p.0 p.1.now) rows.now) }
     requires sound { AreSound (map (λ p. spec.row p.0 p.1.now) rows.now) }
@@ -137,6 +139,9 @@ fn assemble_rows(alloc: Global, rows: &[(Line, &[u8])]) -> Result<Code, AsmFault
     ensures none { IfOk result (λ code. spec.rows_fault (map (λ p. spec.row p.0 p.1.now) rows.now) ≡ None) }
     ensures refused { IfErr result
         (λ fault. spec.IsFault (spec.rows_fault (map (λ p. spec.row p.0 p.1.now) rows.now)) fault) }
+    ensures length { (nat_le 1 (spec.units_in (map (λ p. spec.row p.0 p.1.now) rows.now))
+        && nat_le (spec.units_in (map (λ p. spec.row p.0 p.1.now) rows.now)) UNITS) ≡ false
+        → result ≡ Err AsmFault.Length }
 {
     let count = label::units_in(rows);
     if !is_length(count) {
