@@ -10,7 +10,7 @@ use Rattle.bpf_model.specs.Reading.{units, units_below, has_right_length, fault_
 use Rattle.bpf_model.specs.Flow.{flow_fault}
 use Rattle.bpf_decode.specs.declared.DecodeFault.{DecodeFault}
 use Rattle.bpf_decode.specs.declared.DecodeFault.TheVariants.{Length, BadOpcode, BadField, BadRegister, HalfWide, OutOfMemory as NoMemoryToDecode}
-use Rattle.bpf_decode.specs.Faults.{IsRefusedFor}
+use Rattle.bpf_decode.specs.Faults.{BeginRight, IsRefusedFor}
 use Rattle.flow_check.specs.declared.FlowFault.{FlowFault}
 use Rattle.flow_check.specs.declared.FlowFault.TheVariants.{BackwardJump, JumpOut, JumpIntoWide, OutOfMemory as NoMemoryForFlow}
 use Rattle.flow_check.specs.Faults.{IsShown as IsFlowShown}
@@ -22,7 +22,7 @@ use Rattle.reg_types.specs.declared.types.Flaw.{Flaw}
 use Rattle.reg_types.specs.declared.refusal.TypeFault.{TypeFault}
 use Rattle.reg_types.specs.declared.refusal.Refusal.{Refusal}
 use Rattle.reg_types.specs.declared.refusal.Refusal.TheVariants.{Decode, Flow, «Type» as TypeRefusal, OutOfMemory}
-use Rattle.reg_types.specs.Refusals.{located}
+use Rattle.reg_types.specs.Refusals.{located, shown_by}
 use Rattle.reg_types.specs.Inference.{instruction_at, ruled, flaw_in, flaw_of, flaw_under, inferred, or_else, first_flaw_below, first_flaw}
 use Rattle.operations.specs.Operations.{upper_of}
 use Rattle.reg_types.specs.Passing.{IsPassRefused, IsToldAlone, decode_told}
@@ -184,6 +184,17 @@ decode_alone (BadField pc) = (λ e. absurd (cc), λ e. absurd (cc))
 decode_alone (BadRegister pc) = (λ e. absurd (cc), λ e. absurd (cc))
 decode_alone (HalfWide pc) = (λ e. absurd (cc), λ e. absurd (cc))
 decode_alone NoMemoryToDecode = (λ e. absurd (cc), λ e. absurd (cc))
+
+pub begin_right : (bytes : List ℕ) (fault : DecodeFault) → IsRefusedFor bytes fault → shown_by (decode_told fault) ≡ None → BeginRight bytes
+begin_right bytes Length h e = absurd (cc)
+begin_right bytes (BadOpcode pc) h e = absurd (cc)
+begin_right bytes (BadField pc) h e = absurd (cc)
+begin_right bytes (BadRegister pc) h e = absurd (cc)
+begin_right bytes (HalfWide pc) h e = absurd (cc)
+begin_right bytes NoMemoryToDecode h e = h
+
+pub fault_of_err : {T : Type 0} (a : DecodeFault) → (let told : Result T DecodeFault = Err a in told ≡ Err Length) → a ≡ Length
+fault_of_err a e = cc
 
 -- ---- one answer
 

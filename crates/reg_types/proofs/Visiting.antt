@@ -196,6 +196,11 @@ module _ (us : List ProgramUnit) (terms : LoadOptions) (pc : ℕ) (i : Inst) (fa
       → flaw_under us terms pc (Some fact) ≡ Some (located pc flaw)
   refused_here flaw up j = flaw_is (Err flaw) up j
 
+  -- memory ran out as the fact after an accepted jump was stored for its target
+  pub ran_out : (e : Effect) (next : Successors) → upper ≡ upper_of us pc → ok_of e ≡ judged (length us) pc terms fact i upper form
+      → jump_of next ≡ target_by pc form i → (jump_of next ≡ None → ⊥) → IsUnitRefused us terms pc (Some fact) OutOfMemory
+  ran_out e next up j jump some = (flaw_is (Ok e) up j, λ none. some (jump ∙ sym target_is ∙ none))
+
 -- ---- one unit
 
 brought_elsewhere : (q pc : ℕ) (c : Option StoredFact) → IsCarriedAt pc c → q ≢ pc → (old : Option Fact) → brought q c old ≡ old
@@ -253,7 +258,7 @@ module _ (us : List ProgramUnit) (terms : LoadOptions) (pc : ℕ) (carried : Opt
   refused_as (Decode fault) fact same h = h
   refused_as (FlowRefusal fault) fact same h = h
   refused_as (TypeRefusal fault) fact same h = sym (flaw_same us terms pc (Some fact) (seen carried old pc) same) ∙ h
-  refused_as OutOfMemory fact same h = tt
+  refused_as OutOfMemory fact same h = (sym (flaw_same us terms pc (Some fact) (seen carried old pc) same) ∙ h.0, h.1)
 
   pub refused_if : (r : Result Unit Refusal) (fact : Fact) → AreSame (Some fact) (seen carried old pc)
       → IfErr r (λ refusal. IsUnitRefused us terms pc (Some fact) refusal) → IfErr r (λ refusal. IsUnitRefused us terms pc (seen carried old pc) refusal)

@@ -161,12 +161,13 @@ abbrev pub decode_told : DecodeFault → Refusal
 decode_told NoMemoryToDecode = OutOfMemory
 decode_told fault = Decode fault
 
--- the refusals that a unit can get if `fact` is known before it: its flaw, or that memory ran out
+-- The refusals that a unit can get if `fact` is known before it: its flaw, or that memory ran out. Memory is taken only
+-- for a unit without a flaw whose instruction is a jump: the fact after it is stored for the jump's target.
 abbrev pub IsUnitRefused : List ProgramUnit → LoadOptions → ℕ → Option Fact → Refusal → Type 0
 IsUnitRefused us terms pc fact (Decode fault) = ⊥
 IsUnitRefused us terms pc fact (Flow fault) = ⊥
 IsUnitRefused us terms pc fact (TypeRefusal fault) = flaw_under us terms pc fact ≡ Some fault
-IsUnitRefused us terms pc fact OutOfMemory = ⊤
+IsUnitRefused us terms pc fact OutOfMemory = (flaw_under us terms pc fact ≡ None) × (target us pc ≢ None)
 
 -- the refusals that the pass over the units can return: the program's first flaw, or that memory ran out
 abbrev pub IsPassRefused : List ProgramUnit → LoadOptions → Refusal → Type 0

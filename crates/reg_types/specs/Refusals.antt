@@ -53,6 +53,10 @@ shown_by (Flow fault) = flow_shown fault
 shown_by (TypeRefusal fault) = Some (type_shown fault)
 shown_by OutOfMemory = None
 
+-- the refusal of bytes that aren't 1 to 512 whole units
+abbrev pub wrong_length : Refusal
+wrong_length = Decode Length
+
 -- the fault of the instruction at unit pc that has this flaw
 abbrev pub located : ℕ → Flaw → TypeFault
 located pc flaw.FallsOff = FallsOff pc

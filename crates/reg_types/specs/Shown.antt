@@ -20,7 +20,7 @@ use Rattle.bpf_model.specs.declared.instruction.UnitFault.{UnitFault}
 use Rattle.bpf_model.specs.declared.instruction.JumpFault.{JumpFault}
 use Rattle.bpf_decode.specs.declared.DecodeFault.{DecodeFault}
 use Rattle.bpf_decode.specs.declared.DecodeFault.TheVariants.{Length, OutOfMemory as NoMemoryToDecode}
-use Rattle.bpf_decode.specs.Faults.{IsRefusedFor, numbered as decode_numbered}
+use Rattle.bpf_decode.specs.Faults.{BeginRight, IsRefusedFor, numbered as decode_numbered}
 use Rattle.flow_check.specs.declared.FlowFault.{FlowFault}
 use Rattle.flow_check.specs.Faults.{IsShown as IsFlowShown, numbered as flow_numbered}
 use Rattle.reg_types.specs.declared.types.LoadOptions.{LoadOptions}
@@ -173,6 +173,10 @@ IsRefused p (Decode fault) = IsDecodeRefused p.bytes fault
 IsRefused p (Flow fault) = IsFlowRefused p.bytes fault
 IsRefused p (TypeRefusal fault) = IsTypeShown p.bytes fault
 IsRefused p OutOfMemory = ⊤
+
+-- Memory is taken for this program: its bytes are 1 to 512 whole units, and the first of them has no fault.
+abbrev pub MayRunOut : ProgramText → Type 0
+MayRunOut p = BeginRight p.bytes
 
 -- ---- which refusal is returned
 

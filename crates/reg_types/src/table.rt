@@ -2,7 +2,7 @@
 
 ghost use Rattle.std.specs.Prelude.{◌≡◌, ℕ, ◌≤◌, ◌+◌, ◌∷◌, [], IfOk, IfSome, OnOk, IsTrue};
 ghost use Rattle.std.specs.Prelude.{false, Some, None, replicate};
-ghost use Rattle.std.specs.Prelude.{slice_set};
+ghost use Rattle.std.specs.Prelude.{◌≢◌, IsOk, slice_set};
 ghost use Rattle.reg_types.specs.Facts.{IsPlace, AreDistinct, stored};
 ghost use Rattle.reg_types.specs.Inference.{arrived};
 ghost use Rattle.reg_types.specs.Passing.{AreSame, IsJoined, fact_if};
@@ -105,10 +105,12 @@ impl Table {
     }
 
     /// Adds the fact that a jump brings to its target `at`: joins it with the target's stored fact, or stores it if
-    /// there is none. The error is that memory ran out.
+    /// there is none. The error is that memory ran out, which is taken only to store a fact for a unit that has none.
     pub fn enter(&mut self, at: u32, fact: &Fact) -> Result<(), AllocError>
         requires { at ≤ UNITS }
-        ensures { OnOk result ((q : ℕ) → AreSame (stored self.new q) (arrived q fact.now at (stored self.old q))) }
+        ensures entered { OnOk result ((q : ℕ)
+            → AreSame (stored self.new q) (arrived q fact.now at (stored self.old q))) }
+        ensures known { stored self.old at ≢ None → IsOk result }
     {
         if self.place_of(at).is_none() {
             return self.push(at, fact);

@@ -1,5 +1,6 @@
-use Rattle.std.proofs.Common.{◌≡◌, sym, subst, ◌∙◌, Some, None, ap}
+use Rattle.std.proofs.Common.{◌≡◌, sym, subst, ◌∙◌, Some, None, Err, ap}
 use Rattle.bpf_model.specs.Reading.{units}
+use Rattle.bpf_decode.proofs.Decoding.{begun}
 use Rattle.reg_types.specs.LoadOptions.{terms_of}
 use Rattle.bpf_model.specs.Program.{as_loaded}
 use Rattle.operations.specs.Operations.{AreOperations}
@@ -7,9 +8,10 @@ use Rattle.reg_types.specs.Facts.{stored}
 use Rattle.bpf_model.specs.Flow.{GoesForward, flow_fault}
 use Rattle.reg_types.specs.Inference.{first_flaw}
 use Rattle.reg_types.specs.Passing.{AreInferred, IsPassRefused, IsToldAlone, decode_told}
+use Rattle.reg_types.specs.Refusals.{shown_by}
 use Rattle.reg_types.specs.Shown.{IsRefusal, IsRefused, refusal_of}
 use Rattle.reg_types.proofs.Accepted.{good_by}
-use Rattle.reg_types.proofs.Answering.{accepted, pass_shown, pass_exact, exact_plain, decode_exact, decode_shown, decode_alone, flow_exact}
+use Rattle.reg_types.proofs.Answering.{accepted, pass_shown, pass_exact, exact_plain, begin_right, decode_exact, decode_shown, decode_alone, fault_of_err, flow_exact}
 use Rattle.reg_types.proofs.Walking.{walked}
 use Rattle.reg_types.proofs.verifier.verify.Goals as goal
 
@@ -49,6 +51,9 @@ returns-in-Err c =
           (decode_shown c.args.bytes.now (terms_of (as_loaded c.args.bytes.now c.args.declared c.args.layout)) c.in-Err.fault c.in-Err.ensures.refused);
       plain = λ p. told ∙ exact_plain c.args.bytes.now (terms_of (as_loaded c.args.bytes.now c.args.declared c.args.layout))
           (decode_told c.in-Err.fault) exact p;
+      begins = tt;
+      length = λ wrong. ap Err (told ∙ ap decode_told (fault_of_err c.in-Err.fault (c.in-Err.ensures.length wrong)));
+      memory = λ none. begin_right c.args.bytes.now c.in-Err.fault c.in-Err.ensures.refused (sym (ap shown_by told) ∙ none);
     }
 
 pub returns-in-Err-check_flow-clause-answers : goal.returns-in-Err-check_flow-clause-answers
@@ -97,3 +102,18 @@ returns-clause-answers c =
           c.in-Ok-check_flow.ensures.ok.1
           (subst (λ us. first_flaw us (terms_of (as_loaded c.args.bytes.now c.args.declared c.args.layout)) ≡ None) same c.in-Ok-infer.ensures.flawless),
     )
+
+pub returns-in_default-clause-memory : goal.returns-in_default-clause-memory
+returns-in_default-clause-memory c = λ none. begun c.args.bytes.now c.in-Ok.code c.in-Ok.ensures.ok
+
+pub returns-in_default-operations_of-clause-memory : goal.returns-in_default-operations_of-clause-memory
+returns-in_default-operations_of-clause-memory c = λ none. begun c.args.bytes.now c.in-Ok.code c.in-Ok.ensures.ok
+
+pub returns-in-Err-check_flow-clause-memory : goal.returns-in-Err-check_flow-clause-memory
+returns-in-Err-check_flow-clause-memory c = λ none. begun c.args.bytes.now c.in-Ok.code c.in-Ok.ensures.ok
+
+pub returns-in-Err-infer-clause-memory : goal.returns-in-Err-infer-clause-memory
+returns-in-Err-infer-clause-memory c = λ none. begun c.args.bytes.now c.in-Ok.code c.in-Ok.ensures.ok
+
+pub returns-clause-begins : goal.returns-clause-begins
+returns-clause-begins c = begun c.args.bytes.now c.in-Ok.code c.in-Ok.ensures.ok
