@@ -3,7 +3,7 @@
 #![tactic(auto)]
 
 ghost use Rattle.std.specs.Prelude.{◌≡◌, ℕ, ◌+◌, ◌≤◌, length, map, All, slice_index_or, Some, None};
-ghost use Rattle.std.specs.Prelude.{MatchOption, OnErr, IfOk};
+ghost use Rattle.std.specs.Prelude.{MatchOption, OnErr, IfOk, IsOk};
 ghost use Rattle.std.specs.List.{range_with_len};
 ghost use Rattle.std.specs.Arc.{arc_value};
 ghost use Rattle.program_slots.specs.Slots.{IsRule, no_versions, opened_slots, version_in, number_in, program_of};
@@ -161,8 +161,9 @@ impl Slots {
         Ok(rules)
     }
 
-    // Returns a copy of the version in a slot. The error is that memory ran out.
+    // Returns a copy of the version in a slot. The error is that memory ran out; for an empty slot none is taken.
     fn rule(&self, slot: u32) -> Result<Option<Version>, AllocError>
+        ensures empty { version_in self.now slot ≡ None → IsOk result }
         ensures same { IfOk result (λ rule. rule ≡ version_in self.now slot) }
         ensures good { IfOk result (λ rule. IsRule (self.now.before + length self.now.programs) rule) }
     {
