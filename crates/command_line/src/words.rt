@@ -1,5 +1,5 @@
 //! The parsing of a command line.
-ghost use Rattle.std.specs.Prelude.{◌≡◌, IsTrue, IsSome, None, false, [], IfOk, IfErr, IsOkAnd, OnOk};
+ghost use Rattle.std.specs.Prelude.{◌≡◌, IsTrue, IsSome, None, false, [], IfOk, IfErr, IsOk, IsOkAnd, OnOk};
 ghost use Rattle.std.specs.Prelude.{map, codes, is_some, option_map, string_bytes, ◌↔◌};
 ghost use Rattle.clap.specs.Words.{first_of, rows_of, found_of, subcommand_of, subcommand_rows_of, takes, fault_of};
 ghost use Rattle.command_line.specs.Asked.{fc_app, asked, asked_of, is_set, layout_in, layout_named, IsShown, MayShow};
@@ -91,7 +91,8 @@ fn dis_of(alloc: Global, matches: &ArgMatches) -> Result<Option<Job>, AllocError
 }
 
 fn verify_of(alloc: Global, matches: &ArgMatches) -> Result<Option<Job>, AllocError>
-    ensures { IfOk result (Finds (codes "verify") (rows_of (found_of matches.now))) }
+    ensures job { IfOk result (Finds (codes "verify") (rows_of (found_of matches.now))) }
+    ensures layout { layout_in (rows_of (found_of matches.now)) ≡ None → IsOk result }
 {
     let Some(counters) = mask_of(matches) else {
         return Ok(None);
@@ -264,7 +265,8 @@ fn format_asked(matches: &ArgMatches) -> Format
 
 /// Returns the job of `fc export`, or `None` if its argument KIND names no rows or a file isn't given.
 fn export_of(alloc: Global, matches: &ArgMatches) -> Result<Option<Job>, AllocError>
-    ensures { IfOk result (Finds (codes "export") (rows_of (found_of matches.now))) }
+    ensures job { IfOk result (Finds (codes "export") (rows_of (found_of matches.now))) }
+    ensures kind { kind_in (rows_of (found_of matches.now)) ≡ None → IsOk result }
 {
     let Some(rows) = kind_asked(matches) else {
         return Ok(None);
@@ -371,9 +373,10 @@ fn named_job(alloc: Global, name: &str, matches: &ArgMatches) -> Result<Option<J
     }
 }
 
-/// Returns the job of a parsed command line, or `None` if it asks for none.
+/// Returns the job of a parsed command line, or `None` if it asks for none. Without a subcommand no memory is taken.
 fn job_of(alloc: Global, matches: &ArgMatches) -> Result<Option<Job>, AllocError>
-    ensures { IfOk result (FindsIn (subcommand_rows_of matches.now)) }
+    ensures job { IfOk result (FindsIn (subcommand_rows_of matches.now)) }
+    ensures nothing { subcommand_rows_of matches.now ≡ None → IsOk result }
 {
     match matches.subcommand() {
         None => Ok(Some(Job::NoWords)),
@@ -452,6 +455,7 @@ fn found_job(alloc: Global, matches: &ArgMatches) -> Result<Job, CommandFault>
     ensures asked { IfOk result (λ job. asked_of (subcommand_rows_of matches.now) ≡ asked job) }
     ensures some { IfOk result (λ job. IsSome (asked job)) }
     ensures none { IfErr result (IsUnasked (subcommand_rows_of matches.now)) }
+    ensures nothing { subcommand_rows_of matches.now ≡ None → IsOk result }
 {
     match job_of(alloc, matches)? {
         Some(job) => Ok(job),

@@ -29,8 +29,8 @@ module _ {Z : Type 0} where
       finds_in p name rows (sym (ap (λ o. unwrap_or o name) n)) (sym (ap (λ o. unwrap_or o rows) r)) found h
   finds (Some b) name rows n r (Err e) h = h
 
-pub returns-in-Some : goal.returns-in-Some
-returns-in-Some c =
+pub returns-in-Some-clause-job : goal.returns-in-Some-clause-job
+returns-in-Some-clause-job c =
     finds (out-ArgMatches c.args.matches.now).subcommand c.in-Some.name.now (rows_of (found_of c.in-Some.rest.now))
     c.in-Some.ensures.name c.in-Some.ensures.rows
     c.named_job.result c.named_job.ensures
