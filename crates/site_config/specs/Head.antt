@@ -1,5 +1,5 @@
 -- Definitions: a configuration that comes before a script in one stream (this profile). A line `---` ends it.
-use Rattle.std.specs.Prelude.{◌≡◌, ◌⊎◌, ℕ, ◌<◌, ◌-◌, ◌||◌, nat_le, Bool, true, false, if◌then◌else◌, List, [], ◌∷◌, length, take, drop, Option, Some, None}
+use Rattle.std.specs.Prelude.{◌≡◌, ◌⊎◌, ℕ, ◌<◌, ◌+◌, ◌-◌, ◌||◌, nat_le, Bool, true, false, if◌then◌else◌, List, [], ◌∷◌, length, take, drop, Option, Some, None}
 use Rattle.std.specs.Str.{bytes_eq}
 use Rattle.std.specs.Io.KnownBytes.{Consumes, IsAtEnd}
 
@@ -22,3 +22,8 @@ pub record IsHead (old new : Option (List ℕ)) (bytes : List ℕ) : Type 0 wher
   pub taken : Consumes old new bytes
   pub first : (k : ℕ) → k < length bytes → ends_head (take k bytes) ≡ false
   pub ended : (ends_head bytes ≡ true) ⊎ IsAtEnd new ⊎ (65540 < length bytes)
+
+-- At least one byte was taken from the input, and each by a read of its own: `before` reads were allowed, and `after` of
+-- them are left.
+abbrev pub TakesByReads : Option (List ℕ) → Option (List ℕ) → ℕ → ℕ → Type 0
+TakesByReads old new before after = (bytes : List ℕ) × Consumes old new bytes × (0 < length bytes) × (length bytes + after ≡ before)

@@ -3,7 +3,7 @@ ghost use Rattle.std.specs.Prelude.{◌≡◌, ◌≤◌, ◌-◌, ℕ, List, If
 ghost use Rattle.std.specs.Io.KnownBytes.{Consumes};
 ghost use Rattle.till_request.specs.Count.{RoseBy, one_if};
 ghost use Rattle.till_request.specs.Line.{TakesSome, is_input_fault};
-ghost use Rattle.site_config.specs.Head.{ends_head, head_part, IsHead};
+ghost use Rattle.site_config.specs.Head.{ends_head, head_part, IsHead, TakesByReads};
 
 use std::alloc::Global;
 use till_request::{InputFault, LineIn, next_byte};
@@ -23,7 +23,7 @@ fn is_head_end(bytes: &[u8]) -> bool
 /// What follows the line stays unread. Reading also stops once there are too many bytes for a configuration.
 ///
 /// `left` is how many reads may still be made, of one byte each. The error is that none is left, that the input failed,
-/// or that memory ran out.
+/// or that memory ran out at a byte that was read.
 pub fn read_head<I: LineIn>(
     alloc: Global,
     input: &mut I,
@@ -33,6 +33,8 @@ pub fn read_head<I: LineIn>(
     ensures given { OnErr result (TakesSome (I.remaining input.old) (I.remaining input.new)) }
     ensures left { left.new ≤ left.old }
     ensures spent { result ≡ Err InputFault.ReadsSpent → left.new ≡ 0 }
+    ensures memory { result ≡ Err InputFault.OutOfMemory
+        → TakesByReads (I.remaining input.old) (I.remaining input.new) left.old left.new }
     ensures counted { RoseBy (left.old - left.new) (I.reads input.old) (I.reads input.new) }
     ensures failed { RoseBy (one_if (is_input_fault result)) (I.failures input.old) (I.failures input.new) }
 {

@@ -1,4 +1,4 @@
-use Rattle.std.proofs.Common.{◌++◌, ◌∷◌, []}
+use Rattle.std.proofs.Common.{◌++◌, ◌∷◌, [], arith, length-append}
 use Rattle.till_request.proofs.Taken.{consumes_more, given_so}
 use Rattle.site_config.proofs.head.read_head.Goals as goal
 
@@ -6,3 +6,13 @@ pub returns-in_err-push-in-Some-clause-given : goal.returns-in_err-push-in-Some-
 returns-in_err-push-in-Some-clause-given g c =
     given_so _ _ _ (c.loop-bytes.bytes.items ++ c.in-Some.byte ∷ [])
     (consumes_more _ _ _ c.loop-bytes.bytes.items (c.in-Some.byte ∷ []) c.loop-bytes.invariant.taken (rw c.in-Some.is at c.in_ok-next_byte.ensures.some))
+
+pub returns-in_err-push-in-Some-clause-memory : goal.returns-in_err-push-in-Some-clause-memory
+returns-in_err-push-in-Some-clause-memory g c = λ is.
+    let old = c.loop-bytes.bytes.items in
+    let byte = c.in-Some.byte in (
+      old ++ byte ∷ [],
+      consumes_more _ _ _ old (byte ∷ []) c.loop-bytes.invariant.taken (rw c.in-Some.is at c.in_ok-next_byte.ensures.some),
+      omega (arith, length-append old (byte ∷ [])),
+      omega (arith, length-append old (byte ∷ []), c.loop-bytes.invariant.each, c.in_ok-next_byte.ensures.used),
+    )

@@ -1,4 +1,4 @@
-use Rattle.std.proofs.Common.{◌≡◌, ℕ, ◌<◌, ◌≤◌, ◌-◌, length, take, false}
+use Rattle.std.proofs.Common.{◌≡◌, ℕ, ◌<◌, ◌≤◌, ◌+◌, ◌-◌, length, take, false}
 use Rattle.std.specs.Io.KnownBytes.{Consumes}
 use Rattle.till_request.specs.Count.{RoseBy}
 use Rattle.site_config.specs.Head.{ends_head}
@@ -10,6 +10,7 @@ invariant-loop-bytes g l = record {
   taken : Consumes (g.I.LineIn.remaining l.initial.input) (g.I.LineIn.remaining l.input) l.bytes.items;
   first : (k : ℕ) → k < length l.bytes.items → ends_head (take k l.bytes.items) ≡ false;
   fewer : l.left ≤ l.initial.left;
+  each : length l.bytes.items + l.left ≡ l.initial.left;
   counted : RoseBy (l.initial.left - l.left) (g.I.LineIn.reads l.initial.input) (g.I.LineIn.reads l.input);
   failed : RoseBy 0 (g.I.LineIn.failures l.initial.input) (g.I.LineIn.failures l.input);
 }
