@@ -1,7 +1,7 @@
 //! The reasons why a program or an assembler text is refused, in words.
-ghost use Rattle.std.specs.Prelude.{◌≡◌, ◌↔◌, IfOk, IsTrue, MatchOption, Some, None, option_map, string_bytes};
+ghost use Rattle.std.specs.Prelude.{◌≡◌, ◌↔◌, false, IfOk, IsOk, IsTrue, MatchOption, Some, None, option_map, string_bytes};
 ghost use Rattle.bpf_model.specs.Program.{as_loaded};
-ghost use Rattle.bpf_model.specs.Reading.{units};
+ghost use Rattle.bpf_model.specs.Reading.{has_right_length, units};
 ghost use Rattle.bpf_asm.specs.Flaws.{Explains};
 ghost use Rattle.bpf_asm.specs.Program as asm;
 ghost use Rattle.reg_types.specs.Refusals.{shown_by};
@@ -188,7 +188,7 @@ fn units_of(alloc: Global, bytes: &[u8]) -> Result<Option<Code>, AllocError>
 }
 
 /// Returns a refusal of these bytes in words, with the instruction at the unit that it names, or that unit's digits if
-/// the bytes don't decode. The error is that memory ran out.
+/// the bytes don't decode. The error is that memory ran out; for a refusal that names no unit none is taken.
 pub fn explain_refusal(
     alloc: Global,
     bytes: &[u8],
@@ -198,6 +198,7 @@ pub fn explain_refusal(
     ensures line { IfOk result
         (λ told. option_map string_bytes told.line ≡ line_named bytes.now (unit_in (shown_by refusal))) }
     ensures wanted { IfOk result (λ told. told.wanted ≡ wanted_in (units bytes.now) refusal) }
+    ensures unitless { unit_in (shown_by refusal) ≡ None → IsOk result }
 {
     let Some(unit) = unit_of(refusal) else {
         return Ok(RefusedProgram {
@@ -227,16 +228,18 @@ pub fn explain_refusal(
     }
 }
 
-/// Returns why the bytes of a program are refused, or `None` if they are accepted. The error is that memory ran out.
+/// Returns why the bytes of a program are refused, or `None` if they are accepted. The error is that memory ran out;
+/// for a wrong length none is taken.
 pub fn refused_program(
     alloc: Global,
     bytes: &[u8],
     counters: u32,
     context: Layout,
 ) -> Result<Option<RefusedProgram>, AllocError>
-    ensures { IfOk result
+    ensures reason { IfOk result
         (λ found. MatchOption found (Passes (as_loaded bytes.now counters context))
         (IsExplained (as_loaded bytes.now counters context))) }
+    ensures length { has_right_length bytes.now ≡ false → IsOk result }
 {
     match verify(alloc, bytes, counters, context) {
         Ok(program) => {
