@@ -1,5 +1,6 @@
 //! The reasons why a program file is refused, in words.
-ghost use Rattle.std.specs.Prelude.{◌≡◌, ◌≢◌, IfOk, Ok, OnOk, MatchOption};
+ghost use Rattle.std.specs.Prelude.{◌≡◌, ◌≢◌, ◌<◌, false, length, IfOk, IsOk, Ok, OnOk, MatchOption};
+ghost use Rattle.bpf_model.specs.Reading.{has_right_length};
 ghost use Rattle.job_texts.specs.FileFlaws.{IsAccepted, IsShown, IsVerifyFlaw, IsDisFlaw, ShownOf, DisFlawOf};
 
 use crate::reasons::{RefusedProgram, explain_refusal, refused_program};
@@ -34,6 +35,7 @@ impl fmt::Display for ProgramFlaw {
 fn file_flaw(fault: ProgramFileFault) -> Result<ProgramFlaw, AllocError>
     ensures flaw { IfOk result (λ flaw. flaw ≡ ProgramFlaw.File fault) }
     ensures fault { OnOk result (fault ≢ ProgramFileFault.OutOfMemory) }
+    ensures told { fault ≢ ProgramFileFault.OutOfMemory → IsOk result }
 {
     match fault {
         ProgramFileFault::TooLong | ProgramFileFault::BadDigits => Ok(ProgramFlaw::File(fault)),
@@ -42,15 +44,16 @@ fn file_flaw(fault: ProgramFileFault) -> Result<ProgramFlaw, AllocError>
 }
 
 /// Returns why `verify_file` refuses a program file, or `None` if it accepts the file. The error is that memory ran
-/// out.
+/// out; for a file that is too long none is taken.
 pub fn verify_flaw(
     alloc: Global,
     file: &[u8],
     counters: u32,
     context: Layout,
 ) -> Result<Option<ProgramFlaw>, AllocError>
-    ensures { IfOk result
+    ensures flaw { IfOk result
         (λ found. MatchOption found (IsAccepted file.now counters context) (IsVerifyFlaw file.now counters context)) }
+    ensures length { 65536 < length file.now → IsOk result }
 {
     match read_program(alloc, file) {
         Ok(bytes) => match refused_program(alloc, &bytes, counters, context)? {
@@ -62,9 +65,10 @@ pub fn verify_flaw(
 }
 
 /// Returns why `dis_file` refuses a program file, or `None` if it prints the file as text. The error is that memory ran
-/// out.
+/// out; for a file that is too long none is taken.
 pub fn dis_flaw(alloc: Global, file: &[u8]) -> Result<Option<ProgramFlaw>, AllocError>
-    ensures { IfOk result (λ found. MatchOption found (IsShown file.now) (IsDisFlaw file.now)) }
+    ensures flaw { IfOk result (λ found. MatchOption found (IsShown file.now) (IsDisFlaw file.now)) }
+    ensures length { 65536 < length file.now → IsOk result }
 {
     match read_program(alloc, file) {
         Ok(bytes) => undecoded(alloc, &bytes),
@@ -72,9 +76,11 @@ pub fn dis_flaw(alloc: Global, file: &[u8]) -> Result<Option<ProgramFlaw>, Alloc
     }
 }
 
-/// Returns why bytes don't decode, or `None` if they do. The error is that memory ran out.
+/// Returns why bytes don't decode, or `None` if they do. The error is that memory ran out; for a wrong length none is
+/// taken.
 fn undecoded(alloc: Global, bytes: &[u8]) -> Result<Option<ProgramFlaw>, AllocError>
-    ensures { IfOk result (λ found. MatchOption found (ShownOf (Ok bytes.now)) (DisFlawOf (Ok bytes.now))) }
+    ensures flaw { IfOk result (λ found. MatchOption found (ShownOf (Ok bytes.now)) (DisFlawOf (Ok bytes.now))) }
+    ensures length { has_right_length bytes.now ≡ false → IsOk result }
 {
     match decode(alloc, bytes) {
         Ok(_) => Ok(None),
