@@ -1,5 +1,5 @@
 //! The reasons why a journal is refused, in words.
-ghost use Rattle.std.specs.Prelude.{◌≡◌, ◌≢◌, ◌↔◌, ℕ, List, length, Some, None, IfErr, IfOk, IfSome, IsNone, OnOk};
+ghost use Rattle.std.specs.Prelude.{◌≡◌, ◌≢◌, ◌↔◌, ℕ, List, length, Some, None, IfErr, IfOk, IfSome, IsNone, IsOk, OnOk};
 ghost use Rattle.std.specs.Prelude.{◌++◌, ◌∷◌, [], Err, MatchOption};
 ghost use Rattle.decision_journal.specs.Journal.{FailsOrRunsOut, IsWant, SpendsBlocks, is_device};
 ghost use Rattle.site_core.specs.Audit.{ShowsFault};
@@ -138,7 +138,7 @@ fn load_flaw(alloc: Global, act: &Act, refusal: Refusal) -> Result<JournalFlaw, 
 }
 
 /// Returns what is wrong with an entry that an audit refuses after the entries `before`. The error is that memory ran
-/// out.
+/// out; for a wrong number none is taken.
 fn fault_flaw(
     alloc: Global,
     config: Config,
@@ -147,7 +147,8 @@ fn fault_flaw(
     fault: AuditFault,
 ) -> Result<JournalFlaw, AllocError>
     requires { IsRejected config before.now entry.now fault }
-    ensures { IfOk result (TellsFault config before.now entry.now fault) }
+    ensures flaw { IfOk result (TellsFault config before.now entry.now fault) }
+    ensures number { (place : ℕ) → fault ≡ AuditFault.BadNumber place → IsOk result }
 {
     match fault {
         AuditFault::BadNumber(place) => Ok(JournalFlaw::Number(entry.number, place)),
@@ -179,6 +180,7 @@ fn shown_flaw(
     requires { ShowsFault config entries.now fault }
     ensures flaw { IfOk result (λ p. ShowsFlawAt config entries.now p.0 p.1) }
     ensures fault { OnOk result (fault ≢ AuditFault.OutOfMemory) }
+    ensures number { (place : ℕ) → fault ≡ AuditFault.BadNumber place → IsOk result }
 {
     let Some(place) = place_of(fault) else {
         return Err(AllocError);
@@ -211,6 +213,7 @@ fn text_flaw(fault: JournalFault) -> Result<(Option<u32>, JournalFlaw), JournalF
     ensures flaw { IfOk result (λ p. p.1 ≡ JournalFlaw.Text fault) }
     ensures text { OnOk result (¬ IsWant fault) }
     ensures want { IfErr result IsWant }
+    ensures cause { IfErr result (λ e. e ≡ fault) }
     ensures device { is_device result ≡ is_device {T = Unit {0}} (Err fault) }
 {
     match fault {

@@ -11,4 +11,4 @@ returns-clause-flaw c =
     let at : IsPlaceOf c.args.fault place = c.in-Some.ensures in
     let within = inside c.args.config entries c.args.fault place c.requires at in
     flaw_shown c.args.config entries c.args.fault place c.requires at (take (place - 1) entries) c.index-entries-at.result refl
-    (slice_get_read entries (length entries) (place - 1) c.index-entries-at.result refl (omega arith) c.index-entries-at.is) c.in_ok-flaw.flaw c.in_ok-flaw.ensures
+    (slice_get_read entries (length entries) (place - 1) c.index-entries-at.result refl (omega arith) c.index-entries-at.is) c.in_ok-flaw.flaw c.in_ok-flaw.ensures.flaw
