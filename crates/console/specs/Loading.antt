@@ -2,6 +2,7 @@
 use Rattle.std.specs.Prelude.{◌≡◌, ◌⊎◌, Option, Some, None, ⊤}
 use Rattle.bpf_model.specs.Program.{as_loaded}
 use Rattle.reg_types.specs.declared.refusal.Refusal.{Refusal}
+use Rattle.reg_types.specs.Refusals.{shown_by}
 use Rattle.reg_types.specs.Shown.{refusal_of}
 use Rattle.till_request.specs.declared.act.Act.{Act}
 use Rattle.till_request.specs.declared.act.Act.TheVariants as acts
@@ -19,8 +20,13 @@ abbrev pub IsNotRefused : Act → Answer → Type 0
 IsNotRefused (acts.Load slot mask layout bytes) answer = Passes (as_loaded bytes mask layout) ⊎ (answer ≡ answers.OutOfMemory)
 IsNotRefused act answer = ⊤
 
--- The verifier's refusal of the program that the act loads. None if the act isn't a load, if its program is accepted,
--- or if the answer is that memory ran out.
+-- The answer shows the numbers of this refusal.
+abbrev pub Shows : Answer → Refusal → Type 0
+Shows (answers.Program number unit part) refusal = shown_by refusal ≡ Some (number, unit, part)
+Shows answer refusal = ⊥
+
+-- The verifier's refusal of the program that the act loads, whose numbers the answer shows. None if the act isn't a
+-- load, if its program is accepted, or if the answer is that memory ran out.
 abbrev pub IsWhyRefused : Act → Answer → Option Refusal → Type 0
-IsWhyRefused act answer (Some refusal) = IsRefusedAct act refusal
+IsWhyRefused act answer (Some refusal) = IsRefusedAct act refusal × Shows answer refusal
 IsWhyRefused act answer None = IsNotRefused act answer
