@@ -8,7 +8,7 @@ use Rattle.std.specs.List.{join_with_byte}
 use Rattle.bpf_model.specs.Program.{ProgramText, IsGood, as_loaded}
 use Rattle.reg_types.specs.declared.refusal.Refusal.{Refusal}
 use Rattle.reg_types.specs.Refusals.{shown_by}
-use Rattle.reg_types.specs.Shown.{IsRefused, IsRefusal, refusal_of}
+use Rattle.reg_types.specs.Shown.{IsRefused, IsRefusal, MayRunOut, refusal_of}
 use Rattle.till_request.specs.declared.act.Act.{Act}
 use Rattle.till_request.specs.declared.act.Act.TheVariants as acts
 use Rattle.till_request.specs.declared.act.Answer.{Answer}
@@ -55,11 +55,12 @@ pub record IsAccepted (p : ProgramText) : Type 0 where
 abbrev pub load_of : ℕ → ProgramText → Act
 load_of slot p = acts.Load slot p.declared p.layout p.bytes
 
--- The answer to a load. If the load was entered, or if the journal was full, then its program is accepted.
+-- The answer to a load. If the load was entered, or if the journal was full, then its program is accepted. Memory can
+-- run out only for a program of 1 to 512 whole units, of which the first has no fault.
 abbrev pub LoadAnswered : SiteValue → ℕ → ℕ → ProgramText → Answer → SiteValue → Type 0
 LoadAnswered old moment slot p (answers.Entered number reply) new = IsAccepted p × EventAnswered old moment (load_of slot p) (answers.Entered number reply) new
 LoadAnswered old moment slot p answers.JournalFull new = IsAccepted p × EventAnswered old moment (load_of slot p) answers.JournalFull new
-LoadAnswered old moment slot p answers.OutOfMemory new = new ≡ old
+LoadAnswered old moment slot p answers.OutOfMemory new = MayRunOut p × (new ≡ old)
 LoadAnswered old moment slot p (answers.Line fault) new = ⊥
 LoadAnswered old moment slot p (answers.Program number unit part) new = ProgramRefused old p number unit part new
 LoadAnswered old moment slot p answers.JournalFailed new = ⊥

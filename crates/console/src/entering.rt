@@ -2,7 +2,7 @@
 ghost use Rattle.std.specs.Prelude.{◌≡◌, ℕ, None, Option, Some};
 ghost use Rattle.reg_types.specs.Refusals.{shown_by};
 ghost use Rattle.bpf_model.specs.Program.{ProgramText, as_loaded};
-ghost use Rattle.reg_types.specs.Shown.{IsRefused, IsRefusal, refusal_of};
+ghost use Rattle.reg_types.specs.Shown.{IsRefused, IsRefusal, MayRunOut, refusal_of};
 ghost use Rattle.site_core.specs.Site.{SiteValue, act_of};
 ghost use Rattle.console.specs.Loading.{IsWhyRefused};
 ghost use Rattle.console.specs.Play.{EventAnswered, LoadAnswered, ActAnswered};
@@ -49,7 +49,8 @@ fn refuse_load(refusal: Refusal) -> Entered
     ensures told { (number : ℕ) (unit part : Option ℕ) → shown_by refusal ≡ Some (number, unit, part)
         → result.answer ≡ Answer.Program number unit part }
     ensures answered { (old : SiteValue) (moment slot : ℕ) (p : ProgramText) → IsRefused p refusal
-        → IsRefusal (refusal_of p) refusal → LoadAnswered old moment slot p result.answer old }
+        → IsRefusal (refusal_of p) refusal → (shown_by refusal ≡ None → MayRunOut p)
+        → LoadAnswered old moment slot p result.answer old }
     ensures refused { (slot mask : ℕ) (layout : _) (bytes : _) → IsRefusal (refusal_of (as_loaded bytes mask layout)) refusal
         → IsWhyRefused (Act.Load slot mask layout bytes) result.answer result.refusal }
 {
