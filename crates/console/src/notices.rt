@@ -4,14 +4,20 @@ use till_request::Act;
 
 /// Receives what a play reports besides its answers.
 pub trait PlayNotices {
+    ghost use Rattle.reg_types.specs.declared.refusal.Refusal.{Refusal};
+    ghost use Rattle.till_request.specs.declared.act.Act.{Act};
     ghost use Rattle.console.specs.Loading.{IsRefusedAct};
+
+    /// States that it was reported that the verifier refuses the program of a load, and for which reason.
+    ghost reported: { Self → Act → Refusal → Type 0 } = { λ _ _ _. Unit {0} };
 
     /// Reports that the play begins to answer the next line of the script.
     fn line_begins(&self);
 
     /// Reports that the verifier refuses the program of this load.
     fn refused_load(&self, load: &Act, refusal: Refusal)
-        requires { IsRefusedAct load.now refusal };
+        requires { IsRefusedAct load.now refusal }
+        ensures { reported self.now load.now refusal };
 }
 
 /// A receiver that ignores all reports.
