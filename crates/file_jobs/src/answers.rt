@@ -1,5 +1,5 @@
 //! The answers of a play, in a buffer. All of them are written before more of the script is read.
-ghost use Rattle.std.specs.Prelude.{◌≤◌, IfOk, length};
+ghost use Rattle.std.specs.Prelude.{◌≡◌, ◌⊎◌, ◌≤◌, Ok, Err, IfOk, MatchResult, length};
 
 use crate::faults::tell_write;
 use crate::files::{Outlet, Source};
@@ -55,10 +55,16 @@ impl<'a> Answers<'a> {
 
     /// Writes the answers that are still buffered. Returns `ended`, or the error `Write` if the play ended well but
     /// this write failed.
-    pub fn end(&self, ended: Result<Ended, SessionFault>) -> Result<Ended, SessionFault> {
-        match (ended, self.flush()) {
-            (Ok(_), Err(_)) => Err(SessionFault::Write),
-            (ended, _) => ended,
+    pub fn end(&self, ended: Result<Ended, SessionFault>) -> Result<Ended, SessionFault>
+        ensures { MatchResult ended (λ e. (result ≡ Ok e) ⊎ (result ≡ Err SessionFault.Write)) (λ fault. result ≡ Err fault) }
+    {
+        let written = self.flush();
+        match ended {
+            Ok(ended) => match written {
+                Ok(()) => Ok(ended),
+                Err(_) => Err(SessionFault::Write),
+            },
+            Err(fault) => Err(fault),
         }
     }
 

@@ -1,4 +1,8 @@
 //! Audits of a journal.
+ghost use Rattle.std.specs.Prelude.{◌≡◌};
+ghost use Rattle.decision_journal.specs.Journal.{IsWant};
+ghost use Rattle.file_jobs.specs.Stops.{SaysOrFails};
+
 use crate::faults::{Place, complain, out_of_memory, say, tell_journal};
 use crate::files::{Source, source_of, stream};
 use crate::progress::{Watched, watch};
@@ -80,7 +84,10 @@ pub fn tell_journal_fault(
     word: &str,
     fault: JournalFault,
     failure: Option<&io::Error>,
-) -> Stop {
+) -> Stop
+    ensures want { IsWant fault → result ≡ Stop.Said 3 }
+    ensures text { ¬ IsWant fault → SaysOrFails 1 result }
+{
     tell_unread(rt, word, fault, failure);
     match journal_fault_line(rt.alloc(), fault) {
         Ok(Some(told)) => Stop::Said(say(rt, &told.text, told.status)),

@@ -1,4 +1,7 @@
 //! What `fc carry` does: closes a day, and prints the opening of the next one.
+ghost use Rattle.std.specs.Prelude.{IfOk};
+ghost use Rattle.file_jobs.specs.Statuses.{EndsWith};
+
 use crate::audited::refused;
 use crate::audits::{explain_journal, tell_journal_fault};
 use crate::faults::say;
@@ -14,7 +17,9 @@ use site_core::Config;
 /// Audits the journal in a file as this site's journal, prints the opening of the next day, and returns the exit
 /// status. The argument `journal` names the file. If the journal is refused, prints what its audit prints, and no
 /// opening.
-pub fn carry_files(rt: &HostRuntime, site: SiteFiles<'_>, journal: &str) -> Result<u8, Stop> {
+pub fn carry_files(rt: &HostRuntime, site: SiteFiles<'_>, journal: &str) -> Result<u8, Stop>
+    ensures { IfOk result (EndsWith 0) }
+{
     let (day, source) = day_and(rt, site, journal)?;
     let number = day.number;
     match closed(rt, day.config, journal, source) {
@@ -45,12 +50,9 @@ fn closed(rt: &HostRuntime, config: Config, journal: &str, source: Source) -> Re
 
 /// Prints the opening that day `number` leaves for the next one, and returns the exit status. `journal` names the file
 /// of its journal.
-fn print_opening(
-    rt: &HostRuntime,
-    journal: &str,
-    number: u32,
-    closed: &Closed,
-) -> Result<u8, Stop> {
+fn print_opening(rt: &HostRuntime, journal: &str, number: u32, closed: &Closed) -> Result<u8, Stop>
+    ensures { IfOk result (EndsWith 0) }
+{
     match closed.opening(number) {
         Ok(opening) => Ok(say(rt, &opening_text(rt.alloc(), &opening)?, DONE)),
         Err(why) => Err(refuse_uncarried(rt, journal, why)),

@@ -1,9 +1,16 @@
 //! The audit of all days of a station.
+ghost use Rattle.std.specs.Prelude.{◌≡◌};
+ghost use Rattle.file_jobs.specs.Statuses.{EndsWith};
+ghost use Rattle.file_jobs.specs.Refusing.{RefusesBeginning};
+ghost use Rattle.file_jobs.specs.Days.{day_after};
+ghost use Rattle.file_jobs.specs.Lines.{AgreeFor, IsOtherLine};
+
 use crate::audited::refused;
 use crate::audits::{explain_journal, tell_journal_fault};
 use crate::faults::{Place, cannot_use, complain, once_printed, out_of_memory, tell_at};
-use crate::files::{Source, text_of};
+use crate::files::{Source, lines_in, text_of};
 use crate::folder::{Folder, Part};
+use crate::kept::to_last_lf;
 use crate::newest::{OfDay, UNOPENED, kept_config, refuse_link, refuse_uncarried};
 use crate::opening::{opening_bytes, refuse_opening, refuse_unfit};
 use crate::progress::{Watched, watch};
@@ -90,11 +97,7 @@ impl<'a> DaysIn for FolderIn<'a> {
         let Some(number) = self.next else {
             return Ok(None);
         };
-        self.next = if number < self.newest {
-            Some(number + 1)
-        } else {
-            None
-        };
+        self.next = day_after(number, self.newest);
         match self.day(number) {
             Ok(day) => Ok(Some(day)),
             Err(stop) => {
@@ -103,6 +106,13 @@ impl<'a> DaysIn for FolderIn<'a> {
             }
         }
     }
+}
+
+/// Returns the day after this one, or `None` after the newest.
+fn day_after(day: u32, newest: u32) -> Option<u32>
+    ensures { result ≡ day_after day newest }
+{
+    if day < newest { Some(day + 1) } else { None }
 }
 
 /// Audits all days of a folder, prints the result, and returns the exit status. `word` names the configuration for each
@@ -157,13 +167,17 @@ fn refuse_days(
     }
 }
 
-fn refuse_folder(rt: &HostRuntime, folder: Folder<'_>) -> u8 {
+fn refuse_folder(rt: &HostRuntime, folder: Folder<'_>) -> u8
+    ensures { result ≡ 1 }
+{
     tell_at(rt, Place::of(folder.path), &"no day is here");
     REFUSED
 }
 
 /// Prints why a day doesn't begin with what the day before left, and returns the exit status.
-fn refuse_unfollowed(rt: &HostRuntime, opening: &str, day: u32, why: Unfollowed) -> u8 {
+fn refuse_unfollowed(rt: &HostRuntime, opening: &str, day: u32, why: Unfollowed) -> u8
+    ensures { EndsWith 1 result }
+{
     match why {
         Unfollowed::NoOpening(_left) => refuse_link(rt, Place::of(opening), day, &UNOPENED),
         Unfollowed::OtherOpening(bytes, left) => {
@@ -185,6 +199,11 @@ fn refuse_unfollowed(rt: &HostRuntime, opening: &str, day: u32, why: Unfollowed)
 struct Left<'a>(u32, &'a str);
 
 impl Display for Left<'_> {
+    ghost use Rattle.std.specs.Prelude.{Some, ◌++◌, codes};
+    ghost use Rattle.std.specs.Fmt.{decimal};
+
+    ghost output = { λ left. Some (codes "day " ++ (decimal left.0 ++ (codes " left '" ++ (left.1.now ++ codes "' here")))) };
+
     fn fmt<W: fmt::Write>(&self, f: &mut fmt::Formatter<W>) -> fmt::Result {
         write!(f, "day {} left '{}' here", self.0, self.1)
     }
@@ -192,26 +211,34 @@ impl Display for Left<'_> {
 
 /// Returns the number of the first line, counted from 1, in which the two texts differ (its LF counts too), and this
 /// line of `left` without its LF. The line is empty if `left` has no such line.
-fn other_line<'a>(text: &[u8], left: &'a [u8]) -> (u64, &'a [u8]) {
-    let (mut number, mut line_at) = (1u64, 0);
+fn other_line<'a>(text: &[u8], left: &'a [u8]) -> (u64, &'a [u8])
+    ensures { IsOtherLine text.now left.now result.0 result.1.now }
+{
+    let same = same_len(text, left);
+    let number = lines_in(&left[..same]).saturating_add(1);
+    let start = to_last_lf(&left[..same]);
+    (number, first_part(&left[start..], b'\n').0)
+}
+
+/// Returns how many bytes at the beginning of two texts are the same.
+fn same_len(text: &[u8], left: &[u8]) -> usize
+    ensures { AgreeFor text.now left.now result }
+{
     for (at, byte) in left.iter().enumerate() {
-        if text.get(at) != Some(byte) {
-            break;
+        if at == text.len() {
+            return at;
         }
-        if *byte == b'\n' {
-            number = number.saturating_add(1);
-            line_at = at.saturating_add(1);
+        if text[at] != *byte {
+            return at;
         }
     }
-    let line = match left.get(line_at..) {
-        Some(rest) => first_part(rest, b'\n').0,
-        None => &[],
-    };
-    (number, line)
+    left.len()
 }
 
 /// Prints why a day can't begin with its opening. The result has the exit status.
-fn refuse_unbegun(rt: &HostRuntime, opening: &str, day: u32, why: Unbegun) -> Stop {
+fn refuse_unbegun(rt: &HostRuntime, opening: &str, day: u32, why: Unbegun) -> Stop
+    ensures { RefusesBeginning why result }
+{
     let place = Place::of(opening);
     match why {
         Unbegun::NoOpening => Stop::Said(refuse_link(rt, place, day, &UNOPENED)),

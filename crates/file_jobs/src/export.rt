@@ -1,4 +1,8 @@
 //! The rows of an audited journal, for other programs.
+ghost use Rattle.std.specs.Prelude.{◌≡◌, IfOk};
+ghost use Rattle.file_jobs.specs.Asked.{rows_of, format_of};
+ghost use Rattle.file_jobs.specs.Statuses.{EndsWith};
+
 use crate::audited::audited_site;
 use crate::faults::{once_printed, out_of_memory};
 use crate::settings::SiteFiles;
@@ -17,12 +21,16 @@ pub fn export_files(
     format: Format,
     site: SiteFiles<'_>,
     journal: &str,
-) -> Result<u8, Stop> {
+) -> Result<u8, Stop>
+    ensures { IfOk result (EndsWith 0) }
+{
     let site = audited_site(rt, site, journal)?;
     print_rows(rt, &site, rows_of(rows), format_of(format))
 }
 
-fn rows_of(rows: Rows) -> day_export::Rows {
+fn rows_of(rows: Rows) -> day_export::Rows
+    ensures { result ≡ rows_of rows }
+{
     match rows {
         Rows::Sales => day_export::Rows::Sales,
         Rows::Decisions => day_export::Rows::Decisions,
@@ -30,7 +38,9 @@ fn rows_of(rows: Rows) -> day_export::Rows {
     }
 }
 
-fn format_of(format: Format) -> day_export::Format {
+fn format_of(format: Format) -> day_export::Format
+    ensures { result ≡ format_of format }
+{
     match format {
         Format::Csv => day_export::Format::Csv,
         Format::Json => day_export::Format::Json,
@@ -42,7 +52,9 @@ fn print_rows(
     site: &Site,
     rows: day_export::Rows,
     format: day_export::Format,
-) -> Result<u8, Stop> {
+) -> Result<u8, Stop>
+    ensures { IfOk result (EndsWith 0) }
+{
     let output = BufWriter::new(rt.alloc(), io::writer(rt))?;
     let printed = match write_rows(rt.alloc(), site, rows, format, output) {
         Ok(mut output) => output.flush(),

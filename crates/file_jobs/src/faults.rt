@@ -1,5 +1,10 @@
 //! Messages about what is refused and what fails: one line on standard error, with the file and the place in it. A
 //! message that can't be written changes no exit status.
+ghost use Rattle.std.specs.Prelude.{◌≡◌, ◌≢◌, ◌↔◌, None, Some, IfSome, IfNone, IsErr, is_some, option_map, codes, if◌then◌else◌};
+ghost use Rattle.file_jobs.specs.Statuses.{once_printed, EndsWith};
+ghost use Rattle.file_jobs.specs.Names.{name_of};
+ghost use Rattle.file_jobs.specs.Codes.{config_code, asm_code, journal_code, cut_words};
+
 use crate::files::name_of;
 use crate::statuses::{FAILED, REFUSED};
 use console::{AsmFault, AsmFlaw, ConfigFault, ConfigFlaw, ProgramFileFault};
@@ -20,7 +25,11 @@ pub struct Place<'a> {
 
 impl<'a> Place<'a> {
     /// Makes the place of a whole file. `word` is the argument that names the file.
-    pub fn of(word: &'a str) -> Place<'a> {
+    pub fn of(word: &'a str) -> Place<'a>
+        ensures name { result.name.now ≡ name_of word.now }
+        ensures line { result.line ≡ None }
+        ensures column { result.column ≡ None }
+    {
         Place {
             name: name_of(word),
             line: None,
@@ -29,7 +38,11 @@ impl<'a> Place<'a> {
     }
 
     /// Makes the place of standard output.
-    fn output() -> Place<'static> {
+    fn output() -> Place<'static>
+        ensures name { result.name.now ≡ codes "standard output" }
+        ensures line { result.line ≡ None }
+        ensures column { result.column ≡ None }
+    {
         Place {
             name: "standard output",
             line: None,
@@ -37,14 +50,22 @@ impl<'a> Place<'a> {
         }
     }
 
-    pub fn line(self, line: u64) -> Place<'a> {
+    pub fn line(self, line: u64) -> Place<'a>
+        ensures name { result.name.now ≡ self.entry.name.now }
+        ensures line { result.line ≡ Some line }
+        ensures column { result.column ≡ self.entry.column }
+    {
         Place {
             line: Some(line),
             ..self
         }
     }
 
-    fn column(self, column: u64) -> Place<'a> {
+    fn column(self, column: u64) -> Place<'a>
+        ensures name { result.name.now ≡ self.entry.name.now }
+        ensures line { result.line ≡ self.entry.line }
+        ensures column { result.column ≡ Some column }
+    {
         Place {
             column: Some(column),
             ..self
@@ -81,7 +102,10 @@ pub fn complain<D: Display>(rt: &HostRuntime, place: Place<'_>, words: &D, code:
 }
 
 /// Returns `status` if printing succeeded. If it failed, prints why on standard error, and returns `FAILED`.
-pub fn once_printed(rt: &HostRuntime, printed: io::Result<()>, status: u8) -> u8 {
+pub fn once_printed(rt: &HostRuntime, printed: io::Result<()>, status: u8) -> u8
+    ensures exact { result ≡ once_printed printed status }
+    ensures either { EndsWith status result }
+{
     match printed {
         Ok(()) => status,
         Err(error) => {
@@ -92,12 +116,16 @@ pub fn once_printed(rt: &HostRuntime, printed: io::Result<()>, status: u8) -> u8
 }
 
 /// Prints a text on standard output, and returns `status`, or `FAILED` if the text can't be written.
-pub fn say(rt: &HostRuntime, text: &str, status: u8) -> u8 {
+pub fn say(rt: &HostRuntime, text: &str, status: u8) -> u8
+    ensures { EndsWith status result }
+{
     once_printed(rt, print!(rt; "{text}"), status)
 }
 
 /// Prints a fault's number on standard output, and returns `REFUSED`, or `FAILED` if it can't be written.
-pub fn refuse(rt: &HostRuntime, fault: &str) -> u8 {
+pub fn refuse(rt: &HostRuntime, fault: &str) -> u8
+    ensures { EndsWith 1 result }
+{
     once_printed(rt, println!(rt; "{fault}"), REFUSED)
 }
 
@@ -119,13 +147,17 @@ pub fn tell_loss(rt: &HostRuntime, failure: Option<&io::Error>) {
 }
 
 /// Prints that a file has too many bytes (L1), and returns the exit status.
-pub fn refuse_length(rt: &HostRuntime, word: &str) -> u8 {
+pub fn refuse_length(rt: &HostRuntime, word: &str) -> u8
+    ensures { EndsWith 1 result }
+{
     complain(rt, Place::of(word), &ProgramFileFault::TooLong, "L1");
     refuse(rt, "L1")
 }
 
 /// Prints on standard error why a file can't be opened, read or written, and returns the exit status, which is `FAILED`.
-pub fn cannot_use(rt: &HostRuntime, word: &str, error: &io::Error) -> u8 {
+pub fn cannot_use(rt: &HostRuntime, word: &str, error: &io::Error) -> u8
+    ensures { result ≡ 3 }
+{
     if error.kind() == ErrorKind::OutOfMemory && error.raw_os_error().is_none() {
         return out_of_memory(rt);
     }
@@ -139,19 +171,43 @@ fn tell_want(rt: &HostRuntime) {
 }
 
 /// Prints on standard error that memory ran out, and returns the exit status, which is `FAILED`.
-pub fn out_of_memory(rt: &HostRuntime) -> u8 {
+pub fn out_of_memory(rt: &HostRuntime) -> u8
+    ensures { result ≡ 3 }
+{
     tell_want(rt);
     FAILED
 }
 
+/// Returns the number of a configuration's fault, as it is printed, or `None` if memory ran out.
+fn config_code(fault: ConfigFault) -> Option<&'static str>
+    ensures code { option_map (λ code. code.now) result ≡ config_code fault }
+    ensures some { IfSome result (λ _. fault ≢ ConfigFault.OutOfMemory) }
+    ensures none { IfNone result (fault ≡ ConfigFault.OutOfMemory) }
+{
+    match fault {
+        ConfigFault::K1 => Some("K1"),
+        ConfigFault::K2 => Some("K2"),
+        ConfigFault::K3 => Some("K3"),
+        ConfigFault::OutOfMemory => None,
+    }
+}
+
 /// Prints why a configuration is refused: the words on standard error, the number (K1 to K3) on standard output.
 /// Returns the exit status.
-pub fn refuse_config(rt: &HostRuntime, word: &str, flaw: &ConfigFlaw) -> u8 {
-    let code = match flaw.fault() {
-        ConfigFault::K1 => "K1",
-        ConfigFault::K2 => "K2",
-        ConfigFault::K3 => "K3",
-        ConfigFault::OutOfMemory => return out_of_memory(rt),
+pub fn refuse_config(rt: &HostRuntime, word: &str, flaw: &ConfigFlaw) -> u8
+    ensures { EndsWith 1 result }
+{
+    refuse_fault(rt, word, flaw, flaw.fault())
+}
+
+/// Prints why a configuration is refused with this fault, as `refuse_config` does.
+fn refuse_fault(rt: &HostRuntime, word: &str, flaw: &ConfigFlaw, fault: ConfigFault) -> u8
+    ensures refused { fault ≢ ConfigFault.OutOfMemory → EndsWith 1 result }
+    ensures memory { fault ≡ ConfigFault.OutOfMemory → result ≡ 3 }
+    ensures either { EndsWith 1 result }
+{
+    let Some(code) = config_code(fault) else {
+        return out_of_memory(rt);
     };
     let place = match flaw.position() {
         Some((line, column)) => Place::of(word).line(line as u64).column(column as u64),
@@ -183,6 +239,22 @@ pub fn tell_text(rt: &HostRuntime, word: &str, text: &[u8]) -> Result<(), AllocE
     }
 }
 
+/// Returns the line that an assembler text's fault names, if it names one, and its number, A1 to A4. Returns `None` if
+/// memory ran out.
+fn asm_code(fault: AsmFault) -> Option<(Option<u64>, &'static str)>
+    ensures code { option_map (λ told. (told.0, told.1.now)) result ≡ asm_code fault }
+    ensures some { IfSome result (λ _. fault ≢ AsmFault.OutOfMemory) }
+    ensures none { IfNone result (fault ≡ AsmFault.OutOfMemory) }
+{
+    match fault {
+        AsmFault::BadLine(line) => Some((Some(line), "A1")),
+        AsmFault::BadLabel(line) => Some((Some(line), "A2")),
+        AsmFault::OutOfRange(line) => Some((Some(line), "A3")),
+        AsmFault::Length => Some((None, "A4")),
+        AsmFault::OutOfMemory => None,
+    }
+}
+
 /// Prints on standard error what is wrong with an assembler text, with its fault A1 to A4. The error is that memory ran
 /// out.
 fn tell_asm(
@@ -190,44 +262,73 @@ fn tell_asm(
     file: Place<'_>,
     fault: AsmFault,
     flaw: &AsmFlaw<'_>,
-) -> Result<(), AllocError> {
-    let (place, code) = match fault {
-        AsmFault::BadLine(line) => (file.line(line), "A1"),
-        AsmFault::BadLabel(line) => (file.line(line), "A2"),
-        AsmFault::OutOfRange(line) => (file.line(line), "A3"),
-        AsmFault::Length => (file, "A4"),
-        AsmFault::OutOfMemory => return Err(AllocError),
+) -> Result<(), AllocError>
+    ensures { IsErr result ↔ (fault ≡ AsmFault.OutOfMemory) }
+{
+    let Some(told) = asm_code(fault) else {
+        return Err(AllocError);
     };
-    complain(rt, place, flaw, code);
+    let (line, code) = told;
+    complain(rt, at_line(file, line), flaw, code);
     Ok(())
+}
+
+/// Returns the place of this line of a file, or of the whole file for `None`.
+fn at_line(file: Place<'_>, line: Option<u64>) -> Place<'_>
+    ensures name { result.name.now ≡ file.entry.name.now }
+    ensures line { result.line ≡ (if is_some line then line else file.entry.line) }
+    ensures column { result.column ≡ file.entry.column }
+{
+    match line {
+        Some(line) => file.line(line),
+        None => file,
+    }
+}
+
+/// Returns the number of a journal's flaw, as it is printed, or `None` if memory ran out.
+fn journal_code(flaw: &JournalFlaw) -> Option<&'static str>
+    ensures { option_map (λ code. code.now) result ≡ journal_code flaw.now }
+{
+    match flaw {
+        JournalFlaw::Text(JournalFault::BadEntry(_)) => Some("J1"),
+        JournalFlaw::Text(JournalFault::Cut) => Some("J2"),
+        JournalFlaw::Text(JournalFault::Device) => Some("J3"),
+        JournalFlaw::Text(JournalFault::OutOfMemory) => None,
+        JournalFlaw::Number(..) => Some("F1"),
+        JournalFlaw::Program(..) => Some("F2"),
+        JournalFlaw::Entry(_) | JournalFlaw::NoEntry => Some("F3"),
+    }
 }
 
 /// Prints on standard error why a journal is refused, with the line at fault if there is one.
 pub fn tell_journal(rt: &HostRuntime, word: &str, line: Option<u32>, flaw: &JournalFlaw) {
-    let code = match flaw {
-        JournalFlaw::Text(JournalFault::BadEntry(_)) => "J1",
-        JournalFlaw::Text(JournalFault::Cut) => "J2",
-        JournalFlaw::Text(JournalFault::Device) => "J3",
-        JournalFlaw::Text(JournalFault::OutOfMemory) => return tell_want(rt),
-        JournalFlaw::Number(..) => "F1",
-        JournalFlaw::Program(..) => "F2",
-        JournalFlaw::Entry(_) | JournalFlaw::NoEntry => "F3",
-    };
+    let file = Place::of(word);
     let place = match line {
-        Some(line) => Place::of(word).line(u64::from(line)),
-        None => Place::of(word),
+        Some(line) => file.line(u64::from(line)),
+        None => file,
     };
-    complain(rt, place, flaw, code);
+    match journal_code(flaw) {
+        Some(code) => complain(rt, place, flaw, code),
+        None => tell_want(rt),
+    }
 }
 
-/// Prints on standard error why a script stopped at a line. The line has over 8,400 bytes (L1), or it is the last one
-/// and has no LF (L4). Prints nothing for other faults.
-pub fn tell_cut(rt: &HostRuntime, word: &str, line: u64, fault: LineFault) {
-    let place = Place::of(word).line(line);
+/// Returns the words and the number for the line at which a script stops: it has over 8,400 bytes (L1), or it is the
+/// last one and has no LF (L4). Returns `None` for other faults.
+fn cut_words(fault: LineFault) -> Option<(&'static str, &'static str)>
+    ensures { option_map (λ told. (told.0.now, told.1.now)) result ≡ cut_words fault }
+{
     match fault {
-        LineFault::TooLong => complain(rt, place, &"over 8,400 bytes", "L1"),
-        LineFault::CutLine => complain(rt, place, &"the last line has no LF", "L4"),
+        LineFault::TooLong => Some(("over 8,400 bytes", "L1")),
+        LineFault::CutLine => Some(("the last line has no LF", "L4")),
         // These faults don't stop a script: the next line is read.
-        LineFault::BadLine | LineFault::BadNumber | LineFault::OutOfMemory => (),
+        LineFault::BadLine | LineFault::BadNumber | LineFault::OutOfMemory => None,
+    }
+}
+
+/// Prints on standard error why a script stopped at a line. Prints nothing for faults that don't stop one.
+pub fn tell_cut(rt: &HostRuntime, word: &str, line: u64, fault: LineFault) {
+    if let Some((words, code)) = cut_words(fault) {
+        complain(rt, Place::of(word).line(line), &words, code);
     }
 }

@@ -1,5 +1,11 @@
 //! The folder of a station's days. Each file has its day's number in its name, in six digits or more: a day's journal,
 //! as `000002.journal`, the opening that the day begins with, and the configuration of its site.
+ghost use Rattle.std.specs.Prelude.{◌≡◌, true, false, IfOk, IfErr, string_bytes};
+ghost use Rattle.file_jobs.specs.Names.{is_input};
+ghost use Rattle.file_jobs.specs.Stops.{Fails};
+ghost use Rattle.file_jobs.specs.Days.{ending_of, path_of, without_zeros, day_of, shows_day, day_named, with_day};
+ghost use Rattle.file_jobs.specs.Days.{with_found};
+
 use crate::faults::{cannot_use, tell};
 use crate::files::is_input;
 use crate::statuses::USAGE;
@@ -7,6 +13,7 @@ use crate::stop::Stop;
 use std::alloc::AllocError;
 use std::fs::{self, File, read_dir};
 use std::io::{self, ErrorKind, Write};
+use till_request::number_u32;
 
 /// A file of a day.
 #[derive(Clone, Copy)]
@@ -17,7 +24,9 @@ pub enum Part {
 }
 
 impl Part {
-    fn ending(self) -> &'static str {
+    fn ending(self) -> &'static str
+        ensures { result.now ≡ ending_of self }
+    {
         match self {
             Part::Config => "toml",
             Part::Opening => "opening",
@@ -42,7 +51,11 @@ pub struct Folder<'a> {
 impl<'a> Folder<'a> {
     /// Returns the folder that an argument names. If it names standard input, prints that; the error has the exit
     /// status.
-    pub fn named(rt: &HostRuntime, word: &'a str) -> Result<Folder<'a>, Stop> {
+    pub fn named(rt: &HostRuntime, word: &'a str) -> Result<Folder<'a>, Stop>
+        ensures folder { IfOk result (λ folder. folder.path.now ≡ word.now) }
+        ensures input { IfErr result (λ stop. (is_input word.now ≡ true) × (stop ≡ Stop.Said 2)) }
+        ensures named { IfOk result (λ _. is_input word.now ≡ false) }
+    {
         if is_input(word) {
             tell(rt, &"--days wants a folder, and - is standard input");
             return Err(Stop::Said(USAGE));
@@ -51,14 +64,18 @@ impl<'a> Folder<'a> {
     }
 
     /// Returns the path of a file of this day.
-    pub fn file(self, rt: &HostRuntime, day: u32, part: Part) -> Result<String, AllocError> {
+    pub fn file(self, rt: &HostRuntime, day: u32, part: Part) -> Result<String, AllocError>
+        ensures { IfOk result (λ path. string_bytes path ≡ path_of self.entry.path.now day part) }
+    {
         let (path, ending) = (self.path, part.ending());
         format!(in rt.alloc(); "{path}/{day:06}.{ending}")
     }
 
     /// Returns whether the folder has such a file of this day. If that can't be found out, prints why; the error has
     /// the exit status.
-    pub fn has(self, rt: &HostRuntime, day: u32, part: Part) -> Result<bool, Stop> {
+    pub fn has(self, rt: &HostRuntime, day: u32, part: Part) -> Result<bool, Stop>
+        ensures { IfErr result Fails }
+    {
         let path = self.file(rt, day, part)?;
         match fs::exists(rt, path.as_str()) {
             Ok(is_there) => Ok(is_there),
@@ -68,7 +85,9 @@ impl<'a> Folder<'a> {
 
     /// Returns whether the folder has such a file of this day, and the file isn't empty. If that can't be found out,
     /// prints why; the error has the exit status.
-    pub fn has_bytes(self, rt: &HostRuntime, day: u32, part: Part) -> Result<bool, Stop> {
+    pub fn has_bytes(self, rt: &HostRuntime, day: u32, part: Part) -> Result<bool, Stop>
+        ensures { IfErr result Fails }
+    {
         let path = self.file(rt, day, part)?;
         match fs::metadata(rt, path.as_str()) {
             Ok(metadata) => Ok(metadata.len() > 0),
@@ -79,7 +98,9 @@ impl<'a> Folder<'a> {
 
     /// Returns the oldest and the newest day that has a journal or an opening, or `None` if there is none. If the
     /// folder can't be read, prints why; the error has the exit status.
-    pub fn span(self, rt: &HostRuntime) -> Result<Option<Span>, Stop> {
+    pub fn span(self, rt: &HostRuntime) -> Result<Option<Span>, Stop>
+        ensures { IfErr result Fails }
+    {
         match span_of(rt, self.path) {
             Ok(span) => Ok(span),
             Err(error) => Err(Stop::Said(cannot_use(rt, self.path, &error))),
@@ -89,7 +110,9 @@ impl<'a> Folder<'a> {
     /// Writes a file of this day. Even if the program is stopped meanwhile, either the whole file is there or none: it
     /// is written and synced under another name, and then renamed. If that fails, prints why; the error has the exit
     /// status.
-    pub fn put(self, rt: &HostRuntime, day: u32, part: Part, bytes: &[u8]) -> Result<(), Stop> {
+    pub fn put(self, rt: &HostRuntime, day: u32, part: Part, bytes: &[u8]) -> Result<(), Stop>
+        ensures { IfErr result Fails }
+    {
         let path = self.file(rt, day, part)?;
         let beside = format!(in rt.alloc(); "{path}.new")?;
         match put_synced(rt, self.path, &beside, &path, bytes) {
@@ -129,14 +152,18 @@ fn span_of(rt: &HostRuntime, folder: &str) -> io::Result<Option<Span>> {
 }
 
 /// Returns the oldest and the newest day of a folder that also has a file with this name.
-fn with_name(span: Option<Span>, name: &str) -> Option<Span> {
+fn with_name(span: Option<Span>, name: &str) -> Option<Span>
+    ensures { result ≡ with_found span (day_named name.now) }
+{
     match day_named(name) {
         Some(day) => Some(with_day(span, day)),
         None => span,
     }
 }
 
-fn with_day(span: Option<Span>, day: u32) -> Span {
+fn with_day(span: Option<Span>, day: u32) -> Span
+    ensures { result ≡ with_day span day }
+{
     match span {
         None => Span {
             oldest: day,
@@ -150,17 +177,44 @@ fn with_day(span: Option<Span>, day: u32) -> Span {
 }
 
 /// Returns the number of the day whose journal or opening has this name, or `None` for any other name.
-fn day_named(name: &str) -> Option<u32> {
+fn day_named(name: &str) -> Option<u32>
+    ensures { result ≡ day_named name.now }
+{
     let (digits, ending) = name.split_once('.')?;
-    if ending != Part::Journal.ending() && ending != Part::Opening.ending() {
+    if !shows_day(ending) {
         return None;
     }
-    let is_padded = digits.len() == 6 || digits.len() > 6 && !digits.starts_with('0');
-    if !is_padded || !digits.bytes().all(|byte| byte.is_ascii_digit()) {
-        return None;
+    day_of(digits.as_bytes())
+}
+
+/// Returns whether a file with this ending shows that there is a day: a journal or an opening does.
+fn shows_day(ending: &str) -> bool
+    ensures { result ≡ shows_day ending.now }
+{
+    ending == Part::Journal.ending() || ending == Part::Opening.ending()
+}
+
+/// Returns the day's number that these digits are, as they stand in a name: six, or more without a zero in front.
+fn day_of(digits: &[u8]) -> Option<u32>
+    ensures { result ≡ day_of digits.now }
+{
+    if digits.len() == 6 {
+        return number_u32(without_zeros(digits)).ok();
     }
-    match digits.parse::<u32>() {
-        Ok(0) | Err(_) => None,
-        Ok(day) => Some(day),
+    if digits.len() > 6 {
+        return number_u32(digits).ok();
     }
+    None
+}
+
+/// Returns digits without the zeros in front of them.
+fn without_zeros(digits: &[u8]) -> &[u8]
+    ensures { result.now ≡ without_zeros digits.now }
+{
+    for (at, digit) in digits.iter().enumerate() {
+        if *digit != b'0' {
+            return &digits[at..];
+        }
+    }
+    &[]
 }

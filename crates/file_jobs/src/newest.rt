@@ -1,15 +1,20 @@
 //! The newest day of a station: closing it, and going on with it.
-use crate::faults::{Place, cannot_use, complain, once_printed, out_of_memory};
+ghost use Rattle.std.specs.Prelude.{◌≡◌, Ok, IfErr};
+ghost use Rattle.file_jobs.specs.Statuses.{EndsWith};
+ghost use Rattle.file_jobs.specs.Stops.{Fails};
+ghost use Rattle.file_jobs.specs.Refusing.{uncarried_status};
+
+use crate::faults::{Place, cannot_use, complain, once_printed};
 use crate::files::text_of;
 use crate::folder::{Folder, Part};
 use crate::kept::{Closing, close_journal};
-use crate::opening::{Day, begin_with, refuse_words};
+use crate::opening::{Day, begin_with, refuse_fault, refuse_words};
 use crate::settings::settings_in;
 use crate::statuses::{FAILED, REFUSED};
 use crate::stop::Stop;
 use console::Settings;
 use days::{Closed, Uncarried, opening_text};
-use site_core::{Config, OpeningFault};
+use site_core::Config;
 use std::fmt::{self, Display};
 
 /// The newest day of a folder, the path of the day's journal, and the text of the day's configuration, if the folder
@@ -148,7 +153,9 @@ fn begin_day(
     folder: Folder<'_>,
     number: u32,
     config: Config,
-) -> Result<Config, Stop> {
+) -> Result<Config, Stop>
+    ensures { number ≡ 1 → result ≡ Ok config }
+{
     if number == 1 {
         return Ok(config);
     }
@@ -169,7 +176,9 @@ pub const UNOPENED: &str = "the day has no opening";
 
 /// Prints that a day doesn't follow the one before (O1): why on standard error, and the day on standard output. Returns
 /// the exit status.
-pub fn refuse_link<D: Display>(rt: &HostRuntime, place: Place<'_>, day: u32, words: &D) -> u8 {
+pub fn refuse_link<D: Display>(rt: &HostRuntime, place: Place<'_>, day: u32, words: &D) -> u8
+    ensures { EndsWith 1 result }
+{
     complain(rt, place, words, "O1");
     once_printed(rt, println!(rt; "O1 {day}"), REFUSED)
 }
@@ -179,6 +188,11 @@ pub fn refuse_link<D: Display>(rt: &HostRuntime, place: Place<'_>, day: u32, wor
 pub struct OfDay(pub u32);
 
 impl Display for OfDay {
+    ghost use Rattle.std.specs.Prelude.{Some, ◌++◌, codes};
+    ghost use Rattle.std.specs.Fmt.{decimal};
+
+    ghost output = { λ day. Some (codes "this is the opening of day " ++ decimal day.0) };
+
     fn fmt<W: fmt::Write>(&self, f: &mut fmt::Formatter<W>) -> fmt::Result {
         write!(f, "this is the opening of day {}", self.0)
     }
@@ -228,7 +242,9 @@ fn leave(rt: &HostRuntime, folder: Folder<'_>, number: u32, closed: &Closed) -> 
 /// Returns an error if the day after this one has begun, and prints that. A caller that has locked this day's journal
 /// then knows that this day stays the newest until the lock is released: to begin the next day, a process locks the
 /// same journal.
-pub fn check_newest(rt: &HostRuntime, folder: Folder<'_>, number: u32) -> Result<(), Stop> {
+pub fn check_newest(rt: &HostRuntime, folder: Folder<'_>, number: u32) -> Result<(), Stop>
+    ensures { IfErr result Fails }
+{
     let next = number.saturating_add(1);
     if next == number || !folder.has(rt, next, Part::Opening)? {
         return Ok(());
@@ -239,9 +255,11 @@ pub fn check_newest(rt: &HostRuntime, folder: Folder<'_>, number: u32) -> Result
 }
 
 /// Prints why a day can't be closed. `journal` names the file of its journal.
-pub fn refuse_uncarried(rt: &HostRuntime, journal: &str, why: Uncarried) -> Stop {
+pub fn refuse_uncarried(rt: &HostRuntime, journal: &str, why: Uncarried) -> Stop
+    ensures { result ≡ Stop.Said (uncarried_status why) }
+{
     match why {
-        Uncarried::Fault(OpeningFault::OutOfMemory) => Stop::Said(out_of_memory(rt)),
-        Uncarried::Fault(_) | Uncarried::LastDay => refuse_words(rt, journal, &why),
+        Uncarried::Fault(fault) => refuse_fault(rt, journal, fault, &why),
+        Uncarried::LastDay => refuse_words(rt, journal, &why),
     }
 }

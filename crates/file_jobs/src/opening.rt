@@ -1,6 +1,8 @@
 //! The opening that a site begins with: its file is read, and compared with the configuration.
-ghost use Rattle.std.specs.Prelude.{IfOk};
+ghost use Rattle.std.specs.Prelude.{◌≡◌, ◌≤◌, IfOk, vec_len};
 ghost use Rattle.days.specs.Fitting.{BeginsWith};
+ghost use Rattle.file_jobs.specs.Stops.{Says, SaysOrFails};
+ghost use Rattle.file_jobs.specs.Refusing.{RefusesOpening, is_want, opening_status, unfit_status};
 
 use crate::faults::{
     Place, complain, once_printed, out_of_memory, refuse, say, tell_at, tell_journal,
@@ -49,7 +51,9 @@ pub fn begin_with(rt: &HostRuntime, word: &str, config: Config) -> Result<Begun,
 
 /// Returns the bytes of an opening in the file that an argument names. If they can't be read or are too many, prints
 /// why; the error has the exit status.
-pub fn opening_bytes(rt: &HostRuntime, word: &str) -> Result<Vec<u8>, Stop> {
+pub fn opening_bytes(rt: &HostRuntime, word: &str) -> Result<Vec<u8>, Stop>
+    ensures { IfOk result (λ bytes. vec_len bytes ≤ MOST_OPENING) }
+{
     match bytes_of(rt, word, MOST_OPENING) {
         Ok(Some(bytes)) => Ok(bytes),
         Ok(None) => {
@@ -72,7 +76,9 @@ fn opening_in(rt: &HostRuntime, word: &str) -> Result<OpeningFile, Stop> {
 
 /// Prints why the text of an opening is refused: the words on standard error, the number (J1, J2 or F2) and the line
 /// on standard output.
-pub fn refuse_opening(rt: &HostRuntime, word: &str, text: &[u8], flaw: OpeningFlaw) -> Stop {
+pub fn refuse_opening(rt: &HostRuntime, word: &str, text: &[u8], flaw: OpeningFlaw) -> Stop
+    ensures { RefusesOpening flaw result }
+{
     match flaw {
         OpeningFlaw::BadLine(line) => refuse_line(rt, word, line, bad_line(text, line), "J1"),
         OpeningFlaw::CutLine(line) => refuse_line(rt, word, line, "the last line has no LF", "J2"),
@@ -90,13 +96,17 @@ fn bad_line(text: &[u8], number: u32) -> &'static str {
     }
 }
 
-fn refuse_line(rt: &HostRuntime, word: &str, line: u32, words: &str, code: &str) -> Stop {
+fn refuse_line(rt: &HostRuntime, word: &str, line: u32, words: &str, code: &str) -> Stop
+    ensures { Says 1 result }
+{
     complain(rt, Place::of(word).line(u64::from(line)), &words, code);
     Stop::Said(once_printed(rt, println!(rt; "{code} {line}"), REFUSED))
 }
 
 /// Prints why the verifier refuses the program in a line of an opening.
-fn refuse_rule(rt: &HostRuntime, word: &str, text: &[u8], line: u32, refusal: Refusal) -> Stop {
+fn refuse_rule(rt: &HostRuntime, word: &str, text: &[u8], line: u32, refusal: Refusal) -> Stop
+    ensures { SaysOrFails 1 result }
+{
     if explain_rule(rt, word, line, line_of(text, line), refusal).is_err() {
         return Stop::Said(out_of_memory(rt));
     }
@@ -154,16 +164,52 @@ fn opened(rt: &HostRuntime, word: &str, config: Config, opening: Opening) -> Res
 }
 
 /// Prints why an opening doesn't fit a configuration.
-pub fn refuse_unfit(rt: &HostRuntime, word: &str, unfit: Unfit) -> Stop {
+pub fn refuse_unfit(rt: &HostRuntime, word: &str, unfit: Unfit) -> Stop
+    ensures { result ≡ Stop.Said (unfit_status unfit) }
+{
     match unfit {
         Unfit::Misfit(misfit) => refuse_words(rt, word, &misfit),
-        Unfit::Fault(OpeningFault::OutOfMemory) => Stop::Said(out_of_memory(rt)),
-        Unfit::Fault(fault) => refuse_words(rt, word, &fault),
+        Unfit::Fault(fault) => refuse_fault(rt, word, fault, &fault),
+    }
+}
+
+/// Prints why no site begins with an opening, or that memory ran out.
+pub fn refuse_fault<D: Display>(
+    rt: &HostRuntime,
+    word: &str,
+    fault: OpeningFault,
+    words: &D,
+) -> Stop
+    ensures { result ≡ Stop.Said (opening_status fault) }
+{
+    if is_want(fault) {
+        return Stop::Said(out_of_memory(rt));
+    }
+    refuse_words(rt, word, words)
+}
+
+/// Returns whether a fault of an opening is that memory ran out.
+fn is_want(fault: OpeningFault) -> bool
+    ensures { result ≡ is_want fault }
+{
+    match fault {
+        OpeningFault::OutOfMemory => true,
+        OpeningFault::Points
+        | OpeningFault::Prices
+        | OpeningFault::Transactions
+        | OpeningFault::Cleared
+        | OpeningFault::Clears
+        | OpeningFault::Versions
+        | OpeningFault::Slots
+        | OpeningFault::Rules
+        | OpeningFault::Twice => false,
     }
 }
 
 /// Prints what is wrong with a file. There is no number, and nothing on standard output.
-pub fn refuse_words<D: Display>(rt: &HostRuntime, word: &str, words: &D) -> Stop {
+pub fn refuse_words<D: Display>(rt: &HostRuntime, word: &str, words: &D) -> Stop
+    ensures { result ≡ Stop.Said 1 }
+{
     tell_at(rt, Place::of(word), words);
     Stop::Said(REFUSED)
 }

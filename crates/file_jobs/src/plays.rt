@@ -1,9 +1,10 @@
 //! Plays of a script against a new site.
-ghost use Rattle.std.specs.Prelude.{◌≤◌};
+ghost use Rattle.std.specs.Prelude.{◌≡◌, ◌≤◌, MatchResult};
+ghost use Rattle.file_jobs.specs.Statuses.{cut_status};
 
 use crate::answers::{Answers, Incoming, Outgoing};
 use crate::faults::{Place, complain, out_of_memory, refuse_length, tell, tell_cut};
-use crate::files::{Source, name_of, stream};
+use crate::files::{Source, lines_in, name_of, stream};
 use crate::progress::Progress;
 use crate::refused_loads::RefusedLoads;
 use crate::settings::{SiteFiles, day_and, settings_in};
@@ -31,7 +32,9 @@ fn status_of(
     lines: u64,
     read: Option<&io::Error>,
     answers: &Answers<'_>,
-) -> u8 {
+) -> u8
+    ensures { MatchResult ended (λ ended. result ≡ cut_status ended.cut) (λ _. result ≡ 3) }
+{
     match ended {
         Ok(ended) => match ended.cut {
             None => DONE,
@@ -113,11 +116,6 @@ fn script_of<'a, 'b, 'c>(
         answers,
         progress,
     }))
-}
-
-/// Returns how many LF these bytes have.
-fn lines_in(bytes: &[u8]) -> u64 {
-    bytes.iter().filter(|byte| **byte == b'\n').count() as u64
 }
 
 /// Makes the device that a play writes its answers to. It buffers them until the next read.

@@ -1,4 +1,9 @@
 //! What `fc asm`, `fc dis` and `fc verify` print of a file.
+ghost use Rattle.std.specs.Prelude.{IfOk};
+ghost use Rattle.job_texts.specs.declared.told.Told.{Told};
+ghost use Rattle.file_jobs.specs.Statuses.{EndsWith};
+ghost use Rattle.file_jobs.specs.Asked.{TellsFile};
+
 use crate::faults::{say, tell_program, tell_text};
 use crate::files::text_of;
 use crate::statuses::REFUSED;
@@ -25,7 +30,9 @@ pub fn tell_file(rt: &HostRuntime, word: &str, tell: Tell) -> Result<u8, Stop> {
 }
 
 /// Prints what `tell` asks for about a file with the bytes `text`, and returns the exit status.
-fn tell_bytes(rt: &HostRuntime, word: &str, tell: Tell, text: &[u8]) -> Result<u8, Stop> {
+fn tell_bytes(rt: &HostRuntime, word: &str, tell: Tell, text: &[u8]) -> Result<u8, Stop>
+    ensures { IfOk result (λ status. (told : Told) × TellsFile tell text.now told × EndsWith told.status status) }
+{
     let told = told_of(rt.alloc(), tell, text)?;
     if told.status == REFUSED {
         explain(rt, word, tell, text)?;
@@ -34,7 +41,9 @@ fn tell_bytes(rt: &HostRuntime, word: &str, tell: Tell, text: &[u8]) -> Result<u
 }
 
 /// Returns the text to print for a file whose bytes are `text`, and the exit status. The error is that memory ran out.
-fn told_of(alloc: Global, tell: Tell, text: &[u8]) -> Result<Told, AllocError> {
+fn told_of(alloc: Global, tell: Tell, text: &[u8]) -> Result<Told, AllocError>
+    ensures { IfOk result (TellsFile tell text.now) }
+{
     match tell {
         Tell::Asm => asm_file(alloc, text),
         Tell::Dis => dis_file(alloc, text),

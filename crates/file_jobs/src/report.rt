@@ -1,4 +1,7 @@
 //! The page of HTML that shows an audited journal.
+ghost use Rattle.std.specs.Prelude.{IfOk};
+ghost use Rattle.file_jobs.specs.Statuses.{EndsWith};
+
 use crate::audited::audited_site;
 use crate::faults::once_printed;
 use crate::settings::SiteFiles;
@@ -10,12 +13,16 @@ use std::io::{self, BufWriter, Write};
 
 /// Audits the journal in a file as this site's journal, prints its page of HTML, and returns the exit status. If the
 /// journal is refused, prints what its audit prints, and no page.
-pub fn report_files(rt: &HostRuntime, site: SiteFiles<'_>, journal: &str) -> Result<u8, Stop> {
+pub fn report_files(rt: &HostRuntime, site: SiteFiles<'_>, journal: &str) -> Result<u8, Stop>
+    ensures { IfOk result (EndsWith 0) }
+{
     let site = audited_site(rt, site, journal)?;
     print_page(rt, &site)
 }
 
-fn print_page(rt: &HostRuntime, site: &Site) -> Result<u8, Stop> {
+fn print_page(rt: &HostRuntime, site: &Site) -> Result<u8, Stop>
+    ensures { IfOk result (EndsWith 0) }
+{
     let page = Page::of(rt.alloc(), site)?;
     let mut output = BufWriter::new(rt.alloc(), io::writer(rt))?;
     let printed = match write!(output, "{page}") {

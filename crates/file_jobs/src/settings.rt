@@ -1,4 +1,7 @@
 //! Reading of the files that say what a site begins with: its configuration, and its opening.
+ghost use Rattle.std.specs.Prelude.{◌≡◌, ◌&&◌, ◌||◌, None, Some, Ok, Err, IfOk, IsTrue, option_map};
+ghost use Rattle.file_jobs.specs.Names.{is_input, may_be_input};
+
 use crate::faults::{refuse_config, tell};
 use crate::files::{Source, is_input, source_of, text_of};
 use crate::opening::{Begun, Day, begin_with};
@@ -16,16 +19,23 @@ pub struct SiteFiles<'a> {
 }
 
 impl<'a> SiteFiles<'a> {
-    pub fn new(config: &'a str, opening: Option<&'a str>) -> SiteFiles<'a> {
+    pub fn new(config: &'a str, opening: Option<&'a str>) -> SiteFiles<'a>
+        ensures config { result.config.now ≡ config.now }
+        ensures opening { option_map (λ w. w.now) result.opening ≡ option_map (λ w. w.now) opening.entry }
+    {
         SiteFiles { config, opening }
     }
 
     /// Returns the argument that names the configuration.
-    pub fn config(self) -> &'a str {
+    pub fn config(self) -> &'a str
+        ensures { result.now ≡ self.entry.config.now }
+    {
         self.config
     }
 
-    fn is_opening_input(self) -> bool {
+    fn is_opening_input(self) -> bool
+        ensures { result ≡ may_be_input (option_map (λ w. w.now) self.entry.opening) }
+    {
         match self.opening {
             Some(opening) => is_input(opening),
             None => false,
@@ -35,7 +45,10 @@ impl<'a> SiteFiles<'a> {
 
 /// Reads the configuration of a site, and then its opening, if it has one. If one of them can't be read or is refused,
 /// or if both are standard input, prints why; the error has the exit status.
-pub fn day_of(rt: &HostRuntime, site: SiteFiles<'_>) -> Result<Day, Stop> {
+pub fn day_of(rt: &HostRuntime, site: SiteFiles<'_>) -> Result<Day, Stop>
+    ensures { IsTrue (is_input site.entry.config.now && may_be_input (option_map (λ w. w.now) site.entry.opening))
+        → result ≡ Err (Stop.Said 2) }
+{
     if is_input(site.config) && site.is_opening_input() {
         return Err(refuse_twice(rt));
     }
@@ -52,7 +65,9 @@ pub fn day_of(rt: &HostRuntime, site: SiteFiles<'_>) -> Result<Day, Stop> {
 }
 
 /// Returns the configuration with the site's opening, if it has one. Without an opening it is the first day.
-fn begun_by(rt: &HostRuntime, site: SiteFiles<'_>, config: Config) -> Result<Begun, Stop> {
+fn begun_by(rt: &HostRuntime, site: SiteFiles<'_>, config: Config) -> Result<Begun, Stop>
+    ensures { site.entry.opening ≡ None → result ≡ Ok (record { config = config; number = 1 }) }
+{
     match site.opening {
         Some(opening) => begin_with(rt, opening, config),
         None => Ok(Begun { config, number: 1 }),
@@ -60,7 +75,9 @@ fn begun_by(rt: &HostRuntime, site: SiteFiles<'_>, config: Config) -> Result<Beg
 }
 
 /// Prints that two files of a call are standard input. The result has the exit status.
-fn refuse_twice(rt: &HostRuntime) -> Stop {
+fn refuse_twice(rt: &HostRuntime) -> Stop
+    ensures { result ≡ Stop.Said 2 }
+{
     tell(
         rt,
         &"- is standard input, which is read once: name one of the two files",
@@ -78,7 +95,11 @@ pub fn settings_in(rt: &HostRuntime, word: &str, text: &[u8]) -> Result<Settings
 
 /// Reads the configuration of a site, and its opening, if it has one, and opens the other file. Only one of the files
 /// may be standard input. If one fails, prints why; the error has the exit status.
-pub fn day_and(rt: &HostRuntime, site: SiteFiles<'_>, other: &str) -> Result<(Day, Source), Stop> {
+pub fn day_and(rt: &HostRuntime, site: SiteFiles<'_>, other: &str) -> Result<(Day, Source), Stop>
+    ensures { IsTrue (is_input other.now
+        && (is_input site.entry.config.now || may_be_input (option_map (λ w. w.now) site.entry.opening)))
+        → result ≡ Err (Stop.Said 2) }
+{
     if is_input(other) && (is_input(site.config) || site.is_opening_input()) {
         return Err(refuse_twice(rt));
     }

@@ -12,12 +12,21 @@ pub enum Stop {
 }
 
 impl From<io::Error> for Stop {
+    ghost use Rattle.std.specs.Prelude.{◌≡◌};
+    ghost use Rattle.file_jobs.specs.declared.stop.Stop.TheVariants as stop;
+
+    ghost from_gives = { λ error result. result ≡ stop.Failed error };
+
     fn from(error: io::Error) -> Self {
         Stop::Failed(error)
     }
 }
 
 impl From<AllocError> for Stop {
+    ghost use Rattle.file_jobs.specs.Stops.{IsFailed};
+
+    ghost from_gives = { λ _ result. IsFailed result };
+
     fn from(refused: AllocError) -> Self {
         Stop::Failed(io::Error::from(refused))
     }

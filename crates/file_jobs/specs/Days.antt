@@ -1,0 +1,56 @@
+-- Definitions: the names of a day's files, and the days that a folder has (this profile). A day's number stands in the
+-- names of its files in six digits, with zeros in front, or in more without one.
+use Rattle.std.specs.Prelude.{ℕ, ◌+◌, ◌-◌, ◌==◌, ◌||◌, List, [], ◌∷◌, ◌++◌, length, codes, decimal, replicate, min, max, nat_lt, Bool, Option, Some, None, bytes_eq, if◌then◌else◌}
+use Rattle.std.specs.List.{before_first, after_first}
+use Rattle.std.specs.Result.{result_ok}
+use Rattle.till_request.specs.Grammar.{number}
+use Rattle.file_jobs.specs.declared.folder.Part.{Part}
+use Rattle.file_jobs.specs.declared.folder.Part.TheVariants as part
+use Rattle.file_jobs.specs.declared.folder.Span.{Span}
+
+abbrev pub ending_of : Part → List ℕ
+ending_of part.Config = codes "toml"
+ending_of part.Opening = codes "opening"
+ending_of part.Journal = codes "journal"
+
+abbrev pub six_digits : ℕ → List ℕ
+six_digits day = replicate (6 - length (decimal day)) 48 ++ decimal day
+
+-- the path of a day's file: the folder, `/`, the day's number, `.`, and the ending
+abbrev pub path_of : List ℕ → ℕ → Part → List ℕ
+path_of folder day part = folder ++ (47 ∷ (six_digits day ++ (46 ∷ ending_of part)))
+
+-- digits without the zeros in front
+abbrev pub without_zeros : List ℕ → List ℕ
+without_zeros [] = []
+without_zeros (digit ∷ digits) = if digit == 48 then without_zeros digits else digit ∷ digits
+
+-- The day of these digits, as they stand in a name: a number below 2^32 and not 0.
+abbrev pub day_of : List ℕ → Option ℕ
+day_of digits =
+    if length digits == 6 then result_ok (number 32 (without_zeros digits))
+    else (if nat_lt 6 (length digits) then result_ok (number 32 digits) else None)
+
+-- only a journal or an opening shows that there is a day
+abbrev pub shows_day : List ℕ → Bool
+shows_day ending = bytes_eq ending (ending_of part.Journal) || bytes_eq ending (ending_of part.Opening)
+
+abbrev pub is_dot : ℕ → Bool
+is_dot byte = byte == 46
+
+-- The day whose journal or opening has this name; None for any other name.
+unfoldable pub day_named : List ℕ → Option ℕ
+day_named name = if shows_day (after_first is_dot name) then day_of (before_first is_dot name) else None
+
+-- the oldest and the newest of the days before and of this one
+abbrev pub with_day : Option Span → ℕ → Span
+with_day None day = record { oldest = day; newest = day }
+with_day (Some span) day = record { oldest = min span.oldest day; newest = max span.newest day }
+
+abbrev pub with_found : Option Span → Option ℕ → Option Span
+with_found span None = span
+with_found span (Some day) = Some (with_day span day)
+
+-- the day after this one, up to the newest
+abbrev pub day_after : ℕ → ℕ → Option ℕ
+day_after day newest = if nat_lt day newest then Some (day + 1) else None
