@@ -1,6 +1,6 @@
 //! The writing of rows as CSV.
 
-ghost use Rattle.std.specs.Prelude.{◌≡◌, ◌++◌, ◌∷◌, [], OnOk, IfOk, map};
+ghost use Rattle.std.specs.Prelude.{◌≡◌, ◌≢◌, ◌++◌, ◌∷◌, [], Err, OnOk, IfOk, map};
 ghost use Rattle.std.specs.Io.KnownBytes.{Appends, Keeps};
 ghost use Rattle.csv.specs.Records.{fields_of, partial_of};
 ghost use Rattle.csv.specs.Writing.{row_text, text_written};
@@ -88,13 +88,14 @@ impl<W: Write + Drop> CsvRows<W> {
         Ok(CsvRows { writer, row })
     }
 
-    /// Writes the bytes that are still buffered, and returns the underlying writer.
+    /// Writes the bytes that are still buffered, and returns the underlying writer. The error is that writer's own.
     pub(crate) fn finish(self) -> Result<W, RowsFault>
-        ensures { IfOk result (λ out. Keeps (text_written W.contents self.writer) (W.contents out)) }
+        ensures text { IfOk result (λ out. Keeps (text_written W.contents self.writer) (W.contents out)) }
+        ensures cause { result ≢ Err RowsFault.OutOfMemory }
     {
         match self.writer.into_inner() {
             Ok(out) => Ok(out),
-            Err(failed) => Err(RowsFault::from(failed.into_error())),
+            Err(failed) => Err(RowsFault::Io(*failed.error())),
         }
     }
 }

@@ -12,4 +12,4 @@ returns g c =
     let rows = subst (Appends _ _)
     (λ j. concat (map (row_bytes c.args.rows format.Csv) (rows_of c.args.rows (c.config.ensures j) (c.history.ensures.entries j))))
     c.in_ok-put_rows.ensures.text in
-    whole g.W.Write.contents c.finish.result _ _ _ _ _ c.in_ok-to.ensures.text rows c.finish.ensures
+    whole g.W.Write.contents c.finish.result _ _ _ _ _ c.in_ok-to.ensures.text rows c.finish.ensures.text
