@@ -1,6 +1,6 @@
 //! The state of a day between two entries: the points, the prices, and the deliveries that aren't paid yet.
 
-ghost use Rattle.std.specs.Prelude.{◌≡◌, ◌<◌, ◌≤◌, ◌+◌, ◌++◌, ℕ, All, IfOk, OnOk, length, option_to_list};
+ghost use Rattle.std.specs.Prelude.{◌≡◌, ◌<◌, ◌≤◌, ◌+◌, ◌++◌, ℕ, All, IfOk, IsOk, None, OnOk, length, option_to_list};
 ghost use Rattle.fuelling_point.specs.Table.{PointState};
 ghost use Rattle.site_core.specs.State.{at_number};
 ghost use Rattle.day_report.specs.Walk.{with_entry};
@@ -193,7 +193,8 @@ fn clear_paid(
     sale: Option<Sale>,
     act: &Act,
 ) -> Result<(), AllocError>
-    ensures { OnOk result (unpaid.new.items ≡ uncleared unpaid.old.items sale act.now) }
+    ensures left { OnOk result (unpaid.new.items ≡ uncleared unpaid.old.items sale act.now) }
+    ensures none { sale ≡ None → IsOk result }
 {
     if let Some(sale) = sale {
         *unpaid = without(alloc, unpaid, sale.point, number_cleared(act))?;
@@ -203,7 +204,8 @@ fn clear_paid(
 
 /// Adds the delivery `ended`, if there is one, to the unpaid ones. The error is that memory ran out.
 fn add_ended(unpaid: &mut Vec<Ended>, ended: Option<Ended>) -> Result<(), AllocError>
-    ensures { OnOk result (unpaid.new.items ≡ unpaid.old.items ++ option_to_list ended) }
+    ensures added { OnOk result (unpaid.new.items ≡ unpaid.old.items ++ option_to_list ended) }
+    ensures none { ended ≡ None → IsOk result }
 {
     if let Some(ended) = ended {
         unpaid.push(ended)?;

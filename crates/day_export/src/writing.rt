@@ -1,6 +1,6 @@
 //! Writes the rows of a day.
 
-ghost use Rattle.std.specs.Prelude.{◌≡◌, ◌≤◌, IfOk, OnOk, length, map, option_to_list};
+ghost use Rattle.std.specs.Prelude.{◌≡◌, ◌≤◌, IfOk, IsOk, None, OnOk, length, map, option_to_list};
 ghost use Rattle.std.specs.List.{concat};
 ghost use Rattle.std.specs.Io.KnownBytes.{Appends};
 ghost use Rattle.site_core.specs.declared.site.TheConstants.{ENTRIES};
@@ -20,7 +20,7 @@ use site_core::{Config, Site};
 use std::alloc::Global;
 use std::io::Write;
 
-/// Writes a row, if there is one.
+/// Writes a row, if there is one. Without a row there is no error.
 fn put_some<T: RowTaker, const N: usize>(
     to: &mut T,
     rows: Rows,
@@ -29,6 +29,7 @@ fn put_some<T: RowTaker, const N: usize>(
     requires { T.is_ready to.old }
     ensures text { OnOk result (Appends (T.taken to.old) (T.taken to.new) (concat (map (row_bytes rows T.format) (option_to_list row.entry)))) }
     ensures ready { OnOk result (T.is_ready to.new) }
+    ensures none { row.entry ≡ None → IsOk result }
 {
     match row {
         None => Ok(()),
@@ -36,7 +37,8 @@ fn put_some<T: RowTaker, const N: usize>(
     }
 }
 
-/// Writes the row of an entry, or nothing if it has none. `standing` is the state before the entry.
+/// Writes the row of an entry, or nothing if it has none; then there is no error. `standing` is the state before the
+/// entry.
 fn put_row<T: RowTaker>(
     to: &mut T,
     rows: Rows,
@@ -47,6 +49,7 @@ fn put_row<T: RowTaker>(
     ensures text { OnOk result (Appends (T.taken to.old) (T.taken to.new)
         (concat (map (row_bytes rows T.format) (option_to_list (row_of rows (stand_of standing.now) entry.now))))) }
     ensures ready { OnOk result (T.is_ready to.new) }
+    ensures none { row_of rows (stand_of standing.now) entry.now ≡ None → IsOk result }
 {
     match rows {
         Rows::Sales => put_some(to, rows, sale_row(standing, entry)),

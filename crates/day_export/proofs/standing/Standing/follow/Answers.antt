@@ -22,8 +22,8 @@ returns c =
           (points ∙ followed.follows.is ∙ ap (λ p. with_entry p e) same)
           (prices ∙ c.change_price.ensures ∙ ap (λ p. prices_after p e.act e.reply) priced)
           (c.sale_of-sale.ensures ∙ ap (λ p. sale_of p e) c.deref.ensures.value)
-          c.in_ok-clear_paid.ensures
+          c.in_ok-clear_paid.ensures.left
           (followed.ended ∙ (λ j. ended_by (same j) (c.deref-2.ensures.value j) e))
-          c.in_ok-add_ended.ensures;
+          c.in_ok-add_ended.ensures.added;
       bounded = λ k within. subst (AreWithin (k + 1)) (sym points) (followed.follows.bounded k (subst (AreWithin k) (sym same) within));
     }
