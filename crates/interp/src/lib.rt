@@ -1,7 +1,6 @@
 // The interpreter: runs verified programs on plain 64-bit words.
 #![tactic(auto)]
 
-mod arithmetic;
 mod dispatch;
 mod frame;
 mod rebasing;
