@@ -27,5 +27,5 @@ pub use line::{
 pub use numbers::{number_u32, number_u64};
 pub use parts::{few_parts, first_part};
 pub use short_text::{ShortText, put_reply};
-pub use spelling::{spell_act, spelling_is_read};
+pub use spelling::{load_word, put_dispenser_line, put_till_line, spell_act, spelling_is_read};
 pub use write::{WriteFault, write_all, write_answer};

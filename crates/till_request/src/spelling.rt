@@ -3,7 +3,7 @@ ghost use Rattle.std.specs.Prelude.{◌≡◌, ◌+◌, ◌≤◌, ◌∷◌, �
 ghost use Rattle.std.specs.Prelude.{string_bytes};
 ghost use Rattle.std.specs.Option.{option_to_list};
 ghost use Rattle.till_request.specs.Grammar.{text};
-ghost use Rattle.till_request.specs.Spelling.{ReadsBack, spelling, event_words, request_text, request_words};
+ghost use Rattle.till_request.specs.Spelling.{ReadsBack, event_words, load_word as load_by, request_text, request_words, spelling};
 
 use crate::act::{Act, Request};
 use crate::form::AmountVerb::{Preset, Price, Release};
@@ -70,7 +70,7 @@ impl fmt::Display for Request {
 }
 
 /// Writes the line of a till's request, without its LF, into an empty text.
-fn put_till(text: &mut ShortText, till: u32, request: Request)
+pub fn put_till_line(text: &mut ShortText, till: u32, request: Request)
     requires { text.old.bytes ≡ [] }
     ensures { text.new.bytes ≡ spelling (Act.Till till request) }
 {
@@ -96,7 +96,7 @@ fn verb_of(event: DispenserEvent) -> Keyword
 }
 
 /// Writes the line of a dispenser's event, without its LF, into an empty text.
-fn put_event(text: &mut ShortText, point: u32, event: DispenserEvent)
+pub fn put_dispenser_line(text: &mut ShortText, point: u32, event: DispenserEvent)
     requires { text.old.bytes ≡ [] }
     ensures { text.new.bytes ≡ spelling (Act.Dispenser point event) }
 {
@@ -117,6 +117,13 @@ fn put_event(text: &mut ShortText, point: u32, event: DispenserEvent)
     }
 }
 
+/// Returns the first word of a line that loads a program whose contexts have this layout.
+pub fn load_word(layout: Layout) -> &'static str
+    ensures { result.now ≡ load_by layout }
+{
+    text_of(Load(layout))
+}
+
 /// Returns the line that loads a program, without its LF. The error is that memory ran out.
 #[tactic(auto, using(crate::proofs::Fitting::load_text))]
 fn spell_load(
@@ -129,7 +136,7 @@ fn spell_load(
     ensures { IfOk result (λ text. string_bytes text ≡ spelling (Act.Load slot mask layout bytes.now)) }
 {
     let hex = hex::encode(alloc, bytes)?;
-    let word = text_of(Load(layout));
+    let word = load_word(layout);
     format!(in alloc; "{word} {slot} {mask} {hex}")
 }
 
@@ -141,12 +148,12 @@ pub fn spell_act(alloc: Global, act: &Act) -> Result<String, AllocError>
     match act {
         Act::Till { till, request } => {
             let mut text = ShortText::new();
-            put_till(&mut text, *till, *request);
+            put_till_line(&mut text, *till, *request);
             String::from_str(alloc, text.as_str())
         }
         Act::Dispenser { point, event } => {
             let mut text = ShortText::new();
-            put_event(&mut text, *point, *event);
+            put_dispenser_line(&mut text, *point, *event);
             String::from_str(alloc, text.as_str())
         }
         Act::Load {
