@@ -119,7 +119,7 @@ reply_cells reply.Done = answered word.Done
 reply_cells (reply.Granted granted version) = record (answered word.Granted) { granted = cell.Number granted; version = cell.Number version }
 reply_cells (reply.Version version) = record (answered word.Version) { version = cell.Number version }
 reply_cells (reply.Order order) = order_cells order
-reply_cells (reply.Point state nozzle amount volume limit preset unpaid) = answered word.Point
+reply_cells (reply.Point state nozzle unpaid amount volume limit preset) = answered word.Point
 reply_cells (reply.Refused number value) = record (answered word.Refused) { refusal = cell.Number number; detail = optional value }
 
 -- ---- runs

@@ -31,7 +31,7 @@ fault_reply Unexpected = refused 34
 
 -- The reply to a Show of this point.
 abbrev pub shown : PointState → Reply
-shown p = reply.Point (state_number p.state) p.nozzle p.amount p.volume p.limit p.preset (length p.unpaid)
+shown p = reply.Point (state_number p.state) p.nozzle (length p.unpaid) p.amount p.volume p.limit p.preset
 
 unfoldable pub show_reply : SiteState → ℕ → Reply
 show_reply s n = elim (at_number s.points n) [ None ↦ no_such_point | Some p ↦ shown p ]

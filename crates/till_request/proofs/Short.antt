@@ -19,7 +19,7 @@ entered n replies.Done = words_joined (decimal n) (codes "done") []
 entered n (replies.Granted amount version) = words_joined (decimal n) (codes "granted") (decimal amount ∷ codes "by" ∷ decimal version ∷ [])
 entered n (replies.Version version) = words_joined (decimal n) (codes "version") (decimal version ∷ [])
 entered n (replies.Order order) = words_joined (decimal n) (codes "order") (order_words order)
-entered n (replies.Point state nozzle amount volume limit preset unpaid) =
+entered n (replies.Point state nozzle unpaid amount volume limit preset) =
     words_joined (decimal n) (codes "point")
     (decimal state ∷ decimal nozzle ∷ decimal amount ∷ decimal volume ∷ decimal limit ∷ decimal preset ∷ decimal unpaid ∷ [])
 entered n (replies.Refused number None) = words_joined (decimal n) (codes "S" ++ decimal number) []
@@ -34,12 +34,12 @@ refused number (Some unit) None = words_joined (codes "V" ++ decimal number) (de
 refused number (Some unit) (Some part) = words_joined (codes "V" ++ decimal number) (decimal unit) (decimal part ∷ [])
 
 -- a reply's words, with a space before each, are a space and the reply's text
-replied : (reply : Reply) → with_words [] (reply_words reply) ≡ 32 ∷ reply_text reply
+pub replied : (reply : Reply) → with_words [] (reply_words reply) ≡ 32 ∷ reply_text reply
 replied replies.Done = words_joined [] (codes "done") []
 replied (replies.Granted amount version) = words_joined [] (codes "granted") (decimal amount ∷ codes "by" ∷ decimal version ∷ [])
 replied (replies.Version version) = words_joined [] (codes "version") (decimal version ∷ [])
 replied (replies.Order order) = words_joined [] (codes "order") (order_words order)
-replied (replies.Point state nozzle amount volume limit preset unpaid) =
+replied (replies.Point state nozzle unpaid amount volume limit preset) =
     words_joined [] (codes "point")
     (decimal state ∷ decimal nozzle ∷ decimal amount ∷ decimal volume ∷ decimal limit ∷ decimal preset ∷ decimal unpaid ∷ [])
 replied (replies.Refused number None) = words_joined [] (codes "S" ++ decimal number) []

@@ -26,7 +26,7 @@ reply_words replies.Done = codes "done" ∷ []
 reply_words (replies.Granted amount version) = codes "granted" ∷ decimal amount ∷ codes "by" ∷ decimal version ∷ []
 reply_words (replies.Version version) = codes "version" ∷ decimal version ∷ []
 reply_words (replies.Order order) = codes "order" ∷ order_words order
-reply_words (replies.Point state nozzle amount volume limit preset unpaid) =
+reply_words (replies.Point state nozzle unpaid amount volume limit preset) =
     codes "point" ∷ decimal state ∷ decimal nozzle ∷ decimal amount ∷ decimal volume ∷ decimal limit ∷ decimal preset ∷ decimal unpaid ∷ []
 reply_words (replies.Refused number None) = (codes "S" ++ decimal number) ∷ []
 reply_words (replies.Refused number (Some value)) = (codes "S" ++ decimal number) ∷ decimal value ∷ []

@@ -10,26 +10,36 @@ use fuelling_point::{DispenserEvent, Order};
 use std::alloc::{AllocError, Global};
 use std::marker::Model;
 
-/// A list of bytes, such as a program's. Contracts see it as a list of numbers.
+/// A list of bytes, such as a program's. Contracts see it as a list of numbers. It is kept behind a pointer, so that an
+/// act, which seldom has one, is small.
 #[derive(Drop)]
 pub struct Bytes {
-    items: Vec<u8>,
+    items: Option<Box<Vec<u8>>>,
 }
 
 impl Model for Bytes {
-    ghost use Rattle.std.specs.Prelude.{List, ℕ};
+    ghost use Rattle.std.specs.Prelude.{List, ℕ, []};
+    ghost use Rattle.std.specs.Option.{option_map_or};
 
     ghost Value = { List ℕ };
 
-    ghost view = { λ b. b.items.items };
+    ghost view = { λ b. option_map_or (λ v. v.value.items) b.items [] };
 }
 
 impl Bytes {
-    /// Makes a `Bytes` of a vector's bytes.
-    pub fn new(items: Vec<u8>) -> Self
-        ensures { result ≡ items.items }
+    /// Makes a `Bytes` of a vector's bytes. The error is that memory ran out, which an empty
+    /// vector doesn't need.
+    pub fn new(alloc: Global, items: Vec<u8>) -> Result<Self, AllocError>
+        ensures same { IfOk result (λ b. b ≡ items.items) }
+        ensures memory { OnErr result (0 < length items.items) }
     {
-        Bytes { items }
+        if items.is_empty() {
+            return Ok(Bytes { items: None });
+        }
+        match Box::new(alloc, items) {
+            Ok(items) => Ok(Bytes { items: Some(items) }),
+            Err(_) => Err(AllocError),
+        }
     }
 
     /// Makes a `Bytes` with a copy of a slice's bytes. The error is that memory ran out, which an empty slice doesn't
@@ -40,7 +50,7 @@ impl Bytes {
     {
         let mut copy = Vec::with_capacity(alloc, items.len())?;
         copy.extend_from_slice(items)?;
-        Ok(Bytes { items: copy })
+        Bytes::new(alloc, copy)
     }
 
     /// Returns whether both lists have the same bytes in the same order.
@@ -54,7 +64,10 @@ impl Bytes {
     pub fn as_slice(&self) -> &[u8]
         ensures { result.now ≡ self.now }
     {
-        self.items.as_slice()
+        match &self.items {
+            None => &[],
+            Some(items) => items.as_slice(),
+        }
     }
 }
 
@@ -64,7 +77,7 @@ impl PartialEq for Bytes {
     ghost laws = { Prim.search (comparing, rules) };
 
     fn eq(&self, other: &Bytes) -> bool {
-        self.items == other.items
+        self.as_slice() == other.as_slice()
     }
 }
 
@@ -125,16 +138,16 @@ pub enum Reply {
     Version(u32),
     /// The order that was pending at the dispenser's point.
     Order(Order),
-    /// A point as it is: its state 1 to 9, the lifted nozzle or 0, its amount, limit and preset in cents, its volume in
-    /// centilitres, and how many transactions are unpaid.
+    /// A point as it is: its state 1 to 9, the lifted nozzle or 0, how many transactions are unpaid, its amount, limit
+    /// and preset in cents, and its volume in centilitres.
     Point {
         state: u32,
         nozzle: u32,
+        unpaid: u32,
         amount: u64,
         volume: u64,
         limit: u64,
         preset: u64,
-        unpaid: u32,
     },
     /// The site refused the act: the refusal's number, such as 22 for `S22`, and the state, slot or version that it
     /// names, if it names one.
