@@ -2,12 +2,16 @@
 use Rattle.std.specs.Prelude.{◌≡◌, ◌≢◌, ℕ, length}
 use Rattle.site_core.specs.Days.{carried}
 use Rattle.site_core.specs.Fitting.{Misfits as IsFaulty}
+use Rattle.site_core.specs.Opening.{IsOpening}
 use Rattle.site_core.specs.Site.{SiteValue}
+use Rattle.site_core.specs.declared.opening.OpeningFault.TheVariants.{OutOfMemory}
 use Rattle.days.specs.declared.file.Uncarried.{Uncarried}
 use Rattle.days.specs.declared.file.Uncarried.TheVariants.{Fault, LastDay}
 
 -- Why the site of day `number` leaves no opening: there is no next number; or there is one, and no site with this number
--- of points can begin with what the site leaves. If memory ran out, it is only claimed that there is a next number.
+-- of points can begin with what the site leaves; or one can, and memory ran out.
 abbrev pub IsUncarried : ℕ → SiteValue → Uncarried → Type 0
 IsUncarried number site LastDay = number ≡ 4294967295
-IsUncarried number site (Fault fault) = (number ≢ 4294967295) × IsFaulty (length site.config.points) (carried site) fault
+IsUncarried number site (Fault fault) =
+    (number ≢ 4294967295) × IsFaulty (length site.config.points) (carried site) fault
+    × (fault ≡ OutOfMemory → IsOpening (length site.config.points) (carried site))

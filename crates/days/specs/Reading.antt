@@ -104,12 +104,19 @@ abbrev pub IsRefusedIn : Option ProgramText → Refusal → Type 0
 IsRefusedIn None refusal = ⊥
 IsRefusedIn (Some p) refusal = refusal_of p ≡ Some refusal
 
--- The line was taken, and could come next; or it couldn't; or its program is refused; or memory ran out.
+-- Memory may run out for the line: it is a point's and can come next, or a version's that could with another program.
+abbrev pub TakesMemory : ReadingValue → Line → Type 0
+TakesMemory r (lines.Version slot number mask layout bytes) =
+    (3 ≤ r.next) × (r.next ≤ 3 + slot) × (slot < 16) × (1 ≤ number) × (number ≤ r.file.opening.versions) × IsNewNumber r.file.opening.rules number
+TakesMemory r (lines.Point n s) = CanStand r (lines.Point n s)
+TakesMemory r line = ⊥
+
+-- The line was taken, and could come next; or it couldn't. Or its place and number are right, and its program is refused, or memory ran out.
 abbrev pub Steps : ReadingValue → Line → Result (Unit {0}) StepFault → ReadingValue → Type 0
 Steps old line (Ok u) new = CanStand old line × (new ≡ after_line old line)
 Steps old line (Err Misplaced) new = CanStand old line → ⊥
-Steps old line (Err (Refused refusal)) new = IsRefusedIn (program_in line) refusal
-Steps old line (Err OutOfMemory) new = Unit {0}
+Steps old line (Err (Refused refusal)) new = TakesMemory old line × IsRefusedIn (program_in line) refusal
+Steps old line (Err OutOfMemory) new = TakesMemory old line
 
 -- The version has the number and the program, which is good and accepted; or the program is refused; or memory ran out.
 abbrev pub Verified : ℕ → ProgramText → Result Version StepFault → Type 0

@@ -21,7 +21,7 @@ pub trait DaysIn {
     /// The device that a day's journal is read from.
     type Journal: LineIn + Drop;
 
-    ghost use Rattle.std.specs.Prelude.{List, Option, IfErr, IfOk};
+    ghost use Rattle.std.specs.Prelude.{List, Option, IfErr, IfOk, IfSome};
     ghost use Rattle.days.specs.Chain.{DayText};
     ghost use Rattle.days.specs.Given.{GivesDay};
 
@@ -31,9 +31,13 @@ pub trait DaysIn {
     /// States that a day couldn't be read.
     ghost failed: { Self → Type 0 };
 
+    /// States that a day was given whose journal is read from this device.
+    ghost gave: { Self.Journal → Type 0 } = { λ _. Unit {0} };
+
     /// Returns the next day, or `None` if there are no more. The error is that the day couldn't be read.
     fn next_day(&mut self) -> Result<Option<DayIn<Self::Journal>>, NoDay>
         ensures gives { IfOk result (GivesDay Self.Journal.remaining (remaining self.old) (remaining self.new)) }
+        ensures gave { IfOk result (λ next. IfSome next (λ day. IfSome day.journal gave)) }
         ensures failed { IfErr result (λ _. failed self.new) };
 }
 

@@ -1,6 +1,6 @@
 //! Writes the text of an opening.
 
-ghost use Rattle.std.specs.Prelude.{◌≡◌, ◌++◌, ◌≤◌, IfOk};
+ghost use Rattle.std.specs.Prelude.{◌≡◌, ◌++◌, ◌≤◌, IfOk, IsOk, None};
 ghost use Rattle.std.specs.Prelude.{OnOk, length, map, option_to_list, string_bytes};
 ghost use Rattle.days.specs.Spelling.{AddsLines};
 ghost use Rattle.days.specs.Text.{counter_lines, head_lines, numbered_lines, opening_text, point_lines};
@@ -35,7 +35,8 @@ fn put_rule(
     slot: u64,
     rule: &Option<Version>,
 ) -> Result<(), AllocError>
-    ensures { OnOk result (AddsLines (string_bytes text.old) (string_bytes text.new) (version_lines slot rule.now)) }
+    ensures lines { OnOk result (AddsLines (string_bytes text.old) (string_bytes text.new) (version_lines slot rule.now)) }
+    ensures none { rule.now ≡ None → IsOk result }
 {
     match rule {
         None => Ok(()),
@@ -60,7 +61,8 @@ fn put_rules(alloc: Global, text: &mut String, rules: &[Option<Version>]) -> Res
 
 /// Appends the line of a product, if it has a price.
 fn put_price(alloc: Global, text: &mut String, product: u32, price: u32) -> Result<(), AllocError>
-    ensures { OnOk result (AddsLines (string_bytes text.old) (string_bytes text.new) (price_lines product price)) }
+    ensures lines { OnOk result (AddsLines (string_bytes text.old) (string_bytes text.new) (price_lines product price)) }
+    ensures none { price ≡ 0 → IsOk result }
 {
     if price == 0 {
         return Ok(());
@@ -88,8 +90,9 @@ fn put_counter(
     value: u64,
     bound: u64,
 ) -> Result<(), AllocError>
-    ensures { OnOk result (AddsLines (string_bytes text.old) (string_bytes text.new)
+    ensures lines { OnOk result (AddsLines (string_bytes text.old) (string_bytes text.new)
         (counter_lines counter (value, bound))) }
+    ensures none { value ≡ 0 → bound ≡ 0 → IsOk result }
 {
     if value == 0 && bound == 0 {
         return Ok(());
@@ -123,8 +126,9 @@ fn put_unpaid(
     number: u64,
     unpaid: Option<Transaction>,
 ) -> Result<(), AllocError>
-    ensures { OnOk result (AddsLines (string_bytes text.old) (string_bytes text.new)
+    ensures lines { OnOk result (AddsLines (string_bytes text.old) (string_bytes text.new)
         (map (λ t. Line.Unpaid number t) (option_to_list unpaid))) }
+    ensures none { unpaid ≡ None → IsOk result }
 {
     match unpaid {
         None => Ok(()),

@@ -122,7 +122,7 @@ up_to-more n None h = tt
 up_to-more n (Some v) h = omega (arith, h)
 
 -- The version in force in a slot behind a load, which has the number n + 1 if it is into that slot.
-abbrev taken : Bool → ℕ → ProgramText → Option Version → Option Version
+abbrev pub taken : Bool → ℕ → ProgramText → Option Version → Option Version
 taken b n program older = if b then Some (record { number = n + 1; program = program }) else older
 
 taken-up_to : (b : Bool) (n : ℕ) (program : ProgramText) (x : Option Version) → IsUpTo n x → IsUpTo (n + 1) (taken b n program x)
@@ -148,11 +148,11 @@ taken-differ false true n program x y apart up on d = new-last n program x up
 taken-differ false false n program x y apart up on d = d
 
 -- The version in force in a slot behind an entry that loaded this, if n versions were loaded before.
-abbrev newest : ℕ → ℕ → Option Version → Option (ℕ × ProgramText) → Option Version
+abbrev pub newest : ℕ → ℕ → Option Version → Option (ℕ × ProgramText) → Option Version
 newest slot n older None = older
 newest slot n older (Some l) = taken (l.0 == slot) n l.1 older
 
-abbrev counted : ℕ → Option (ℕ × ProgramText) → ℕ
+abbrev pub counted : ℕ → Option (ℕ × ProgramText) → ℕ
 counted n None = n
 counted n (Some l) = n + 1
 

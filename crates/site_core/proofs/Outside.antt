@@ -1,7 +1,7 @@
 -- A run that was made outside the site gives what the site's own step gives, if all that the run depends on is still
 -- the same.
 use Rattle.std.proofs.Common.{◌≡◌, ℕ, List, ◌∷◌, length, Bool, true, false, Option, Some, None, Ok, Err, refl, ap, ◌∙◌, sym, subst}
-use Rattle.std.specs.Prelude.{◌⊎◌, reverse, ◌==◌, if◌then◌else◌, IsSome, is_some, ◌<◌, Result, IfOk}
+use Rattle.std.specs.Prelude.{◌⊎◌, reverse, ◌==◌, if◌then◌else◌, IsSome, is_some, ◌<◌, Result, IfOk, OnErr}
 use Rattle.std.specs.declared.alloc.AllocError.{AllocError}
 use Rattle.std.proofs.Common.{inl, inr}
 use Rattle.std.specs.Result.{result_ok}
@@ -32,7 +32,7 @@ use Rattle.site_core.specs.Keeping.{Agrees, Performs}
 use Rattle.site_core.specs.Legal.{GoodLoad}
 use Rattle.site_core.specs.Histories.{load_refusal}
 use Rattle.site_core.specs.Draft.{context_for, DraftValue, ReadyValue, basis_of, routed}
-use Rattle.site_core.specs.Asked.{asked_question, question_of, StillAsked, IsDraft, Drafts, basis_in}
+use Rattle.site_core.specs.Asked.{asked_question, question_of, StillAsked, IsDraft, Drafts, WouldRun, basis_in}
 use Rattle.site_core.specs.declared.draft.Begin.{Begin}
 use Rattle.site_core.specs.declared.draft.Begin.TheVariants as begin
 use Rattle.site_core.specs.Outside.{run_now, reply_now, Begins, Begun, IsRunOf, basis, drafted}
@@ -223,6 +223,15 @@ pub begins-ok : (config : ConfigValue) (history : List Entry) (s : SiteState) (s
     → IfOk result (Begins (record { config = config; history = history; state = s }) till moment r)
 begins-ok config history s slots till moment r (Ok b) agrees less d = begins config history s slots till moment r b agrees less d
 begins-ok config history s slots till moment r (Err e) agrees less d = d
+
+-- If memory ran out for a draft, then the history isn't full, and the step would run a program now.
+pub begins-err : (config : ConfigValue) (history : List Entry) (s : SiteState) (slots : SlotsValue) (till moment : ℕ) (r : Request)
+    (result : Result Begin AllocError) → Agrees config slots (reverse history) → length history < 1048576
+    → OnErr result (WouldRun config s slots till r)
+    → OnErr result ((length history < 1048576) × IsSome (run_now (record { config = config; history = history; state = s }) till moment r))
+begins-err config history s slots till moment r (Ok b) agrees less w = w
+begins-err config history s slots till moment r (Err e) agrees less w =
+    (less, runs-some config (reverse history) s till moment r w.0 w.1 w.2 (agrees.in_force w.0.slot ∙ w.3))
 
 -- What a run would be made on is the same, whether versions are looked up in the slots or in the history.
 pub basis-is : (config : ConfigValue) (history : List Entry) (s : SiteState) (slots : SlotsValue) (draft : DraftValue) → Agrees config slots (reverse history)

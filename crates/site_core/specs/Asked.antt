@@ -1,11 +1,13 @@
 -- Representation: what a draft keeps of the state in which it was made, and what the contracts of the steps inside
 -- `begin` and `commit` say. A reader doesn't have to believe it.
-use Rattle.std.specs.Prelude.{◌≡◌, ℕ, ◌<◌, ◌⊎◌, if◌then◌else◌, length, Option, Some, None, Result, Ok, Err}
+use Rattle.std.specs.Prelude.{◌≡◌, ◌≢◌, ℕ, ◌<◌, ◌⊎◌, if◌then◌else◌, length, Option, Some, None, Result, Ok, Err}
 use Rattle.std.specs.Result.{result_ok}
 use Rattle.fuelling_point.specs.Table.{PointState}
+use Rattle.till_request.specs.declared.act.Act.{Act}
+use Rattle.till_request.specs.declared.act.Act.TheVariants as act
 use Rattle.till_request.specs.declared.act.Request.{Request}
 use Rattle.bpf_model.specs.Layouts.{bytes_of}
-use Rattle.program_slots.specs.Value.{SlotsValue}
+use Rattle.program_slots.specs.Value.{SlotsValue, Version}
 use Rattle.program_slots.specs.Slots.{version_in}
 use Rattle.site_core.specs.declared.question.Question.{Question}
 use Rattle.site_core.specs.declared.question.Asks.{Asks}
@@ -33,6 +35,19 @@ question_of config s request = question_in s (asks_of config request)
 -- that, if no program decides it, or if the site has no such till.
 abbrev pub asked_question : ConfigValue → SiteState → ℕ → Request → Option Question
 asked_question config s till request = if is_till config till then question_of config s request else None
+
+-- Whether memory may be taken for an act before its entry is made: for a till's request only if it asks a program a
+-- question in this state, for a dispenser's event never, for a load always.
+abbrev pub TakesMemory : ConfigValue → SiteState → Act → Type 0
+TakesMemory config s (act.Till till request) = asked_question config s till request ≢ None
+TakesMemory config s (act.Dispenser point event) = ⊥
+TakesMemory config s (act.Load slot mask layout bytes) = Unit {0}
+
+-- A program would be run for this request in this state: the request asks it a question, and a version is installed in
+-- the question's slot.
+abbrev pub WouldRun : ConfigValue → SiteState → SlotsValue → ℕ → Request → Type 0
+WouldRun config s slots till request =
+    (q : Question) × (v : Version) × (asked_question config s till request ≡ Some q) × (version_in slots q.slot ≡ Some v)
 
 -- The draft was made in some state in which its request wasn't refused. Its context and its view are those of that
 -- state.

@@ -1,5 +1,5 @@
 -- Promises: why a site can't begin with an opening.
-use Rattle.std.specs.Prelude.{◌≡◌, ℕ, ◌≤◌, List, [], ◌∷◌, length, All}
+use Rattle.std.specs.Prelude.{◌≡◌, ℕ, ◌≤◌, List, [], ◌∷◌, length, Option, Some, None, All}
 use Rattle.std.specs.List.{AllByRecursion}
 use Rattle.fuelling_point.specs.Table.{PointState}
 use Rattle.program_slots.specs.Slots.{IsRule}
@@ -52,3 +52,20 @@ IsOutgrown fault.Slots = ⊥
 IsOutgrown fault.Rules = ⊥
 IsOutgrown fault.Twice = ⊥
 IsOutgrown fault.OutOfMemory = Unit {0}
+
+-- Each point's newest transaction has a number that an opening can have.
+abbrev pub AreFew : List PointState → Type 0
+AreFew points = All (λ (p : PointState). p.last ≤ 4290000000) points
+
+-- The first of the numbers that only grow that is too great for an opening, if there is one. The numbers are those of
+-- these points' newest transactions, the total and the count of what was cleared, and the count of versions.
+abbrev pub IsFirstGrown : List PointState → ℕ → ℕ → ℕ → Option OpeningFault → Type 0
+IsFirstGrown points cleared clears versions None =
+    AreFew points × (cleared ≤ 1000000000000000000) × (clears ≤ 1000000000000000000) × (versions ≤ 4290000000)
+IsFirstGrown points cleared clears versions (Some fault.Transactions) = ¬ AreFew points
+IsFirstGrown points cleared clears versions (Some fault.Cleared) = AreFew points × ¬ (cleared ≤ 1000000000000000000)
+IsFirstGrown points cleared clears versions (Some fault.Clears) =
+    AreFew points × (cleared ≤ 1000000000000000000) × ¬ (clears ≤ 1000000000000000000)
+IsFirstGrown points cleared clears versions (Some fault.Versions) =
+    AreFew points × (cleared ≤ 1000000000000000000) × (clears ≤ 1000000000000000000) × ¬ (versions ≤ 4290000000)
+IsFirstGrown points cleared clears versions (Some other) = ⊥

@@ -1,7 +1,7 @@
 //! Decisions whose program is run outside the site: a draft is made while the site is locked, run while it isn't, and
 //! committed while it is locked again.
 
-ghost use Rattle.std.specs.Prelude.{◌≡◌, IfOk, IsOk, None, length};
+ghost use Rattle.std.specs.Prelude.{◌≡◌, IfOk, IsOk, OnErr, None, length};
 
 use crate::comparing::{first_byte, first_counter, first_point, first_price, is_version};
 use crate::config::Config;
@@ -67,7 +67,7 @@ impl Model for Draft {
 }
 
 impl Draft {
-    ghost use Rattle.site_core.specs.Asked.{Drafts, Compares, asked_question};
+    ghost use Rattle.site_core.specs.Asked.{Drafts, Compares, WouldRun, asked_question};
     ghost use Rattle.site_core.specs.Outside.{drafted};
 
     /// Makes the draft for a request in the current state, or returns `Direct` if no program would be run for it. The
@@ -83,6 +83,7 @@ impl Draft {
         requires { length station.now.points ≡ length config.now.points }
         ensures made { IfOk result (λ b. Drafts config.now station.now slots.now till moment request.now (drafted b)) }
         ensures none { asked_question config.now station.now till request.now ≡ None → IsOk result }
+        ensures memory { OnErr result (WouldRun config.now station.now slots.now till request.now) }
     {
         let Some(question) = asked_question(config, station, till, request) else {
             return Ok(Begin::Direct);

@@ -1,10 +1,9 @@
 //! The opening: what a site keeps from one day to the next.
 
 ghost use Rattle.std.specs.Prelude.{◌≡◌, ◌≢◌, ◌↔◌, ◌≤◌, All, IfSome, IsTrue, MatchOption};
-ghost use Rattle.fuelling_point.specs.Table.{PointState};
 ghost use Rattle.program_slots.specs.Slots.{IsRule};
 ghost use Rattle.site_core.specs.Opening.{HaveOwnNumbers, IsNewNumber, IsOpening};
-ghost use Rattle.site_core.specs.Fitting.{Misfits};
+ghost use Rattle.site_core.specs.Fitting.{AreFew, IsFirstGrown, Misfits};
 
 use crate::same::{are_same_counters, are_same_points, are_same_rules};
 use counters::Counters;
@@ -114,17 +113,14 @@ impl Opening {
         if !self.prices.iter().all(|price| *price <= 9_999_999) {
             return Some(OpeningFault::Prices);
         }
-        if !are_few(&self.points) {
-            return Some(OpeningFault::Transactions);
-        }
-        if self.cleared > MOST_CLEARED {
-            return Some(OpeningFault::Cleared);
-        }
-        if self.clears > MOST_CLEARED {
-            return Some(OpeningFault::Clears);
-        }
-        if self.versions > MOST_VERSIONS {
-            return Some(OpeningFault::Versions);
+        let grown = first_grown(
+            self.points.as_slice(),
+            self.cleared,
+            self.clears,
+            self.versions,
+        );
+        if let Some(fault) = grown {
+            return Some(fault);
         }
         if self.rules.len() != 16 {
             return Some(OpeningFault::Slots);
@@ -171,9 +167,35 @@ impl Opening {
     }
 }
 
+/// Returns the first of the numbers that only grow that is too great for an opening, in the order of `OpeningFault`, or
+/// `None` if each can be in one. The numbers are those of the points' newest transactions, the total and the count of
+/// what was cleared, and the count of versions. Allocates no memory.
+pub(crate) fn first_grown(
+    points: &[Point],
+    cleared: u64,
+    clears: u64,
+    versions: u32,
+) -> Option<OpeningFault>
+    ensures { IsFirstGrown points.now cleared clears versions result }
+{
+    if !are_few(points) {
+        return Some(OpeningFault::Transactions);
+    }
+    if cleared > MOST_CLEARED {
+        return Some(OpeningFault::Cleared);
+    }
+    if clears > MOST_CLEARED {
+        return Some(OpeningFault::Clears);
+    }
+    if versions > MOST_VERSIONS {
+        return Some(OpeningFault::Versions);
+    }
+    None
+}
+
 /// Returns whether each point's newest transaction has a number that an opening can have.
 fn are_few(points: &[Point]) -> bool
-    ensures { IsTrue result ↔ All (λ (p : PointState). p.last ≤ 4290000000) points.now }
+    ensures { IsTrue result ↔ AreFew points.now }
 {
     points.iter().all(|point| point.last() <= MOST_TRANSACTIONS)
 }

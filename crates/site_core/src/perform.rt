@@ -1,13 +1,16 @@
 //! The effects of an event: a load makes a version; a dispenser's event and a till's request change the station.
 
-ghost use Rattle.std.specs.Prelude.{◌≡◌, ℕ, ◌+◌, ◌<◌, IfOk, OnErr, length, List, None};
+ghost use Rattle.std.specs.Prelude.{◌≡◌, ℕ, ◌+◌, ◌<◌, IfOk, IsOk, OnErr, length, List, None, Ok, Some};
 ghost use Rattle.std.specs.Arc.{arc_value};
 ghost use Rattle.decision_journal.specs.declared.entries.Entry.{Entry};
 ghost use Rattle.till_request.specs.declared.act.Act.TheVariants as act;
 ghost use Rattle.site_core.specs.Limits.{ConfigValue};
 ghost use Rattle.site_core.specs.Bounds.{Bounded, HasRoom};
 ghost use Rattle.site_core.specs.Decide.{admitted, decided};
-ghost use Rattle.site_core.specs.Asked.{asked_question};
+ghost use Rattle.site_core.specs.Asked.{TakesMemory, asked_question};
+ghost use Rattle.program_slots.specs.Slots.{version_in};
+ghost use Rattle.program_slots.specs.Value.{Version};
+ghost use Rattle.site_core.specs.declared.question.Question.{Question as AskedQuestion};
 ghost use Rattle.site_core.specs.Draft.{routed};
 ghost use Rattle.site_core.specs.Keeping.{Agrees, Performs, Loads};
 ghost use Rattle.site_core.specs.Site.{act_of};
@@ -45,6 +48,7 @@ pub fn perform(
     ensures points { length station.new.points ≡ length station.old.points }
     ensures station { OnErr result (station.new ≡ station.old) }
     ensures slots { OnErr result (slots.new ≡ slots.old) }
+    ensures memory { OnErr result (TakesMemory config.now station.old (act_of event.what)) }
 {
     let Event { pass, moment, what } = event;
     match what {
@@ -104,6 +108,7 @@ fn load(slots: &mut Slots, slot: u32, program: Arc<Program>) -> Result<Reply, Al
     ensures reply { IfOk result (λ reply. (config : ConfigValue) (past : List Entry) → Agrees config slots.old past
         → Loads config slots.old slot (arc_value program) past reply slots.new) }
     ensures unchanged { OnErr result (slots.new ≡ slots.old) }
+    ensures memory { OnErr result ((slot < 16) × (length slots.old.programs < 4096)) }
 {
     match slots.install(slot, program) {
         Ok(number) => Ok(Reply::Version(number)),
@@ -133,6 +138,7 @@ fn ask(
           after = station.new;
         }) }
     ensures unchanged { OnErr result (station.new ≡ station.old) }
+    ensures memory { OnErr result (TakesMemory config.now station.old (act.Till till request)) }
     ensures bounded { (k : ℕ) → Bounded k station.old → Bounded (k + 1) station.new }
     ensures points { length station.new.points ≡ length station.old.points }
 {
@@ -199,6 +205,9 @@ fn decide(
           after = station.new;
         }) }
     ensures unchanged { OnErr result (station.new ≡ station.old) }
+    ensures memory { OnErr result (IsOk (admitted station.old question)) }
+    ensures program { OnErr result ((q : AskedQuestion) × (version : Version) × (admitted station.old question ≡ Ok q)
+        × (version_in slots.now q.slot ≡ Some version)) }
     ensures bounded { (k : ℕ) → Bounded k station.old → Bounded (k + 1) station.new }
     ensures points { length station.new.points ≡ length station.old.points }
 {

@@ -436,6 +436,7 @@ impl Station {
         ensures noted { IfOk result (λ noted. noted ≡ counts program.now.declared self.old.counters self.new.counters) }
         ensures rest { self.new ≡ with_counters self.old self.new.counters }
         ensures unchanged { OnErr result (self.new ≡ self.old) }
+        ensures none { program.now.declared ≡ 0 → IsOk result }
     {
         let mut adopted = self.counters;
         rebase(program, given, &self.view, before, r0, after, &mut adopted);

@@ -7,7 +7,7 @@ pub loop-counter-preserved : goal.loop-counter-preserved
 loop-counter-preserved c =
     adds_counter c.args.counters.now c.loop-counter.counter c.get.result c.bound.result (string_bytes c.args.text.now) (string_bytes c.loop-counter.text)
     (string_bytes c.put_counter.new.text) c.loop-counter-test.true c.get.ensures.right c.get.ensures.value c.bound.ensures c.loop-counter.invariant
-    c.in_ok-put_counter.ensures
+    c.in_ok-put_counter.ensures.lines
 
 pub returns : goal.returns
 returns c =
