@@ -74,8 +74,8 @@ module _ (axis : Axis) (steps : ℕ) where
 
 -- ---- step after step
 
--- The steps before place i of the cuts were followed. `done` entries belong to them, `now` are the points after these, and
--- `states` is what they show.
+-- The steps before place i of the cuts were followed. `done` entries belong to them, `now` are the points after these,
+-- and `states` is what they show.
 pub record Stands (points : List PointState) (entries : List Entry) (cuts : List ℕ) (i done : ℕ) (now : List PointState) (states : List State) : Type 0 where
   pub few : done ≤ length entries
   pub within : AreWithin (4290000000 + done) now

@@ -117,8 +117,8 @@ fn cut_at(cuts: &mut Vec<usize>, step: Option<usize>, place: usize) -> Result<()
 }
 
 /// Divides a history into the steps of a picture's axis. Returns for each step how many entries belong to it or to an
-/// earlier step. If the axis is time, an entry without a moment belongs to the step of the entry before it. The error is
-/// that memory ran out. Without a step there is no error.
+/// earlier step. If the axis is time, an entry without a moment belongs to the step of the entry before it. The error
+/// is that memory ran out. Without a step there is no error.
 fn cuts(
     alloc: Global,
     entries: &[Entry],
