@@ -1,12 +1,12 @@
 //! The writing of rows as lines of JSON.
 
-ghost use Rattle.std.specs.Prelude.{◌≡◌, ◌++◌, ◌∷◌, [], IfOk, OnOk, map, string_bytes};
+ghost use Rattle.std.specs.Prelude.{◌≡◌, ◌≢◌, ◌++◌, ◌∷◌, [], IfOk, IsOk, OnOk, map, string_bytes};
 ghost use Rattle.serde_json.specs.View.{view, members_view};
 ghost use Rattle.day_export.specs.Cells.{columns};
 ghost use Rattle.day_export.specs.Text.{cell_data, object_of, row_bytes, with_cells};
 ghost use Rattle.day_export.specs.declared.cells.Format.TheVariants as format;
 
-use crate::cells::{Cell, Rows, columns, word_text};
+use crate::cells::{Cell, Rows, Word, columns, word_text};
 use crate::fault::RowsFault;
 use crate::taking::RowTaker;
 use serde_json::{Map, Value, put};
@@ -20,10 +20,11 @@ pub(crate) struct JsonRows<W: Write + Drop> {
     pub(crate) out: W,
 }
 
-/// Returns the JSON value of a cell. The error is that memory ran out.
+/// Returns the JSON value of a cell. The error is that memory ran out, which it can only for a word.
 #[tactic(auto, unfolding(crate::specs::Text::cell_data))]
 fn cell_value(alloc: Global, cell: Cell) -> Result<Value, AllocError>
-    ensures { IfOk result (λ value. view value ≡ cell_data cell) }
+    ensures value { IfOk result (λ value. view value ≡ cell_data cell) }
+    ensures none { ((word : Word) → cell ≢ Cell.Word word) → IsOk result }
 {
     match cell {
         Cell::Number(n) => Ok(Value::from(n)),

@@ -3,6 +3,7 @@
 ghost use Rattle.std.specs.Prelude.{◌≡◌, ◌<◌, ◌≤◌, ◌+◌, ◌++◌, ℕ, All, IfOk, IsOk, None, OnOk, length, option_to_list};
 ghost use Rattle.fuelling_point.specs.Table.{PointState};
 ghost use Rattle.site_core.specs.State.{at_number};
+ghost use Rattle.day_report.specs.Sales.{sale_of};
 ghost use Rattle.day_report.specs.Walk.{with_entry};
 ghost use Rattle.day_report.specs.Following.{AreWithin, Follows};
 ghost use Rattle.day_export.specs.Standing.{became, ended_as, ended_at, ended_by, number_cleared, point_asked, point_named};
@@ -231,11 +232,14 @@ impl Standing {
         })
     }
 
-    /// Changes the state in the way that an entry changed it. The error is that memory ran out.
+    /// Changes the state in the way that an entry changed it. The error is that memory ran out, which it can't if the
+    /// entry makes no sale and ends no delivery.
     #[tactic(auto, unfolding(crate::specs::Standing::stand_after))]
     pub(crate) fn follow(&mut self, alloc: Global, entry: &Entry) -> Result<(), AllocError>
         requires { All (λ (p : PointState). p.last < u32.MAX) self.old.points.items }
-        ensures { OnOk result (Moves self.old entry.now self.new) }
+        ensures moved { OnOk result (Moves self.old entry.now self.new) }
+        ensures none { sale_of self.old.points.items entry.now ≡ None
+            → ended_by self.old.points.items self.old.prices.items entry.now ≡ None → IsOk result }
     {
         let sale = sale_of(&self.points, entry);
         let ended = follow_points(&mut self.points, &self.prices, entry);

@@ -5,3 +5,4 @@ pub mod SiteSales
 pub mod SiteDecisions
 pub mod Axes
 pub mod Cuts
+pub mod Showing

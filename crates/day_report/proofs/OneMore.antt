@@ -1,10 +1,10 @@
 -- Each total of a history with one more entry is the total before it, plus what this entry adds.
-use Rattle.std.proofs.Common.{◌≡◌, ℕ, ◌+◌, ◌<◌, List, [], ◌∷◌, ◌++◌, length, map, take, append_assoc, arith, Option, Some, None, refl, ap, ◌∙◌, sym, get_or}
+use Rattle.std.proofs.Common.{◌≡◌, ℕ, ◌+◌, ◌<◌, List, [], ◌∷◌, ◌++◌, length, map, take, drop, append_assoc, arith, Option, Some, None, refl, ap, ◌∙◌, sym, get_or}
 use Rattle.std.specs.Prelude.{fold, option_to_list}
 use Rattle.std.specs.List.{cons_option}
 use Rattle.std.specs.Prelude.{option_map, replicate}
 use Rattle.std.proofs.lemmas.Grind.{common_steps}
-use Rattle.std.proofs.lemmas.List.{take_more, map-append, append-nil}
+use Rattle.std.proofs.lemmas.List.{take_more, drop_more, take-append-drop, map-append, append-nil}
 use Rattle.fuelling_point.specs.declared.kinds.Transaction.{Transaction}
 use Rattle.day_report.specs.declared.adding.Unpaid.{Unpaid}
 use Rattle.std.proofs.lemmas.List.Sums.{fold_push}
@@ -134,3 +134,110 @@ same-points (p ∷ points) = ap (λ xs. fresh_point ∷ xs) (same-points points)
 -- As many closed points as there are pairs are those that a site with these pairs starts with.
 pub closed-is : (pairs want : List (ℕ × ℕ)) → pairs ≡ want → replicate (length pairs) fresh_point ≡ map (λ (_ : ℕ × ℕ). fresh_point) want
 closed-is pairs want same = same-points pairs ∙ ap (map (λ (_ : ℕ × ℕ). fresh_point)) same
+
+-- ---- lists that are empty
+
+-- If a list with an optional item before it is empty, there is no item.
+none-before : {A : Type 0} (o : Option A) (xs : List A) → cons_option o xs ≡ [] → o ≡ None
+none-before None xs h = refl
+none-before (Some x) xs h = absurd (cc)
+
+none-behind : {A : Type 0} (xs ys : List A) → xs ++ ys ≡ [] → ys ≡ []
+none-behind [] ys h = h
+none-behind (x ∷ xs) ys h = absurd (cc)
+
+-- The entries are those before place i, the one there, and those behind it.
+at-place : {A : Type 0} (xs : List A) (i : ℕ) (x : A) → i < length xs → x ≡ get_or xs i x → xs ≡ take i xs ++ x ∷ drop (i + 1) xs
+at-place xs i x h is = sym (take-append-drop i xs) ∙ ap (λ ys. take i xs ++ ys) (drop_more xs i x h ∙ ap (λ y. y ∷ drop (i + 1) xs) (sym is))
+
+sales-append : (points : List PointState) (entries more : List Entry) → sales points (entries ++ more) ≡ sales points entries ++ sales (stand points entries) more
+sales-append points [] more = refl
+sales-append points (e ∷ entries) more =
+    ap (cons_option (sale_of points e)) (sales-append (with_entry points e) entries more)
+    ∙ cons-append (sale_of points e) (sales (with_entry points e) entries) (sales (stand (with_entry points e) entries) more)
+
+-- Where entries make no sale, none of them makes one.
+pub sales-none : (points : List PointState) (entries : List Entry) (i : ℕ) (entry : Entry) → i < length entries → entry ≡ get_or entries i entry
+    → sales points entries ≡ []
+    → sale_of (stand points (take i entries)) entry ≡ None
+sales-none points entries i entry h is none =
+    let now = stand points (take i entries) in
+    let all : sales points entries ≡ sales points (take i entries) ++ sales now (entry ∷ drop (i + 1) entries) =
+    ap (sales points) (at-place entries i entry h is) ∙ sales-append points (take i entries) (entry ∷ drop (i + 1) entries) in
+    none-before (sale_of now entry) (sales (with_entry now entry) (drop (i + 1) entries))
+    (none-behind (sales points (take i entries)) (sales now (entry ∷ drop (i + 1) entries)) (sym all ∙ none))
+
+loads-append : (moment : ℕ) (entries more : List Entry)
+    → loads moment (entries ++ more) ≡ loads moment entries ++ loads (fold moment_after moment entries) more
+loads-append moment [] more = refl
+loads-append moment (e ∷ entries) more =
+    ap (cons_option (load_of moment e)) (loads-append (moment_after moment e) entries more)
+    ∙ cons-append (load_of moment e) (loads (moment_after moment e) entries) (loads (fold moment_after (moment_after moment e) entries) more)
+
+-- Where entries have no accepted load, none of them is one.
+pub loads-none : (moment : ℕ) (entries : List Entry) (i : ℕ) (entry : Entry) → i < length entries → entry ≡ get_or entries i entry
+    → loads moment entries ≡ []
+    → load_of (fold moment_after moment (take i entries)) entry ≡ None
+loads-none moment entries i entry h is none =
+    let last = fold moment_after moment (take i entries) in
+    let all : loads moment entries ≡ loads moment (take i entries) ++ loads last (entry ∷ drop (i + 1) entries) =
+    ap (loads moment) (at-place entries i entry h is) ∙ loads-append moment (take i entries) (entry ∷ drop (i + 1) entries) in
+    none-before (load_of last entry) (loads (moment_after last entry) (drop (i + 1) entries))
+    (none-behind (loads moment (take i entries)) (loads last (entry ∷ drop (i + 1) entries)) (sym all ∙ none))
+
+carried-append : (slot : ℕ) (rules more : List (Option Version))
+    → carried_from slot (rules ++ more) ≡ carried_from slot rules ++ carried_from (slot + length rules) more
+carried-append slot [] more = ap (λ n. carried_from n more) (omega arith)
+carried-append slot (r ∷ rules) more =
+    let same : slot + 1 + length rules ≡ slot + length (r ∷ rules) = omega arith in
+    ap (cons_option (carried_at slot r)) (carried-append (slot + 1) rules more ∙ ap (λ n. carried_from (slot + 1) rules ++ carried_from n more) same)
+    ∙ cons-append (carried_at slot r) (carried_from (slot + 1) rules) (carried_from (slot + length (r ∷ rules)) more)
+
+-- Where slots carry no rule in, each of them is empty.
+pub carried-none : (rules : List (Option Version)) (i : ℕ) (rule : Option Version) → i < length rules → rule ≡ get_or rules i rule
+    → carried_from 0 rules ≡ []
+    → carried_at i rule ≡ None
+carried-none rules i rule h is none =
+    let long : length (take i rules) ≡ i = grind (arith, common_steps) in
+    let place : 0 + length (take i rules) ≡ i = omega (arith, long) in
+    let all : carried_from 0 rules ≡ carried_from 0 (take i rules) ++ carried_from i (rule ∷ drop (i + 1) rules) =
+    ap (carried_from 0) (at-place rules i rule h is)
+    ∙ carried-append 0 (take i rules) (rule ∷ drop (i + 1) rules)
+    ∙ ap (λ n. carried_from 0 (take i rules) ++ carried_from n (rule ∷ drop (i + 1) rules)) place in
+    none-before (carried_at i rule) (carried_from (i + 1) (drop (i + 1) rules))
+    (none-behind (carried_from 0 (take i rules)) (carried_from i (rule ∷ drop (i + 1) rules)) (sym all ∙ none))
+
+none-first : {A : Type 0} (xs ys : List A) → xs ++ ys ≡ [] → xs ≡ []
+none-first [] ys h = refl
+none-first (x ∷ xs) ys h = absurd (cc)
+
+none-mapped : {A B : Type 0} (f : A → B) (xs : List A) → map f xs ≡ [] → xs ≡ []
+none-mapped f [] h = refl
+none-mapped f (x ∷ xs) h = absurd (cc)
+
+neither : {A : Type 0} (first second : Option A) → option_to_list first ++ option_to_list second ≡ [] → (first ≡ None) × (second ≡ None)
+neither None None h = (refl, refl)
+neither None (Some y) h = absurd (cc)
+neither (Some x) second h = absurd (cc)
+
+unpaid-append : (n : ℕ) (points more : List PointState) → unpaid_from n (points ++ more) ≡ unpaid_from n points ++ unpaid_from (n + length points) more
+unpaid-append n [] more = ap (λ m. unpaid_from m more) (omega arith)
+unpaid-append n (q ∷ points) more =
+    let same : n + 1 + length points ≡ n + length (q ∷ points) = omega arith in
+    ap (λ xs. map (unpaid_transaction n) q.unpaid ++ xs) (unpaid-append (n + 1) points more
+    ∙ ap (λ m. unpaid_from (n + 1) points ++ unpaid_from m more) same)
+    ∙ sym (append_assoc (map (unpaid_transaction n) q.unpaid) (unpaid_from (n + 1) points) (unpaid_from (n + length (q ∷ points)) more))
+
+-- Where points have no unpaid transaction, none of them has a first or a second one.
+pub unpaid-neither : (points : List PointState) (i : ℕ) (p : PointState) (first second : Option Transaction) → i < length points → p ≡ get_or points i p
+    → option_to_list first ++ option_to_list second ≡ p.unpaid
+    → unpaid_of points ≡ []
+    → (first ≡ None) × (second ≡ None)
+unfolding unpaid_of
+unpaid-neither points i p first second h is both none =
+    let n = 1 + length (take i points) in
+    let all : unpaid_from 1 points ≡ unpaid_from 1 (take i points) ++ unpaid_from n (p ∷ drop (i + 1) points) =
+    ap (unpaid_from 1) (at-place points i p h is) ∙ unpaid-append 1 (take i points) (p ∷ drop (i + 1) points) in
+    let behind = none-behind (unpaid_from 1 (take i points)) (unpaid_from n (p ∷ drop (i + 1) points)) (sym all ∙ none) in
+    let mapped = none-first (map (unpaid_transaction n) p.unpaid) (unpaid_from (n + 1) (drop (i + 1) points)) behind in
+    neither first second (both ∙ none-mapped (unpaid_transaction n) p.unpaid mapped)

@@ -1,11 +1,17 @@
--- Definitions: how the picture of a day divides its history (this profile). Its axis is time or the entries, and it is
--- divided into equal steps.
+-- Definitions: how the picture of a day divides its history, and what it shows (this profile). Its axis is time or the
+-- entries, and it is divided into equal steps. A step shows of each point the state with the greatest number.
 use Rattle.std.specs.Prelude.{◌≡◌, ◌<◌, ◌++◌, replicate, slice_index, ℕ, ◌+◌, ◌-◌, ◌*◌, ◌/◌, ◌==◌, ◌&&◌, nat_le, nat_lt, min, if◌then◌else◌, List, [], ◌∷◌, length, Option, Some, None, Bool, true, false}
+use Rattle.std.specs.Prelude.{map, take, drop, slice_index_or, slice_set}
 use Rattle.decision_journal.specs.declared.entries.Entry.{Entry}
+use Rattle.fuelling_point.specs.declared.kinds.State.{State}
+use Rattle.fuelling_point.specs.States.{state_number}
+use Rattle.fuelling_point.specs.Table.{PointState}
+use Rattle.site_core.specs.State.{at_number}
 use Rattle.till_request.specs.declared.act.Request.{Request}
 use Rattle.till_request.specs.declared.act.Request.TheVariants as request
 use Rattle.till_request.specs.declared.act.Act.{Act}
 use Rattle.till_request.specs.declared.act.Act.TheVariants as act
+use Rattle.day_report.specs.Walk.{with_entry, stand}
 use Rattle.day_report.specs.declared.steps.Axis.{Axis}
 use Rattle.day_report.specs.declared.steps.Axis.TheVariants as axis
 
@@ -92,6 +98,49 @@ cut_from axis steps k place (entry ∷ entries) =
 pub record AreCuts (axis : Axis) (steps : ℕ) (entries : List Entry) (cuts : List ℕ) : Type 0 where
   pub long : length cuts ≡ steps
   pub each : (k : ℕ) → k < steps → slice_index cuts k ≡ cut_from axis steps k 0 entries
+
+-- The states, with that of point n replaced by this state if this one has the greater number. They stay the same if
+-- there is no such point.
+abbrev pub raised : List State → ℕ → State → List State
+raised states n state =
+    if nat_le 1 n && nat_le n (length states) && nat_lt (state_number (slice_index_or states (n - 1) state)) (state_number state)
+    then slice_set states (n - 1) state else states
+
+-- The states that a step shows so far, after one more entry. `points` are the points after the entry, and the optional
+-- number is that of the point that its act can change.
+abbrev pub with_point : List State → List PointState → Option ℕ → List State
+with_point states points None = states
+with_point states points (Some n) = elim (at_number points n) [ None ↦ states | Some p ↦ raised states n p.state ]
+
+-- The states that a step shows after these entries. `states` are those that it shows before them, and `points` the
+-- points before them.
+abbrev pub with_points : List State → List PointState → List Entry → List State
+with_points states points [] = states
+with_points states points (entry ∷ entries) =
+    with_points (with_point states (with_entry points entry) (point_named entry.act)) (with_entry points entry) entries
+
+-- What a step with these entries shows: for each point the state with the greatest number of those that the point has
+-- before the entries and after each of them. `points` are the points before the entries.
+abbrev pub step_shows : List PointState → List Entry → List State
+step_shows points entries = with_points (map (λ (p : PointState). p.state) points) points entries
+
+-- The entries from the place `from` on, up to before the place `to`.
+abbrev pub entries_between : List Entry → ℕ → ℕ → List Entry
+entries_between entries from to = take (to - from) (drop from entries)
+
+-- What the steps that end at these cuts show, one after another. The first of them begins at the place `from` of the
+-- entries, and `points` are the points before all entries.
+abbrev pub steps_show : List PointState → List Entry → ℕ → List ℕ → List State
+steps_show points entries from [] = []
+steps_show points entries from (cut ∷ cuts) =
+    step_shows (stand points (take from entries)) (entries_between entries from cut) ++ steps_show points entries cut cuts
+
+-- What a picture of these entries shows along the axis: first the states of all points in step 0, then those in step 1,
+-- and so on. `points` are the points before the entries.
+pub record Shows (axis : Axis) (points : List PointState) (entries : List Entry) (states : List State) : Type 0 where
+  pub cuts : List ℕ
+  pub divided : AreCuts axis (steps_along axis) entries cuts
+  pub shown : states ≡ steps_show points entries 0 cuts
 
 -- ---- promises of private functions
 

@@ -1,11 +1,11 @@
 //! The totals of a history: what its sales, decisions, refusals and prices add up to.
 
-ghost use Rattle.std.specs.Prelude.{◌≡◌, ◌+◌, ◌++◌, ◌≤◌, IfOk};
+ghost use Rattle.std.specs.Prelude.{◌≡◌, ◌+◌, ◌++◌, ◌≤◌, [], IfOk, IfSome, IsOk};
 ghost use Rattle.std.specs.Prelude.{length, map, not, sum_by, count_by, option_map};
 ghost use Rattle.std.specs.List.{filter_map};
 ghost use Rattle.site_core.specs.declared.site.TheConstants.{ENTRIES};
 ghost use Rattle.day_report.specs.Walk.{points_after};
-ghost use Rattle.day_report.specs.Carried.{carried_rules};
+ghost use Rattle.day_report.specs.Carried.{carried_from, carried_rules};
 ghost use Rattle.day_report.specs.Sales.{sales_of};
 ghost use Rattle.day_report.specs.Decisions.{decision_of, refusal_of, price_change_of, loads};
 ghost use Rattle.day_report.specs.Totals.{IsSum, SumsUp, CountsRefusals, HasOutcomes, DecidedByTills, versions_of};
@@ -185,9 +185,11 @@ fn unpaid_as(point: usize, transaction: Option<Transaction>) -> Option<Unpaid>
     })
 }
 
-/// Returns the unpaid transactions of the points, point by point, and the older one of a point first.
+/// Returns the unpaid transactions of the points, point by point, and the older one of a point first. The error is that
+/// memory ran out. Without a transaction there is no error.
 fn unpaid_of(alloc: Global, points: &[Point]) -> Result<Vec<Unpaid>, AllocError>
-    ensures { IfOk result (λ found. found.items ≡ unpaid_of points.now) }
+    ensures found { IfOk result (λ found. found.items ≡ unpaid_of points.now) }
+    ensures none { unpaid_of points.now ≡ [] → IsOk result }
 {
     let mut found = Vec::new(alloc);
     for (place, point) in points.iter().enumerate() {
@@ -436,10 +438,12 @@ pub fn add_up(alloc: Global, config: &Config, entries: &[Entry]) -> Result<Total
     })
 }
 
-/// Returns what an opening carries in. The error is that memory ran out.
+/// Returns what an opening carries in. The error is that memory ran out. If it carries no transaction and no rule in
+/// there is no error.
 fn carried_by(alloc: Global, opening: &Opening) -> Result<CarriedIn, AllocError>
     requires { length opening.now.rules ≤ 16 }
-    ensures { IfOk result (λ found. found ≡ carried_in opening.now) }
+    ensures found { IfOk result (λ found. found ≡ carried_in opening.now) }
+    ensures none { unpaid_of opening.now.points ≡ [] → carried_from 0 opening.now.rules ≡ [] → IsOk result }
 {
     let unpaid = unpaid_of(alloc, &opening.points)?;
     let rules = rules_in(alloc, &opening.rules)?;
@@ -452,9 +456,11 @@ fn carried_by(alloc: Global, opening: &Opening) -> Result<CarriedIn, AllocError>
 }
 
 /// Returns what the opening of this configuration carries in, or `None` if it has no opening. The error is that memory
-/// ran out.
+/// ran out. Without an opening, or if it carries no transaction and no rule in, there is no error.
 pub fn carried_in(alloc: Global, config: &Config) -> Result<Option<CarriedIn>, AllocError>
-    ensures { IfOk result (λ found. found ≡ option_map carried_in config.now.opening) }
+    ensures found { IfOk result (λ found. found ≡ option_map carried_in config.now.opening) }
+    ensures none { IfSome config.now.opening
+        (λ opening. (unpaid_of opening.points ≡ []) × (carried_from 0 opening.rules ≡ [])) → IsOk result }
 {
     match config.opening() {
         None => Ok(None),

@@ -1,7 +1,7 @@
 //! Counts how often each version granted and denied, and how often each refusal was the reply.
 
 ghost use Rattle.std.specs.Prelude.{◌≡◌, ◌==◌, ◌&&◌, ◌+◌, ◌-◌, ◌^◌, ◌≤◌, ℕ};
-ghost use Rattle.std.specs.Prelude.{if◌then◌else◌, IfOk, OnOk, count_by, map};
+ghost use Rattle.std.specs.Prelude.{if◌then◌else◌, false, IfOk, IsOk, OnOk, count_by, map};
 ghost use Rattle.day_report.specs.Totals.{is_among, has_outcome, is_wanted, decided_by, count_for, CountsVersions};
 
 use crate::rulings::{Asked, Decision};
@@ -44,11 +44,13 @@ fn is_wanted(part: Deciding, granted: bool, decision: &Decision) -> bool
     is_among(part, decision) && has_outcome(granted, decision)
 }
 
-/// Counts one more decision of a version, if `wanted` is true. The error is that memory ran out.
+/// Counts one more decision of a version, if `wanted` is true. The error is that memory ran out. If `wanted` is false
+/// there is no error.
 fn count_if(counts: &mut HashMap<u32, u64>, version: u32, wanted: bool) -> Result<(), AllocError>
     requires { (v : ℕ) → count_for counts.old v ≤ 2 ^ 64 - 2 }
-    ensures { OnOk result ((v : ℕ) → count_for counts.new v ≡ count_for counts.old v
+    ensures counted { OnOk result ((v : ℕ) → count_for counts.new v ≡ count_for counts.old v
         + (if wanted && version == v then 1 else 0)) }
+    ensures none { wanted ≡ false → IsOk result }
 {
     if wanted {
         let count = counts.get(&version).copied().unwrap_or(0);

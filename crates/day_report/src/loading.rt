@@ -1,6 +1,6 @@
 //! The loads of programs in a history.
 
-ghost use Rattle.std.specs.Prelude.{◌≡◌, IfOk};
+ghost use Rattle.std.specs.Prelude.{◌≡◌, [], IfOk, IsOk};
 ghost use Rattle.day_report.specs.Decisions.{load_of, loads, moment_after};
 
 use crate::pushing::push_some;
@@ -48,9 +48,11 @@ fn moment_after(moment: u64, entry: &Entry) -> u64
     }
 }
 
-/// Returns the accepted loads of a history, oldest first. The error is that memory ran out.
+/// Returns the accepted loads of a history, oldest first. The error is that memory ran out. Without a load there is no
+/// error.
 pub fn loads(alloc: Global, entries: &[Entry]) -> Result<Vec<Load>, AllocError>
-    ensures { IfOk result (λ found. found.items ≡ loads 0 entries.now) }
+    ensures found { IfOk result (λ found. found.items ≡ loads 0 entries.now) }
+    ensures none { loads 0 entries.now ≡ [] → IsOk result }
 {
     let mut found = Vec::new(alloc);
     let mut moment = 0;

@@ -1,6 +1,6 @@
 //! What a day begins with: the points, the prices, and the rules that are carried in from the day before.
 
-ghost use Rattle.std.specs.Prelude.{◌≡◌, ◌≤◌, IfOk, length, replicate};
+ghost use Rattle.std.specs.Prelude.{◌≡◌, ◌≤◌, [], IfOk, IsOk, length, replicate};
 ghost use Rattle.fuelling_point.specs.Table.{fresh_point};
 ghost use Rattle.site_core.specs.State.{opening_state, opened_state, fresh_state};
 ghost use Rattle.day_report.specs.Following.{AreWithin};
@@ -78,13 +78,14 @@ fn carried_at(slot: u32, rule: &Option<Version>) -> Option<CarriedRule>
 }
 
 /// Returns the rules of slots 0, 1, and so on, in the order of the slots, without the empty slots. The error is that
-/// memory ran out.
+/// memory ran out. If all slots are empty there is no error.
 pub(crate) fn rules_in(
     alloc: Global,
     rules: &[Option<Version>],
 ) -> Result<Vec<CarriedRule>, AllocError>
     requires { length rules.now ≤ 16 }
-    ensures { IfOk result (λ found. found.items ≡ carried_from 0 rules.now) }
+    ensures found { IfOk result (λ found. found.items ≡ carried_from 0 rules.now) }
+    ensures none { carried_from 0 rules.now ≡ [] → IsOk result }
 {
     let mut found = Vec::new(alloc);
     for (slot, rule) in rules.iter().enumerate() {
@@ -94,9 +95,10 @@ pub(crate) fn rules_in(
 }
 
 /// Returns the rules that a site of this configuration begins with, in the order of the slots. The error is that memory
-/// ran out.
+/// ran out. Without a rule there is no error.
 pub fn carried_rules(alloc: Global, config: &Config) -> Result<Vec<CarriedRule>, AllocError>
-    ensures { IfOk result (λ found. found.items ≡ carried_rules config.now) }
+    ensures found { IfOk result (λ found. found.items ≡ carried_rules config.now) }
+    ensures none { carried_rules config.now ≡ [] → IsOk result }
 {
     match config.opening() {
         None => Ok(Vec::new(alloc)),

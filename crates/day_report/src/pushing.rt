@@ -1,14 +1,15 @@
 //! The call that adds an optional item to a list.
-ghost use Rattle.std.specs.Prelude.{◌≡◌, ◌++◌, OnOk, option_to_list};
+ghost use Rattle.std.specs.Prelude.{◌≡◌, ◌++◌, IsOk, None, OnOk, option_to_list};
 
 use std::alloc::AllocError;
 
-/// Adds the item to the list, if there is one. The error is that memory ran out.
+/// Adds the item to the list, if there is one. The error is that memory ran out. Without an item there is no error.
 pub(crate) fn push_some<T: Copy + Drop>(
     items: &mut Vec<T>,
     item: Option<T>,
 ) -> Result<(), AllocError>
-    ensures { OnOk result (items.new.items ≡ items.old.items ++ option_to_list item) }
+    ensures pushed { OnOk result (items.new.items ≡ items.old.items ++ option_to_list item) }
+    ensures none { item ≡ None → IsOk result }
 {
     if let Some(item) = item {
         items.push(item)?;

@@ -1,6 +1,6 @@
 //! The sales of a history: the transactions that tills cleared when they were paid.
 
-ghost use Rattle.std.specs.Prelude.{◌≡◌, ◌≤◌, IfOk, length};
+ghost use Rattle.std.specs.Prelude.{◌≡◌, ◌≤◌, [], IfOk, IsOk, length};
 ghost use Rattle.site_core.specs.declared.site.TheConstants.{ENTRIES};
 ghost use Rattle.day_report.specs.Walk.{stand, points_after};
 ghost use Rattle.day_report.specs.Following.{HaveRoom};
@@ -90,7 +90,7 @@ pub fn sale_of(points: &[Point], entry: &Entry) -> Option<Sale>
 }
 
 /// Returns the sales that the entries made. At first `points` are the points before the entries, and at the end those
-/// after them. The error is that memory ran out.
+/// after them. The error is that memory ran out. Without a sale there is no error.
 fn follow_sales(
     alloc: Global,
     points: &mut [Point],
@@ -99,6 +99,7 @@ fn follow_sales(
     requires few { HaveRoom points.old (length entries.now) }
     ensures sales { IfOk result (λ found. found.items ≡ sales points.old entries.now) }
     ensures points { IfOk result (λ found. points.new ≡ stand points.old entries.now) }
+    ensures none { sales points.old entries.now ≡ [] → IsOk result }
 {
     let mut sales = Vec::new(alloc);
     for entry in entries {

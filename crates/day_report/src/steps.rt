@@ -1,10 +1,12 @@
 //! The states of the points in each step of a picture's axis.
 
-ghost use Rattle.std.specs.Prelude.{◌≡◌, ◌+◌, ◌≤◌, ℕ, IfOk, IfSome, OnOk, length};
+ghost use Rattle.std.specs.Prelude.{◌≡◌, ◌+◌, ◌≤◌, ℕ, IfOk, IfSome, IsOk, OnOk, length, map};
+ghost use Rattle.fuelling_point.specs.Table.{PointState};
 ghost use Rattle.site_core.specs.declared.site.TheConstants.{ENTRIES};
 ghost use Rattle.site_core.specs.State.{opening_state};
 ghost use Rattle.day_report.specs.Following.{AreWithin, HaveRoom};
 ghost use Rattle.day_report.specs.Picture.{step_of, steps_along, step_at, axis_of, point_named, first_or, with_cut, AreCuts};
+ghost use Rattle.day_report.specs.Picture.{raised, with_point, with_points, step_shows, Shows};
 ghost use Rattle.day_report.specs.Walk.{stand};
 
 use crate::opening::opening_points;
@@ -103,9 +105,10 @@ fn step_at(axis: Axis, place: usize, entry: &Entry, steps: usize) -> Option<usiz
 }
 
 /// Appends `place` to the cuts until there is one for each step before this one. Without a step nothing is appended. The
-/// error is that memory ran out.
+/// error is that memory ran out. If nothing is appended there is no error.
 fn cut_at(cuts: &mut Vec<usize>, step: Option<usize>, place: usize) -> Result<(), AllocError>
-    ensures { OnOk result (cuts.new.items ≡ with_cut cuts.old.items step place) }
+    ensures cut { OnOk result (cuts.new.items ≡ with_cut cuts.old.items step place) }
+    ensures none { IfSome step (λ step. step ≤ length cuts.old.items) → IsOk result }
 {
     match step {
         Some(step) => cuts.resize(step.max(cuts.len()), place),
@@ -114,14 +117,16 @@ fn cut_at(cuts: &mut Vec<usize>, step: Option<usize>, place: usize) -> Result<()
 }
 
 /// Divides a history into the steps of a picture's axis. Returns for each step how many entries belong to it or to an
-/// earlier step. If the axis is time, an entry without a moment belongs to the step of the entry before it.
+/// earlier step. If the axis is time, an entry without a moment belongs to the step of the entry before it. The error
+/// is that memory ran out. Without a step there is no error.
 fn cuts(
     alloc: Global,
     entries: &[Entry],
     axis: Axis,
     steps: usize,
 ) -> Result<Vec<usize>, AllocError>
-    ensures { IfOk result (λ cuts. AreCuts axis steps entries.now cuts.items) }
+    ensures divided { IfOk result (λ cuts. AreCuts axis steps entries.now cuts.items) }
+    ensures none { steps ≡ 0 → IsOk result }
 {
     let mut cuts = Vec::new(alloc);
     for (place, entry) in entries.iter().enumerate() {
@@ -156,17 +161,24 @@ fn point_of(entry: &Entry) -> Option<u32>
     }
 }
 
-/// Sets the stored state of point `n` to its current state, if the current state has the greater number.
-fn raise(states: &mut [State], points: &[Point], n: u32) {
-    if n == 0 {
-        return;
+/// Sets the stored state of point `n` to this state, if this one has the greater number.
+fn raise(states: &mut [State], n: u32, state: State)
+    ensures { states.new ≡ raised states.old n state }
+{
+    if n >= 1 && n as usize <= states.len() && states[n as usize - 1].number() < state.number() {
+        states[n as usize - 1] = state;
     }
-    let place = n as usize - 1;
-    if place < states.len() && place < points.len() {
-        let state = points[place].state();
-        if state.number() > states[place].number() {
-            states[place] = state;
+}
+
+/// Sets the stored state of point `n` to its current state, if the current state has the greater number.
+fn show_point(states: &mut [State], points: &[Point], n: Option<u32>)
+    ensures { states.new ≡ with_point states.old points.now n }
+{
+    if let Some(n) = n {
+        if n == 0 || n as usize > points.len() {
+            return;
         }
+        raise(states, n, points[n as usize - 1].state());
     }
 }
 
@@ -176,13 +188,23 @@ fn follow_step(points: &mut [Point], states: &mut [State], entries: &[Entry])
     requires few { HaveRoom points.old (length entries.now) }
     ensures stand { points.new ≡ stand points.old entries.now }
     ensures bounded { (n : ℕ) → AreWithin n points.old → AreWithin (n + length entries.now) points.new }
+    ensures shown { states.new ≡ with_points states.old points.old entries.now }
 {
     for entry in entries {
         follow(points, entry);
-        if let Some(n) = point_of(entry) {
-            raise(states, points, n);
-        }
+        show_point(states, points, point_of(entry));
     }
+}
+
+/// Returns the states of the points. The error is that memory ran out.
+fn states_of(alloc: Global, points: &[Point]) -> Result<Vec<State>, AllocError>
+    ensures { IfOk result (λ states. states.items ≡ map (λ (p : PointState). p.state) points.now) }
+{
+    let mut states = Vec::new(alloc);
+    for point in points {
+        states.push(point.state())?;
+    }
+    Ok(states)
 }
 
 /// Applies the entries of a step to the points, and returns for each point the state with the greatest number that it
@@ -193,13 +215,12 @@ fn step_states(
     entries: &[Entry],
 ) -> Result<Vec<State>, AllocError>
     requires few { HaveRoom points.old (length entries.now) }
+    ensures stand { OnOk result (points.new ≡ stand points.old entries.now) }
     ensures bounded { OnOk result
         ((n : ℕ) → AreWithin n points.old → AreWithin (n + length entries.now) points.new) }
+    ensures shown { IfOk result (λ states. states.items ≡ step_shows points.old entries.now) }
 {
-    let mut states = Vec::new(alloc);
-    for point in points.iter() {
-        states.push(point.state())?;
-    }
+    let mut states = states_of(alloc, points)?;
     follow_step(points, &mut states, entries);
     Ok(states)
 }
@@ -215,6 +236,8 @@ pub fn follow_states(
     requires { length entries.now ≤ ENTRIES }
     ensures steps { IfOk result (λ bands. bands.steps ≡ steps_along axis) }
     ensures points { IfOk result (λ bands. bands.points ≡ length (opening_state config.now).points) }
+    ensures states { IfOk result
+        (λ bands. Shows axis (opening_state config.now).points entries.now bands.states.items) }
 {
     let steps = steps_of(axis);
     let cuts = cuts(alloc, entries, axis, steps)?;

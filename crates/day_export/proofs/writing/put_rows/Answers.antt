@@ -15,8 +15,8 @@ loop-entry-preserved g c =
     let stood = c.loop-entry.invariant.stand in
     let same : 4290000000 + i + 1 ≡ 4290000000 + (i + 1) = omega arith in
     record {
-      stand = c.in_ok-follow.ensures.is ∙ ap (λ s. stand_after s e) stood ∙ sym (stands-more start entries i e lt c.entry-item.is);
-      bounded = subst (λ n. AreWithin n c.follow.new.self.points.items) same (c.in_ok-follow.ensures.bounded (4290000000 + i) c.loop-entry.invariant.bounded);
+      stand = c.in_ok-follow.ensures.moved.is ∙ ap (λ s. stand_after s e) stood ∙ sym (stands-more start entries i e lt c.entry-item.is);
+      bounded = subst (λ n. AreWithin n c.follow.new.self.points.items) same (c.in_ok-follow.ensures.moved.bounded (4290000000 + i) c.loop-entry.invariant.bounded);
       ready = c.in_ok-put_row.ensures.ready;
       text = text-more (g.T.RowTaker.taken c.args.to.now) (g.T.RowTaker.taken c.loop-entry.to) (g.T.RowTaker.taken c.put_row.new.to) c.args.rows
           g.T.RowTaker.format start (stand_of c.loop-entry.standing) entries i e lt c.entry-item.is stood c.loop-entry.invariant.text

@@ -1,10 +1,11 @@
 use Rattle.std.proofs.Common.{◌≡◌, ℕ, ◌+◌, ◌<◌, ◌++◌, length, arith, ap, subst, ◌∙◌, sym}
 use Rattle.std.specs.Prelude.{option_to_list}
+use Rattle.std.proofs.lemmas.Bool.{false≢true}
 use Rattle.std.proofs.lemmas.Grind.{common_steps}
 use Rattle.day_report.specs.Following.{AreWithin}
 use Rattle.day_report.specs.Walk.{with_entry}
 use Rattle.day_report.specs.Sales.{sale_of}
-use Rattle.day_report.proofs.OneMore.{stand-more, sales-more}
+use Rattle.day_report.proofs.OneMore.{stand-more, sales-more, sales-none}
 use Rattle.day_report.proofs.sales.follow_sales.Goals as goal
 
 pub loop-entry-preserved : goal.loop-entry-preserved
@@ -30,3 +31,12 @@ follow-requires c = λ k d within.
     let lt : c.loop-entry.entry-index < length c.args.entries.now = grind (arith, common_steps) in
     let few = c.requires.few in
     let most = c.loop-entry.invariant.2 few.0 few.1 k d within in omega (arith, most, few.2, lt)
+
+pub returns-in_err-push_some-clause-none : goal.returns-in_err-push_some-clause-none
+returns-in_err-push_some-clause-none c = λ none.
+    let i = c.loop-entry.entry-index in
+    let entries = c.args.entries.now in
+    let e = c.entry-item.result in
+    let lt : i < length entries = grind (arith, common_steps) in
+    let item = c.sale_of.ensures ∙ ap (λ p. sale_of p e) c.loop-entry.invariant.0 ∙ sales-none c.args.points.now entries i e lt c.entry-item.is none in
+    absurd (false≢true (c.in_err-push_some.ensures.none item))

@@ -6,8 +6,8 @@ use Rattle.day_export.specs.Standing.{ended_by, prices_after, stand_of}
 use Rattle.day_export.proofs.Moving.{moved, refilled}
 use Rattle.day_export.proofs.standing.Standing.follow.Goals as goal
 
-pub returns : goal.returns
-returns c =
+pub returns-clause-moved : goal.returns-clause-moved
+returns-clause-moved c =
     let e = c.args.entry.now in
     let old = c.args.self.now in
     let same = c.deref_mut.ensures.value in
