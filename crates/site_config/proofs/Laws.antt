@@ -1,18 +1,16 @@
 -- By the configuration a door takes a line of a till, or a line that names a point, exactly if a session of its role
 -- may send it.
-use Rattle.std.proofs.Common.{◌≡◌, ℕ, zero, suc, ◌+◌, ◌-◌, ◌/◌, ◌%◌, ◌^◌, ◌≤◌, ◌==◌, ◌&&◌, ◌||◌, nat_le, not, length, ℤ, pos, negsuc, List, [], ◌∷◌, Bool, true, false, cond}
+use Rattle.std.proofs.Common.{◌≡◌, ℕ, ◌+◌, ◌-◌, ◌/◌, ◌%◌, ◌^◌, ◌≤◌, ◌==◌, ◌&&◌, ◌||◌, nat_le, not, length, ℤ, pos, negsuc, List, [], ◌∷◌, Bool, true, false, cond}
 use Rattle.std.proofs.Common.{Result, Ok, Err, refl, sym, subst, ap, ◌∙◌, arith}
 use Rattle.std.specs.Prelude.{bit_or}
 use Rattle.std.specs.Ordering.{int_eq}
 use Rattle.std.specs.List.{list_any}
 use Rattle.std.proofs.lemmas.Nat.{shr_le}
 use Rattle.std.proofs.lemmas.Bool.Decides.{nat_tests}
-use Rattle.till_request.specs.declared.act.Role.{Role}
 use Rattle.till_request.specs.declared.act.Role.TheVariants as roles
 use Rattle.site_config.specs.declared.flaw.ConfigFlaw.{ConfigFlaw}
 use Rattle.site_config.specs.declared.flaw.Key.TheVariants as key
 use Rattle.site_config.specs.declared.flaw.Place.{Place}
-use Rattle.site_config.specs.declared.raw.RawRole.{RawRole}
 use Rattle.site_config.specs.declared.raw.RawRole.TheVariants.{Tills, OneTill, Dispensers, SomePoints, Owner}
 use Rattle.site_config.specs.Document.{◌>>=◌, demand}
 use Rattle.site_config.specs.Demands.{ranged}
@@ -21,7 +19,7 @@ use Rattle.site_config.specs.Laws.{TakesOwnLines, DoorsTakeOwnLines}
 use Rattle.site_config.proofs.Bits.{bit_more}
 
 -- if two steps succeed together, then the first step gives a value, and the second one succeeds with this value
-went_on : {A B : Type 0} (r : Result A ConfigFlaw) (f : A → Result B ConfigFlaw) (y : B) → (r >>= f) ≡ Ok y → (x : A) × (r ≡ Ok x) × (f x ≡ Ok y)
+pub went_on : {A B : Type 0} (r : Result A ConfigFlaw) (f : A → Result B ConfigFlaw) (y : B) → (r >>= f) ≡ Ok y → (x : A) × (r ≡ Ok x) × (f x ≡ Ok y)
 went_on (Ok x) f y e = (x, refl, e)
 went_on (Err flaw) f y e = absurd (cc)
 

@@ -103,6 +103,12 @@ role_of tills points place (SomePoints zs) = do
   Ok (roles.SomePoints bits)
 role_of tills points place Owner = Ok roles.Owner
 
+-- Ok if the address is in its range, or else the flaw.
+unfoldable pub address_fits : Place → RawAddress → Result (Unit {0}) ConfigFlaw
+address_fits place address = do
+  a ← address_of place address
+  Ok tt
+
 -- Ok if the address and the role of the door are in their ranges, or else the flaw.
 unfoldable pub door_fits : ℕ → ℕ → RawDoor → Result (Unit {0}) ConfigFlaw
 door_fits tills points d = do

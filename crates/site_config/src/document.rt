@@ -1,8 +1,9 @@
 //! Reads bytes as a TOML document.
-ghost use Rattle.std.specs.Prelude.{◌≡◌, ◌≢◌, ◌<◌, ◌≤◌, IfErr, IfOk, None, Some, length};
+ghost use Rattle.std.specs.Prelude.{◌≡◌, ◌≢◌, ◌<◌, ◌≤◌, Err, IfErr, IfOk, None, Some, length};
+ghost use Rattle.toml.specs.Errors.{IsBlank};
 ghost use Rattle.toml.specs.View.{table_view};
 ghost use Rattle.site_config.specs.Document.{document_of};
-ghost use Rattle.site_config.specs.Flaws.{HasMessage, IsOfText, StandsAt};
+ghost use Rattle.site_config.specs.Flaws.{HasMessage, IsOfText, StandsAt, position_of};
 ghost use Rattle.site_config.specs.Positions.{past, position_behind, position_at};
 
 use crate::flaw::ConfigFlaw;
@@ -46,6 +47,7 @@ fn not_toml(alloc: Global, text: &str, at: usize, message: &str) -> ConfigFlaw
     requires { at ≤ length text.now }
     ensures fault { result ≢ ConfigFlaw.OutOfMemory → IsOfText result }
     ensures position { StandsAt text.now result }
+    ensures at { result ≢ ConfigFlaw.OutOfMemory → position_of result ≡ Some (position_at text.now at) }
     ensures message { HasMessage message.now result }
 {
     let (line, column) = position_at(text.as_bytes(), at);
@@ -60,12 +62,13 @@ fn not_toml(alloc: Global, text: &str, at: usize, message: &str) -> ConfigFlaw
 }
 
 /// Reads the bytes as a document. The error is `NotUtf8` or `NotToml` with its position (K1), or that memory ran out.
-#[tactic(auto, unfolding(crate::specs::Document::document_of))]
+#[tactic(auto, using(crate::proofs::Memory::not_blank), unfolding(crate::specs::Document::document_of))]
 pub fn read_document(alloc: Global, bytes: &[u8]) -> Result<Table, ConfigFlaw>
     ensures read { IfOk result (λ table. document_of bytes.now ≡ Some (table_view table)) }
     ensures none { IfErr result (λ flaw. flaw ≢ ConfigFlaw.OutOfMemory → document_of bytes.now ≡ None) }
     ensures fault { IfErr result (λ flaw. flaw ≢ ConfigFlaw.OutOfMemory → IsOfText flaw) }
     ensures position { IfErr result (StandsAt bytes.now) }
+    ensures memory { result ≡ Err ConfigFlaw.OutOfMemory → ¬ IsBlank bytes.now }
 {
     match str::from_utf8(bytes) {
         Err(error) => {

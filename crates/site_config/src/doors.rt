@@ -1,5 +1,5 @@
 //! Checks the doors of `[serve]`, and makes them (K3).
-ghost use Rattle.std.specs.Prelude.{◌≡◌, ◌≢◌, ◌≤◌, ◌+◌, length, map, IfOk, IfSome, Err};
+ghost use Rattle.std.specs.Prelude.{◌≡◌, ◌≢◌, ◌<◌, ◌≤◌, ◌+◌, length, map, IfOk, IfSome, IsOkAnd, Err};
 ghost use Rattle.site_config.specs.Document.{Finds};
 ghost use Rattle.site_config.specs.Demands.{ranged};
 ghost use Rattle.site_config.specs.Typed.{seen_serve};
@@ -8,7 +8,8 @@ ghost use Rattle.site_config.specs.Doors.{beside, item_of, address_of, with_poin
 ghost use Rattle.site_config.specs.Doors.{door_fits, doors_fit, address_clash, till_clash, pair_clash, clash_with};
 ghost use Rattle.site_config.specs.Doors.{clash_among, page_clash, page_of, shared_workers, workers_of, is_single};
 ghost use Rattle.site_config.specs.Doors.{count_single, takes, is_taken, first_left, side_fits, door_of};
-ghost use Rattle.site_config.specs.Doors.{each_door, serve_of, address_seen, door_seen, serve_seen};
+ghost use Rattle.site_config.specs.Doors.{each_door, serve_of, address_seen, address_fits, door_seen, serve_seen};
+ghost use Rattle.site_config.specs.Memory.{HasPath, HasDoors};
 ghost use Rattle.site_config.specs.Laws.{DoorsTakeOwnLines};
 ghost use Rattle.bpf_model.specs.declared.limits.TheConstants.{POINTS};
 
@@ -50,7 +51,8 @@ fn item_of(list: Place, place: usize) -> Place
 /// Makes the address of a door. The error is `OutOfRange` or `Empty`, or that memory ran out.
 #[tactic(auto, unfolding(crate::specs::Doors::address_of))]
 fn make_address(alloc: Global, place: Place, address: &RawAddress) -> Result<Address, ConfigFlaw>
-    ensures { Finds address_seen result (address_of place address.now) }
+    ensures read { Finds address_seen result (address_of place address.now) }
+    ensures memory { result ≡ Err ConfigFlaw.OutOfMemory → HasPath address.now }
 {
     match address {
         RawAddress::Port(port) => Ok(Address::Port(value_of!(in_range(place, *port, 1, 65_535)))),
@@ -61,6 +63,25 @@ fn make_address(alloc: Global, place: Place, address: &RawAddress) -> Result<Add
             Ok(Address::Socket(room_for!(String::from_str(alloc, path.as_str()))))
         }
     }
+}
+
+/// Checks the address of a door. The error is `OutOfRange` or `Empty`.
+#[tactic(auto, unfolding(crate::specs::Doors::address_fits, crate::specs::Doors::address_of))]
+fn check_address(place: Place, address: &RawAddress) -> Result<(), ConfigFlaw>
+    ensures read { Finds (λ x. x) result (address_fits place address.now) }
+    ensures memory { result ≢ Err ConfigFlaw.OutOfMemory }
+{
+    match address {
+        RawAddress::Port(port) => {
+            let _port = value_of!(in_range(place, *port, 1, 65_535));
+        }
+        RawAddress::Socket(path) => {
+            if path.as_str().is_empty() {
+                return Err(ConfigFlaw::Empty(place));
+            }
+        }
+    }
+    Ok(())
 }
 
 /// Adds a point to points that are given as bits: point p is bit p - 1. The error is `OutOfRange` or `PointTwice`.
@@ -143,22 +164,24 @@ fn make_role(tills: u32, points: u32, place: Place, role: &RawRole) -> Result<Ro
 }
 
 /// Checks that the address and the role of a door are in their ranges.
-#[tactic(auto, unfolding(crate::specs::Doors::door_fits))]
-fn check_door(alloc: Global, tills: u32, points: u32, door: &RawDoor) -> Result<(), ConfigFlaw>
+#[tactic(auto, unfolding(crate::specs::Doors::door_fits, crate::specs::Doors::address_fits))]
+fn check_door(tills: u32, points: u32, door: &RawDoor) -> Result<(), ConfigFlaw>
     requires { points ≤ POINTS }
-    ensures { Finds (λ x. x) result (door_fits tills points door.now) }
+    ensures read { Finds (λ x. x) result (door_fits tills points door.now) }
+    ensures memory { result ≢ Err ConfigFlaw.OutOfMemory }
 {
-    let _address = value_of!(make_address(alloc, door.place, &door.address));
+    value_of!(check_address(door.place, &door.address));
     let _role = value_of!(make_role(tills, points, door.place, &door.role));
     Ok(())
 }
 
-fn check_doors(alloc: Global, tills: u32, points: u32, doors: &[RawDoor]) -> Result<(), ConfigFlaw>
+fn check_doors(tills: u32, points: u32, doors: &[RawDoor]) -> Result<(), ConfigFlaw>
     requires { points ≤ POINTS }
-    ensures { Finds (λ x. x) result (doors_fit tills points doors.now) }
+    ensures read { Finds (λ x. x) result (doors_fit tills points doors.now) }
+    ensures memory { result ≢ Err ConfigFlaw.OutOfMemory }
 {
     for door in doors {
-        value_of!(check_door(alloc, tills, points, door));
+        value_of!(check_door(tills, points, door));
     }
     Ok(())
 }
@@ -391,8 +414,9 @@ struct Counts {
 #[tactic(auto, unfolding(crate::specs::Doors::door_of))]
 fn make_door(alloc: Global, counts: Counts, door: &RawDoor) -> Result<Door, ConfigFlaw>
     requires { counts.points ≤ POINTS }
-    ensures { Finds door_seen result
+    ensures read { Finds door_seen result
         (door_of counts.tills counts.points counts.till_workers counts.dispenser_workers door.now) }
+    ensures memory { result ≡ Err ConfigFlaw.OutOfMemory → HasPath door.now.address }
 {
     let address = value_of!(make_address(alloc, door.place, &door.address));
     let role = value_of!(make_role(counts.tills, counts.points, door.place, &door.role));
@@ -407,8 +431,9 @@ fn make_door(alloc: Global, counts: Counts, door: &RawDoor) -> Result<Door, Conf
 
 fn make_doors(alloc: Global, counts: Counts, doors: &[RawDoor]) -> Result<Vec<Door>, ConfigFlaw>
     requires { counts.points ≤ POINTS }
-    ensures { Finds (λ v. map door_seen v.items) result
+    ensures read { Finds (λ v. map door_seen v.items) result
         (each_door (door_of counts.tills counts.points counts.till_workers counts.dispenser_workers) doors.now) }
+    ensures memory { result ≡ Err ConfigFlaw.OutOfMemory → 0 < length doors.now }
 {
     let mut made = Vec::new(alloc);
     for door in doors {
@@ -435,9 +460,11 @@ pub fn make_serve(
     served: &Served,
 ) -> Result<Serve, ConfigFlaw>
     requires { points ≤ POINTS }
-    ensures { Finds serve_seen result (serve_of tills points (seen_serve served.now)) }
+    ensures read { Finds serve_seen result (serve_of tills points (seen_serve served.now)) }
+    ensures memory { result ≡ Err ConfigFlaw.OutOfMemory
+        → IsOkAnd (serve_of tills points (seen_serve served.now)) HasDoors }
 {
-    value_of!(check_doors(alloc, tills, points, &served.doors));
+    value_of!(check_doors(tills, points, &served.doors));
     value_of!(check_apart(&served.doors));
     let till_workers = value_of!(shared_of(Key::TillWorkers, served.till_workers, MOST_OF_TILLS));
     let workers = served.dispenser_workers;

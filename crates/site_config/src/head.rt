@@ -1,9 +1,9 @@
 //! A configuration that comes before a script in one stream.
-ghost use Rattle.std.specs.Prelude.{◌≡◌, ◌≤◌, ◌-◌, ℕ, List, IfOk, OnErr, Err, length, option_map};
+ghost use Rattle.std.specs.Prelude.{◌≡◌, ◌≢◌, ◌≤◌, ◌-◌, ℕ, List, IfOk, OnErr, Err, length, option_map};
 ghost use Rattle.std.specs.Io.KnownBytes.{Consumes};
 ghost use Rattle.till_request.specs.Count.{RoseBy, one_if};
 ghost use Rattle.till_request.specs.Line.{TakesSome, is_input_fault};
-ghost use Rattle.site_config.specs.Head.{ends_head, head_part, IsHead, TakesByReads};
+ghost use Rattle.site_config.specs.Head.{ends_head, head_part, IsHead, TakesByReads, TakesOpen, TakesReads};
 
 use std::alloc::Global;
 use till_request::{InputFault, LineIn, next_byte};
@@ -31,11 +31,15 @@ pub fn read_head<I: LineIn>(
 ) -> Result<Vec<u8>, InputFault>
     ensures taken { IfOk result (λ bytes. IsHead (I.remaining input.old) (I.remaining input.new) bytes.items) }
     ensures given { OnErr result (TakesSome (I.remaining input.old) (I.remaining input.new)) }
+    ensures open { result ≢ Err InputFault.OutOfMemory
+        → OnErr result (TakesOpen (I.remaining input.old) (I.remaining input.new)) }
+    ensures each { IfOk result (λ bytes. TakesReads (I.remaining input.new) (length bytes.items) left.old left.new) }
     ensures left { left.new ≤ left.old }
     ensures spent { result ≡ Err InputFault.ReadsSpent → left.new ≡ 0 }
     ensures memory { result ≡ Err InputFault.OutOfMemory
         → TakesByReads (I.remaining input.old) (I.remaining input.new) left.old left.new }
     ensures counted { RoseBy (left.old - left.new) (I.reads input.old) (I.reads input.new) }
+    ensures asked { RoseBy (left.old - left.new) (I.asked input.old) (I.asked input.new) }
     ensures failed { RoseBy (one_if (is_input_fault result)) (I.failures input.old) (I.failures input.new) }
 {
     let mut bytes = Vec::new(alloc);

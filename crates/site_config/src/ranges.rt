@@ -1,7 +1,9 @@
 //! Checks the ranges, lengths, counts and conditions of a configuration (K3), and makes the settings.
 ghost use Rattle.std.specs.Prelude.{◌≡◌, ◌≢◌, ◌≤◌, ◌-◌, ◌++◌, length, replicate, option_map, IfErr, IfOk, All};
-ghost use Rattle.std.specs.Prelude.{None, Some, Err};
+ghost use Rattle.std.specs.Prelude.{None, Some, Err, IsOkAnd, IsSomeAnd, true};
+ghost use Rattle.std.specs.Str.{is_utf8};
 ghost use Rattle.toml.specs.Data.{Members};
+ghost use Rattle.toml.specs.Errors.{IsBlank};
 ghost use Rattle.toml.specs.View.{table_view};
 ghost use Rattle.site_core.specs.Limits.{IsCounter};
 ghost use Rattle.site_config.specs.Document.{Finds, Gives, document_of, each_of};
@@ -11,6 +13,7 @@ ghost use Rattle.site_config.specs.Demands.{ranged};
 ghost use Rattle.site_config.specs.Doors.{serve_seen};
 ghost use Rattle.site_config.specs.Ranges.{price_of, point_of, counter_of, prices_of, points_of, counters_of};
 ghost use Rattle.site_config.specs.Ranges.{serve_from, told_of, told, settings_of, config_of};
+ghost use Rattle.site_config.specs.Memory.{MakesFirst, HasDoors, TakesPrices, TakesSettings, TakesDocument};
 ghost use Rattle.bpf_model.specs.declared.limits.TheConstants.{COUNTERS, POINTS};
 
 use crate::document::read_document;
@@ -92,6 +95,7 @@ fn make_price(place: usize, value: i64) -> Result<u32, ConfigFlaw>
 
 fn each_price(alloc: Global, values: &[i64]) -> Result<Vec<u32>, ConfigFlaw>
     ensures read { Finds (λ v. v.items) result (each_of price_of 0 values.now) }
+    ensures memory { result ≡ Err ConfigFlaw.OutOfMemory → MakesFirst (price_of 0) values.now }
     ensures each { IfOk result (λ v. length v.items ≡ length values.now) }
     ensures range { IfOk result (λ v. All (λ price. price ≤ MOST_PRICE) v.items) }
 {
@@ -117,10 +121,10 @@ fn eight_of(list: &[u32]) -> [u32; 8]
     array
 }
 
-#[tactic(auto, unfolding(crate::specs::Ranges::prices_of))]
+#[tactic(auto, unfolding(crate::specs::Ranges::prices_of, crate::specs::Memory::TakesPrices))]
 fn make_prices(alloc: Global, values: &[i64]) -> Result<[u32; 8], ConfigFlaw>
     ensures read { Finds (λ x. x) result (prices_of values.now) }
-    ensures memory { result ≡ Err ConfigFlaw.OutOfMemory → length values.now ≡ 8 }
+    ensures memory { result ≡ Err ConfigFlaw.OutOfMemory → TakesPrices values.now }
     ensures range { IfOk result (All (λ price. price ≤ MOST_PRICE)) }
 {
     if values.len() != 8 {
@@ -132,6 +136,7 @@ fn make_prices(alloc: Global, values: &[i64]) -> Result<[u32; 8], ConfigFlaw>
 
 fn each_point(alloc: Global, pairs: &[(i64, i64)]) -> Result<Vec<(u32, u32)>, ConfigFlaw>
     ensures read { Finds (λ v. v.items) result (each_of point_of 0 pairs.now) }
+    ensures memory { result ≡ Err ConfigFlaw.OutOfMemory → MakesFirst (point_of 0) pairs.now }
     ensures each { IfOk result (λ v. length v.items ≡ length pairs.now) }
     ensures range { IfOk result (λ v. All (λ p. (p.0 ≤ 15) × (p.1 ≤ 15)) v.items) }
 {
@@ -145,7 +150,8 @@ fn each_point(alloc: Global, pairs: &[(i64, i64)]) -> Result<Vec<(u32, u32)>, Co
 #[tactic(auto, unfolding(crate::specs::Ranges::points_of))]
 fn make_points(alloc: Global, pairs: &[(i64, i64)]) -> Result<Vec<(u32, u32)>, ConfigFlaw>
     ensures read { Finds (λ v. v.items) result (points_of pairs.now) }
-    ensures memory { result ≡ Err ConfigFlaw.OutOfMemory → (1 ≤ length pairs.now) × (length pairs.now ≤ POINTS) }
+    ensures memory { result ≡ Err ConfigFlaw.OutOfMemory
+        → (length pairs.now ≤ POINTS) × MakesFirst (point_of 0) pairs.now }
     ensures count { IfOk result (λ v. (1 ≤ length v.items) × (length v.items ≤ POINTS)) }
     ensures range { IfOk result (λ v. All (λ p. (p.0 ≤ 15) × (p.1 ≤ 15)) v.items) }
 {
@@ -157,6 +163,7 @@ fn make_points(alloc: Global, pairs: &[(i64, i64)]) -> Result<Vec<(u32, u32)>, C
 
 fn each_counter(alloc: Global, pairs: &[(i64, i64)]) -> Result<Vec<(u64, u64)>, ConfigFlaw>
     ensures read { Finds (λ v. v.items) result (each_of counter_of 0 pairs.now) }
+    ensures memory { result ≡ Err ConfigFlaw.OutOfMemory → MakesFirst (counter_of 0) pairs.now }
     ensures each { IfOk result (λ v. length v.items ≡ length pairs.now) }
     ensures range { IfOk result (λ v. All IsCounter v.items) }
 {
@@ -182,7 +189,8 @@ fn table_of(list: &[(u64, u64)]) -> [(u64, u64); 32]
 #[tactic(auto, unfolding(crate::specs::Ranges::counters_of))]
 fn make_counters(alloc: Global, pairs: &[(i64, i64)]) -> Result<[(u64, u64); 32], ConfigFlaw>
     ensures read { Finds (λ x. x) result (counters_of pairs.now) }
-    ensures memory { result ≡ Err ConfigFlaw.OutOfMemory → length pairs.now ≤ COUNTERS }
+    ensures memory { result ≡ Err ConfigFlaw.OutOfMemory
+        → (length pairs.now ≤ COUNTERS) × MakesFirst (counter_of 0) pairs.now }
     ensures range { IfOk result (All IsCounter) }
 {
     if pairs.len() > 32 {
@@ -199,7 +207,9 @@ fn maybe_serve(
     served: &Option<Served>,
 ) -> Result<Option<Serve>, ConfigFlaw>
     requires { points ≤ POINTS }
-    ensures { Finds (option_map serve_seen) result (serve_from tills points (option_map seen_serve served.now)) }
+    ensures read { Finds (option_map serve_seen) result (serve_from tills points (option_map seen_serve served.now)) }
+    ensures memory { result ≡ Err ConfigFlaw.OutOfMemory
+        → IsOkAnd (serve_from tills points (option_map seen_serve served.now)) (λ s. IsSomeAnd s HasDoors) }
 {
     match served {
         Some(served) => Ok(Some(value_of!(make_serve(alloc, tills, points, served)))),
@@ -208,9 +218,10 @@ fn maybe_serve(
 }
 
 /// Makes the settings from the keys of a document. The error is the first K3, or that memory ran out.
-#[tactic(auto, unfolding(crate::specs::Ranges::told_of))]
+#[tactic(auto, using(crate::proofs::Making::prices_made), unfolding(crate::specs::Ranges::told_of, crate::specs::Memory::TakesSettings))]
 fn make_settings(alloc: Global, raw: &Raw) -> Result<Settings, ConfigFlaw>
-    ensures { Finds told result (told_of (seen raw.now)) }
+    ensures read { Finds told result (told_of (seen raw.now)) }
+    ensures memory { result ≡ Err ConfigFlaw.OutOfMemory → TakesSettings (seen raw.now) }
 {
     let section = Section::Top;
     let tills = value_of!(in_range(Place::At(section, Key::Tills), raw.tills, 1, 64));
@@ -231,9 +242,10 @@ fn make_settings(alloc: Global, raw: &Raw) -> Result<Settings, ConfigFlaw>
 }
 
 /// Reads the settings from a document. The error is its first flaw (K2 or K3), or that memory ran out.
-#[tactic(auto, unfolding(crate::specs::Ranges::settings_of))]
+#[tactic(auto, unfolding(crate::specs::Ranges::settings_of, crate::specs::Memory::TakesDocument))]
 fn settings_in(alloc: Global, document: &Table) -> Result<Settings, ConfigFlaw>
-    ensures { Finds told result (settings_of (table_view document.now)) }
+    ensures read { Finds told result (settings_of (table_view document.now)) }
+    ensures memory { result ≡ Err ConfigFlaw.OutOfMemory → TakesDocument (table_view document.now) }
 {
     let raw = value_of!(read_typed(alloc, document));
     make_settings(alloc, &raw)
@@ -248,6 +260,7 @@ pub fn read_settings(alloc: Global, bytes: &[u8]) -> Result<Settings, ConfigFlaw
     ensures named { (document : Members) → document_of bytes.now ≡ Some document
         → Finds told result (settings_of document) }
     ensures position { document_of bytes.now ≡ None → IfErr result (StandsAt bytes.now) }
+    ensures memory { result ≡ Err ConfigFlaw.OutOfMemory → (is_utf8 bytes.now ≡ true) × (¬ IsBlank bytes.now) }
 {
     match read_document(alloc, bytes) {
         Ok(document) => settings_in(alloc, &document),
@@ -257,7 +270,8 @@ pub fn read_settings(alloc: Global, bytes: &[u8]) -> Result<Settings, ConfigFlaw
 
 /// Reads the settings from a text. The error is the fault number of the text's first flaw, or that memory ran out.
 pub fn read_config(alloc: Global, bytes: &[u8]) -> Result<Settings, ConfigFault>
-    ensures { Gives told result (config_of bytes.now) }
+    ensures found { Gives told result (config_of bytes.now) }
+    ensures memory { result ≡ Err ConfigFault.OutOfMemory → (is_utf8 bytes.now ≡ true) × (¬ IsBlank bytes.now) }
 {
     match read_settings(alloc, bytes) {
         Ok(settings) => Ok(settings),

@@ -1,5 +1,5 @@
 //! Reads the table `[serve]` and the tables of doors in it, and checks their types (K2).
-ghost use Rattle.std.specs.Prelude.{◌≡◌, ◌≢◌, Err, option_map};
+ghost use Rattle.std.specs.Prelude.{◌≡◌, ◌≢◌, ◌<◌, Err, IsOkAnd, IsSomeAnd, length, option_map};
 ghost use Rattle.toml.specs.View.{view, table_view, items_view};
 ghost use Rattle.toml.specs.Data.{get_member};
 ghost use Rattle.site_config.specs.Document.{Finds, with_front};
@@ -7,6 +7,8 @@ ghost use Rattle.site_config.specs.Keys.{name_of};
 ghost use Rattle.site_config.specs.Typed.{text_of, has_shared, door_at, shared_at, workers_at, till_in};
 ghost use Rattle.site_config.specs.Typed.{dispenser_in, single_in, each_in, tables_from, owner_at, doors_at};
 ghost use Rattle.site_config.specs.Typed.{idle_from, page_from, served_in, served_at, seen_serve};
+ghost use Rattle.site_config.specs.Memory.{KeepsFirst, TakesDoor, TakesShared, TakesTill, TakesDispenser};
+ghost use Rattle.site_config.specs.Memory.{TakesSingle, TakesTables, TakesDoors, TakesServed};
 
 use crate::flaw::{ConfigFlaw, Key, Place, Section, Side};
 use crate::raw::{Numbers, RawAddress, RawDoor, RawRole, Served};
@@ -32,15 +34,17 @@ const KEYS: (Key, Key) = (Key::Port, Key::Socket);
 
 /// Copies the text of a value. The error is `WrongType`, or that memory ran out.
 fn read_text(alloc: Global, value: &Value, place: Place) -> Result<Text, ConfigFlaw>
-    ensures { Finds (λ t. t) result (text_of place (view value.now)) }
+    ensures read { Finds (λ t. t) result (text_of place (view value.now)) }
+    ensures memory { result ≡ Err ConfigFlaw.OutOfMemory
+        → IsOkAnd (text_of place (view value.now)) (λ t. 0 < length t) }
 {
     let text = value_of!(text_of(value, place));
-    Ok(Text::new(room_for!(String::from_str(alloc, text))))
+    Ok(room_for!(Text::copied(alloc, text)))
 }
 
 /// Reads a door whose port is the value of one key, or whose socket is the value of another one. Exactly one of these
 /// keys must be given. The error is `Missing`, `BothThere` or `WrongType`, or that memory ran out.
-#[tactic(auto, unfolding(crate::specs::Typed::door_at))]
+#[tactic(auto, unfolding(crate::specs::Typed::door_at, crate::specs::Memory::TakesDoor))]
 fn read_door(
     alloc: Global,
     table: &Table,
@@ -48,7 +52,8 @@ fn read_door(
     keys: (Key, Key),
     role: RawRole,
 ) -> Result<RawDoor, ConfigFlaw>
-    ensures { Finds (λ x. x) result (door_at section keys role (table_view table.now)) }
+    ensures read { Finds (λ x. x) result (door_at section keys role (table_view table.now)) }
+    ensures memory { result ≡ Err ConfigFlaw.OutOfMemory → TakesDoor section keys (table_view table.now) }
 {
     let port = Place::At(section, keys.0);
     let socket = Place::At(section, keys.1);
@@ -81,7 +86,7 @@ fn is_shared(table: &Table, keys: (Key, Key)) -> bool
 /// Reads the shared door of tills or of dispensers, and appends it to the doors so far. If its keys aren't given, there
 /// must be tables of doors at the key `tables`. The error is `Missing`, `BothThere` or `WrongType`, or that memory ran
 /// out.
-#[tactic(auto, unfolding(crate::specs::Typed::shared_at))]
+#[tactic(auto, unfolding(crate::specs::Typed::shared_at, crate::specs::Memory::TakesShared))]
 fn add_shared(
     alloc: Global,
     table: &Table,
@@ -90,7 +95,9 @@ fn add_shared(
     role: RawRole,
     mut doors: Vec<RawDoor>,
 ) -> Result<Vec<RawDoor>, ConfigFlaw>
-    ensures { Finds (λ v. v.items) result (with_front doors.items (shared_at keys tables role (table_view table.now))) }
+    ensures read { Finds (λ v. v.items) result
+        (with_front doors.items (shared_at keys tables role (table_view table.now))) }
+    ensures memory { result ≡ Err ConfigFlaw.OutOfMemory → TakesShared keys role (table_view table.now) }
 {
     if is_shared(table, keys) {
         room_for!(doors.push(value_of!(read_door(alloc, table, Section::Serve, keys, role))));
@@ -123,9 +130,10 @@ fn read_workers(table: &Table, keys: (Key, Key), key: Key) -> Result<Option<i64>
 }
 
 /// Reads the door of one till from its table, whose place is counted from 0.
-#[tactic(auto, unfolding(crate::specs::Typed::till_in))]
+#[tactic(auto, unfolding(crate::specs::Typed::till_in, crate::specs::Memory::TakesTill))]
 fn read_till(alloc: Global, value: &Value, place: usize) -> Result<RawDoor, ConfigFlaw>
-    ensures { Finds (λ x. x) result (till_in place (view value.now)) }
+    ensures read { Finds (λ x. x) result (till_in place (view value.now)) }
+    ensures memory { result ≡ Err ConfigFlaw.OutOfMemory → TakesTill place (view value.now) }
 {
     let section = Section::Till(place);
     let table = value_of!(table_of(value, Place::Item(Section::Serve, Key::Till, place)));
@@ -135,9 +143,10 @@ fn read_till(alloc: Global, value: &Value, place: usize) -> Result<RawDoor, Conf
 }
 
 /// Reads the door of some points from its table, whose place is counted from 0.
-#[tactic(auto, unfolding(crate::specs::Typed::dispenser_in, crate::specs::Typed::integers_at))]
+#[tactic(auto, unfolding(crate::specs::Typed::dispenser_in, crate::specs::Typed::integers_at, crate::specs::Memory::TakesDispenser, crate::specs::Memory::TakesIntegers))]
 fn read_dispenser(alloc: Global, value: &Value, place: usize) -> Result<RawDoor, ConfigFlaw>
-    ensures { Finds (λ x. x) result (dispenser_in place (view value.now)) }
+    ensures read { Finds (λ x. x) result (dispenser_in place (view value.now)) }
+    ensures memory { result ≡ Err ConfigFlaw.OutOfMemory → TakesDispenser place (view value.now) }
 {
     let section = Section::Dispenser(place);
     let table = value_of!(table_of(value, Place::Item(Section::Serve, Key::Dispenser, place)));
@@ -155,7 +164,8 @@ fn read_single(
     value: &Value,
     place: usize,
 ) -> Result<RawDoor, ConfigFlaw>
-    ensures { Finds (λ x. x) result (single_in side place (view value.now)) }
+    ensures read { Finds (λ x. x) result (single_in side place (view value.now)) }
+    ensures memory { result ≡ Err ConfigFlaw.OutOfMemory → TakesSingle side place (view value.now) }
 {
     match side {
         Side::Tills => read_till(alloc, value, place),
@@ -171,7 +181,10 @@ fn each_single(
     values: &[Value],
     mut doors: Vec<RawDoor>,
 ) -> Result<Vec<RawDoor>, ConfigFlaw>
-    ensures { Finds (λ v. v.items) result (with_front doors.items (each_in (single_in side) 0 (items_view values.now))) }
+    ensures read { Finds (λ v. v.items) result
+        (with_front doors.items (each_in (single_in side) 0 (items_view values.now))) }
+    ensures memory { result ≡ Err ConfigFlaw.OutOfMemory
+        → KeepsFirst (single_in side) (TakesSingle side) (items_view values.now) }
 {
     let mut place = 0;
     for value in values {
@@ -190,8 +203,10 @@ fn add_singles(
     side: Side,
     doors: Vec<RawDoor>,
 ) -> Result<Vec<RawDoor>, ConfigFlaw>
-    ensures { Finds (λ v. v.items) result
+    ensures read { Finds (λ v. v.items) result
         (with_front doors.items (tables_from (single_in side) key (get_member (name_of key) (table_view table.now)))) }
+    ensures memory { result ≡ Err ConfigFlaw.OutOfMemory
+        → TakesTables side key (get_member (name_of key) (table_view table.now)) }
 {
     match find_value(table, key.name()) {
         Some(value) => {
@@ -202,13 +217,14 @@ fn add_singles(
     }
 }
 
-#[tactic(auto, unfolding(crate::specs::Typed::owner_at))]
+#[tactic(auto, unfolding(crate::specs::Typed::owner_at, crate::specs::Memory::TakesShared))]
 fn add_owner(
     alloc: Global,
     table: &Table,
     mut doors: Vec<RawDoor>,
 ) -> Result<Vec<RawDoor>, ConfigFlaw>
-    ensures { Finds (λ v. v.items) result (with_front doors.items (owner_at (table_view table.now))) }
+    ensures read { Finds (λ v. v.items) result (with_front doors.items (owner_at (table_view table.now))) }
+    ensures memory { result ≡ Err ConfigFlaw.OutOfMemory → TakesShared OWNER_KEYS RawRole.Owner (table_view table.now) }
 {
     room_for!(doors.push(value_of!(read_door(
         alloc,
@@ -221,9 +237,10 @@ fn add_owner(
 }
 
 /// Reads all doors, in the order in which workers get their passes.
-#[tactic(auto, unfolding(crate::specs::Typed::doors_at, crate::specs::Typed::tills_at, crate::specs::Typed::dispensers_at))]
+#[tactic(auto, unfolding(crate::specs::Typed::doors_at, crate::specs::Typed::tills_at, crate::specs::Typed::dispensers_at, crate::specs::Memory::TakesDoors))]
 fn read_doors(alloc: Global, table: &Table) -> Result<Vec<RawDoor>, ConfigFlaw>
-    ensures { Finds (λ v. v.items) result (doors_at (table_view table.now)) }
+    ensures read { Finds (λ v. v.items) result (doors_at (table_view table.now)) }
+    ensures memory { result ≡ Err ConfigFlaw.OutOfMemory → TakesDoors (table_view table.now) }
 {
     let doors = Vec::new(alloc);
     let doors = value_of!(add_shared(alloc, table, TILL_KEYS, Key::Till, RawRole::Tills, doors));
@@ -258,9 +275,10 @@ fn read_page(table: &Table) -> Result<Option<i64>, ConfigFlaw>
     }
 }
 
-#[tactic(auto, unfolding(crate::specs::Typed::served_in))]
+#[tactic(auto, unfolding(crate::specs::Typed::served_in, crate::specs::Memory::TakesServed))]
 fn read_served(alloc: Global, value: &Value) -> Result<Served, ConfigFlaw>
-    ensures { Finds seen_serve result (served_in (view value.now)) }
+    ensures read { Finds seen_serve result (served_in (view value.now)) }
+    ensures memory { result ≡ Err ConfigFlaw.OutOfMemory → TakesServed (view value.now) }
 {
     let table = value_of!(table_of(value, Place::At(Section::Top, Key::Serve)));
     value_of!(check_keys(alloc, table, Section::Serve));
@@ -283,7 +301,9 @@ fn read_served(alloc: Global, value: &Value) -> Result<Served, ConfigFlaw>
 /// Reads the table `[serve]`, if there is one. The error is the first K2 in it, or that memory ran out.
 #[tactic(auto, unfolding(crate::specs::Typed::served_at))]
 pub fn find_served(alloc: Global, table: &Table) -> Result<Option<Served>, ConfigFlaw>
-    ensures { Finds (option_map seen_serve) result (served_at (table_view table.now)) }
+    ensures read { Finds (option_map seen_serve) result (served_at (table_view table.now)) }
+    ensures memory { result ≡ Err ConfigFlaw.OutOfMemory
+        → IsSomeAnd (get_member (name_of Key.Serve) (table_view table.now)) TakesServed }
 {
     match find_value(table, Key::Serve.name()) {
         Some(value) => Ok(Some(value_of!(read_served(alloc, value)))),

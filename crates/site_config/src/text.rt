@@ -1,7 +1,8 @@
 //! A text. In contracts its value is the list of its bytes.
-ghost use Rattle.std.specs.Prelude.{◌≡◌, string_bytes};
+ghost use Rattle.std.specs.Prelude.{◌≡◌, ◌<◌, IfOk, OnErr, length, string_bytes};
 ghost use Rattle.std.specs.Str.{bytes_eq};
 
+use std::alloc::{AllocError, Global};
 use std::fmt;
 use std::marker::Model;
 
@@ -24,6 +25,22 @@ impl Text {
         ensures { result ≡ string_bytes text }
     {
         Text { text }
+    }
+
+    /// Copies a text. The error is that memory ran out, which only a text that isn't empty needs.
+    pub fn copied(alloc: Global, text: &str) -> Result<Text, AllocError>
+        ensures same { IfOk result (λ copy. copy ≡ text.now) }
+        ensures memory { OnErr result (0 < length text.now) }
+    {
+        if text.is_empty() {
+            return Ok(Text {
+                text: String::new(alloc),
+            });
+        }
+        match String::from_str(alloc, text) {
+            Ok(text) => Ok(Text { text }),
+            Err(error) => Err(error),
+        }
     }
 
     pub fn as_str(&self) -> &str

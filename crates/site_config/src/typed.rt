@@ -1,8 +1,11 @@
 //! Reads the keys of a document and checks their types (K2).
+ghost use Rattle.std.specs.Prelude.{◌≡◌, Err};
 ghost use Rattle.toml.specs.View.{view, table_view, items_view};
 ghost use Rattle.site_config.specs.Document.{Finds};
 ghost use Rattle.site_config.specs.Typed.{pair_in, point_in, counter_in, each_in, integers_at, points_at};
 ghost use Rattle.site_config.specs.Typed.{counters_at, typed_of, seen};
+ghost use Rattle.site_config.specs.Memory.{KeepsFirst, TakesPair, TakesPoint, TakesCounter, TakesIntegers};
+ghost use Rattle.site_config.specs.Memory.{TakesPoints, TakesCounters, TakesTyped};
 
 use crate::flaw::{ConfigFlaw, Key, Place, Section};
 use crate::raw::Raw;
@@ -14,7 +17,7 @@ use std::alloc::Global;
 use toml::{Table, Value};
 
 /// Reads the numbers of two keys from a table.
-#[tactic(auto, unfolding(crate::specs::Typed::pair_in))]
+#[tactic(auto, unfolding(crate::specs::Typed::pair_in, crate::specs::Memory::TakesPair))]
 fn read_pair(
     alloc: Global,
     value: &Value,
@@ -22,7 +25,8 @@ fn read_pair(
     section: Section,
     keys: (Key, Key),
 ) -> Result<(i64, i64), ConfigFlaw>
-    ensures { Finds (λ x. x) result (pair_in place section keys (view value.now)) }
+    ensures read { Finds (λ x. x) result (pair_in place section keys (view value.now)) }
+    ensures memory { result ≡ Err ConfigFlaw.OutOfMemory → TakesPair place section (view value.now) }
 {
     let table = value_of!(table_of(value, place));
     value_of!(check_keys(alloc, table, section));
@@ -31,9 +35,10 @@ fn read_pair(
     Ok((first, second))
 }
 
-#[tactic(auto, unfolding(crate::specs::Typed::point_in))]
+#[tactic(auto, unfolding(crate::specs::Typed::point_in, crate::specs::Memory::TakesPoint))]
 fn read_point(alloc: Global, value: &Value, place: usize) -> Result<(i64, i64), ConfigFlaw>
-    ensures { Finds (λ x. x) result (point_in place (view value.now)) }
+    ensures read { Finds (λ x. x) result (point_in place (view value.now)) }
+    ensures memory { result ≡ Err ConfigFlaw.OutOfMemory → TakesPoint place (view value.now) }
 {
     let keys = (Key::Release, Key::Preset);
     read_pair(
@@ -45,9 +50,10 @@ fn read_point(alloc: Global, value: &Value, place: usize) -> Result<(i64, i64), 
     )
 }
 
-#[tactic(auto, unfolding(crate::specs::Typed::counter_in))]
+#[tactic(auto, unfolding(crate::specs::Typed::counter_in, crate::specs::Memory::TakesCounter))]
 fn read_counter(alloc: Global, value: &Value, place: usize) -> Result<(i64, i64), ConfigFlaw>
-    ensures { Finds (λ x. x) result (counter_in place (view value.now)) }
+    ensures read { Finds (λ x. x) result (counter_in place (view value.now)) }
+    ensures memory { result ≡ Err ConfigFlaw.OutOfMemory → TakesCounter place (view value.now) }
 {
     let keys = (Key::Value, Key::Bound);
     read_pair(
@@ -61,7 +67,8 @@ fn read_counter(alloc: Global, value: &Value, place: usize) -> Result<(i64, i64)
 
 /// Reads each item of a list as a point, and returns its two slots.
 fn read_points(alloc: Global, values: &[Value]) -> Result<Vec<(i64, i64)>, ConfigFlaw>
-    ensures { Finds (λ v. v.items) result (each_in point_in 0 (items_view values.now)) }
+    ensures read { Finds (λ v. v.items) result (each_in point_in 0 (items_view values.now)) }
+    ensures memory { result ≡ Err ConfigFlaw.OutOfMemory → KeepsFirst point_in TakesPoint (items_view values.now) }
 {
     let mut pairs = Vec::new(alloc);
     for value in values {
@@ -72,7 +79,8 @@ fn read_points(alloc: Global, values: &[Value]) -> Result<Vec<(i64, i64)>, Confi
 
 /// Reads each item of a list as a counter, and returns its value and its bound.
 fn read_counters(alloc: Global, values: &[Value]) -> Result<Vec<(i64, i64)>, ConfigFlaw>
-    ensures { Finds (λ v. v.items) result (each_in counter_in 0 (items_view values.now)) }
+    ensures read { Finds (λ v. v.items) result (each_in counter_in 0 (items_view values.now)) }
+    ensures memory { result ≡ Err ConfigFlaw.OutOfMemory → KeepsFirst counter_in TakesCounter (items_view values.now) }
 {
     let mut pairs = Vec::new(alloc);
     for value in values {
@@ -81,25 +89,28 @@ fn read_counters(alloc: Global, values: &[Value]) -> Result<Vec<(i64, i64)>, Con
     Ok(pairs)
 }
 
-#[tactic(auto, unfolding(crate::specs::Typed::integers_at))]
+#[tactic(auto, unfolding(crate::specs::Typed::integers_at, crate::specs::Memory::TakesIntegers))]
 fn find_prices(alloc: Global, table: &Table) -> Result<Vec<i64>, ConfigFlaw>
-    ensures { Finds (λ v. v.items) result (integers_at Section.Top Key.Prices (table_view table.now)) }
+    ensures read { Finds (λ v. v.items) result (integers_at Section.Top Key.Prices (table_view table.now)) }
+    ensures memory { result ≡ Err ConfigFlaw.OutOfMemory → TakesIntegers Section.Top Key.Prices (table_view table.now) }
 {
     let values = value_of!(find_array(table, Section::Top, Key::Prices));
     read_integers(alloc, values, Section::Top, Key::Prices)
 }
 
-#[tactic(auto, unfolding(crate::specs::Typed::points_at))]
+#[tactic(auto, unfolding(crate::specs::Typed::points_at, crate::specs::Memory::TakesPoints))]
 fn find_points(alloc: Global, table: &Table) -> Result<Vec<(i64, i64)>, ConfigFlaw>
-    ensures { Finds (λ v. v.items) result (points_at (table_view table.now)) }
+    ensures read { Finds (λ v. v.items) result (points_at (table_view table.now)) }
+    ensures memory { result ≡ Err ConfigFlaw.OutOfMemory → TakesPoints (table_view table.now) }
 {
     let values = value_of!(find_array(table, Section::Top, Key::Point));
     read_points(alloc, values)
 }
 
-#[tactic(auto, unfolding(crate::specs::Typed::counters_at))]
+#[tactic(auto, unfolding(crate::specs::Typed::counters_at, crate::specs::Memory::TakesCounters))]
 fn find_counters(alloc: Global, table: &Table) -> Result<Vec<(i64, i64)>, ConfigFlaw>
-    ensures { Finds (λ v. v.items) result (counters_at (table_view table.now)) }
+    ensures read { Finds (λ v. v.items) result (counters_at (table_view table.now)) }
+    ensures memory { result ≡ Err ConfigFlaw.OutOfMemory → TakesCounters (table_view table.now) }
 {
     match find_value(table, Key::Counter.name()) {
         Some(value) => {
@@ -112,9 +123,10 @@ fn find_counters(alloc: Global, table: &Table) -> Result<Vec<(i64, i64)>, Config
 
 /// Reads the values of all keys of a document. The error is the first K2 (an unknown key, a missing key or a wrong
 /// type), or that memory ran out.
-#[tactic(auto, unfolding(crate::specs::Typed::typed_of))]
+#[tactic(auto, unfolding(crate::specs::Typed::typed_of, crate::specs::Memory::TakesTyped))]
 pub fn read_typed(alloc: Global, table: &Table) -> Result<Raw, ConfigFlaw>
-    ensures { Finds seen result (typed_of (table_view table.now)) }
+    ensures read { Finds seen result (typed_of (table_view table.now)) }
+    ensures memory { result ≡ Err ConfigFlaw.OutOfMemory → TakesTyped (table_view table.now) }
 {
     let section = Section::Top;
     value_of!(check_keys(alloc, table, section));

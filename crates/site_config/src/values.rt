@@ -9,6 +9,7 @@ ghost use Rattle.site_config.specs.Typed.{is_top_key, is_point_key, is_counter_k
 ghost use Rattle.site_config.specs.Typed.{is_port_key, is_socket_key, is_number_key, is_dispenser_key};
 ghost use Rattle.site_config.specs.Typed.{is_key_of, other_key, known_in, has_key, integer_of, text_of, table_of};
 ghost use Rattle.site_config.specs.Typed.{array_of, integer_at, integer_in, array_at, each_in};
+ghost use Rattle.site_config.specs.Memory.{CopiesKey, KeepsFirst, TakesNone};
 
 use crate::flaw::{ConfigFlaw, Key, Place, Section, Type};
 use crate::text::Text;
@@ -185,12 +186,13 @@ fn is_dispenser(key: &str) -> bool
 /// Checks that a table of this section may have each key of `table`. The error is `UnknownKey` with the first key that
 /// it may not have, or that memory ran out.
 pub fn check_keys(alloc: Global, table: &Table, section: Section) -> Result<(), ConfigFlaw>
-    ensures { Finds (λ x. x) result (known_in section (table_view table.now)) }
+    ensures read { Finds (λ x. x) result (known_in section (table_view table.now)) }
+    ensures memory { result ≡ Err ConfigFlaw.OutOfMemory → CopiesKey section (table_view table.now) }
 {
     let Some(key) = unknown_key(table, section) else {
         return Ok(());
     };
-    let name = Text::new(room_for!(String::from_str(alloc, key)));
+    let name = room_for!(Text::copied(alloc, key));
     Err(ConfigFlaw::UnknownKey(section, name))
 }
 
@@ -201,7 +203,9 @@ pub fn read_integers(
     section: Section,
     key: Key,
 ) -> Result<Vec<i64>, ConfigFlaw>
-    ensures { Finds (λ v. v.items) result (each_in (integer_in section key) 0 (items_view values.now)) }
+    ensures read { Finds (λ v. v.items) result (each_in (integer_in section key) 0 (items_view values.now)) }
+    ensures memory { result ≡ Err ConfigFlaw.OutOfMemory
+        → KeepsFirst (integer_in section key) TakesNone (items_view values.now) }
 {
     let mut numbers = Vec::new(alloc);
     for value in values {

@@ -1,5 +1,6 @@
-use Rattle.std.proofs.Common.{◌++◌, ◌∷◌, [], arith, length-append}
+use Rattle.std.proofs.Common.{◌++◌, ◌∷◌, [], arith, rules}
 use Rattle.till_request.proofs.Taken.{consumes_more, given_so}
+use Rattle.site_config.proofs.Reading.{open_so}
 use Rattle.site_config.proofs.head.read_head.Goals as goal
 
 pub returns-in_err-push-in-Some-clause-given : goal.returns-in_err-push-in-Some-clause-given
@@ -11,8 +12,9 @@ pub returns-in_err-push-in-Some-clause-memory : goal.returns-in_err-push-in-Some
 returns-in_err-push-in-Some-clause-memory g c = λ is.
     let old = c.loop-bytes.bytes.items in
     let byte = c.in-Some.byte in (
-      old ++ byte ∷ [],
+      old,
+      byte,
       consumes_more _ _ _ old (byte ∷ []) c.loop-bytes.invariant.taken (rw c.in-Some.is at c.in_ok-next_byte.ensures.some),
-      omega (arith, length-append old (byte ∷ [])),
-      omega (arith, length-append old (byte ∷ []), c.loop-bytes.invariant.each, c.in_ok-next_byte.ensures.used),
+      open_so old c.loop-bytes.invariant.first (search rules) (omega arith),
+      omega (arith, c.loop-bytes.invariant.each, c.in_ok-next_byte.ensures.used),
     )

@@ -1,7 +1,8 @@
-use Rattle.std.proofs.Common.{◌≡◌, drop}
+use Rattle.std.proofs.Common.{◌≡◌, ◌≤◌, drop}
 use Rattle.toml.specs.View.{items_view}
 use Rattle.site_config.specs.Document.{with_front}
 use Rattle.site_config.specs.Typed.{each_in, single_in}
+use Rattle.site_config.specs.Memory.{KeepsFirst, TakesSingle}
 use Rattle.site_config.proofs.served.each_single.Given as goal
 
 -- The doors so far and those of the tables that are left are, together, the doors at the start and those of all tables.
@@ -10,4 +11,5 @@ invariant-loop-value l = record {
   read : with_front l.doors.items (each_in (single_in l.side) l.place (items_view (drop l.value-index l.values)))
       ≡ with_front l.initial.doors.items (each_in (single_in l.side) 0 (items_view l.values));
   counted : l.place ≡ l.value-index;
+  begun : 1 ≤ l.value-index → KeepsFirst (single_in l.side) (TakesSingle l.side) (items_view l.values);
 }

@@ -1,7 +1,8 @@
-use Rattle.std.proofs.Common.{◌≡◌, drop, length}
+use Rattle.std.proofs.Common.{◌≡◌, ◌≤◌, drop, length}
 use Rattle.toml.specs.View.{items_view}
 use Rattle.site_config.specs.Document.{with_front}
 use Rattle.site_config.specs.Typed.{each_in, point_in}
+use Rattle.site_config.specs.Memory.{KeepsFirst, TakesPoint}
 use Rattle.site_config.proofs.typed.read_points.Given as goal
 
 -- Reading the rest of the list and putting the items so far before it gives the same as reading the whole list.
@@ -9,4 +10,5 @@ abbrev pub invariant-loop-value : goal.invariant-loop-value
 invariant-loop-value l = record {
   read : with_front l.pairs.items (each_in point_in l.value-index (items_view (drop l.value-index l.values))) ≡ each_in point_in 0 (items_view l.values);
   each : length l.pairs.items ≡ l.value-index;
+  begun : 1 ≤ l.value-index → KeepsFirst point_in TakesPoint (items_view l.values);
 }

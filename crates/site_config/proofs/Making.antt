@@ -1,0 +1,58 @@
+-- Doors that fit can be made, and prices in their range take memory.
+use Rattle.std.proofs.Common.{◌≡◌, ℕ, suc, ◌<◌, ◌==◌, ℤ, List, [], ◌∷◌, length, Bool, true, false, Result, Ok, Err, IsOk, IsOkAnd, is_ok, refl, ap, arith}
+use Rattle.std.proofs.lemmas.Bool.{eqb-true}
+use Rattle.site_config.specs.declared.flaw.ConfigFlaw.{ConfigFlaw}
+use Rattle.site_config.specs.declared.raw.RawDoor.{RawDoor}
+use Rattle.site_config.specs.Document.{◌>>=◌, demand, each_of}
+use Rattle.site_config.specs.Doors.{DoorValue, ServeValue, address_of, role_of, workers_of, door_fits, doors_fit, door_of, each_door}
+use Rattle.site_config.specs.Ranges.{price_of, prices_of}
+use Rattle.site_config.specs.Memory.{HasDoors, MakesFirst, TakesPrices}
+use Rattle.site_config.proofs.Laws.{went_on}
+
+both : {A B C : Type 0} (a : Result A ConfigFlaw) (r : Result B ConfigFlaw) (f : A → B → C) → (a >>= (λ x. r >>= (λ y. Ok (tt {0})))) ≡ Ok (tt {0})
+    → IsOk (a >>= (λ x. r >>= (λ y. Ok (f x y))))
+both (Ok x) (Ok y) f e = refl
+both (Ok x) (Err g) f e = absurd (cc)
+both (Err g) r f e = absurd (cc)
+
+fits_made : (tills points t w : ℕ) (d : RawDoor) → door_fits tills points d ≡ Ok tt → IsOk (door_of tills points t w d)
+unfolding door_fits door_of
+fits_made tills points t w d e =
+    both (address_of d.place d.address) (role_of tills points d.place d.role)
+    (λ a r. record { place = d.place; address = a; role = r; workers = workers_of t w d.role }) e
+
+one_more : {B : Type 0} (r : Result B ConfigFlaw) (rs : Result (List B) ConfigFlaw) (n : ℕ) → IsOk r → IsOkAnd rs (λ xs. length xs ≡ n)
+    → IsOkAnd (r >>= (λ x. rs >>= (λ xs. Ok (x ∷ xs)))) (λ xs. length xs ≡ suc n)
+one_more (Ok x) (Ok xs) n o l = ap suc l
+one_more (Ok x) (Err g) n o l = absurd l
+one_more (Err g) rs n o l = absurd (cc)
+
+-- If all doors fit, then each of them can be made.
+pub all_made : (tills points t w : ℕ) (ds : List RawDoor) → doors_fit tills points ds ≡ Ok tt
+    → IsOkAnd (each_door (door_of tills points t w) ds) (λ made. length made ≡ length ds)
+all_made tills points t w [] e = refl
+all_made tills points t w (d ∷ ds) e =
+    let s = went_on (door_fits tills points d) (λ _. doors_fit tills points ds) tt e in
+    one_more (door_of tills points t w d) (each_door (door_of tills points t w) ds) (length ds) (fits_made tills points t w d s.1)
+    (all_made tills points t w ds s.2)
+
+pub with_doors : (r : Result (List DoorValue) ConfigFlaw) (n : ℕ) (f : List DoorValue → ServeValue) → ((ds : List DoorValue) → (f ds).doors ≡ ds) → 0 < n
+    → IsOkAnd r (λ ds. length ds ≡ n) → IsOkAnd (r >>= (λ ds. Ok (f ds))) HasDoors
+with_doors (Ok ds) n f same some l = rw (same ds) (omega (arith, some, l))
+with_doors (Err g) n f same some l = absurd l
+
+demanded : (b : Bool) (flaw : ConfigFlaw) (x : Unit {0}) → demand flaw b ≡ Ok x → b ≡ true
+demanded true flaw x e = refl
+demanded false flaw x e = absurd (cc)
+
+first_made : (zs : List ℤ) (ps : List ℕ) → length zs ≡ 8 → each_of price_of 0 zs ≡ Ok ps → MakesFirst (price_of 0) zs
+first_made [] ps eight e = absurd (omega (arith, eight))
+first_made (z ∷ zs) ps eight e = let s = went_on (price_of 0 z) _ ps e in ap is_ok s.1
+
+-- If the prices can be made, then there are 8, and the first one is in its range.
+pub prices_made : (zs : List ℤ) (ps : List ℕ) → prices_of zs ≡ Ok ps → TakesPrices zs
+unfolding prices_of TakesPrices
+prices_made zs ps e =
+    let s = went_on (demand _ (length zs == 8)) (λ _. each_of price_of 0 zs) ps e in
+    let eight : length zs ≡ 8 = eqb-true (length zs) 8 (demanded (length zs == 8) _ s.0 s.1) in
+    (eight, first_made zs ps eight s.2)
