@@ -122,6 +122,8 @@ impl<'a, R: Clock, N: Notices> SocketDoors<'a, R, N> {
         ensures pause { self.new.pause ≡ longer_pause self.old.pause }
         ensures role { self.new.role ≡ self.old.role }
         ensures pass { self.new.pass ≡ self.old.pass }
+        ensures idle { self.new.idle_seconds ≡ self.old.idle_seconds }
+        ensures listener { self.new.listener.now ≡ self.old.listener.now }
     {
         if self.pause == 0 {
             self.notices.accept_failed(self.role, self.pass, error);
@@ -146,10 +148,12 @@ impl<'a, R: Clock, N: Notices> Doors for SocketDoors<'a, R, N> {
     type Out = StreamOut<Stream>;
 
     ghost opens = { λ before _ _ after. RoseBy 1 before.asked after.asked × (after.pause ≡ 0)
-        × (after.role ≡ before.role) × (after.pass ≡ before.pass) };
+        × (after.role ≡ before.role) × (after.pass ≡ before.pass) × (after.idle_seconds ≡ before.idle_seconds)
+        × (after.listener.now ≡ before.listener.now) };
 
     ghost fails = { λ before after. RoseBy 1 before.asked after.asked × (after.pause ≡ longer_pause before.pause)
-        × (after.role ≡ before.role) × (after.pass ≡ before.pass) };
+        × (after.role ≡ before.role) × (after.pass ≡ before.pass) × (after.idle_seconds ≡ before.idle_seconds)
+        × (after.listener.now ≡ before.listener.now) };
 
     ghost told = { λ doors outcome. IfSome (told_of outcome) (λ failure. N.failure_told doors.role doors.pass failure)
         × N.end_told doors.role doors.pass };

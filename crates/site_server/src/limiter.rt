@@ -1,5 +1,5 @@
 //! A limit on how many lines are printed for an operator in a second.
-ghost use Rattle.std.specs.Prelude.{◌≡◌, ◌+◌, ◌<◌, ◌^◌};
+ghost use Rattle.std.specs.Prelude.{◌≡◌};
 ghost use Rattle.site_server.specs.Limits.{admitted, after_line};
 
 use std::marker::Model;
@@ -41,7 +41,7 @@ impl Limiter {
     /// `None` if this line is held back itself.
     pub fn admit(&mut self, second: u64) -> Option<u64>
         ensures admitted { result ≡ admitted self.old second }
-        ensures after { self.old.held + 1 < 2 ^ 64 → self.new ≡ after_line self.old second }
+        ensures after { self.new ≡ after_line self.old second }
     {
         if second != self.second {
             let held = self.held;
