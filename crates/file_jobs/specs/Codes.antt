@@ -1,7 +1,14 @@
--- Definitions: the number that is told of a fault, as in `K1` (this profile). None for want of memory, which has none.
-use Rattle.std.specs.Prelude.{ℕ, List, codes, Option, Some, None}
+-- Definitions: the number that is told of a fault, as in `K1`, and the words that are told with it (this profile). None
+-- for want of memory, which has no number.
+use Rattle.std.specs.Prelude.{ℕ, ◌==◌, List, [], codes, count_by, nat_le, Option, Some, None, if◌then◌else◌}
 use Rattle.console.specs.declared.ConfigFault.{ConfigFault}
 use Rattle.console.specs.declared.ConfigFault.TheVariants as config
+use Rattle.console.specs.declared.ProgramFileFault.{ProgramFileFault}
+use Rattle.console.specs.declared.ProgramFileFault.TheVariants as file
+use Rattle.console.specs.declared.SessionFault.{SessionFault}
+use Rattle.console.specs.declared.SessionFault.TheVariants as session
+use Rattle.days.specs.declared.file.OpeningFlaw.{OpeningFlaw}
+use Rattle.days.specs.declared.file.OpeningFlaw.TheVariants as opening
 use Rattle.console.specs.declared.AsmFault.{AsmFault}
 use Rattle.console.specs.declared.AsmFault.TheVariants as asm
 use Rattle.till_request.specs.declared.act.LineFault.{LineFault}
@@ -16,6 +23,11 @@ config_code config.K1 = Some (codes "K1")
 config_code config.K2 = Some (codes "K2")
 config_code config.K3 = Some (codes "K3")
 config_code config.OutOfMemory = None
+
+abbrev pub file_code : ProgramFileFault → Option (List ℕ)
+file_code file.TooLong = Some (codes "L1")
+file_code file.BadDigits = Some (codes "H1")
+file_code file.OutOfMemory = None
 
 -- The number of an assembler text's fault, and the line that it names, if it names one.
 abbrev pub asm_code : AsmFault → Option (Option ℕ × List ℕ)
@@ -45,3 +57,41 @@ cut_words line.CutLine = Some (codes "the last line has no LF", codes "L4")
 cut_words line.BadLine = None
 cut_words line.BadNumber = None
 cut_words line.OutOfMemory = None
+
+-- The number of a fault that breaks a play off. None where its answers can't be written, which is told in another way.
+abbrev pub session_code : SessionFault → Option (List ℕ)
+session_code session.Read = Some (codes "N1")
+session_code session.ReadsSpent = Some (codes "N3")
+session_code session.Write = None
+session_code session.Journal = None
+session_code session.OutOfMemory = None
+
+-- the system's error that is told in place of a play's fault: that of its last failed read, if a read is at fault
+abbrev pub read_error : {T : Type 0} → SessionFault → Option T → Option T
+read_error session.Read failure = failure
+read_error session.ReadsSpent failure = None
+read_error session.Write failure = None
+read_error session.Journal failure = None
+read_error session.OutOfMemory failure = None
+
+-- the same of a journal that is read
+abbrev pub device_error : {T : Type 0} → JournalFault → Option T → Option T
+device_error (journal.BadEntry line) failure = None
+device_error journal.Cut failure = None
+device_error journal.Device failure = failure
+device_error journal.OutOfMemory failure = None
+
+-- What is wrong with the line of this number, counted from 1, of a text that is no opening: the line itself, or that
+-- the text has fewer lines that end with LF.
+abbrev pub bad_line : List ℕ → ℕ → List ℕ
+bad_line text number =
+    if nat_le number (count_by (λ byte. byte == 10) text) then codes "no line of an opening"
+    else codes "the opening ends before its line 'journal'"
+
+-- The words and the number for the line for which a text is no opening. A refused program has words of its own, and for
+-- want of memory there are neither.
+abbrev pub opening_words : List ℕ → OpeningFlaw → List ℕ × List ℕ
+opening_words text (opening.BadLine line) = (bad_line text line, codes "J1")
+opening_words text (opening.CutLine line) = (codes "the last line has no LF", codes "J2")
+opening_words text (opening.BadProgram line refusal) = ([], codes "F2")
+opening_words text opening.OutOfMemory = ([], [])

@@ -1,12 +1,18 @@
--- Definitions: the names of a day's files, and the days that a folder has (this profile). A day's number stands in the
--- names of its files in six digits, with zeros in front, or in more without one.
-use Rattle.std.specs.Prelude.{ℕ, ◌+◌, ◌-◌, ◌==◌, ◌||◌, List, [], ◌∷◌, ◌++◌, length, codes, decimal, replicate, min, max, nat_lt, Bool, Option, Some, None, bytes_eq, if◌then◌else◌}
+-- Definitions: the names of a day's files, the days that a folder has, and how a day begins (this profile). A day's
+-- number stands in the names of its files in six digits, with zeros in front, or in more without one.
+use Rattle.std.specs.Prelude.{◌≡◌, ℕ, ◌+◌, ◌-◌, ◌==◌, ◌||◌, List, [], ◌∷◌, ◌++◌, length, codes, decimal, replicate, min, max, nat_lt, Bool, Option, Some, None, bytes_eq, if◌then◌else◌}
 use Rattle.std.specs.List.{before_first, after_first}
 use Rattle.std.specs.Result.{result_ok}
 use Rattle.till_request.specs.Grammar.{number}
+use Rattle.site_core.specs.Limits.{ConfigValue}
+use Rattle.days.specs.declared.file.OpeningFile.{OpeningFile}
+use Rattle.days.specs.File.{IsOpeningFile}
+use Rattle.days.specs.Fitting.{BeginsWith}
 use Rattle.file_jobs.specs.declared.folder.Part.{Part}
 use Rattle.file_jobs.specs.declared.folder.Part.TheVariants as part
 use Rattle.file_jobs.specs.declared.folder.Span.{Span}
+use Rattle.file_jobs.specs.declared.newest.Going.{Going}
+use Rattle.file_jobs.specs.declared.newest.Going.TheVariants as going
 
 abbrev pub ending_of : Part → List ℕ
 ending_of part.Config = codes "toml"
@@ -42,6 +48,11 @@ is_dot byte = byte == 46
 unfoldable pub day_named : List ℕ → Option ℕ
 day_named name = if shows_day (after_first is_dot name) then day_of (before_first is_dot name) else None
 
+-- with which day a station goes on: the newest of its folder, the one behind that if a new day is wanted, or day 1
+abbrev pub going_on : Option Span → Bool → Going
+going_on None is_new = going.With 1
+going_on (Some span) is_new = if is_new then going.Behind span.newest else going.With span.newest
+
 -- the oldest and the newest of the days before and of this one
 abbrev pub with_day : Option Span → ℕ → Span
 with_day None day = record { oldest = day; newest = day }
@@ -54,3 +65,15 @@ with_found span (Some day) = Some (with_day span day)
 -- the day after this one, up to the newest
 abbrev pub day_after : ℕ → ℕ → Option ℕ
 day_after day newest = if nat_lt day newest then Some (day + 1) else None
+
+-- the day behind the next one, of days that are given up to the newest; None if there is no next one
+abbrev pub turn : Option ℕ → ℕ → Option ℕ
+turn None newest = None
+turn (Some day) newest = day_after day newest
+
+-- A site of this configuration begins this day with an opening of the day, and has the second configuration then.
+pub record BeginsDay (config : ConfigValue) (day : ℕ) (begun : ConfigValue) : Type 0 where
+  pub file : OpeningFile
+  pub good : IsOpeningFile file
+  pub day_is : day ≡ file.day
+  pub begins : BeginsWith config file.opening begun

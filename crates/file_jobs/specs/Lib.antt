@@ -1,9 +1,5 @@
 pub mod Statuses
-pub mod Stops
-pub mod Refusing
-pub mod Asked
 pub mod Codes
-pub mod Names
+pub mod Asked
 pub mod Days
-pub mod Whole
 pub mod Lines

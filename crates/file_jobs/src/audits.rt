@@ -1,9 +1,12 @@
 //! Audits of a journal.
-ghost use Rattle.std.specs.Prelude.{◌≡◌};
+ghost use Rattle.std.specs.Prelude.{◌≡◌, Err, IsTrue, option_map};
 ghost use Rattle.decision_journal.specs.Journal.{IsWant};
-ghost use Rattle.file_jobs.specs.Stops.{SaysOrFails};
+ghost use Rattle.job_texts.specs.JournalFlaws.{line_in};
+ghost use Rattle.file_jobs.specs.Asked.{reads_twice};
+ghost use Rattle.file_jobs.specs.Statuses.{SaysOrFails};
+ghost use Rattle.file_jobs.specs.Codes.{device_error};
 
-use crate::faults::{Place, complain, out_of_memory, say, tell_journal};
+use crate::faults::{Place, complain_journal, say, tell_journal};
 use crate::files::{Source, source_of, stream};
 use crate::progress::{Watched, watch};
 use crate::settings::{SiteFiles, day_and};
@@ -17,7 +20,10 @@ use till_request::devices::StreamIn;
 
 /// Audits the journal in a file as this site's journal, prints the result, and returns the exit status. The argument
 /// `journal` names the file.
-pub fn audit_files(rt: &HostRuntime, site: SiteFiles<'_>, journal: &str) -> Result<u8, Stop> {
+pub fn audit_files(rt: &HostRuntime, site: SiteFiles<'_>, journal: &str) -> Result<u8, Stop>
+    ensures { IsTrue (reads_twice site.entry.config.now (option_map (λ w. w.now) site.entry.opening) journal.now)
+        → result ≡ Err (Stop.Said 2) }
+{
     let (day, source) = day_and(rt, site, journal)?;
     let config = day.config;
     let size = source.size();
@@ -64,16 +70,30 @@ fn explain_source(rt: &HostRuntime, word: &str, config: Config, input: &mut Stre
 
 /// Prints on standard error why a journal can't be read, with the system's error if a read failed.
 fn tell_unread(rt: &HostRuntime, word: &str, fault: JournalFault, failure: Option<&io::Error>) {
-    match (fault, failure) {
-        (JournalFault::BadEntry(line), _) => {
-            tell_journal(rt, word, Some(line), &JournalFlaw::Text(fault));
-        }
-        (JournalFault::Cut, _) => tell_journal(rt, word, None, &JournalFlaw::Text(fault)),
-        (JournalFault::Device, Some(error)) => complain(rt, Place::of(word), error, "J3"),
-        (JournalFault::Device, None) => complain(rt, Place::of(word), &fault, "J3"),
-        (JournalFault::OutOfMemory, _) => {
-            out_of_memory(rt);
-        }
+    let flaw = JournalFlaw::Text(fault);
+    match device_error(fault, failure) {
+        Some(error) => complain_journal(rt, Place::of(word), error, &flaw),
+        None => tell_journal(rt, word, line_in(fault), &flaw),
+    }
+}
+
+/// Returns the system's error of a failed read, if a journal can't be read since a read failed.
+fn device_error(fault: JournalFault, failure: Option<&io::Error>) -> Option<&io::Error>
+    ensures { result ≡ device_error fault failure.entry }
+{
+    match fault {
+        JournalFault::Device => failure,
+        JournalFault::BadEntry(_) | JournalFault::Cut | JournalFault::OutOfMemory => None,
+    }
+}
+
+/// Returns the number of the line that a fault of a journal's text names, if it names one.
+fn line_in(fault: JournalFault) -> Option<u32>
+    ensures { result ≡ line_in fault }
+{
+    match fault {
+        JournalFault::BadEntry(line) => Some(line),
+        JournalFault::Cut | JournalFault::Device | JournalFault::OutOfMemory => None,
     }
 }
 
@@ -87,6 +107,7 @@ pub fn tell_journal_fault(
 ) -> Stop
     ensures want { IsWant fault → result ≡ Stop.Said 3 }
     ensures text { ¬ IsWant fault → SaysOrFails 1 result }
+    ensures either { SaysOrFails 1 result }
 {
     tell_unread(rt, word, fault, failure);
     match journal_fault_line(rt.alloc(), fault) {

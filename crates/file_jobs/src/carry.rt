@@ -1,6 +1,7 @@
 //! What `fc carry` does: closes a day, and prints the opening of the next one.
-ghost use Rattle.std.specs.Prelude.{IfOk};
-ghost use Rattle.file_jobs.specs.Statuses.{EndsWith};
+ghost use Rattle.std.specs.Prelude.{◌≡◌, Err, IfOk, IfErr, IsTrue, option_map};
+ghost use Rattle.file_jobs.specs.Asked.{reads_twice};
+ghost use Rattle.file_jobs.specs.Statuses.{EndsWith, SaysOrFails};
 
 use crate::audited::refused;
 use crate::audits::{explain_journal, tell_journal_fault};
@@ -18,7 +19,9 @@ use site_core::Config;
 /// status. The argument `journal` names the file. If the journal is refused, prints what its audit prints, and no
 /// opening.
 pub fn carry_files(rt: &HostRuntime, site: SiteFiles<'_>, journal: &str) -> Result<u8, Stop>
-    ensures { IfOk result (EndsWith 0) }
+    ensures done { IfOk result (EndsWith 0) }
+    ensures twice { IsTrue (reads_twice site.entry.config.now (option_map (λ w. w.now) site.entry.opening) journal.now)
+        → result ≡ Err (Stop.Said 2) }
 {
     let (day, source) = day_and(rt, site, journal)?;
     let number = day.number;
@@ -30,7 +33,9 @@ pub fn carry_files(rt: &HostRuntime, site: SiteFiles<'_>, journal: &str) -> Resu
 
 /// Audits a journal, and returns the close of its day. If the journal is refused, prints what its audit prints; the
 /// error has the exit status.
-fn closed(rt: &HostRuntime, config: Config, journal: &str, source: Source) -> Result<Closed, Stop> {
+fn closed(rt: &HostRuntime, config: Config, journal: &str, source: Source) -> Result<Closed, Stop>
+    ensures { IfErr result (SaysOrFails 1) }
+{
     let size = source.size();
     let mut input = watch(rt, source, size);
     let closed = close(rt.alloc(), config.copied(rt.alloc())?, &mut input);
@@ -51,7 +56,8 @@ fn closed(rt: &HostRuntime, config: Config, journal: &str, source: Source) -> Re
 /// Prints the opening that day `number` leaves for the next one, and returns the exit status. `journal` names the file
 /// of its journal.
 fn print_opening(rt: &HostRuntime, journal: &str, number: u32, closed: &Closed) -> Result<u8, Stop>
-    ensures { IfOk result (EndsWith 0) }
+    ensures done { IfOk result (EndsWith 0) }
+    ensures refused { IfErr result (SaysOrFails 1) }
 {
     match closed.opening(number) {
         Ok(opening) => Ok(say(rt, &opening_text(rt.alloc(), &opening)?, DONE)),

@@ -1,26 +1,28 @@
 //! The audit of all days of a station.
-ghost use Rattle.std.specs.Prelude.{◌≡◌};
-ghost use Rattle.file_jobs.specs.Statuses.{EndsWith};
-ghost use Rattle.file_jobs.specs.Refusing.{RefusesBeginning};
-ghost use Rattle.file_jobs.specs.Days.{day_after};
+ghost use Rattle.std.specs.Prelude.{◌≡◌, ◌-◌, true, [], None, Some, IfSome, IfNone, Ok, Err, IfOk, IfErr};
+ghost use Rattle.std.specs.Str.{IsUtf8};
+ghost use Rattle.file_jobs.specs.Asked.{is_input};
+ghost use Rattle.file_jobs.specs.Statuses.{EndsWith, Fails, SaysOrFails, RefusesBeginning, RefusesJournal, RefusesDays};
+ghost use Rattle.file_jobs.specs.Days.{turn};
 ghost use Rattle.file_jobs.specs.Lines.{AgreeFor, IsOtherLine};
 
 use crate::audited::refused;
 use crate::audits::{explain_journal, tell_journal_fault};
-use crate::faults::{Place, cannot_use, complain, once_printed, out_of_memory, tell_at};
+use crate::faults::{Place, cannot_use, once_printed, out_of_memory};
 use crate::files::{Source, lines_in, text_of};
-use crate::folder::{Folder, Part};
+use crate::folder::{Folder, Part, Span, day_after};
 use crate::kept::to_last_lf;
 use crate::newest::{OfDay, UNOPENED, kept_config, refuse_link, refuse_uncarried};
-use crate::opening::{opening_bytes, refuse_opening, refuse_unfit};
+use crate::opening::{opening_bytes, refuse_opening, refuse_unfit, refuse_words};
 use crate::progress::{Watched, watch};
 use crate::settings::settings_in;
-use crate::statuses::{DONE, FAILED, REFUSED};
+use crate::statuses::{DONE, FAILED};
 use crate::stop::Stop;
 use days::{
     Cause, DayIn, DaysFault, DaysIn, NoDay, Unbegun, Unclosed, Unfollowed, Unleft, audit_days,
 };
 use site_core::Config;
+use std::alloc::AllocError;
 use std::fmt::{self, Display};
 use std::io::ErrorKind;
 use std::str;
@@ -45,7 +47,37 @@ struct FolderIn<'a> {
 }
 
 impl<'a> FolderIn<'a> {
-    fn day(&self, number: u32) -> Result<DayIn<Journal<'a>>, Stop> {
+    /// Makes the days of a folder from its oldest to its newest. `config` is the configuration for each day for which
+    /// the folder has none.
+    fn new(rt: &'a HostRuntime, folder: Folder<'a>, config: Config, span: Span) -> FolderIn<'a>
+        ensures next { result.next ≡ Some span.oldest }
+        ensures newest { result.newest ≡ span.newest }
+        ensures stop { result.stop ≡ None }
+    {
+        FolderIn {
+            rt,
+            folder,
+            config,
+            next: Some(span.oldest),
+            newest: span.newest,
+            stop: None,
+        }
+    }
+
+    /// Returns the number of the next day, or `None` after the newest, and goes on to the day behind it.
+    fn turn(&mut self) -> Option<u32>
+        ensures day { result ≡ self.old.next }
+        ensures next { self.new.next ≡ turn self.old.next self.old.newest }
+        ensures newest { self.new.newest ≡ self.old.newest }
+    {
+        let number = self.next?;
+        self.next = day_after(number, self.newest);
+        Some(number)
+    }
+
+    fn day(&self, number: u32) -> Result<DayIn<Journal<'a>>, Stop>
+        ensures { IfErr result (SaysOrFails 1) }
+    {
         let config = match kept_config(self.rt, self.folder, number)? {
             Some(kept) => kept,
             None => self.config.copied(self.rt.alloc())?,
@@ -59,7 +91,9 @@ impl<'a> FolderIn<'a> {
         })
     }
 
-    fn opening(&self, number: u32) -> Result<Option<Vec<u8>>, Stop> {
+    fn opening(&self, number: u32) -> Result<Option<Vec<u8>>, Stop>
+        ensures { IfErr result (SaysOrFails 1) }
+    {
         if !self.folder.has(self.rt, number, Part::Opening)? {
             return Ok(None);
         }
@@ -70,7 +104,9 @@ impl<'a> FolderIn<'a> {
         }
     }
 
-    fn journal(&self, number: u32) -> Result<Option<Journal<'a>>, Stop> {
+    fn journal(&self, number: u32) -> Result<Option<Journal<'a>>, Stop>
+        ensures { IfErr result Fails }
+    {
         let path = self.folder.file(self.rt, number, Part::Journal)?;
         match Source::open(self.rt, &path) {
             Ok(source) => {
@@ -94,10 +130,9 @@ impl<'a> DaysIn for FolderIn<'a> {
     ghost failed = { λ s. IsSome s.stop };
 
     fn next_day(&mut self) -> Result<Option<DayIn<Journal<'a>>>, NoDay> {
-        let Some(number) = self.next else {
+        let Some(number) = self.turn() else {
             return Ok(None);
         };
-        self.next = day_after(number, self.newest);
         match self.day(number) {
             Ok(day) => Ok(Some(day)),
             Err(stop) => {
@@ -108,70 +143,87 @@ impl<'a> DaysIn for FolderIn<'a> {
     }
 }
 
-/// Returns the day after this one, or `None` after the newest.
-fn day_after(day: u32, newest: u32) -> Option<u32>
-    ensures { result ≡ day_after day newest }
-{
-    if day < newest { Some(day + 1) } else { None }
-}
-
 /// Audits all days of a folder, prints the result, and returns the exit status. `word` names the configuration for each
 /// day for which the folder has none.
-pub fn audit_folder(rt: &HostRuntime, path: &str, word: &str) -> Result<u8, Stop> {
+pub fn audit_folder(rt: &HostRuntime, path: &str, word: &str) -> Result<u8, Stop>
+    ensures done { IfOk result (EndsWith 0) }
+    ensures input { is_input path.now ≡ true → result ≡ Err (Stop.Said 2) }
+{
     let folder = Folder::named(rt, path)?;
     let text = text_of(rt, word)?;
     let settings = settings_in(rt, word, &text)?;
-    let Some(span) = folder.span(rt)? else {
-        return Ok(refuse_folder(rt, folder));
-    };
+    match folder.span(rt)? {
+        Some(span) => audit_span(rt, folder, settings.config, span),
+        None => Err(refuse_folder(rt, folder)),
+    }
+}
+
+/// Audits the days of a folder from its oldest to its newest, prints the result, and returns the exit status.
+fn audit_span(rt: &HostRuntime, folder: Folder<'_>, config: Config, span: Span) -> Result<u8, Stop>
+    ensures { IfOk result (EndsWith 0) }
+{
     if span.oldest > 1 {
-        let oldest = span.oldest;
+        let (path, oldest) = (folder.path, span.oldest);
         let _ = eprintln!(rt;
             "fc: {path}: the oldest day is {oldest}, and what it begins with is not compared"
         );
     }
-    let mut days = FolderIn {
-        rt,
-        folder,
-        config: settings.config,
-        next: Some(span.oldest),
-        newest: span.newest,
-        stop: None,
-    };
+    let mut days = FolderIn::new(rt, folder, config, span);
     match audit_days(rt.alloc(), span.oldest, &mut days) {
         Ok(chained) => Ok(once_printed(rt, println!(rt; "{chained}"), DONE)),
-        Err(fault) => refuse_days(rt, days, fault),
+        Err(fault) => Err(refuse_days(rt, days, fault)?),
     }
 }
 
-/// Prints why the days of a folder are refused, and returns the exit status.
+/// Prints why the days of a folder are refused. The inner result has the exit status; the error is that memory ran out
+/// before anything was printed.
 fn refuse_days(
     rt: &HostRuntime,
     days: FolderIn<'_>,
     fault: DaysFault<Journal<'_>>,
-) -> Result<u8, Stop> {
+) -> Result<Stop, AllocError>
+    ensures { IfOk result (RefusesDays fault.entry.cause days.entry.stop) }
+{
     let DaysFault { day, cause } = fault;
     let opening = days.folder.file(rt, day, Part::Opening)?;
     let journal = days.folder.file(rt, day, Part::Journal)?;
+    Ok(refuse_cause(rt, days, day, (&opening, &journal), cause))
+}
+
+/// Prints why the days of a folder are refused at this day. `paths` names the day's opening and its journal. The result
+/// has the exit status.
+fn refuse_cause(
+    rt: &HostRuntime,
+    days: FolderIn<'_>,
+    day: u32,
+    paths: (&str, &str),
+    cause: Cause<Journal<'_>>,
+) -> Stop
+    ensures { RefusesDays cause.entry days.entry.stop result }
+{
+    let (opening, journal) = paths;
     match cause {
         // This case never happens: the folder had a day when it was read.
-        Cause::NoDays => Ok(refuse_folder(rt, days.folder)),
-        Cause::Unread => Err(days.stop.unwrap_or(Stop::Said(FAILED))),
-        Cause::Unleft(Unleft::NoJournal) => {
-            Ok(refuse_link(rt, Place::of(&journal), day, &"the day has no journal"))
-        }
-        Cause::Unleft(Unleft::Uncarried(why)) => Err(refuse_uncarried(rt, &journal, why)),
-        Cause::Unfollowed(why) => Ok(refuse_unfollowed(rt, &opening, day, why)),
-        Cause::Unbegun(why) => Err(refuse_unbegun(rt, &opening, day, why)),
-        Cause::Unclosed(why) => Err(refuse_unclosed(rt, &journal, why)),
+        Cause::NoDays => refuse_folder(rt, days.folder),
+        Cause::Unread => days.stop.unwrap_or(Stop::Said(FAILED)),
+        Cause::Unleft(Unleft::NoJournal) => Stop::Said(refuse_link(
+            rt,
+            Place::of(journal),
+            day,
+            &"the day has no journal",
+        )),
+        Cause::Unleft(Unleft::Uncarried(why)) => refuse_uncarried(rt, journal, why),
+        Cause::Unfollowed(why) => Stop::Said(refuse_unfollowed(rt, opening, day, why)),
+        Cause::Unbegun(why) => refuse_unbegun(rt, opening, day, why),
+        Cause::Unclosed(why) => refuse_unclosed(rt, journal, why),
     }
 }
 
-fn refuse_folder(rt: &HostRuntime, folder: Folder<'_>) -> u8
-    ensures { result ≡ 1 }
+/// Prints that a folder has no day. The result has the exit status.
+fn refuse_folder(rt: &HostRuntime, folder: Folder<'_>) -> Stop
+    ensures { result ≡ Stop.Said 1 }
 {
-    tell_at(rt, Place::of(folder.path), &"no day is here");
-    REFUSED
+    refuse_words(rt, folder.path, &"no day is here")
 }
 
 /// Prints why a day doesn't begin with what the day before left, and returns the exit status.
@@ -183,13 +235,27 @@ fn refuse_unfollowed(rt: &HostRuntime, opening: &str, day: u32, why: Unfollowed)
         Unfollowed::OtherOpening(bytes, left) => {
             let (number, line) = other_line(&bytes, left.as_bytes());
             let place = Place::of(opening).line(number);
-            match str::from_utf8(line) {
-                Ok(line) if !line.is_empty() => {
-                    refuse_link(rt, place, day, &Left(day.saturating_sub(1), line))
-                }
-                _ => refuse_link(rt, place, day, &"the day before left no such line"),
+            match left_line(day, line) {
+                Some(left) => refuse_link(rt, place, day, &left),
+                None => refuse_link(rt, place, day, &"the day before left no such line"),
             }
         }
+    }
+}
+
+/// Returns the message for a line that the day before this one left, or `None` if the line is empty or isn't text.
+fn left_line(day: u32, line: &[u8]) -> Option<Left<'_>>
+    ensures left { IfSome result (λ left. (left.0 ≡ day - 1) × (left.1.now ≡ line.now)) }
+    ensures none { IfNone result (IsUtf8 line.now → line.now ≡ []) }
+{
+    match str::from_utf8(line) {
+        Ok(text) => {
+            if text.is_empty() {
+                return None;
+            }
+            Some(Left(day.saturating_sub(1), text))
+        }
+        Err(_) => None,
     }
 }
 
@@ -252,7 +318,9 @@ fn refuse_unbegun(rt: &HostRuntime, opening: &str, day: u32, why: Unbegun) -> St
 }
 
 /// Prints why a day's journal is refused, or why it can't be read. The result has the exit status.
-fn refuse_unclosed(rt: &HostRuntime, path: &str, why: Unclosed<Journal<'_>>) -> Stop {
+fn refuse_unclosed(rt: &HostRuntime, path: &str, why: Unclosed<Journal<'_>>) -> Stop
+    ensures { RefusesJournal why.entry result }
+{
     match why {
         Unclosed::Text(journal, fault) => {
             journal.progress.clear();

@@ -1,7 +1,7 @@
 //! The rows of an audited journal, for other programs.
-ghost use Rattle.std.specs.Prelude.{◌≡◌, IfOk};
-ghost use Rattle.file_jobs.specs.Asked.{rows_of, format_of};
-ghost use Rattle.file_jobs.specs.Statuses.{EndsWith};
+ghost use Rattle.std.specs.Prelude.{◌≡◌, Err, IfOk, IfErr, IsTrue, option_map};
+ghost use Rattle.file_jobs.specs.Asked.{reads_twice, rows_of, format_of};
+ghost use Rattle.file_jobs.specs.Statuses.{EndsWith, IsFailed};
 
 use crate::audited::audited_site;
 use crate::faults::{once_printed, out_of_memory};
@@ -22,7 +22,9 @@ pub fn export_files(
     site: SiteFiles<'_>,
     journal: &str,
 ) -> Result<u8, Stop>
-    ensures { IfOk result (EndsWith 0) }
+    ensures done { IfOk result (EndsWith 0) }
+    ensures twice { IsTrue (reads_twice site.entry.config.now (option_map (λ w. w.now) site.entry.opening) journal.now)
+        → result ≡ Err (Stop.Said 2) }
 {
     let site = audited_site(rt, site, journal)?;
     print_rows(rt, &site, rows_of(rows), format_of(format))
@@ -53,7 +55,8 @@ fn print_rows(
     rows: day_export::Rows,
     format: day_export::Format,
 ) -> Result<u8, Stop>
-    ensures { IfOk result (EndsWith 0) }
+    ensures done { IfOk result (EndsWith 0) }
+    ensures failed { IfErr result IsFailed }
 {
     let output = BufWriter::new(rt.alloc(), io::writer(rt))?;
     let printed = match write_rows(rt.alloc(), site, rows, format, output) {

@@ -2,12 +2,12 @@
 //! message that can't be written changes no exit status.
 ghost use Rattle.std.specs.Prelude.{◌≡◌, ◌≢◌, ◌↔◌, None, Some, IfSome, IfNone, IsErr, is_some, option_map, codes, if◌then◌else◌};
 ghost use Rattle.file_jobs.specs.Statuses.{once_printed, EndsWith};
-ghost use Rattle.file_jobs.specs.Names.{name_of};
-ghost use Rattle.file_jobs.specs.Codes.{config_code, asm_code, journal_code, cut_words};
+ghost use Rattle.file_jobs.specs.Asked.{name_of};
+ghost use Rattle.file_jobs.specs.Codes.{config_code, file_code, asm_code, journal_code, session_code, cut_words};
 
 use crate::files::name_of;
 use crate::statuses::{FAILED, REFUSED};
-use console::{AsmFault, AsmFlaw, ConfigFault, ConfigFlaw, ProgramFileFault};
+use console::{AsmFault, AsmFlaw, ConfigFault, ConfigFlaw, ProgramFileFault, SessionFault};
 use decision_journal::JournalFault;
 use job_texts::{JournalFlaw, ProgramFlaw, asm_flaw};
 use std::alloc::AllocError;
@@ -150,8 +150,16 @@ pub fn tell_loss(rt: &HostRuntime, failure: Option<&io::Error>) {
 pub fn refuse_length(rt: &HostRuntime, word: &str) -> u8
     ensures { EndsWith 1 result }
 {
-    complain(rt, Place::of(word), &ProgramFileFault::TooLong, "L1");
-    refuse(rt, "L1")
+    refuse_with(rt, Place::of(word), &ProgramFileFault::TooLong, "L1")
+}
+
+/// Prints why a file is refused: the place and the words on standard error, the number on standard output too. Returns
+/// the exit status.
+pub fn refuse_with<D: Display>(rt: &HostRuntime, place: Place<'_>, words: &D, code: &str) -> u8
+    ensures { EndsWith 1 result }
+{
+    complain(rt, place, words, code);
+    refuse(rt, code)
 }
 
 /// Prints on standard error why a file can't be opened, read or written, and returns the exit status, which is `FAILED`.
@@ -213,17 +221,28 @@ fn refuse_fault(rt: &HostRuntime, word: &str, flaw: &ConfigFlaw, fault: ConfigFa
         Some((line, column)) => Place::of(word).line(line as u64).column(column as u64),
         None => Place::of(word),
     };
-    complain(rt, place, flaw, code);
-    refuse(rt, code)
+    refuse_with(rt, place, flaw, code)
+}
+
+/// Returns the number of a program file's fault, as it is printed, or `None` if memory ran out.
+fn file_code(fault: ProgramFileFault) -> Option<&'static str>
+    ensures { option_map (λ code. code.now) result ≡ file_code fault }
+{
+    match fault {
+        ProgramFileFault::TooLong => Some("L1"),
+        ProgramFileFault::BadDigits => Some("H1"),
+        ProgramFileFault::OutOfMemory => None,
+    }
 }
 
 /// Prints on standard error why a program file is refused.
 pub fn tell_program(rt: &HostRuntime, word: &str, flaw: &ProgramFlaw) {
     let place = Place::of(word);
     match flaw {
-        ProgramFlaw::File(ProgramFileFault::TooLong) => complain(rt, place, flaw, "L1"),
-        ProgramFlaw::File(ProgramFileFault::BadDigits) => complain(rt, place, flaw, "H1"),
-        ProgramFlaw::File(ProgramFileFault::OutOfMemory) => tell_want(rt),
+        ProgramFlaw::File(fault) => match file_code(*fault) {
+            Some(code) => complain(rt, place, flaw, code),
+            None => tell_want(rt),
+        },
         ProgramFlaw::Program(refused) => {
             let number = refused.number();
             let _ = eprintln!(rt; "fc: {place}: {refused} (V{number})");
@@ -307,9 +326,30 @@ pub fn tell_journal(rt: &HostRuntime, word: &str, line: Option<u32>, flaw: &Jour
         Some(line) => file.line(u64::from(line)),
         None => file,
     };
+    complain_journal(rt, place, flaw, flaw);
+}
+
+/// Prints a message about a journal's flaw on standard error: the place, the words, and the flaw's number.
+pub fn complain_journal<D: Display>(
+    rt: &HostRuntime,
+    place: Place<'_>,
+    words: &D,
+    flaw: &JournalFlaw,
+) {
     match journal_code(flaw) {
-        Some(code) => complain(rt, place, flaw, code),
+        Some(code) => complain(rt, place, words, code),
         None => tell_want(rt),
+    }
+}
+
+/// Returns the number of a fault that breaks a play off, as it is printed, or `None` if that is told in another way.
+pub fn session_code(fault: SessionFault) -> Option<&'static str>
+    ensures { option_map (λ code. code.now) result ≡ session_code fault }
+{
+    match fault {
+        SessionFault::Read => Some("N1"),
+        SessionFault::ReadsSpent => Some("N3"),
+        SessionFault::Write | SessionFault::Journal | SessionFault::OutOfMemory => None,
     }
 }
 

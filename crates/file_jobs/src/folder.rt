@@ -1,10 +1,10 @@
 //! The folder of a station's days. Each file has its day's number in its name, in six digits or more: a day's journal,
 //! as `000002.journal`, the opening that the day begins with, and the configuration of its site.
 ghost use Rattle.std.specs.Prelude.{◌≡◌, true, false, IfOk, IfErr, string_bytes};
-ghost use Rattle.file_jobs.specs.Names.{is_input};
-ghost use Rattle.file_jobs.specs.Stops.{Fails};
+ghost use Rattle.file_jobs.specs.Asked.{is_input};
+ghost use Rattle.file_jobs.specs.Statuses.{Fails};
 ghost use Rattle.file_jobs.specs.Days.{ending_of, path_of, without_zeros, day_of, shows_day, day_named, with_day};
-ghost use Rattle.file_jobs.specs.Days.{with_found};
+ghost use Rattle.file_jobs.specs.Days.{with_found, day_after};
 
 use crate::faults::{cannot_use, tell};
 use crate::files::is_input;
@@ -217,4 +217,11 @@ fn without_zeros(digits: &[u8]) -> &[u8]
         }
     }
     &[]
+}
+
+/// Returns the day after this one, or `None` after the newest.
+pub fn day_after(day: u32, newest: u32) -> Option<u32>
+    ensures { result ≡ day_after day newest }
+{
+    if day < newest { Some(day + 1) } else { None }
 }

@@ -1,12 +1,11 @@
 //! The newest day of a station: closing it, and going on with it.
-ghost use Rattle.std.specs.Prelude.{◌≡◌, Ok, IfErr};
-ghost use Rattle.file_jobs.specs.Statuses.{EndsWith};
-ghost use Rattle.file_jobs.specs.Stops.{Fails};
-ghost use Rattle.file_jobs.specs.Refusing.{uncarried_status};
+ghost use Rattle.std.specs.Prelude.{◌≡◌, ◌≢◌, ◌⊎◌, ◌+◌, Ok, IfOk, IfErr, IfSome, string_bytes};
+ghost use Rattle.file_jobs.specs.Statuses.{EndsWith, IsFailed, Fails, SaysOrFails, StopsAudit, uncarried_status};
+ghost use Rattle.file_jobs.specs.Days.{path_of, going_on, BeginsDay};
 
 use crate::faults::{Place, cannot_use, complain, once_printed};
 use crate::files::text_of;
-use crate::folder::{Folder, Part};
+use crate::folder::{Folder, Part, Span, day_after};
 use crate::kept::{Closing, close_journal};
 use crate::opening::{Day, begin_with, refuse_fault, refuse_words};
 use crate::settings::settings_in;
@@ -36,7 +35,10 @@ pub struct Given<'a> {
 
 /// Reads the configuration that an argument names. If it can't be read or is refused, prints why; the error has the
 /// exit status.
-pub fn read_given<'a>(rt: &HostRuntime, word: &'a str) -> Result<Given<'a>, Stop> {
+pub fn read_given<'a>(rt: &HostRuntime, word: &'a str) -> Result<Given<'a>, Stop>
+    ensures word { IfOk result (λ given. given.word.now ≡ word.now) }
+    ensures refused { IfErr result (SaysOrFails 1) }
+{
     let text = text_of(rt, word)?;
     match settings_in(rt, word, &text) {
         Ok(settings) => Ok(Given {
@@ -56,7 +58,13 @@ pub fn newest_day(
     folder: Folder<'_>,
     given: Given<'_>,
     is_new_day: bool,
-) -> Result<Newest, Stop> {
+) -> Result<Newest, Stop>
+    ensures journal { IfOk result (λ newest.
+        string_bytes newest.journal ≡ path_of folder.entry.path.now newest.day.number Part.Journal) }
+    ensures serve { IfOk result (λ newest. newest.day.serve ≡ given.entry.settings.serve) }
+    ensures unkept { IfOk result (λ newest. IfSome newest.unkept (λ text. text ≡ given.entry.text)) }
+    ensures refused { IfErr result StopsAudit }
+{
     let Given {
         word,
         text,
@@ -91,7 +99,9 @@ fn tell_other(
     day: u32,
     word: &str,
     is_same: bool,
-) -> Result<(), Stop> {
+) -> Result<(), Stop>
+    ensures { IfErr result IsFailed }
+{
     if !is_same {
         let path = folder.file(rt, day, Part::Config)?;
         let _ = eprintln!(rt;
@@ -99,6 +109,24 @@ fn tell_other(
         );
     }
     Ok(())
+}
+
+/// The day with which a station goes on: the one of this number, or the one behind it.
+#[derive(Clone, Copy)]
+enum Going {
+    With(u32),
+    Behind(u32),
+}
+
+/// Returns with which day a station goes on whose folder has these days.
+fn going_on(span: Option<Span>, is_new_day: bool) -> Going
+    ensures { result ≡ going_on span is_new_day }
+{
+    match span {
+        None => Going::With(1),
+        Some(span) if is_new_day => Going::Behind(span.newest),
+        Some(span) => Going::With(span.newest),
+    }
 }
 
 /// Returns the number of the newest day of a folder, or 1 if it has none. If `is_new_day`, closes that day first,
@@ -110,14 +138,13 @@ fn number_of(
     config: &Config,
     text: &[u8],
     is_new_day: bool,
-) -> Result<u32, Stop> {
-    let newest = match folder.span(rt)? {
-        Some(span) => span.newest,
-        None => return Ok(1),
+) -> Result<u32, Stop>
+    ensures { IfErr result StopsAudit }
+{
+    let newest = match going_on(folder.span(rt)?, is_new_day) {
+        Going::With(day) => return Ok(day),
+        Going::Behind(newest) => newest,
     };
-    if !is_new_day {
-        return Ok(newest);
-    }
     match settled_config(rt, folder, newest)? {
         Some(kept) => close_day(rt, folder, newest, kept, None),
         None => close_day(rt, folder, newest, config.copied(rt.alloc())?, Some(text)),
@@ -125,7 +152,9 @@ fn number_of(
 }
 
 /// Returns the configuration that a folder has for a day, or `None` if it has none.
-pub fn kept_config(rt: &HostRuntime, folder: Folder<'_>, day: u32) -> Result<Option<Config>, Stop> {
+pub fn kept_config(rt: &HostRuntime, folder: Folder<'_>, day: u32) -> Result<Option<Config>, Stop>
+    ensures { IfErr result (SaysOrFails 1) }
+{
     if !folder.has(rt, day, Part::Config)? {
         return Ok(None);
     }
@@ -139,7 +168,9 @@ pub fn kept_config(rt: &HostRuntime, folder: Folder<'_>, day: u32) -> Result<Opt
 
 /// Returns the configuration with which a day goes on. Returns `None` if the day can still begin with another one: the
 /// folder has none for the day, or the day has no entry.
-fn settled_config(rt: &HostRuntime, folder: Folder<'_>, day: u32) -> Result<Option<Config>, Stop> {
+fn settled_config(rt: &HostRuntime, folder: Folder<'_>, day: u32) -> Result<Option<Config>, Stop>
+    ensures { IfErr result (SaysOrFails 1) }
+{
     if folder.has_bytes(rt, day, Part::Journal)? {
         kept_config(rt, folder, day)
     } else {
@@ -154,7 +185,9 @@ fn begin_day(
     number: u32,
     config: Config,
 ) -> Result<Config, Stop>
-    ensures { number ≡ 1 → result ≡ Ok config }
+    ensures first { number ≡ 1 → result ≡ Ok config }
+    ensures later { number ≢ 1 → IfOk result (BeginsDay config number) }
+    ensures refused { IfErr result (SaysOrFails 1) }
 {
     if number == 1 {
         return Ok(config);
@@ -207,7 +240,10 @@ fn close_day(
     number: u32,
     config: Config,
     unkept: Option<&[u8]>,
-) -> Result<u32, Stop> {
+) -> Result<u32, Stop>
+    ensures newest { IfOk result (λ newest. (newest ≡ number) ⊎ (newest ≡ number + 1)) }
+    ensures refused { IfErr result StopsAudit }
+{
     let path = folder.file(rt, number, Part::Journal)?;
     let config = begin_day(rt, folder, number, config)?;
     // The file is locked until the opening is there.
@@ -226,7 +262,10 @@ fn close_day(
 }
 
 /// Writes the opening that a day leaves for the next one, and returns the next one's number.
-fn leave(rt: &HostRuntime, folder: Folder<'_>, number: u32, closed: &Closed) -> Result<u32, Stop> {
+fn leave(rt: &HostRuntime, folder: Folder<'_>, number: u32, closed: &Closed) -> Result<u32, Stop>
+    ensures next { IfOk result (λ next. next ≡ number + 1) }
+    ensures refused { IfErr result (SaysOrFails 1) }
+{
     let opening = match closed.opening(number) {
         Ok(opening) => opening,
         Err(why) => {
@@ -245,8 +284,10 @@ fn leave(rt: &HostRuntime, folder: Folder<'_>, number: u32, closed: &Closed) -> 
 pub fn check_newest(rt: &HostRuntime, folder: Folder<'_>, number: u32) -> Result<(), Stop>
     ensures { IfErr result Fails }
 {
-    let next = number.saturating_add(1);
-    if next == number || !folder.has(rt, next, Part::Opening)? {
+    let Some(next) = day_after(number, u32::MAX) else {
+        return Ok(());
+    };
+    if !folder.has(rt, next, Part::Opening)? {
         return Ok(());
     }
     let path = folder.file(rt, number, Part::Journal)?;

@@ -1,13 +1,16 @@
 //! The opening that a site begins with: its file is read, and compared with the configuration.
-ghost use Rattle.std.specs.Prelude.{◌≡◌, ◌≤◌, IfOk, vec_len};
+ghost use Rattle.std.specs.Prelude.{◌≡◌, ◌≤◌, IfOk, IfErr, vec_len};
+ghost use Rattle.days.specs.File.{IsOpeningFile};
 ghost use Rattle.days.specs.Fitting.{BeginsWith};
-ghost use Rattle.file_jobs.specs.Stops.{Says, SaysOrFails};
-ghost use Rattle.file_jobs.specs.Refusing.{RefusesOpening, is_want, opening_status, unfit_status};
+ghost use Rattle.file_jobs.specs.Statuses.{Says, SaysOrFails, RefusesOpening, is_want, opening_status, unfit_status};
+ghost use Rattle.file_jobs.specs.Codes.{bad_line, opening_words};
+ghost use Rattle.file_jobs.specs.Lines.{line_of};
+ghost use Rattle.file_jobs.specs.Days.{BeginsDay};
 
 use crate::faults::{
-    Place, complain, once_printed, out_of_memory, refuse, say, tell_at, tell_journal,
+    Place, complain, once_printed, out_of_memory, refuse_with, say, tell_at, tell_journal,
 };
-use crate::files::bytes_of;
+use crate::files::{bytes_of, lines_in};
 use crate::statuses::REFUSED;
 use crate::stop::Stop;
 use console::Serve;
@@ -40,7 +43,10 @@ pub struct Begun {
 
 /// Returns the configuration of a site that begins with the opening in the file that an argument names. If the opening
 /// can't be read, is refused or doesn't fit the configuration, prints why; the error has the exit status.
-pub fn begin_with(rt: &HostRuntime, word: &str, config: Config) -> Result<Begun, Stop> {
+pub fn begin_with(rt: &HostRuntime, word: &str, config: Config) -> Result<Begun, Stop>
+    ensures begun { IfOk result (λ begun. BeginsDay config begun.number begun.config) }
+    ensures refused { IfErr result (SaysOrFails 1) }
+{
     let file = opening_in(rt, word)?;
     let number = file.day;
     match opened(rt, word, config, file.opening) {
@@ -52,13 +58,14 @@ pub fn begin_with(rt: &HostRuntime, word: &str, config: Config) -> Result<Begun,
 /// Returns the bytes of an opening in the file that an argument names. If they can't be read or are too many, prints
 /// why; the error has the exit status.
 pub fn opening_bytes(rt: &HostRuntime, word: &str) -> Result<Vec<u8>, Stop>
-    ensures { IfOk result (λ bytes. vec_len bytes ≤ MOST_OPENING) }
+    ensures few { IfOk result (λ bytes. vec_len bytes ≤ MOST_OPENING) }
+    ensures refused { IfErr result (SaysOrFails 1) }
 {
     match bytes_of(rt, word, MOST_OPENING) {
         Ok(Some(bytes)) => Ok(bytes),
         Ok(None) => {
-            complain(rt, Place::of(word), &"over 262,144 bytes", "L1");
-            Err(Stop::Said(refuse(rt, "L1")))
+            let place = Place::of(word);
+            Err(Stop::Said(refuse_with(rt, place, &"over 262,144 bytes", "L1")))
         }
         Err(stop) => Err(stop),
     }
@@ -66,7 +73,10 @@ pub fn opening_bytes(rt: &HostRuntime, word: &str) -> Result<Vec<u8>, Stop>
 
 /// Reads the opening in the file that an argument names. If it can't be read or is refused, prints why; the error has
 /// the exit status.
-fn opening_in(rt: &HostRuntime, word: &str) -> Result<OpeningFile, Stop> {
+fn opening_in(rt: &HostRuntime, word: &str) -> Result<OpeningFile, Stop>
+    ensures good { IfOk result IsOpeningFile }
+    ensures refused { IfErr result (SaysOrFails 1) }
+{
     let bytes = opening_bytes(rt, word)?;
     match read_opening(rt.alloc(), &bytes) {
         Ok(file) => Ok(file),
@@ -79,20 +89,38 @@ fn opening_in(rt: &HostRuntime, word: &str) -> Result<OpeningFile, Stop> {
 pub fn refuse_opening(rt: &HostRuntime, word: &str, text: &[u8], flaw: OpeningFlaw) -> Stop
     ensures { RefusesOpening flaw result }
 {
+    let (words, code) = opening_words(text, flaw);
     match flaw {
-        OpeningFlaw::BadLine(line) => refuse_line(rt, word, line, bad_line(text, line), "J1"),
-        OpeningFlaw::CutLine(line) => refuse_line(rt, word, line, "the last line has no LF", "J2"),
+        OpeningFlaw::BadLine(line) | OpeningFlaw::CutLine(line) => {
+            refuse_line(rt, word, line, words, code)
+        }
         OpeningFlaw::BadProgram(line, refusal) => refuse_rule(rt, word, text, line, refusal),
         OpeningFlaw::OutOfMemory => Stop::Said(out_of_memory(rt)),
     }
 }
 
+/// Returns the words and the number for the line for which a text is no opening. A refused program has no words here,
+/// and for want of memory there are neither words nor a number.
+fn opening_words(text: &[u8], flaw: OpeningFlaw) -> (&'static str, &'static str)
+    ensures { (result.0.now, result.1.now) ≡ opening_words text.now flaw }
+{
+    match flaw {
+        OpeningFlaw::BadLine(line) => (bad_line(text, line), "J1"),
+        OpeningFlaw::CutLine(_) => ("the last line has no LF", "J2"),
+        OpeningFlaw::BadProgram(..) => ("", "F2"),
+        OpeningFlaw::OutOfMemory => ("", ""),
+    }
+}
+
 /// Returns what is wrong with the line of this number, counted from 1: no opening has this line after the lines before
 /// it, or the text has ended.
-fn bad_line(text: &[u8], number: u32) -> &'static str {
-    match text.split(|byte| *byte == b'\n').nth(number as usize) {
-        Some(_) => "no line of an opening",
-        None => "the opening ends before its line 'journal'",
+fn bad_line(text: &[u8], number: u32) -> &'static str
+    ensures { result.now ≡ bad_line text.now number }
+{
+    if u64::from(number) <= lines_in(text) {
+        "no line of an opening"
+    } else {
+        "the opening ends before its line 'journal'"
     }
 }
 
@@ -134,7 +162,9 @@ fn explain_rule(
 }
 
 /// Returns the line of this number, counted from 1, without its LF. Returns no bytes if there is no such line.
-fn line_of(text: &[u8], number: u32) -> &[u8] {
+fn line_of(text: &[u8], number: u32) -> &[u8]
+    ensures { result.now ≡ line_of text.now number }
+{
     let before = (number as usize).saturating_sub(1);
     match text.split(|byte| *byte == b'\n').nth(before) {
         Some(line) => line,
@@ -155,7 +185,8 @@ fn rule_in(alloc: Global, line: &[u8]) -> Option<(u32, Vec<u8>)> {
 /// Returns the configuration of a site that begins with an opening. The counters have the bounds of `config`. `word`
 /// names the opening's file. If the opening doesn't fit the configuration, prints why; the error has the exit status.
 fn opened(rt: &HostRuntime, word: &str, config: Config, opening: Opening) -> Result<Config, Stop>
-    ensures { IfOk result (BeginsWith config opening) }
+    ensures begun { IfOk result (BeginsWith config opening) }
+    ensures refused { IfErr result (Says 1) }
 {
     match begun(rt.alloc(), config, opening) {
         Ok(config) => Ok(config),

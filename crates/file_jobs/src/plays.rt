@@ -1,9 +1,11 @@
 //! Plays of a script against a new site.
-ghost use Rattle.std.specs.Prelude.{◌≡◌, ◌≤◌, MatchResult};
-ghost use Rattle.file_jobs.specs.Statuses.{cut_status};
+ghost use Rattle.std.specs.Prelude.{◌≡◌, ◌≤◌, Err, IfOk, IfErr, IsTrue, MatchResult, option_map};
+ghost use Rattle.file_jobs.specs.Asked.{reads_twice};
+ghost use Rattle.file_jobs.specs.Statuses.{SaysOrFails, Says, cut_status, IsEnded};
+ghost use Rattle.file_jobs.specs.Codes.{read_error};
 
 use crate::answers::{Answers, Incoming, Outgoing};
-use crate::faults::{Place, complain, out_of_memory, refuse_length, tell, tell_cut};
+use crate::faults::{Place, complain, out_of_memory, refuse_length, session_code, tell, tell_cut};
 use crate::files::{Source, lines_in, name_of, stream};
 use crate::progress::Progress;
 use crate::refused_loads::RefusedLoads;
@@ -60,20 +62,33 @@ fn tell_broken(
     answers: &Answers<'_>,
 ) {
     let place = Place::of(word);
-    match (fault, read) {
-        (SessionFault::Read, Some(error)) => complain(rt, place, error, "N1"),
-        (SessionFault::Read, None) => complain(rt, place, &fault, "N1"),
-        (SessionFault::ReadsSpent, _) => complain(rt, place, &fault, "N3"),
+    match (session_code(fault), read_error(fault, read)) {
+        (Some(code), Some(error)) => complain(rt, place, error, code),
+        (Some(code), None) => complain(rt, place, &fault, code),
         // Only `Write` can come here: a play writes no journal, and `status_of` handles `OutOfMemory`.
-        (SessionFault::Write | SessionFault::Journal | SessionFault::OutOfMemory, _) => {
-            answers.tell_failure(rt);
-        }
+        (None, _) => answers.tell_failure(rt),
+    }
+}
+
+/// Returns the system's error of a failed read, if a play is broken off since a read failed.
+fn read_error(fault: SessionFault, read: Option<&io::Error>) -> Option<&io::Error>
+    ensures { result ≡ read_error fault read.entry }
+{
+    match fault {
+        SessionFault::Read => read,
+        SessionFault::ReadsSpent
+        | SessionFault::Write
+        | SessionFault::Journal
+        | SessionFault::OutOfMemory => None,
     }
 }
 
 /// Plays the script in standard input against a new site, and returns the exit status. The configuration comes before
 /// the script, in standard input too.
-pub fn play_input(rt: &HostRuntime) -> Result<u8, Stop> {
+pub fn play_input(rt: &HostRuntime) -> Result<u8, Stop>
+    ensures ended { IfOk result IsEnded }
+    ensures refused { IfErr result (SaysOrFails 1) }
+{
     if rt.stdin().is_terminal() {
         tell(rt, &AWAITED);
     }
@@ -82,7 +97,10 @@ pub fn play_input(rt: &HostRuntime) -> Result<u8, Stop> {
 }
 
 /// Plays a script that follows its configuration in the same input, and returns the exit status.
-fn play_both<'a>(rt: &'a HostRuntime, input: &mut Script<'a, '_, '_>) -> Result<u8, Stop> {
+fn play_both<'a>(rt: &'a HostRuntime, input: &mut Script<'a, '_, '_>) -> Result<u8, Stop>
+    ensures ended { IfOk result IsEnded }
+    ensures refused { IfErr result (Says 1) }
+{
     let mut left = READS;
     match read_head(rt.alloc(), input, &mut left) {
         Ok(head) => {
@@ -99,7 +117,9 @@ fn play_both<'a>(rt: &'a HostRuntime, input: &mut Script<'a, '_, '_>) -> Result<
 
 /// Returns the settings in `head`, the input up to the line that ends the configuration. If they are refused, prints
 /// why; the error has the exit status.
-fn settings_before(rt: &HostRuntime, head: &[u8]) -> Result<Settings, Stop> {
+fn settings_before(rt: &HostRuntime, head: &[u8]) -> Result<Settings, Stop>
+    ensures { IfErr result (Says 1) }
+{
     match config_part(head) {
         Some(text) => settings_in(rt, "-", text),
         None => Err(Stop::Said(refuse_length(rt, "-"))),
@@ -128,11 +148,11 @@ fn outlet<'a, 'b>(answers: &'b Answers<'a>) -> StreamOut<Outgoing<'a, 'b>> {
 
 /// Plays the script in a file against this site, with no entries yet, and returns the exit status. The argument
 /// `script` names the file.
-pub fn play_files<'a>(
-    rt: &'a HostRuntime,
-    site: SiteFiles<'_>,
-    script: &'a str,
-) -> Result<u8, Stop> {
+pub fn play_files<'a>(rt: &'a HostRuntime, site: SiteFiles<'_>, script: &'a str) -> Result<u8, Stop>
+    ensures ended { IfOk result IsEnded }
+    ensures twice { IsTrue (reads_twice site.entry.config.now (option_map (λ w. w.now) site.entry.opening) script.now)
+        → result ≡ Err (Stop.Said 2) }
+{
     let (day, source) = day_and(rt, site, script)?;
     let answers = Answers::new(rt)?;
     // On a terminal the user sees the answers, and they would be mixed with the progress line.
@@ -153,6 +173,7 @@ fn play_script<'a>(
     mut left: u32,
 ) -> u8
     requires { left ≤ READS }
+    ensures { IsEnded result }
 {
     let (answers, progress) = (input.input.reader.answers, input.input.reader.progress);
     let notices = RefusedLoads::new(rt, name_of(word), lines, progress);

@@ -1,6 +1,7 @@
 //! The page of HTML that shows an audited journal.
-ghost use Rattle.std.specs.Prelude.{IfOk};
-ghost use Rattle.file_jobs.specs.Statuses.{EndsWith};
+ghost use Rattle.std.specs.Prelude.{◌≡◌, Err, IfOk, IfErr, IsTrue, option_map};
+ghost use Rattle.file_jobs.specs.Asked.{reads_twice};
+ghost use Rattle.file_jobs.specs.Statuses.{EndsWith, IsFailed};
 
 use crate::audited::audited_site;
 use crate::faults::once_printed;
@@ -14,14 +15,17 @@ use std::io::{self, BufWriter, Write};
 /// Audits the journal in a file as this site's journal, prints its page of HTML, and returns the exit status. If the
 /// journal is refused, prints what its audit prints, and no page.
 pub fn report_files(rt: &HostRuntime, site: SiteFiles<'_>, journal: &str) -> Result<u8, Stop>
-    ensures { IfOk result (EndsWith 0) }
+    ensures done { IfOk result (EndsWith 0) }
+    ensures twice { IsTrue (reads_twice site.entry.config.now (option_map (λ w. w.now) site.entry.opening) journal.now)
+        → result ≡ Err (Stop.Said 2) }
 {
     let site = audited_site(rt, site, journal)?;
     print_page(rt, &site)
 }
 
 fn print_page(rt: &HostRuntime, site: &Site) -> Result<u8, Stop>
-    ensures { IfOk result (EndsWith 0) }
+    ensures done { IfOk result (EndsWith 0) }
+    ensures failed { IfErr result IsFailed }
 {
     let page = Page::of(rt.alloc(), site)?;
     let mut output = BufWriter::new(rt.alloc(), io::writer(rt))?;

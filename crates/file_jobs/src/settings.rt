@@ -1,6 +1,9 @@
 //! Reading of the files that say what a site begins with: its configuration, and its opening.
-ghost use Rattle.std.specs.Prelude.{◌≡◌, ◌&&◌, ◌||◌, None, Some, Ok, Err, IfOk, IsTrue, option_map};
-ghost use Rattle.file_jobs.specs.Names.{is_input, may_be_input};
+ghost use Rattle.std.specs.Prelude.{◌≡◌, ◌&&◌, false, None, Some, Ok, Err, IfOk, IfErr, IsSome, IsTrue, option_map};
+ghost use Rattle.site_config.specs.Ranges.{config_of, told};
+ghost use Rattle.file_jobs.specs.Asked.{is_input, may_be_input, reads_twice};
+ghost use Rattle.file_jobs.specs.Statuses.{Says, SaysOrFails};
+ghost use Rattle.file_jobs.specs.Days.{BeginsDay};
 
 use crate::faults::{refuse_config, tell};
 use crate::files::{Source, is_input, source_of, text_of};
@@ -46,8 +49,11 @@ impl<'a> SiteFiles<'a> {
 /// Reads the configuration of a site, and then its opening, if it has one. If one of them can't be read or is refused,
 /// or if both are standard input, prints why; the error has the exit status.
 pub fn day_of(rt: &HostRuntime, site: SiteFiles<'_>) -> Result<Day, Stop>
-    ensures { IsTrue (is_input site.entry.config.now && may_be_input (option_map (λ w. w.now) site.entry.opening))
+    ensures twice { IsTrue (is_input site.entry.config.now && may_be_input (option_map (λ w. w.now) site.entry.opening))
         → result ≡ Err (Stop.Said 2) }
+    ensures first { site.entry.opening ≡ None → IfOk result (λ day. day.number ≡ 1) }
+    ensures once { is_input site.entry.config.now && may_be_input (option_map (λ w. w.now) site.entry.opening) ≡ false
+        → IfErr result (SaysOrFails 1) }
 {
     if is_input(site.config) && site.is_opening_input() {
         return Err(refuse_twice(rt));
@@ -66,7 +72,9 @@ pub fn day_of(rt: &HostRuntime, site: SiteFiles<'_>) -> Result<Day, Stop>
 
 /// Returns the configuration with the site's opening, if it has one. Without an opening it is the first day.
 fn begun_by(rt: &HostRuntime, site: SiteFiles<'_>, config: Config) -> Result<Begun, Stop>
-    ensures { site.entry.opening ≡ None → result ≡ Ok (record { config = config; number = 1 }) }
+    ensures first { site.entry.opening ≡ None → result ≡ Ok (record { config = config; number = 1 }) }
+    ensures opened { IsSome site.entry.opening → IfOk result (λ begun. BeginsDay config begun.number begun.config) }
+    ensures refused { IfErr result (SaysOrFails 1) }
 {
     match site.opening {
         Some(opening) => begin_with(rt, opening, config),
@@ -86,7 +94,10 @@ fn refuse_twice(rt: &HostRuntime) -> Stop
 }
 
 /// Reads the settings in the text of a configuration. If it is refused, prints why; the error has the exit status.
-pub fn settings_in(rt: &HostRuntime, word: &str, text: &[u8]) -> Result<Settings, Stop> {
+pub fn settings_in(rt: &HostRuntime, word: &str, text: &[u8]) -> Result<Settings, Stop>
+    ensures read { IfOk result (λ settings. config_of text.now ≡ Ok (told settings)) }
+    ensures refused { IfErr result (Says 1) }
+{
     match read_settings(rt.alloc(), text) {
         Ok(settings) => Ok(settings),
         Err(flaw) => Err(Stop::Said(refuse_config(rt, word, &flaw))),
@@ -96,9 +107,10 @@ pub fn settings_in(rt: &HostRuntime, word: &str, text: &[u8]) -> Result<Settings
 /// Reads the configuration of a site, and its opening, if it has one, and opens the other file. Only one of the files
 /// may be standard input. If one fails, prints why; the error has the exit status.
 pub fn day_and(rt: &HostRuntime, site: SiteFiles<'_>, other: &str) -> Result<(Day, Source), Stop>
-    ensures { IsTrue (is_input other.now
-        && (is_input site.entry.config.now || may_be_input (option_map (λ w. w.now) site.entry.opening)))
+    ensures twice { IsTrue (reads_twice site.entry.config.now (option_map (λ w. w.now) site.entry.opening) other.now)
         → result ≡ Err (Stop.Said 2) }
+    ensures once { reads_twice site.entry.config.now (option_map (λ w. w.now) site.entry.opening) other.now ≡ false
+        → IfErr result (SaysOrFails 1) }
 {
     if is_input(other) && (is_input(site.config) || site.is_opening_input()) {
         return Err(refuse_twice(rt));

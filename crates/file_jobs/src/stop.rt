@@ -23,7 +23,7 @@ impl From<io::Error> for Stop {
 }
 
 impl From<AllocError> for Stop {
-    ghost use Rattle.file_jobs.specs.Stops.{IsFailed};
+    ghost use Rattle.file_jobs.specs.Statuses.{IsFailed};
 
     ghost from_gives = { λ _ result. IsFailed result };
 
