@@ -19,7 +19,6 @@ refused. This has to hold:
 If there is no C compiler (CC, or cc), nothing is tried, and that is printed. The last line is 'N passed, M failed': it
 counts the calls, each with one kind and one way of refusing.
 """
-import functools
 import itertools
 import os
 import re
@@ -31,8 +30,7 @@ import subprocess
 import sys
 import tempfile
 import time
-import uuid
-from concurrent.futures import ProcessPoolExecutor
+from concurrent.futures import ThreadPoolExecutor
 
 from shared import AS_ASKED, HERE
 
@@ -123,6 +121,7 @@ class Shim:
     def __init__(self, program, folder):
         self.program, self.folder = program, folder
         self.library = os.path.join(folder, "faults.so")
+        self.numbers = itertools.count()
 
     def build(self, compiler):
         source = os.path.join(HERE, "tools", "faults.c")
@@ -130,7 +129,7 @@ class Shim:
 
     def path(self, name):
         """A path below the folder that no other run uses."""
-        return os.path.join(self.folder, f"{name}-{uuid.uuid4().hex}")
+        return os.path.join(self.folder, f"{name}{next(self.numbers)}")
 
     def environment(self, fault, counts):
         """The environment in which the calls of `fault` are refused. The library writes its counts to `counts`."""
@@ -540,18 +539,13 @@ def calls_of_sites(shim, taken):
     yield Served("served day with a page", has_page=True)
 
 
-def try_fault(shim, call, plain, fault):
-    """Tries a call with a fault. Returns the fault, and what is wrong, or None."""
-    return fault, call.ill(shim, call.run(shim, fault), plain)
-
-
 def look(shim, call, pool):
     """Tries a call with each fault. Returns the number of runs, and what is wrong, by kind and way of refusing."""
     plain = call.run(shim)
     wrong, runs = {}, 2
     for kind, how in itertools.product(KINDS, ("once", "on")):
         faults = [(kind, at, how) for at in range(1, plain.calls[kind] + 2)]
-        ill = pool.map(functools.partial(try_fault, shim, call, plain), faults, chunksize=1 + len(faults) // 50)
+        ill = pool.map(lambda fault: (fault, call.ill(shim, call.run(shim, fault), plain)), faults)
         wrong[kind, how] = [(fault, what) for fault, what in ill if what]
         runs += len(faults)
     cut = call.run(shim, CUT)
@@ -568,7 +562,7 @@ def main():
         print("0 passed, 0 failed")
         return
     passed = failed = runs = 0
-    with tempfile.TemporaryDirectory() as folder, ProcessPoolExecutor(2 * (os.cpu_count() or 1)) as pool:
+    with tempfile.TemporaryDirectory() as folder, ThreadPoolExecutor(2 * (os.cpu_count() or 1)) as pool:
         shim = Shim(program, folder)
         shim.build(compiler)
         with socket.create_server(("127.0.0.1", 0)) as taken:
