@@ -5,11 +5,11 @@ usage: tools/build.py FOLDER NAME    FOLDER: has crates.txt and crates/, and thi
                                      NAME: the program's crate; the program is then in FOLDER/crates/NAME/out/NAME
 
 Two calls of `rt` in one tree wait for each other, so each crate is proved in a tree of its own. What was proved is
-linked into the trees of the crates above it. Of the crates that can begin, the one with the longest chain up to the
-program comes first. It gets several processes, and so do others with nearly as long a chain. The rest run with a lower
-priority (`nice`). A large crate among them gets two processes, since it keeps these when the others are done. FC_JOBS
-is the most processes. If it isn't set, they are at most two for each processor, as memory allows. What `rt` prints goes
-to standard output, with a line 'rt: NAME proved' at the end of each crate.
+linked into the trees of the crates above it. There are as many processes as processors, or as memory allows; FC_JOBS
+sets another number. Of the crates that can begin, the one with the longest chain up to the program comes first. Where
+processors would be idle, a crate in the lower half of the longest chain gets several processes. Nearer to the program
+each process has so much to read first that several take no less time than one. What `rt` prints goes to standard
+output, with a line 'rt: NAME proved' at the end of each crate.
 The exit status is 0 if all was proved and the program was built.
 """
 import os
@@ -21,10 +21,7 @@ import time
 from concurrent.futures import FIRST_COMPLETED, ThreadPoolExecutor, wait
 
 MOST_JOBS = 4  # processes that one crate's proof can use well
-MEMORY = 2_500_000_000  # bytes that a process may need
-NEARLY = 0.7  # of the longest chain: a crate with this much behind it goes first too
-LONG = 1_000  # lines of a crate that gets two processes even behind the longest chain
-PATIENT = 10  # the niceness of the others
+MEMORY = 4_500_000_000  # bytes that a process may need
 
 
 def timed(words, folder):
@@ -112,38 +109,38 @@ class Build:
             shutil.rmtree(self.path(name, one))
         shutil.rmtree(os.path.join(self.path(name, name), "out", "incremental"), ignore_errors=True)
 
-    def prove(self, name, jobs, niceness):
+    def prove(self, name, jobs):
         """Proves a crate, and returns whether it could be proved. The program's crate is also built, and run for its
         version."""
         self.make_tree(name)
         words = ["rt", "lib", "--jobs", str(jobs)]
         if name == self.top:
             words = ["rt", "run", "--jobs", str(jobs), "--", "--version"]
-        is_proved, said, took = timed(["nice", "-n", str(niceness), *words], self.path(name, name))
+        is_proved, said, took = timed(words, self.path(name, name))
+        verdict = "proved" if is_proved else "NOT PROVED"
         with self.printing:
-            print(f"== {name}: {took}\n{said}rt: {name} {'proved' if is_proved else 'NOT PROVED'}", flush=True)
+            print(f"== {name}: {took}, {jobs} processes\n{said}rt: {name} {verdict}", flush=True)
         if is_proved:
             self.forget(name)
         return is_proved
 
-    def run(self, processors, most):
-        """Proves all crates on this many processors, by at most `most` processes, up to the first that can't be proved.
-        Returns whether all were proved."""
+    def run(self, most):
+        """Proves all crates by at most `most` processes, up to the first that can't be proved. Returns whether all were
+        proved."""
         left = sorted(self.crates.values(), key=lambda it: -it.chain)
+        longest = left[0].chain
         done, running = set(), {}
         with ThreadPoolExecutor(len(left)) as pool:
             while left or running:
-                longest = max([it.chain for it in left] + [it.chain for it, _ in running.values()])
-                for crate in [it for it in left if done.issuperset(it.deps)]:
-                    busy = sum(jobs for _, jobs in running.values())
-                    is_first = crate.chain >= NEARLY * longest
-                    if busy >= (most if is_first else min(processors, most)):
-                        break
-                    others = sum(it.chain >= NEARLY * longest for it, _ in running.values())
-                    wanted = min(MOST_JOBS, processors // (1 + others)) if is_first else 1 + (crate.lines >= LONG)
-                    jobs = max(1, min(wanted, most - busy))
+                ready = [it for it in left if done.issuperset(it.deps)]
+                idle = most - sum(jobs for _, jobs in running.values())
+                while ready and idle > 0:
+                    share = min(MOST_JOBS, idle // len(ready))
+                    crate = ready.pop(0)
+                    jobs = max(1, share) if 2 * crate.chain > longest else 1
                     left.remove(crate)
-                    running[pool.submit(self.prove, crate.name, jobs, 0 if is_first else PATIENT)] = crate, jobs
+                    running[pool.submit(self.prove, crate.name, jobs)] = crate, jobs
+                    idle -= jobs
                 for one in wait(running, return_when=FIRST_COMPLETED).done:
                     crate, _ = running.pop(one)
                     if not one.result():
@@ -159,14 +156,14 @@ def most_processes(processors):
         return int(asked)
     with open("/proc/meminfo", encoding="ascii") as file:
         free = next(int(line.split()[1]) * 1024 for line in file if line.startswith("MemAvailable"))
-    return max(1, min(2 * processors, free // MEMORY))
+    return max(1, min(processors, free // MEMORY))
 
 
 def main():
     folder, top = sys.argv[1:]
     build = Build(os.path.realpath(folder), top)
     processors = len(os.sched_getaffinity(0))
-    if not build.run(processors, most_processes(processors)):
+    if not build.run(most_processes(processors)):
         sys.exit(1)
     out = os.path.join(build.folder, "crates", top, "out")
     os.makedirs(out, exist_ok=True)

@@ -38,7 +38,7 @@ abbrev pub cut_status : {T : Type 0} → Option T → ℕ
 cut_status None = 0
 cut_status (Some fault) = 1
 
--- the status of a play or of an audit: 0, 1, or 3 where a device failed, or memory or reads ran out
+-- the status of a play: 0, 1, or 3 where a device failed, or memory or reads ran out
 abbrev pub IsEnded : ℕ → Type 0
 IsEnded status = (status ≡ 0) ⊎ (status ≡ 1) ⊎ (status ≡ 3)
 
@@ -61,11 +61,6 @@ SaysOrFails status (stop.Failed error) = ⊤
 abbrev pub Fails : Stop → Type 0
 Fails (stop.Said told) = told ≡ 3
 Fails (stop.Failed error) = ⊤
-
--- The job ends with the status of an audit, or with 3: the reason was printed, or isn't printed yet.
-abbrev pub StopsAudit : Stop → Type 0
-StopsAudit (stop.Said status) = IsEnded status
-StopsAudit (stop.Failed error) = ⊤
 
 -- a stop once its reason is printed: with status 3 if nothing was printed before
 abbrev pub once_said : Stop → Stop

@@ -1,6 +1,6 @@
 //! The newest day of a station: closing it, and going on with it.
 ghost use Rattle.std.specs.Prelude.{◌≡◌, ◌≢◌, ◌⊎◌, ◌+◌, Ok, IfOk, IfErr, IfSome, string_bytes};
-ghost use Rattle.file_jobs.specs.Statuses.{EndsWith, IsFailed, Fails, SaysOrFails, StopsAudit, uncarried_status};
+ghost use Rattle.file_jobs.specs.Statuses.{EndsWith, IsFailed, Fails, SaysOrFails, uncarried_status};
 ghost use Rattle.file_jobs.specs.Days.{path_of, going_on, BeginsDay};
 
 use crate::faults::{Place, cannot_use, complain, once_printed};
@@ -63,7 +63,7 @@ pub fn newest_day(
         string_bytes newest.journal ≡ path_of folder.entry.path.now newest.day.number Part.Journal) }
     ensures serve { IfOk result (λ newest. newest.day.serve ≡ given.entry.settings.serve) }
     ensures unkept { IfOk result (λ newest. IfSome newest.unkept (λ text. text ≡ given.entry.text)) }
-    ensures refused { IfErr result StopsAudit }
+    ensures refused { IfErr result (SaysOrFails 1) }
 {
     let Given {
         word,
@@ -139,7 +139,7 @@ fn number_of(
     text: &[u8],
     is_new_day: bool,
 ) -> Result<u32, Stop>
-    ensures { IfErr result StopsAudit }
+    ensures { IfErr result (SaysOrFails 1) }
 {
     let newest = match going_on(folder.span(rt)?, is_new_day) {
         Going::With(day) => return Ok(day),
@@ -242,7 +242,7 @@ fn close_day(
     unkept: Option<&[u8]>,
 ) -> Result<u32, Stop>
     ensures newest { IfOk result (λ newest. (newest ≡ number) ⊎ (newest ≡ number + 1)) }
-    ensures refused { IfErr result StopsAudit }
+    ensures refused { IfErr result (SaysOrFails 1) }
 {
     let path = folder.file(rt, number, Part::Journal)?;
     let config = begin_day(rt, folder, number, config)?;
