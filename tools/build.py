@@ -119,7 +119,7 @@ class Build:
         is_proved, said, took = timed(words, self.path(name, name))
         verdict = "proved" if is_proved else "NOT PROVED"
         with self.printing:
-            print(f"== {name}: {took}, {jobs} processes\n{said}rt: {name} {verdict}", flush=True)
+            print(f"== {name}: {took}, processes: {jobs}\n{said}rt: {name} {verdict}", flush=True)
         if is_proved:
             self.forget(name)
         return is_proved
