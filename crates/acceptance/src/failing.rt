@@ -29,7 +29,7 @@ impl Clock for Still {
 
 /// The outcome of a session: how it ended, how many reads and writes failed, and how many receipts its pass got. Also
 /// how many answers were written, and whether the output is a beginning of the expected answers.
-#[derive(Clone, Copy, PartialEq, Drop)]
+#[derive(Clone, Copy, PartialEq)]
 struct Seen {
     ended: Result<Ended, SessionFault>,
     failed: (u64, u64),
@@ -221,7 +221,7 @@ fn cut_journal(alloc: Global, good: u64) -> Result<MemoryIn, Fail> {
 }
 
 /// The result of reading a journal, and how many reads failed, how many were made, and how many bytes they asked for.
-#[derive(Clone, Copy, PartialEq, Drop)]
+#[derive(Clone, Copy, PartialEq)]
 struct Read {
     entries: Result<usize, JournalFault>,
     failures: u64,
@@ -277,7 +277,7 @@ fn unlike_after_journal_reads(alloc: Global) -> Result<Option<u64>, Fail> {
 
 /// The result of writing a journal, how many writes failed, and whether the output is a beginning of the journal, and
 /// the whole of it.
-#[derive(Clone, Copy, PartialEq, Drop)]
+#[derive(Clone, Copy, PartialEq)]
 struct Written {
     told: Result<(), JournalFault>,
     failures: u64,

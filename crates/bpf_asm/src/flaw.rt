@@ -58,7 +58,7 @@ impl fmt::Display for AsmFlaw<'_> {
 const MOST_SHOWN: usize = 80;
 
 /// A line or a label, of which the first 80 bytes are written, and ` ..` if there are more.
-#[derive(Clone, Copy, Drop)]
+#[derive(Clone, Copy)]
 struct Beginning<'a>(&'a [u8]);
 
 impl fmt::Display for Beginning<'_> {

@@ -11,7 +11,7 @@ use std::fmt;
 pub const MOST_BYTES: usize = 65_536;
 
 /// Why a file isn't a program file.
-#[derive(Clone, Copy, Drop)]
+#[derive(Clone, Copy)]
 pub enum ProgramFileFault {
     /// L1: the file is too long.
     TooLong,

@@ -4,7 +4,7 @@ ghost use Rattle.std.specs.Prelude.{◌≡◌, ◌≤◌, length};
 ghost use Rattle.bpf_model.specs.Layouts.{context_len, layout_of, bytes_of};
 
 /// The layout of a context. It says which fields the context has, and so how many bytes.
-#[derive(Clone, Copy, PartialEq, Eq)]
+#[derive(Clone, Copy, PartialEq)]
 pub enum Layout {
     One,
     Two,
@@ -25,7 +25,7 @@ impl Layout {
 }
 
 /// The bytes of a context, in the layout that the program was loaded for.
-#[derive(Clone, Copy, PartialEq, Eq)]
+#[derive(Clone, Copy, PartialEq)]
 pub enum Context {
     One([u8; 64]),
     Two([u8; 80]),

@@ -11,7 +11,7 @@ use clap::{Arg, ArgAction, Command, value_parser};
 use std::alloc::{AllocError, Global};
 
 /// An argument of a subcommand.
-#[derive(Clone, Copy, Drop)]
+#[derive(Clone, Copy)]
 enum Argument {
     /// A file that must be given: its name, and its help text.
     File(&'static str, &'static str),
@@ -32,7 +32,7 @@ enum Argument {
 }
 
 /// A subcommand: its name, its help text, an example, and its arguments.
-#[derive(Clone, Copy, Drop)]
+#[derive(Clone, Copy)]
 struct Word {
     name: &'static str,
     about: &'static str,

@@ -5,7 +5,7 @@ use bpf_model::context::Layout;
 use std::alloc::AllocError;
 
 /// The rows of a journal that `export` prints.
-#[derive(Clone, Copy, Drop)]
+#[derive(Clone, Copy)]
 pub enum Rows {
     /// A row for each sale.
     Sales,
@@ -16,7 +16,7 @@ pub enum Rows {
 }
 
 /// The form in which `export` prints rows.
-#[derive(Clone, Copy, Drop)]
+#[derive(Clone, Copy)]
 pub enum Format {
     Csv,
     /// A line of JSON for each row.

@@ -36,7 +36,7 @@ fn enter_event(site: &mut Site, moment: u64, what: What) -> Answer
 }
 
 /// The answer to an act, and why its program was refused.
-#[derive(Clone, Copy, Drop)]
+#[derive(Clone, Copy)]
 pub struct Entered {
     pub answer: Answer,
     /// Why the verifier refuses the program, if the act is a load that it refuses.

@@ -21,7 +21,7 @@ pub trait PlayNotices {
 }
 
 /// A receiver that ignores all reports.
-#[derive(Clone, Copy, Drop)]
+#[derive(Clone, Copy)]
 pub struct NoNotices;
 
 impl PlayNotices for NoNotices {

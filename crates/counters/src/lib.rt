@@ -11,7 +11,7 @@ ghost use Rattle.bpf_model.specs.declared.limits.TheConstants.{COUNTERS};
 use std::marker::Model;
 
 /// The 32 counters, each a pair of its value and its bound. A value is at most its bound.
-#[derive(Clone, Copy, Drop)]
+#[derive(Clone, Copy)]
 pub struct Counters {
     cells: [(u64, u64); 32],
 }

@@ -10,7 +10,7 @@ use fuelling_point::DispenserEvent;
 use till_request::{Act, Request};
 
 /// The cells of an act, one for each column. If the act has no value for a column, its cell is `Nothing`.
-#[derive(Clone, Copy, Drop)]
+#[derive(Clone, Copy)]
 pub(crate) struct ActCells {
     pub(crate) sender: Cell,
     pub(crate) till: Cell,

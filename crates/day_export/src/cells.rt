@@ -4,7 +4,7 @@ ghost use Rattle.std.specs.Prelude.{◌≡◌, map};
 ghost use Rattle.day_export.specs.Cells.{columns, word_text, optional, moment_cell};
 
 /// Which rows of a day are written.
-#[derive(Clone, Copy, Drop)]
+#[derive(Clone, Copy)]
 pub enum Rows {
     /// A row for each sale.
     Sales,
@@ -15,7 +15,7 @@ pub enum Rows {
 }
 
 /// The format in which rows are written.
-#[derive(Clone, Copy, Drop)]
+#[derive(Clone, Copy)]
 pub enum Format {
     /// CSV by RFC 4180, with the names of the columns as its first record.
     Csv,
@@ -24,7 +24,7 @@ pub enum Format {
 }
 
 /// A word in a cell.
-#[derive(Clone, Copy, Drop)]
+#[derive(Clone, Copy)]
 pub enum Word {
     Till,
     Dispenser,
@@ -59,7 +59,7 @@ pub enum Word {
 }
 
 /// The value that a row has in a column.
-#[derive(Clone, Copy, Drop)]
+#[derive(Clone, Copy)]
 pub enum Cell {
     Number(u64),
     Word(Word),

@@ -4,7 +4,7 @@ use std::alloc::AllocError;
 use std::io;
 
 /// Why rows couldn't be written.
-#[derive(Clone, Copy, Drop)]
+#[derive(Clone, Copy)]
 pub enum RowsFault {
     OutOfMemory,
     /// The writer failed.

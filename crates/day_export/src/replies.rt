@@ -8,7 +8,7 @@ use fuelling_point::Order;
 use till_request::Reply;
 
 /// The cells of a reply, one for each column. If the reply has no value for a column, its cell is `Nothing`.
-#[derive(Clone, Copy, Drop)]
+#[derive(Clone, Copy)]
 pub(crate) struct ReplyCells {
     pub(crate) reply: Cell,
     pub(crate) granted: Cell,

@@ -8,7 +8,7 @@ use byteorder::{ByteOrder, LittleEndian};
 use decision_journal::Run;
 
 /// The cells of a run: its slot, its version and its answer.
-#[derive(Clone, Copy, Drop)]
+#[derive(Clone, Copy)]
 pub(crate) struct RunCells {
     pub(crate) slot: Cell,
     pub(crate) version: Cell,

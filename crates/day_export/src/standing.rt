@@ -19,7 +19,7 @@ use till_request::{Act, Reply, Request};
 
 /// A delivery that ended. It has its point, the number of the transaction that it became, the number of the entry that
 /// ended it, its product (1 to 8), and the product's price in thousandths.
-#[derive(Clone, Copy, Drop)]
+#[derive(Clone, Copy)]
 pub(crate) struct Ended {
     pub(crate) point: u32,
     pub(crate) transaction: u32,

@@ -15,7 +15,7 @@ const APART: usize = WIDTH / PLACES;
 const HIGH: usize = 160;
 
 /// The least and the greatest price that the drawing shows, in thousandths.
-#[derive(Clone, Copy, Drop)]
+#[derive(Clone, Copy)]
 struct Range {
     least: u64,
     greatest: u64,

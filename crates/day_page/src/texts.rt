@@ -3,7 +3,7 @@
 ghost use Rattle.std.specs.Prelude.{◌≤◌};
 
 /// A text of a page, and the form in which it is written.
-#[derive(Clone, Copy, Drop)]
+#[derive(Clone, Copy)]
 pub enum Text {
     /// A number in plain digits, as in 1234567.
     Number(u64),
@@ -40,7 +40,7 @@ pub fn numbered(place: usize, first: u64) -> Text {
 }
 
 /// A date of the Gregorian calendar, in UTC. Months and days begin at 1.
-#[derive(Clone, Copy, Drop)]
+#[derive(Clone, Copy)]
 pub(crate) struct Date {
     pub year: u64,
     pub month: u64,

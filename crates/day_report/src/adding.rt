@@ -71,7 +71,7 @@ pub struct Totals {
 
 /// What was carried in from the day before: how many unpaid transactions and their total in cents, how many rules, and
 /// the total that was cleared before, in cents.
-#[derive(Clone, Copy, Drop)]
+#[derive(Clone, Copy)]
 pub struct CarriedIn {
     pub unpaid: usize,
     pub unpaid_cents: u128,
@@ -81,7 +81,7 @@ pub struct CarriedIn {
 
 /// An unpaid transaction: its point, its number there, its amount in cents, its volume in centilitres, and the till
 /// that locked it, or 0 if none did.
-#[derive(Clone, Copy, Drop)]
+#[derive(Clone, Copy)]
 pub struct Unpaid {
     pub point: usize,
     pub number: u32,
@@ -91,7 +91,7 @@ pub struct Unpaid {
 }
 
 /// How sales are divided into parts: by point, by till, or by hour of the day.
-#[derive(Clone, Copy, Drop)]
+#[derive(Clone, Copy)]
 enum By {
     Point,
     Till,

@@ -10,7 +10,7 @@ use std::collections::HashMap;
 
 /// A part of the decisions that is counted: those on releases, on presets or on prices, or those on one till's
 /// requests.
-#[derive(Clone, Copy, Drop)]
+#[derive(Clone, Copy)]
 pub enum Deciding {
     Releases,
     Presets,

@@ -10,7 +10,7 @@ use till_request::{Act, Reply};
 
 /// A load of a program that was accepted: the number of its entry, its slot and its version. Since the entry of a load
 /// has no moment, `moment` is that of the last entry before it that has one, or 0 if none has.
-#[derive(Clone, Copy, Drop)]
+#[derive(Clone, Copy)]
 pub struct Load {
     pub number: u32,
     pub moment: u64,

@@ -59,7 +59,7 @@ pub fn opening_prices(config: &Config) -> [u32; 8]
 }
 
 /// A rule that is carried in from the day before: its slot, 0 to 15, and the number of its version.
-#[derive(Clone, Copy, Drop)]
+#[derive(Clone, Copy)]
 pub struct CarriedRule {
     pub slot: u32,
     pub version: u32,

@@ -18,7 +18,7 @@ use till_request::{Act, Reply, Request};
 
 /// A transaction that a till cleared. It has the number and the moment of the entry that cleared it, the till, the
 /// point, the amount in cents and the volume in centilitres.
-#[derive(Clone, Copy, Drop)]
+#[derive(Clone, Copy)]
 pub struct Sale {
     pub number: u32,
     pub moment: u64,
@@ -122,7 +122,7 @@ pub fn find_sales(alloc: Global, config: &Config, entries: &[Entry]) -> Result<S
 }
 
 /// A part of the sales that is added up separately.
-#[derive(Clone, Copy, Drop)]
+#[derive(Clone, Copy)]
 pub enum Part {
     All,
     /// The sales at the point of this number.
@@ -135,7 +135,7 @@ pub enum Part {
 
 /// How many sales there are, and their totals in cents and in centilitres. The totals have 128 bits, so sums of 64-bit
 /// numbers can't overflow them.
-#[derive(Clone, Copy, Drop)]
+#[derive(Clone, Copy)]
 pub struct Sum {
     pub count: u64,
     pub cents: u128,

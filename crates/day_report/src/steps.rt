@@ -25,7 +25,7 @@ const STEPS: usize = 2000;
 const SPAN: u64 = 600;
 
 /// The axis of a picture of a history: its entries, or time.
-#[derive(Clone, Copy, Drop)]
+#[derive(Clone, Copy)]
 pub enum Axis {
     /// The entries of a history, of which there are this many.
     Entries(usize),

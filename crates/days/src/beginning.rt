@@ -10,7 +10,7 @@ use std::alloc::Global;
 use std::fmt::{self, Display};
 
 /// Why no site of a configuration begins with an opening.
-#[derive(Clone, Copy, Drop)]
+#[derive(Clone, Copy)]
 pub enum Unfit {
     /// The opening and the configuration don't fit each other.
     Misfit(Misfit),

@@ -5,7 +5,7 @@ use decision_journal::JournalFault;
 use site_core::{AuditFault, Config};
 
 /// Why a day leaves no opening for the next day.
-#[derive(Clone, Copy, Drop)]
+#[derive(Clone, Copy)]
 pub enum Unleft {
     /// The day has no journal.
     NoJournal,

@@ -13,7 +13,7 @@ pub struct DayIn<J> {
 }
 
 /// The error of a day that couldn't be read. The cause isn't kept.
-#[derive(Clone, Copy, Drop)]
+#[derive(Clone, Copy)]
 pub struct NoDay;
 
 /// The days of a station, which are given one after another.
@@ -42,7 +42,7 @@ pub trait DaysIn {
 }
 
 /// How many days were found to follow one another, and how many entries they have together.
-#[derive(Clone, Copy, Drop)]
+#[derive(Clone, Copy)]
 pub struct Chained {
     pub days: u32,
     pub entries: u64,

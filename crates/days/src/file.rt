@@ -17,7 +17,7 @@ pub struct OpeningFile {
 }
 
 /// Why bytes aren't the text of an opening. The number is that of a line, counted from 1.
-#[derive(Clone, Copy, Drop)]
+#[derive(Clone, Copy)]
 pub enum OpeningFlaw {
     /// The first line that no opening has after the lines before it; or, if the text ends too early, the number after
     /// the last line's.
@@ -30,7 +30,7 @@ pub enum OpeningFlaw {
 }
 
 /// Why the site of a day leaves no opening for the next day.
-#[derive(Clone, Copy, Drop)]
+#[derive(Clone, Copy)]
 pub enum Uncarried {
     /// The number of the day is the greatest one.
     LastDay,

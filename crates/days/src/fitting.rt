@@ -49,7 +49,7 @@ impl Display for Misfit {
 }
 
 /// A transaction that a till holds, and how many tills the configuration has.
-#[derive(Clone, Copy, Drop)]
+#[derive(Clone, Copy)]
 struct HeldBy(Transaction, u32);
 
 impl Display for HeldBy {
@@ -68,7 +68,7 @@ impl Display for HeldBy {
 }
 
 /// A counter's value in the opening, and its smaller bound in the configuration.
-#[derive(Clone, Copy, Drop)]
+#[derive(Clone, Copy)]
 struct OverBound(u64, u64);
 
 impl Display for OverBound {

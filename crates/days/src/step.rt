@@ -41,7 +41,7 @@ const POINTS_AT: u32 = 59;
 const END_AT: u32 = 60;
 
 /// Why a line isn't taken.
-#[derive(Clone, Copy, Drop)]
+#[derive(Clone, Copy)]
 pub(crate) enum StepFault {
     /// The line can't come next.
     Misplaced,

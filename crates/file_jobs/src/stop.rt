@@ -3,7 +3,7 @@ use std::alloc::AllocError;
 use std::io;
 
 /// Why a job ends before it is done.
-#[derive(Clone, Copy, Drop)]
+#[derive(Clone, Copy)]
 pub enum Stop {
     /// The reason was printed already, and this is the exit status.
     Said(u8),

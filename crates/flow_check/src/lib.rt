@@ -17,7 +17,7 @@ use std::marker::Model;
 
 /// Why a program's jumps are refused: what is wrong with the first wrong jump, and the number of its unit, counted from
 /// 0. `Display` doesn't write this number.
-#[derive(Clone, Copy, PartialEq, Eq)]
+#[derive(Clone, Copy)]
 pub enum FlowFault {
     BackwardJump(u32),
     JumpOut(u32),

@@ -12,7 +12,7 @@ pub const GREATEST: u64 = 999_999_999;
 
 /// All that a fuelling point keeps. The fields from `state` to `volume`, and `last`, are what the methods of `Point`
 /// with these names return: amounts in cents, volumes in centilitres.
-#[derive(Clone, Copy, Drop)]
+#[derive(Clone, Copy)]
 pub struct Snapshot {
     pub state: State,
     pub nozzle: u32,

@@ -4,7 +4,7 @@
 use std::fmt;
 
 /// A text that is written with its special characters escaped, so that none of them is parsed as HTML markup.
-#[derive(Clone, Copy, Drop)]
+#[derive(Clone, Copy)]
 pub struct Escaped<'a>(pub &'a str);
 
 impl Escaped<'_> {
@@ -34,7 +34,7 @@ impl fmt::Display for Escaped<'_> {
 }
 
 /// A character that is written escaped if it is special in HTML.
-#[derive(Clone, Copy, Drop)]
+#[derive(Clone, Copy)]
 struct Mark(char);
 
 impl fmt::Display for Mark {

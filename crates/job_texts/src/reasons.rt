@@ -43,7 +43,7 @@ impl fmt::Display for RefusedProgram {
 }
 
 /// The number of the unit at fault, if there is one, as the beginning of a text.
-#[derive(Clone, Copy, Drop)]
+#[derive(Clone, Copy)]
 struct UnitAtFault(Option<u32>);
 
 impl fmt::Display for UnitAtFault {
@@ -60,7 +60,7 @@ impl fmt::Display for UnitAtFault {
 }
 
 /// The line of the instruction at fault, if there is one, without its LF.
-#[derive(Clone, Copy, Drop)]
+#[derive(Clone, Copy)]
 struct LineAtFault<'a>(&'a Option<String>);
 
 impl fmt::Display for LineAtFault<'_> {
@@ -77,7 +77,7 @@ impl fmt::Display for LineAtFault<'_> {
 }
 
 /// What is wrong with an instruction: for an argument of a helper, what it must be.
-#[derive(Clone, Copy, Drop)]
+#[derive(Clone, Copy)]
 struct Wrong(Refusal, Option<Kind>);
 
 impl fmt::Display for Wrong {

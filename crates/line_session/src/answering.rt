@@ -20,14 +20,14 @@ pub const READS: u32 = 67_108_864;
 
 /// How a session ended: the number of its answers, and the fault of the last line if that was too long (L1) or had no
 /// LF (L4).
-#[derive(Clone, Copy, PartialEq, Eq, Drop)]
+#[derive(Clone, Copy, PartialEq)]
 pub struct Ended {
     pub lines: u64,
     pub cut: Option<LineFault>,
 }
 
 /// Why a session failed.
-#[derive(Clone, Copy, PartialEq, Eq, Drop)]
+#[derive(Clone, Copy, PartialEq)]
 pub enum SessionFault {
     /// N1: a read failed.
     Read,

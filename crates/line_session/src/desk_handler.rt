@@ -68,7 +68,7 @@ fn say<O: LineOut>(alloc: Global, output: &mut O, answer: &Answer) -> Result<(),
 }
 
 /// The line handler for a role: it answers with a desk, at the moments of a clock.
-#[derive(Clone, Copy, Drop)]
+#[derive(Clone, Copy)]
 pub struct DeskHandler {
     pub role: Role,
 }

@@ -3,7 +3,7 @@ use std::alloc::Global;
 use till_request::LineOut;
 
 /// Why a line has no answer, or its answer wasn't written whole.
-#[derive(Clone, Copy, Drop)]
+#[derive(Clone, Copy)]
 pub enum HandlerError {
     /// N2: the write of the answer failed.
     Write,

@@ -5,7 +5,7 @@ use std::fmt;
 use till_request::Role;
 
 /// What is shown of a station at one moment.
-#[derive(Clone, Copy, Drop)]
+#[derive(Clone, Copy)]
 pub struct Station<'a> {
     /// How many tills may ask, 1 to 64.
     pub tills: u32,
@@ -32,14 +32,14 @@ pub struct Station<'a> {
 }
 
 /// How often something was done, and how long it took in all.
-#[derive(Clone, Copy, Drop)]
+#[derive(Clone, Copy)]
 pub struct Times {
     pub count: u64,
     pub nanoseconds: u64,
 }
 
 /// The file in which a journal is kept.
-#[derive(Clone, Copy, Drop)]
+#[derive(Clone, Copy)]
 pub struct JournalFile {
     /// Its length.
     pub bytes: u64,
@@ -48,7 +48,7 @@ pub struct JournalFile {
 }
 
 /// Connections and workers of one kind of role: tills, dispensers or the owner.
-#[derive(Clone, Copy, Drop)]
+#[derive(Clone, Copy)]
 pub struct Peers {
     /// `Role::Till`, `Role::Dispenser` or `Role::Owner`.
     pub role: Role,
@@ -61,7 +61,7 @@ pub struct Peers {
 }
 
 /// Whether all is well with a station, or the first thing that isn't. `Display` writes it in a few words.
-#[derive(Clone, Copy, Drop)]
+#[derive(Clone, Copy)]
 pub enum Health {
     Well,
     /// The journal failed, so the site takes no further event.

@@ -6,7 +6,7 @@ use fuelling_point::{DispenserEvent, Order};
 use till_request::{Act, Reply, Request, Role};
 
 /// A form with a place for two texts at most, and these texts. A text without a place is `NONE`.
-#[derive(Clone, Copy, Drop)]
+#[derive(Clone, Copy)]
 struct Phrase(&'static str, Text, Text);
 
 /// Returns a phrase of a number.

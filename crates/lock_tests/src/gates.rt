@@ -233,6 +233,6 @@ fn both_of<R: Threads + Wait + Sync>(
 fn gate_holds_first_until_second(rt: HostRuntime) -> Result<(), Fail> {
     let config = config(rt.alloc()).ok_or("a configuration")?;
     let told = both_of(&rt, rt.alloc(), config);
-    assert!(rt; told == Some((true, CloseRefusal::PassMissing, 6)));
+    assert!(rt; matches!(told, Some((true, CloseRefusal::PassMissing, 6))));
     Ok(())
 }

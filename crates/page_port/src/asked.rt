@@ -12,7 +12,7 @@ use http::{Request, StatusCode, header};
 use till_request::number_u32;
 
 /// What can be looked at.
-#[derive(Clone, Copy, PartialEq, Eq, Drop)]
+#[derive(Clone, Copy)]
 pub enum View {
     /// The station now, as a page of HTML.
     Page,
@@ -25,7 +25,7 @@ pub enum View {
 }
 
 /// Why a request is refused.
-#[derive(Clone, Copy, PartialEq, Eq, Drop)]
+#[derive(Clone, Copy)]
 pub enum Refusal {
     /// It names another host than this machine: a page of another site may have sent it.
     OtherHost,

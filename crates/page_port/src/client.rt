@@ -23,7 +23,7 @@ const LIMITS: Config = Config {
 };
 
 /// How a turn of a client went.
-#[derive(Clone, Copy, Drop)]
+#[derive(Clone, Copy)]
 pub enum Turn {
     /// Bytes were read or written.
     Moved,

@@ -11,7 +11,7 @@ use http_server::Response;
 use std::alloc::AllocError;
 
 /// What the text of an answer is.
-#[derive(Clone, Copy, Drop)]
+#[derive(Clone, Copy)]
 pub enum Kind {
     Html,
     Metrics,

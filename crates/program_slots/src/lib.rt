@@ -25,7 +25,7 @@ pub const VERSIONS: usize = 4096;
 pub const SLOTS: u32 = 16;
 
 /// Why a program wasn't installed in a slot.
-#[derive(Clone, Copy, PartialEq, Eq, Drop)]
+#[derive(Clone, Copy)]
 pub enum SlotFault {
     /// S32: the slots are 0 to 15.
     NoSuchSlot,

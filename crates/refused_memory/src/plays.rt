@@ -45,7 +45,7 @@ fn outcome_of(alloc: Global, config: Config, mut input: Narrow, mut output: Memo
     drop(input);
     Outcome {
         text: output.bytes,
-        is_want: ended == Err(SessionFault::OutOfMemory),
+        is_want: matches!(ended, Err(SessionFault::OutOfMemory)),
         is_done: ended.is_ok(),
     }
 }

@@ -11,7 +11,7 @@ use std::fmt;
 /// What is wrong with an instruction, given the fact (the abstract state) before it. The first number in a variant is
 /// the unit where the instruction begins, which `Display` doesn't write. A second number is the register at fault, or
 /// the argument (1 or 2).
-#[derive(Clone, Copy, PartialEq, Eq)]
+#[derive(Clone, Copy)]
 pub enum TypeFault {
     FallsOff(u32),
     WriteR10(u32),
@@ -60,7 +60,7 @@ impl fmt::Display for TypeFault {
 }
 
 /// Why the verifier refuses a program: a fault of decoding, of a jump or of a type; or memory ran out.
-#[derive(Clone, Copy, PartialEq, Eq)]
+#[derive(Clone, Copy)]
 pub enum Refusal {
     Decode(DecodeFault),
     Flow(FlowFault),

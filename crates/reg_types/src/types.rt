@@ -15,7 +15,7 @@ use stack_map::StackMap;
 
 /// What is known of a register: nothing (`Unset`), that it holds a number (`Num`), which number (`Const`), or where it
 /// points. `Ctx` counts bytes from the context's first byte, 0 to 80, and `Stk` from the stack's end, -512 to 0.
-#[derive(Clone, Copy, PartialEq, Eq)]
+#[derive(Clone, Copy, PartialEq)]
 pub enum RegType {
     Unset,
     Num,

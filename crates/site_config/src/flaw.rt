@@ -210,7 +210,7 @@ impl fmt::Display for Type {
 }
 
 /// The least and the most that a number may be. If they are equal, only one number is written.
-#[derive(Clone, Copy, Drop)]
+#[derive(Clone, Copy)]
 struct Range(usize, usize);
 
 impl fmt::Display for Range {
@@ -277,7 +277,7 @@ pub enum ConfigFlaw {
 }
 
 /// How many items a list has, and the least and the most that it may have.
-#[derive(Clone, Copy, Drop)]
+#[derive(Clone, Copy)]
 struct Miscounted(usize, usize, usize);
 
 impl fmt::Display for Miscounted {
@@ -292,7 +292,7 @@ impl fmt::Display for Miscounted {
 }
 
 /// A value, and the least and the most that it may be.
-#[derive(Clone, Copy, Drop)]
+#[derive(Clone, Copy)]
 struct Outside(i64, u64, u64);
 
 impl fmt::Display for Outside {
@@ -307,7 +307,7 @@ impl fmt::Display for Outside {
 }
 
 /// A counter's value, and its bound.
-#[derive(Clone, Copy, Drop)]
+#[derive(Clone, Copy)]
 struct Over(u64, u64);
 
 impl fmt::Display for Over {
@@ -322,7 +322,7 @@ impl fmt::Display for Over {
 }
 
 /// What is wrong with the doors of `[serve]`: their keys, their addresses and whose lines they take.
-#[derive(Clone, Copy, Drop)]
+#[derive(Clone, Copy)]
 struct OfDoors<'a>(&'a ConfigFlaw);
 
 impl fmt::Display for OfDoors<'_> {

@@ -254,7 +254,7 @@ pub enum Begin {
 
 /// The result of a commit: `Done`, the decision was entered; or `Stale`, something that its run depends on has changed
 /// since, and nothing was entered.
-#[derive(Clone, Copy, PartialEq, Eq, Drop)]
+#[derive(Clone, Copy)]
 pub enum Commit {
     Done(Answered),
     Stale(Why),

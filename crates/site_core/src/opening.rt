@@ -24,7 +24,7 @@ const MOST_VERSIONS: u32 = 4_290_000_000;
 
 /// Why a site can't begin with an opening: the first fault that the opening has, in the order of these cases, or that
 /// memory ran out.
-#[derive(Clone, Copy, PartialEq, Eq, Drop)]
+#[derive(Clone, Copy)]
 pub enum OpeningFault {
     Points,
     Prices,

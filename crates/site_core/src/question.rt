@@ -8,7 +8,7 @@ use fuelling_point::Command;
 use till_request::Request;
 
 /// The kind of request that a program decides.
-#[derive(Clone, Copy, PartialEq, Eq, Drop)]
+#[derive(Clone, Copy)]
 pub enum Kind {
     Release,
     Preset,
@@ -17,7 +17,7 @@ pub enum Kind {
 
 /// The question that a request asks a program, and the slot of that program. `asked` is an amount in cents, or a price
 /// in thousandths. A price has point 0; releases and presets have product 0.
-#[derive(Clone, Copy, Drop)]
+#[derive(Clone, Copy)]
 pub struct Question {
     pub kind: Kind,
     pub point: u32,
@@ -28,7 +28,7 @@ pub struct Question {
 
 /// What a request leads to: a question to a program, a command to the point of this number, or the display of that
 /// point.
-#[derive(Clone, Copy, Drop)]
+#[derive(Clone, Copy)]
 pub enum Asks {
     Decision(Question),
     Command(u32, Command),

@@ -1,7 +1,7 @@
 //! The reasons why a decision that was run outside the site isn't entered.
 
 /// The first difference between the site and what a run was made on, in the order of these cases.
-#[derive(Clone, Copy, PartialEq, Eq, Drop)]
+#[derive(Clone, Copy, PartialEq)]
 pub enum Why {
     /// The slot has another version now, whose number is given, or no version (`None`). It is `None` too if there is no
     /// such till or point.

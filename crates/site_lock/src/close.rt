@@ -6,7 +6,7 @@ use site_core::Site;
 use std::fmt;
 
 /// Why a forecourt wasn't closed.
-#[derive(Clone, Copy, PartialEq, Eq, Drop)]
+#[derive(Clone, Copy)]
 pub enum CloseRefusal {
     /// C1: the passes given to the close aren't exactly the passes of the forecourt, each once.
     PassMissing,

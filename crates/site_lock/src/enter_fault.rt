@@ -2,7 +2,7 @@
 use site_core::CallFault;
 
 /// Why an event has no answer at a site that may keep a journal.
-#[derive(Clone, Copy, PartialEq, Eq, Drop)]
+#[derive(Clone, Copy)]
 pub enum EnterFault {
     /// The event wasn't entered: the history is full (S29), or memory ran out (S31).
     Call(CallFault),

@@ -23,7 +23,7 @@ pub trait Gate {
 }
 
 /// A gate that runs each draft at once, on the caller's thread.
-#[derive(Clone, Copy, Drop)]
+#[derive(Clone, Copy)]
 pub struct Straight {
     pub calls: u64,
 }

@@ -4,7 +4,7 @@ use std::{fmt, io};
 use till_request::{LineFault, Role};
 
 /// Why a session ended with a fault.
-#[derive(Clone, Copy, Drop)]
+#[derive(Clone, Copy)]
 pub enum SessionFailure {
     /// The line that ended the session: it was too long (L1), or the input ended before its LF (L4).
     Line(LineFault),

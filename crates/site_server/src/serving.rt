@@ -54,7 +54,7 @@ pub struct Served<J: Journal = NoJournal> {
 }
 
 /// Why a site that was served couldn't be closed.
-#[derive(Clone, Copy, PartialEq, Eq, Drop)]
+#[derive(Clone, Copy)]
 pub enum ServeFault {
     OutOfMemory,
     /// The journal failed, so the act of the last entry was never answered.

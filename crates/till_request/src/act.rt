@@ -27,8 +27,7 @@ impl Model for Bytes {
 }
 
 impl Bytes {
-    /// Makes a `Bytes` of a vector's bytes. The error is that memory ran out, which an empty
-    /// vector doesn't need.
+    /// Makes a `Bytes` of a vector's bytes. The error is that memory ran out, which an empty vector doesn't need.
     pub fn new(alloc: Global, items: Vec<u8>) -> Result<Self, AllocError>
         ensures same { IfOk result (λ b. b ≡ items.items) }
         ensures memory { OnErr result (0 < length items.items) }
@@ -83,7 +82,7 @@ impl PartialEq for Bytes {
 
 /// A till's request. The first number is a point's, or for `Price` a product's. The second number of `Lock`, `Unlock`
 /// and `Clear` is that of one of the point's transactions.
-#[derive(Clone, Copy, PartialEq, Eq, Drop)]
+#[derive(Clone, Copy, PartialEq)]
 pub enum Request {
     /// Allow a delivery of at most this amount, in cents.
     Release(u32, u64),
@@ -128,7 +127,7 @@ pub enum Act {
 }
 
 /// The site's reply to an act.
-#[derive(Clone, Copy, PartialEq, Eq, Drop)]
+#[derive(Clone, Copy, PartialEq)]
 pub enum Reply {
     Done,
     /// A rule granted the request: the amount in cents, or the price in thousandths of the currency per litre, and the
@@ -155,7 +154,7 @@ pub enum Reply {
 }
 
 /// Who sends the lines. It decides which lines are accepted; any other line is a `BadLine`.
-#[derive(Clone, Copy, Drop)]
+#[derive(Clone, Copy)]
 pub enum Role {
     /// The lines of any till.
     Till,
@@ -172,7 +171,7 @@ pub enum Role {
 }
 
 /// Why a line can't be read as an act. Each fault is given with its text.
-#[derive(Clone, Copy, PartialEq, Eq, Drop)]
+#[derive(Clone, Copy, PartialEq)]
 pub enum LineFault {
     /// `L1`: the line has more than 8,400 bytes before its LF, or before the end of the input.
     TooLong,
@@ -188,7 +187,7 @@ pub enum LineFault {
 }
 
 /// The answer to a line.
-#[derive(Clone, Copy, Drop)]
+#[derive(Clone, Copy)]
 pub enum Answer {
     /// The line's act was entered in the history: the entry's number, and the site's reply.
     Entered { number: u32, reply: Reply },

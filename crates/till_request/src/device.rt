@@ -8,7 +8,7 @@ ghost use Rattle.till_request.specs.Line.{IsLine, LacksRoom, TakesHeld};
 use std::alloc::AllocError;
 
 /// The error of a read or a write that failed. The cause isn't kept.
-#[derive(Clone, Copy, PartialEq, Eq, Drop)]
+#[derive(Clone, Copy)]
 pub struct DeviceFault;
 
 /// A source of bytes that lines are read from: a file, a socket, a list in memory.

@@ -11,7 +11,7 @@ use crate::short_text::{ShortText, put_line};
 use std::alloc::Global;
 
 /// Why an answer wasn't written to its end.
-#[derive(Clone, Copy, PartialEq, Eq, Drop)]
+#[derive(Clone, Copy)]
 pub enum WriteFault {
     /// The device failed (fault `N2`).
     Write,
