@@ -1,15 +1,15 @@
 #!/usr/bin/env python3
 """Proves the crates of a program side by side, and builds the program.
 
-usage: tools/build.py FOLDER NAME    FOLDER: has crates.txt and crates/, and this call may change it
-                                     NAME: the program's crate; the program is then in FOLDER/crates/NAME/out/NAME
+usage: tools/build.py SOURCES NAME FOLDER    SOURCES: has crates.txt and crates/, which this call only reads
+                                             NAME: the program's crate
+                                             FOLDER: for what is proved, and for the program, FOLDER/NAME
 
-Two calls of `rt` in one tree wait for each other, so each crate is proved in a tree of its own. What was proved is
-linked into the trees of the crates above it. There are as many processes as processors, or as memory allows; FC_JOBS
-sets another number. Of the crates that can begin, the one with the longest chain up to the program comes first. Where
-processors would be idle, a crate in the lower half of the longest chain gets several processes. Nearer to the program
-each process has so much to read first that several take no less time than one. What `rt` prints goes to standard
-output, with a line 'rt: NAME proved' at the end of each crate.
+Each crate is proved by the toolchain's `rattle build`, over what the crates below it state: --statements leaves out
+their proofs, which nobody above reads. There are as many processes as processors, or as memory allows; FC_JOBS sets
+another number. Of the crates that can begin, the one with the longest chain up to the program comes first. Where
+processors would be idle, a crate gets several processes. What the toolchain prints goes to standard output, with a line
+'build: NAME proved' at the end of each crate.
 The exit status is 0 if all was proved and the program was built.
 """
 import os
@@ -22,6 +22,8 @@ from concurrent.futures import FIRST_COMPLETED, ThreadPoolExecutor, wait
 
 MOST_JOBS = 4  # processes that one crate's proof can use well
 MEMORY = 4_500_000_000  # bytes that a process may need
+TARGET = "x86_64-unknown-linux-gnu"
+C_LIBRARIES = ("libos_c.a", "liblibc_c.a")  # what the kit's libraries of the system are linked with
 
 
 def timed(words, folder):
@@ -39,31 +41,33 @@ def timed(words, folder):
 
 
 class Crate:
-    """A crate: the crates it depends on, its lines of code, and the most lines in a chain from it up to the program."""
+    """A crate: the crates and the kit's libraries that it depends on, its lines of code, and the most lines in a chain
+    from it up to the program."""
 
-    def __init__(self, folder, name, line, deps):
-        self.name, self.line, self.deps = name, line, deps
+    def __init__(self, folder, name, deps, of_kit):
+        self.name, self.deps, self.of_kit = name, deps, of_kit
         self.lines, self.chain = 0, 0
-        for path, _, names in os.walk(os.path.join(folder, "crates", name, "src")):
+        for path, _, names in os.walk(os.path.join(folder, "src")):
             for one in names:
                 with open(os.path.join(path, one), "rb") as file:
                     self.lines += file.read().count(b"\n")
 
 
-def crates_of(folder, top):
+def crates_of(sources, top):
     """The crate `top` and all crates below it, by name, with their chains."""
     lines = {}
-    with open(os.path.join(folder, "crates.txt"), encoding="utf-8") as file:
+    with open(os.path.join(sources, "crates.txt"), encoding="utf-8") as file:
         for line in file:
             name, colon, deps = line.partition("#")[0].partition(":")
             if colon:
-                lines[name.split()[0]] = line, deps.split()
+                lines[name.split()[0]] = deps.split()
     crates = {}
 
     def add(name, chain):
         if name not in crates:
-            line, deps = lines[name]
-            crates[name] = Crate(folder, name, line, [dep for dep in deps if dep in lines])
+            ours = [dep for dep in lines[name] if dep in lines]
+            of_kit = ["std", *(dep for dep in lines[name] if dep not in lines)]
+            crates[name] = Crate(os.path.join(sources, "crates", name), name, ours, of_kit)
         crate = crates[name]
         if chain + crate.lines > crate.chain:
             crate.chain = chain + crate.lines
@@ -75,69 +79,69 @@ def crates_of(folder, top):
 
 
 class Build:
-    """A build: its folder, in which each crate gets a tree, and its crates."""
+    """A build: the sources, the folder for what is proved, the toolchain's kit, and the crates."""
 
-    def __init__(self, folder, top):
-        self.folder, self.top, self.crates = folder, top, crates_of(folder, top)
+    def __init__(self, sources, top, folder):
+        self.sources, self.folder = os.path.realpath(sources), os.path.realpath(folder)
+        self.top, self.crates = top, crates_of(sources, top)
+        self.kit = os.path.dirname(os.path.dirname(os.path.realpath(shutil.which("rt"))))
         self.printing = threading.Lock()
 
-    def below(self, name):
-        found = set(self.crates[name].deps)
-        return found.union(*(self.below(dep) for dep in self.crates[name].deps))
+    def of_kit(self, *path):
+        return os.path.join(self.kit, *path)
 
-    def path(self, tree, name):
-        return os.path.join(self.folder, "trees", tree, "crates", name)
+    def words(self, name, jobs):
+        """The command that proves a crate and writes its library, or for the program's crate its object file."""
+        crate, is_top = self.crates[name], name == self.top
+        words = [self.of_kit("bin", "rattle"), "build", "--crate-name", name]
+        words += ["src/main.rt" if is_top else "src/lib.rt", "--jobs", str(jobs), "--links", f"{name}="]
+        for dep in crate.of_kit:
+            words += ["--extern", f"{dep}={self.of_kit('rlibs', dep)}.rlib"]
+        for dep in crate.deps:
+            words += ["--extern", f"{dep}={os.path.join(self.folder, dep)}.rlib"]
+        words += ["-L", f"dependency={self.of_kit('rlibs')}", "-L", f"dependency={self.folder}"]
+        words += ["--antt-project", self.of_kit("rattle", "logic", "antt-project.json")]
+        words += ["--logic-built", self.of_kit("logic_built")]
+        if is_top:
+            words += ["--toolchain", self.of_kit("toolchain"), "--backend", "llvm"]
+        else:
+            words += ["--statements"]
+        return [*words, "-o", os.path.join(self.folder, name + (".o" if is_top else ".rlib"))]
 
-    def make_tree(self, name):
-        """Makes a repository of a crate and of those below it, with the proved libraries of those below it."""
-        tree = os.path.join(self.folder, "trees", name)
-        os.makedirs(os.path.join(tree, ".git"))
-        shutil.copy(os.path.join(self.folder, "HANDLES"), tree)
-        names = [name, *sorted(self.below(name))]
-        with open(os.path.join(tree, "crates.txt"), "w", encoding="utf-8") as file:
-            file.writelines(self.crates[one].line for one in names)
-        for one in names:
-            shutil.copytree(os.path.join(self.folder, "crates", one), self.path(name, one))
-        proved = os.path.join("out", "rlib")
-        for one in names[1:]:
-            made = os.path.join(self.path(one, one), proved)
-            shutil.copytree(made, os.path.join(self.path(name, one), proved), copy_function=os.link)
-
-    def forget(self, name):
-        """Removes from the tree of a proved crate all but its library: the rest is some hundred times as large."""
-        for one in self.below(name):
-            shutil.rmtree(self.path(name, one))
-        shutil.rmtree(os.path.join(self.path(name, name), "out", "incremental"), ignore_errors=True)
+    def link(self):
+        """Links the program and runs it for its version. Returns whether that went well, and what was said."""
+        program = os.path.join(self.folder, self.top)
+        words = [self.of_kit("bin", "rattle-link"), "--target", TARGET, "--toolchain", self.of_kit("toolchain")]
+        words += ["-o", program, f"{program}.o", *(self.of_kit("c", one) for one in C_LIBRARIES)]
+        is_linked, said, _ = timed(words, self.folder)
+        if not is_linked:
+            return False, said
+        runs, version, _ = timed([program, "--version"], self.folder)
+        return runs, said + version
 
     def prove(self, name, jobs):
-        """Proves a crate, and returns whether it could be proved. The program's crate is also built, and run for its
-        version."""
-        self.make_tree(name)
-        words = ["rt", "lib", "--jobs", str(jobs)]
-        if name == self.top:
-            words = ["rt", "run", "--jobs", str(jobs), "--", "--version"]
-        is_proved, said, took = timed(words, self.path(name, name))
+        """Proves a crate, and returns whether it could be proved. The program's crate is also linked."""
+        is_proved, said, took = timed(self.words(name, jobs), os.path.join(self.sources, "crates", name))
+        if is_proved and name == self.top:
+            is_proved, more = self.link()
+            said += more
         verdict = "proved" if is_proved else "NOT PROVED"
         with self.printing:
-            print(f"== {name}: {took}, processes: {jobs}\n{said}rt: {name} {verdict}", flush=True)
-        if is_proved:
-            self.forget(name)
+            print(f"== {name}: {took}, processes: {jobs}\n{said}build: {name} {verdict}", flush=True)
         return is_proved
 
     def run(self, most):
         """Proves all crates by at most `most` processes, up to the first that can't be proved. Returns whether all were
         proved."""
         left = sorted(self.crates.values(), key=lambda it: -it.chain)
-        longest = left[0].chain
         done, running = set(), {}
         with ThreadPoolExecutor(len(left)) as pool:
             while left or running:
                 ready = [it for it in left if done.issuperset(it.deps)]
                 idle = most - sum(jobs for _, jobs in running.values())
                 while ready and idle > 0:
-                    share = min(MOST_JOBS, idle // len(ready))
+                    jobs = max(1, min(MOST_JOBS, idle // len(ready)))
                     crate = ready.pop(0)
-                    jobs = max(1, share) if 2 * crate.chain > longest else 1
                     left.remove(crate)
                     running[pool.submit(self.prove, crate.name, jobs)] = crate, jobs
                     idle -= jobs
@@ -160,14 +164,11 @@ def most_processes(processors):
 
 
 def main():
-    folder, top = sys.argv[1:]
-    build = Build(os.path.realpath(folder), top)
+    sources, top, folder = sys.argv[1:]
     processors = len(os.sched_getaffinity(0))
-    if not build.run(most_processes(processors)):
+    if not Build(sources, top, folder).run(most_processes(processors)):
         sys.exit(1)
-    out = os.path.join(build.folder, "crates", top, "out")
-    os.makedirs(out, exist_ok=True)
-    shutil.copy(os.path.join(build.path(top, top), "out", top), out)
 
 
-main()
+if __name__ == "__main__":
+    main()

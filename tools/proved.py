@@ -1,7 +1,7 @@
 #!/usr/bin/env python3
-"""Checks that what docs/code/PROVED.md names is in the sources. Each call must be a public function of its crate, and
-each clause must be in that function's contract. Each must-fail edit must be one of that crate, or of the crate that is
-named before a slash.
+"""Checks that what docs/code/PROVED.md names is in the sources. Each call must be a function of its crate that other
+files can call, and each clause must be in that function's contract. Each must-fail edit must be one of that crate, or
+of the crate that is named before a slash.
 
     proved.py [DOCUMENT]     the last line is 'N passed, M failed', of table rows
 """
@@ -46,7 +46,7 @@ def contracts_of(crate):
                     owner = ""
                 head = HEAD.match(line)
                 if head:
-                    public = line.lstrip().startswith("pub fn")
+                    public = line.lstrip().startswith(("pub fn", "pub(crate) fn"))
                     clauses = found.setdefault((owner, head[1]), set()) if public else set()
                 clause = re.match(r"\s+ensures(?: (\w+))? ?\{", line)
                 if clause and clauses is not None:

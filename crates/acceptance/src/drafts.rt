@@ -1,10 +1,9 @@
 //! Tests of decisions that are run outside the site, with changes of the site between the draft and the commit.
 use fuelling_point::DispenserEvent;
-use reg_types::{Layout, verify};
-use site_core::{
-    Begin, Commit, Config, Event, Ready, Site, What, Why, fresh_differs_nowhere,
-    one_difference_is_first, programs_alone_decide,
-};
+use reg_types::Layout;
+use reg_types::verifier::verify;
+use site_core::laws::{fresh_differs_nowhere, one_difference_is_first, programs_alone_decide};
+use site_core::{Begin, Commit, Config, Event, Ready, Site, What, Why};
 use std::alloc::Global;
 use std::sync::Arc;
 use std::test::Fail;

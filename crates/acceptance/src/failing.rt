@@ -3,8 +3,11 @@
 ghost use Rattle.std.specs.Prelude.{◌≡◌, [], None};
 
 use crate::sites::{ANSWERS, DELIVERY, JOURNAL, station};
-use decision_journal::{Entry, JournalFault, read_entries, write_entries};
-use line_session::{Clock, Ended, SessionFault, session};
+use decision_journal::journal::read_entries;
+use decision_journal::writing::write_entries;
+use decision_journal::{Entry, JournalFault};
+use line_session::desk_session::session;
+use line_session::{Clock, Ended, SessionFault};
 use site_core::Config;
 use site_lock::{Forecourt, Pass, PassDesk, SiteLedger, Straight};
 use std::alloc::Global;

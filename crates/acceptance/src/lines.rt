@@ -2,7 +2,8 @@
 //! `cases/play/line_forms.table`.
 use std::alloc::Global;
 use till_request::devices::MemoryIn;
-use till_request::{Act, Request, Role, read_line};
+use till_request::line::read_line;
+use till_request::{Act, Request, Role};
 
 /// Reads a line with at most 100 reads, and returns its act, and how many reads remain.
 fn read(alloc: Global) -> Option<(Option<Act>, u32)> {

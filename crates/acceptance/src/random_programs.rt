@@ -2,7 +2,7 @@
 use counters::Counters;
 use helpers::{PointView, View};
 use interp::{Context, Layout, run};
-use reg_types::verify;
+use reg_types::verifier::verify;
 use std::alloc::{AllocError, Global};
 use std::test::Fail;
 

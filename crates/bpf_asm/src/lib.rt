@@ -31,18 +31,18 @@ pub enum AsmFault {
     OutOfMemory,
 }
 
-mod flaw;
+pub mod flaw;
 mod grammar;
 mod label;
 mod lex;
 mod line;
-mod program_file;
+pub mod program_file;
 mod text;
 mod token;
 mod units;
 
-pub use flaw::{AsmFlaw, explain};
-pub use program_file::{MOST_BYTES, ProgramFileFault, read_program, unit_lines};
+pub use flaw::AsmFlaw;
+pub use program_file::{MOST_BYTES, ProgramFileFault};
 
 fn high(units: &[Unit]) -> i32
     ensures { result ≡ high_of units.now }

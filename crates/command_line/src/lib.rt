@@ -3,7 +3,6 @@
 
 mod app;
 mod job;
-mod words;
+pub mod words;
 
 pub use job::{CommandFault, Format, Job, Rows, ServeJob};
-pub use words::command;

@@ -7,7 +7,8 @@ ghost use Rattle.site_core.specs.Site.{SiteValue, act_of};
 ghost use Rattle.console.specs.Loading.{IsWhyRefused};
 ghost use Rattle.console.specs.Play.{EventAnswered, LoadAnswered, ActAnswered};
 
-use reg_types::{Layout, Refusal, verify};
+use reg_types::verifier::verify;
+use reg_types::{Layout, Refusal};
 use site_core::{CallFault, Event, Site, What};
 use std::alloc::Global;
 use std::sync::Arc;

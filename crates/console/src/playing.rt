@@ -7,7 +7,8 @@ ghost use Rattle.console.specs.Play.{PlaysOut, PlayBreaks, PlayStops, PlaysAlike
 
 use crate::notices::{NoNotices, PlayNotices};
 use crate::player::Player;
-use line_session::{Ended, READS, SessionFault, answer_lines_within};
+use line_session::answering::answer_lines_within;
+use line_session::{Ended, READS, SessionFault};
 use site_core::{Config, Site};
 use std::alloc::Global;
 use till_request::{LineIn, LineOut};

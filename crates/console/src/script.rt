@@ -6,9 +6,10 @@ ghost use Rattle.till_request.specs.Grammar.{IsLoad, words as words_of};
 ghost use Rattle.console.specs.Script.{act_line, line_alone, line_with_value, line_of_words, line_of, is_named};
 
 use std::alloc::Global;
-use till_request::{
-    Act, LINE_WORDS, LineFault, Role, few_parts, number_u32, number_u64, parse_words,
-};
+use till_request::grammar::parse_words;
+use till_request::numbers::{number_u32, number_u64};
+use till_request::parts::few_parts;
+use till_request::{Act, LINE_WORDS, LineFault, Role};
 
 /// A parsed line of a script.
 #[derive(Drop)]

@@ -6,15 +6,13 @@ mod cells;
 mod csv_rows;
 mod fault;
 mod json_rows;
-mod laws;
+pub mod laws;
 mod replies;
 mod rows;
 mod runs;
 mod standing;
 mod taking;
-mod writing;
+pub mod writing;
 
 pub use cells::{Format, Rows};
 pub use fault::RowsFault;
-pub use laws::{law_of_contexts, law_of_rows, law_of_sites};
-pub use writing::write_rows;

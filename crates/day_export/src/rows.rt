@@ -9,7 +9,9 @@ use crate::cells::{Cell, Word, moment_cell, number};
 use crate::replies::reply_cells;
 use crate::runs::{field_cell, run_cells};
 use crate::standing::{Ended, Standing, ended_as, number_cleared};
-use day_report::{Sale, decision_of, sale_of};
+use day_report::Sale;
+use day_report::rulings::decision_of;
+use day_report::sales::sale_of;
 use decision_journal::Entry;
 
 /// Returns the row of a sale, with the number of its transaction. `ended` is its delivery, or `None` if the day has no

@@ -10,7 +10,10 @@ ghost use Rattle.day_export.specs.Standing.{became, ended_as, ended_at, ended_by
 ghost use Rattle.day_export.specs.Standing.{price_of, prices_after, stand_before, uncleared, with_price, without};
 ghost use Rattle.day_export.specs.Standing.{Moves, stand_of};
 
-use day_report::{Sale, follow, opening_points, opening_prices, sale_of};
+use day_report::Sale;
+use day_report::opening::{opening_points, opening_prices};
+use day_report::sales::sale_of;
+use day_report::walk::follow;
 use decision_journal::Entry;
 use fuelling_point::Point;
 use site_core::Config;

@@ -3,7 +3,8 @@ use crate::names::{STATES, state_name};
 use crate::pictures::{END, add_head, add_label};
 use crate::sheet::Sheet;
 use crate::texts::{Text, number, scaled};
-use day_report::{Axis, Bands, step_of};
+use day_report::steps::step_of;
+use day_report::{Axis, Bands};
 use fuelling_point::State;
 
 /// The distance from the left edge of a picture to the drawing in it.

@@ -4,19 +4,18 @@
 
 mod bars;
 mod drawn;
-mod names;
-mod page;
+pub mod names;
+pub mod page;
 mod pictures;
 mod prices;
 mod sheet;
 mod style;
-mod tables;
-mod texts;
+pub mod tables;
+pub mod texts;
 
 pub use html_text::Escaped;
-pub use names::{STATES, state_name};
-pub use page::{Page, add_figure};
+pub use names::STATES;
+pub use page::Page;
 pub use sheet::Sheet;
 pub use style::{HEAD, STYLE};
-pub use tables::add_row;
-pub use texts::{Text, number, numbered};
+pub use texts::Text;

@@ -4,10 +4,10 @@ use crate::sheet::Sheet;
 use crate::style::{HEAD, STYLE};
 use crate::texts::Text;
 use crate::{bars, drawn, prices, tables};
-use day_report::{
-    Axis, Bands, CarriedIn, PriceChange, Sum, Totals, Unpaid, add_up, axis_of, carried_in,
-    follow_states, opening_prices,
-};
+use day_report::adding::{add_up, carried_in};
+use day_report::opening::opening_prices;
+use day_report::steps::{axis_of, follow_states};
+use day_report::{Axis, Bands, CarriedIn, PriceChange, Sum, Totals, Unpaid};
 use site_core::Site;
 use std::alloc::{AllocError, Global};
 use std::fmt;

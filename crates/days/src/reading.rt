@@ -14,7 +14,8 @@ use crate::ranges::file_in_range;
 use crate::spelling::spell_line;
 use crate::step::{Reading, StepFault};
 use std::alloc::Global;
-use till_request::{LineFault, first_part};
+use till_request::LineFault;
+use till_request::parts::first_part;
 
 /// Returns whether two texts are the same.
 pub(crate) fn is_same(text: &[u8], other: &[u8]) -> bool

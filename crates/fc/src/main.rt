@@ -12,8 +12,10 @@ mod printed;
 mod serve;
 mod sockets;
 
-use command_line::{CommandFault, Job, command};
-use file_jobs::{FAILED, Stop, USAGE, out_of_memory, tell};
+use command_line::words::command;
+use command_line::{CommandFault, Job};
+use file_jobs::faults::{out_of_memory, tell};
+use file_jobs::{FAILED, Stop, USAGE};
 use jobs::do_job;
 use std::io::{self, ErrorKind};
 use std::process::ExitCode;

@@ -1,16 +1,16 @@
 -- Definitions: the number that is told of a fault, as in `K1`, and the words that are told with it (this profile). None
 -- for want of memory, which has no number.
 use Rattle.std.specs.Prelude.{ℕ, ◌==◌, List, [], codes, count_by, nat_le, Option, Some, None, if◌then◌else◌}
-use Rattle.console.specs.declared.ConfigFault.{ConfigFault}
-use Rattle.console.specs.declared.ConfigFault.TheVariants as config
-use Rattle.console.specs.declared.ProgramFileFault.{ProgramFileFault}
-use Rattle.console.specs.declared.ProgramFileFault.TheVariants as file
-use Rattle.console.specs.declared.SessionFault.{SessionFault}
-use Rattle.console.specs.declared.SessionFault.TheVariants as session
+use Rattle.site_config.specs.declared.fault.ConfigFault.{ConfigFault}
+use Rattle.site_config.specs.declared.fault.ConfigFault.TheVariants as config
+use Rattle.bpf_asm.specs.declared.program_file.ProgramFileFault.{ProgramFileFault}
+use Rattle.bpf_asm.specs.declared.program_file.ProgramFileFault.TheVariants as file
+use Rattle.line_session.specs.declared.answering.SessionFault.{SessionFault}
+use Rattle.line_session.specs.declared.answering.SessionFault.TheVariants as session
 use Rattle.days.specs.declared.file.OpeningFlaw.{OpeningFlaw}
 use Rattle.days.specs.declared.file.OpeningFlaw.TheVariants as opening
-use Rattle.console.specs.declared.AsmFault.{AsmFault}
-use Rattle.console.specs.declared.AsmFault.TheVariants as asm
+use Rattle.bpf_asm.specs.declared.AsmFault.{AsmFault}
+use Rattle.bpf_asm.specs.declared.AsmFault.TheVariants as asm
 use Rattle.till_request.specs.declared.act.LineFault.{LineFault}
 use Rattle.till_request.specs.declared.act.LineFault.TheVariants as line
 use Rattle.decision_journal.specs.declared.fault.JournalFault.{JournalFault}

@@ -4,7 +4,7 @@ ghost use Rattle.std.specs.Prelude.{◌≡◌, ◌⊎◌, ◌≤◌, Ok, Err, If
 use crate::faults::tell_write;
 use crate::files::{Outlet, Source};
 use crate::progress::Progress;
-use console::{Ended, SessionFault};
+use line_session::{Ended, SessionFault};
 use std::cell::RefCell;
 use std::io::{self, BufWriter, Error, ErrorKind, Printer, Read, Write};
 

@@ -13,7 +13,9 @@ use crate::settings::{SiteFiles, day_and};
 use crate::statuses::{FAILED, REFUSED};
 use crate::stop::Stop;
 use decision_journal::JournalFault;
-use job_texts::{JournalFlaw, Told, audit_journal, journal_fault_line, journal_flaw};
+use job_texts::audit::{audit_journal, journal_fault_line};
+use job_texts::journal_reasons::journal_flaw;
+use job_texts::{JournalFlaw, Told};
 use site_core::Config;
 use std::io;
 use till_request::devices::StreamIn;
@@ -52,7 +54,7 @@ fn audited(
 
 /// Opens and reads a journal again, and prints on standard error why it was refused. Prints nothing if it can't be
 /// opened.
-pub fn explain_journal(rt: &HostRuntime, word: &str, config: Config) {
+pub(crate) fn explain_journal(rt: &HostRuntime, word: &str, config: Config) {
     if let Ok(source) = source_of(rt, word) {
         explain_source(rt, word, config, &mut stream(source));
     }
@@ -99,7 +101,7 @@ fn line_in(fault: JournalFault) -> Option<u32>
 
 /// Prints on standard error why a journal can't be read. For a fault of its text, prints the fault's line on standard
 /// output too.
-pub fn tell_journal_fault(
+pub(crate) fn tell_journal_fault(
     rt: &HostRuntime,
     word: &str,
     fault: JournalFault,

@@ -12,7 +12,9 @@ use crate::progress::watch;
 use crate::settings::{SiteFiles, day_and};
 use crate::statuses::DONE;
 use crate::stop::Stop;
-use days::{Closed, close, opening_text};
+use days::Closed;
+use days::closing::close;
+use days::writing::opening_text;
 use site_core::Config;
 
 /// Audits the journal in a file as this site's journal, prints the opening of the next day, and returns the exit

@@ -18,16 +18,15 @@ use crate::progress::{Watched, watch};
 use crate::settings::settings_in;
 use crate::statuses::{DONE, FAILED};
 use crate::stop::Stop;
-use days::{
-    Cause, DayIn, DaysFault, DaysIn, NoDay, Unbegun, Unclosed, Unfollowed, Unleft, audit_days,
-};
+use days::chain::audit_days;
+use days::{Cause, DayIn, DaysFault, DaysIn, NoDay, Unbegun, Unclosed, Unfollowed, Unleft};
 use site_core::Config;
 use std::alloc::AllocError;
 use std::fmt::{self, Display};
 use std::io::ErrorKind;
 use std::str;
 use till_request::devices::StreamIn;
-use till_request::first_part;
+use till_request::parts::first_part;
 
 /// The journal of a day, as it is read.
 type Journal<'a> = Watched<'a, StreamIn<Source>>;

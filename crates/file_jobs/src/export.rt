@@ -9,7 +9,8 @@ use crate::settings::SiteFiles;
 use crate::statuses::DONE;
 use crate::stop::Stop;
 use command_line::{Format, Rows};
-use day_export::{RowsFault, write_rows};
+use day_export::RowsFault;
+use day_export::writing::write_rows;
 use site_core::Site;
 use std::io::{self, BufWriter, Write};
 

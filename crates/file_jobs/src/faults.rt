@@ -7,9 +7,12 @@ ghost use Rattle.file_jobs.specs.Codes.{config_code, file_code, asm_code, journa
 
 use crate::files::name_of;
 use crate::statuses::{FAILED, REFUSED};
-use console::{AsmFault, AsmFlaw, ConfigFault, ConfigFlaw, ProgramFileFault, SessionFault};
+use bpf_asm::{AsmFault, AsmFlaw, ProgramFileFault};
 use decision_journal::JournalFault;
-use job_texts::{JournalFlaw, ProgramFlaw, asm_flaw};
+use job_texts::reasons::asm_flaw;
+use job_texts::{JournalFlaw, ProgramFlaw};
+use line_session::SessionFault;
+use site_config::{ConfigFault, ConfigFlaw};
 use std::alloc::AllocError;
 use std::fmt::{self, Display};
 use std::io::{self, ErrorKind};
@@ -130,7 +133,7 @@ pub fn refuse(rt: &HostRuntime, fault: &str) -> u8
 }
 
 /// Prints on standard error why standard output can't be written. Prints nothing if its reader closed the pipe.
-pub fn tell_write(rt: &HostRuntime, failure: Option<&io::Error>) {
+pub(crate) fn tell_write(rt: &HostRuntime, failure: Option<&io::Error>) {
     match failure {
         Some(error) if error.kind() == ErrorKind::BrokenPipe => (),
         Some(_) | None => tell_loss(rt, failure),
@@ -147,7 +150,7 @@ pub fn tell_loss(rt: &HostRuntime, failure: Option<&io::Error>) {
 }
 
 /// Prints that a file has too many bytes (L1), and returns the exit status.
-pub fn refuse_length(rt: &HostRuntime, word: &str) -> u8
+pub(crate) fn refuse_length(rt: &HostRuntime, word: &str) -> u8
     ensures { EndsWith 1 result }
 {
     refuse_with(rt, Place::of(word), &ProgramFileFault::TooLong, "L1")
@@ -155,7 +158,12 @@ pub fn refuse_length(rt: &HostRuntime, word: &str) -> u8
 
 /// Prints why a file is refused: the place and the words on standard error, the number on standard output too. Returns
 /// the exit status.
-pub fn refuse_with<D: Display>(rt: &HostRuntime, place: Place<'_>, words: &D, code: &str) -> u8
+pub(crate) fn refuse_with<D: Display>(
+    rt: &HostRuntime,
+    place: Place<'_>,
+    words: &D,
+    code: &str,
+) -> u8
     ensures { EndsWith 1 result }
 {
     complain(rt, place, words, code);
@@ -202,7 +210,7 @@ fn config_code(fault: ConfigFault) -> Option<&'static str>
 
 /// Prints why a configuration is refused: the words on standard error, the number (K1 to K3) on standard output.
 /// Returns the exit status.
-pub fn refuse_config(rt: &HostRuntime, word: &str, flaw: &ConfigFlaw) -> u8
+pub(crate) fn refuse_config(rt: &HostRuntime, word: &str, flaw: &ConfigFlaw) -> u8
     ensures { EndsWith 1 result }
 {
     refuse_fault(rt, word, flaw, flaw.fault())
@@ -236,7 +244,7 @@ fn file_code(fault: ProgramFileFault) -> Option<&'static str>
 }
 
 /// Prints on standard error why a program file is refused.
-pub fn tell_program(rt: &HostRuntime, word: &str, flaw: &ProgramFlaw) {
+pub(crate) fn tell_program(rt: &HostRuntime, word: &str, flaw: &ProgramFlaw) {
     let place = Place::of(word);
     match flaw {
         ProgramFlaw::File(fault) => match file_code(*fault) {
@@ -251,7 +259,7 @@ pub fn tell_program(rt: &HostRuntime, word: &str, flaw: &ProgramFlaw) {
 }
 
 /// Prints on standard error why an assembler text is refused. Prints nothing if it is accepted.
-pub fn tell_text(rt: &HostRuntime, word: &str, text: &[u8]) -> Result<(), AllocError> {
+pub(crate) fn tell_text(rt: &HostRuntime, word: &str, text: &[u8]) -> Result<(), AllocError> {
     match asm_flaw(rt.alloc(), text)? {
         Some((fault, flaw)) => tell_asm(rt, Place::of(word), fault, &flaw),
         None => Ok(()),
@@ -320,7 +328,7 @@ fn journal_code(flaw: &JournalFlaw) -> Option<&'static str>
 }
 
 /// Prints on standard error why a journal is refused, with the line at fault if there is one.
-pub fn tell_journal(rt: &HostRuntime, word: &str, line: Option<u32>, flaw: &JournalFlaw) {
+pub(crate) fn tell_journal(rt: &HostRuntime, word: &str, line: Option<u32>, flaw: &JournalFlaw) {
     let file = Place::of(word);
     let place = match line {
         Some(line) => file.line(u64::from(line)),
@@ -330,7 +338,7 @@ pub fn tell_journal(rt: &HostRuntime, word: &str, line: Option<u32>, flaw: &Jour
 }
 
 /// Prints a message about a journal's flaw on standard error: the place, the words, and the flaw's number.
-pub fn complain_journal<D: Display>(
+pub(crate) fn complain_journal<D: Display>(
     rt: &HostRuntime,
     place: Place<'_>,
     words: &D,
@@ -343,7 +351,7 @@ pub fn complain_journal<D: Display>(
 }
 
 /// Returns the number of a fault that breaks a play off, as it is printed, or `None` if that is told in another way.
-pub fn session_code(fault: SessionFault) -> Option<&'static str>
+pub(crate) fn session_code(fault: SessionFault) -> Option<&'static str>
     ensures { option_map (λ code. code.now) result ≡ session_code fault }
 {
     match fault {
@@ -367,7 +375,7 @@ fn cut_words(fault: LineFault) -> Option<(&'static str, &'static str)>
 }
 
 /// Prints on standard error why a script stopped at a line. Prints nothing for faults that don't stop one.
-pub fn tell_cut(rt: &HostRuntime, word: &str, line: u64, fault: LineFault) {
+pub(crate) fn tell_cut(rt: &HostRuntime, word: &str, line: u64, fault: LineFault) {
     if let Some((words, code)) = cut_words(fault) {
         complain(rt, Place::of(word).line(line), &words, code);
     }

@@ -13,7 +13,7 @@ use crate::stop::Stop;
 use std::alloc::AllocError;
 use std::fs::{self, File, read_dir};
 use std::io::{self, ErrorKind, Write};
-use till_request::number_u32;
+use till_request::numbers::number_u32;
 
 /// A file of a day.
 #[derive(Clone, Copy)]

@@ -11,8 +11,9 @@ use crate::opening::{Day, begin_with, refuse_fault, refuse_words};
 use crate::settings::settings_in;
 use crate::statuses::{FAILED, REFUSED};
 use crate::stop::Stop;
-use console::Settings;
-use days::{Closed, Uncarried, opening_text};
+use days::writing::opening_text;
+use days::{Closed, Uncarried};
+use site_config::Settings;
 use site_core::Config;
 use std::fmt::{self, Display};
 
@@ -152,7 +153,11 @@ fn number_of(
 }
 
 /// Returns the configuration that a folder has for a day, or `None` if it has none.
-pub fn kept_config(rt: &HostRuntime, folder: Folder<'_>, day: u32) -> Result<Option<Config>, Stop>
+pub(crate) fn kept_config(
+    rt: &HostRuntime,
+    folder: Folder<'_>,
+    day: u32,
+) -> Result<Option<Config>, Stop>
     ensures { IfErr result (SaysOrFails 1) }
 {
     if !folder.has(rt, day, Part::Config)? {
@@ -205,11 +210,11 @@ fn begin_day(
 }
 
 /// The message for a day that has no opening.
-pub const UNOPENED: &str = "the day has no opening";
+pub(crate) const UNOPENED: &str = "the day has no opening";
 
 /// Prints that a day doesn't follow the one before (O1): why on standard error, and the day on standard output. Returns
 /// the exit status.
-pub fn refuse_link<D: Display>(rt: &HostRuntime, place: Place<'_>, day: u32, words: &D) -> u8
+pub(crate) fn refuse_link<D: Display>(rt: &HostRuntime, place: Place<'_>, day: u32, words: &D) -> u8
     ensures { EndsWith 1 result }
 {
     complain(rt, place, words, "O1");
@@ -218,7 +223,7 @@ pub fn refuse_link<D: Display>(rt: &HostRuntime, place: Place<'_>, day: u32, wor
 
 /// The message for an opening that belongs to another day, the one of this number.
 #[derive(Drop)]
-pub struct OfDay(pub u32);
+pub(crate) struct OfDay(pub u32);
 
 impl Display for OfDay {
     ghost use Rattle.std.specs.Prelude.{Some, ◌++◌, codes};
@@ -296,7 +301,7 @@ pub fn check_newest(rt: &HostRuntime, folder: Folder<'_>, number: u32) -> Result
 }
 
 /// Prints why a day can't be closed. `journal` names the file of its journal.
-pub fn refuse_uncarried(rt: &HostRuntime, journal: &str, why: Uncarried) -> Stop
+pub(crate) fn refuse_uncarried(rt: &HostRuntime, journal: &str, why: Uncarried) -> Stop
     ensures { result ≡ Stop.Said (uncarried_status why) }
 {
     match why {

@@ -13,10 +13,14 @@ use crate::faults::{
 use crate::files::{bytes_of, lines_in};
 use crate::statuses::REFUSED;
 use crate::stop::Stop;
-use console::Serve;
-use days::{OpeningFile, OpeningFlaw, Unfit, begun, read_opening};
-use job_texts::{JournalFlaw, explain_refusal, told_audit_fault};
+use days::beginning::begun;
+use days::reading::read_opening;
+use days::{OpeningFile, OpeningFlaw, Unfit};
+use job_texts::JournalFlaw;
+use job_texts::audit::told_audit_fault;
+use job_texts::reasons::explain_refusal;
 use reg_types::Refusal;
+use site_config::Serve;
 use site_core::{AuditFault, Config, Opening, OpeningFault};
 use std::alloc::{AllocError, Global};
 use std::fmt::Display;

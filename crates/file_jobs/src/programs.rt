@@ -9,7 +9,10 @@ use crate::files::text_of;
 use crate::statuses::REFUSED;
 use crate::stop::Stop;
 use bpf_model::context::Layout;
-use job_texts::{Told, asm_file, dis_file, dis_flaw, dis_units_file, verify_file, verify_flaw};
+use job_texts::Told;
+use job_texts::assembler::{asm_file, dis_file, dis_units_file};
+use job_texts::file_flaws::{dis_flaw, verify_flaw};
+use job_texts::program::verify_file;
 use std::alloc::{AllocError, Global};
 
 /// What to print of a file: its units, its text in assembler, that text with the numbers of units, or the verifier's

@@ -2,7 +2,7 @@
 //! to the load, on standard output, has only the refusal's number.
 use crate::progress::Progress;
 use console::PlayNotices;
-use job_texts::explain_refusal;
+use job_texts::reasons::explain_refusal;
 use reg_types::Refusal;
 use std::alloc::AllocError;
 use std::cell::Cell;

@@ -10,7 +10,8 @@ use crate::files::{Source, is_input, source_of, text_of};
 use crate::opening::{Begun, Day, begin_with};
 use crate::statuses::USAGE;
 use crate::stop::Stop;
-use console::{Settings, read_settings};
+use site_config::Settings;
+use site_config::ranges::read_settings;
 use site_core::Config;
 
 /// The arguments that name the files of a site: its configuration, and the opening that it begins with, if there is
@@ -94,7 +95,7 @@ fn refuse_twice(rt: &HostRuntime) -> Stop
 }
 
 /// Reads the settings in the text of a configuration. If it is refused, prints why; the error has the exit status.
-pub fn settings_in(rt: &HostRuntime, word: &str, text: &[u8]) -> Result<Settings, Stop>
+pub(crate) fn settings_in(rt: &HostRuntime, word: &str, text: &[u8]) -> Result<Settings, Stop>
     ensures read { IfOk result (λ settings. config_of text.now ≡ Ok (told settings)) }
     ensures refused { IfErr result (Says 1) }
 {
@@ -106,7 +107,11 @@ pub fn settings_in(rt: &HostRuntime, word: &str, text: &[u8]) -> Result<Settings
 
 /// Reads the configuration of a site, and its opening, if it has one, and opens the other file. Only one of the files
 /// may be standard input. If one fails, prints why; the error has the exit status.
-pub fn day_and(rt: &HostRuntime, site: SiteFiles<'_>, other: &str) -> Result<(Day, Source), Stop>
+pub(crate) fn day_and(
+    rt: &HostRuntime,
+    site: SiteFiles<'_>,
+    other: &str,
+) -> Result<(Day, Source), Stop>
     ensures twice { IsTrue (reads_twice site.entry.config.now (option_map (λ w. w.now) site.entry.opening) other.now)
         → result ≡ Err (Stop.Said 2) }
     ensures once { reads_twice site.entry.config.now (option_map (λ w. w.now) site.entry.opening) other.now ≡ false

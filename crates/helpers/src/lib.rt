@@ -1,7 +1,7 @@
 // The helpers: the functions that programs can call, by number.
 #![tactic(auto)]
 
-mod memory;
+pub mod memory;
 
 ghost use Rattle.std.specs.Prelude.{◌≡◌, ◌≤◌, ◌<◌, ◌+◌, IsSome, Some};
 ghost use Rattle.bpf_model.specs.Machine.{helper_of, point, price, is_there, record_bytes, no_point, point_or_zero};
@@ -13,7 +13,7 @@ use bpf_model::instruction::Size;
 use bpf_model::machine::Helper;
 pub use bpf_model::machine::{PointView, View};
 use counters::Counters;
-pub use memory::put;
+use memory::put;
 
 /// The kind of a helper's argument: none, any number, the number of a declared counter, or a place in the stack.
 #[derive(Clone, Copy)]

@@ -3,10 +3,9 @@
 
 mod dispatch;
 mod frame;
-mod rebasing;
+pub mod rebasing;
 mod running;
 mod words;
 
 pub use bpf_model::context::{Context, Layout};
-pub use rebasing::rebase;
 pub use running::run;

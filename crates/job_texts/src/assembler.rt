@@ -10,9 +10,9 @@ ghost use Rattle.job_texts.specs.Assembler.{ToldDecodeFault, DisTells, DisUnitsT
 
 use crate::program::told_refusal;
 use crate::told::{REFUSED, Told, numbered, refused};
+use bpf_asm::program_file::{read_program, unit_lines};
 use bpf_asm::{
     AsmFault, MOST_BYTES, ProgramFileFault, assemble, disassemble, disassemble_numbered,
-    read_program, unit_lines,
 };
 use bpf_decode::{Code, decode, encode};
 use reg_types::Refusal;

@@ -4,7 +4,8 @@ ghost use Rattle.bpf_model.specs.Reading.{has_right_length};
 ghost use Rattle.job_texts.specs.FileFlaws.{IsAccepted, IsShown, IsVerifyFlaw, IsDisFlaw, ShownOf, DisFlawOf};
 
 use crate::reasons::{RefusedProgram, explain_refusal, refused_program};
-use bpf_asm::{ProgramFileFault, read_program};
+use bpf_asm::ProgramFileFault;
+use bpf_asm::program_file::read_program;
 use bpf_decode::{DecodeFault, decode};
 use reg_types::{Layout, Refusal};
 use std::alloc::{AllocError, Global};

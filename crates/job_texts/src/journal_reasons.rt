@@ -11,9 +11,11 @@ ghost use Rattle.decision_journal.specs.declared.entries.Entry.{Entry};
 
 use crate::differing::{Difference, first_difference};
 use crate::reasons::{RefusedProgram, explain_refusal};
-use decision_journal::{Entry, JournalFault, read_entries};
+use decision_journal::journal::read_entries;
+use decision_journal::{Entry, JournalFault};
 use reg_types::Refusal;
-use site_core::{AuditFault, CallFault, Config, Event, Site, audit, event_of};
+use site_core::auditing::{audit, event_of};
+use site_core::{AuditFault, CallFault, Config, Event, Site};
 use std::alloc::{AllocError, Global};
 use std::fmt;
 use till_request::{Act, LineIn};

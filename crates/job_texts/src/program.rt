@@ -9,8 +9,10 @@ ghost use Rattle.job_texts.specs.Assembler.{ToldDecodeFault};
 ghost use Rattle.job_texts.specs.Told.{IsSaid, Accepted, Refused, VerifyTells};
 
 use crate::told::{REFUSED, Told, numbered, refused};
-use bpf_asm::{ProgramFileFault, read_program};
-use reg_types::{Layout, Program, Refusal, verify};
+use bpf_asm::ProgramFileFault;
+use bpf_asm::program_file::read_program;
+use reg_types::verifier::verify;
+use reg_types::{Layout, Program, Refusal};
 use std::alloc::{AllocError, Global};
 use till_request::Answer;
 

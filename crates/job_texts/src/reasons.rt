@@ -10,10 +10,13 @@ ghost use Rattle.job_texts.specs.Reasons.{IsSpelling, IsExplained, number_in, un
 ghost use Rattle.job_texts.specs.Reasons.{digits_line, line_named};
 ghost use Rattle.job_texts.specs.Words.{kind_text};
 
-use bpf_asm::{AsmFault, AsmFlaw, assemble, explain, instruction_line, unit_lines};
+use bpf_asm::flaw::explain;
+use bpf_asm::program_file::unit_lines;
+use bpf_asm::{AsmFault, AsmFlaw, assemble, instruction_line};
 use bpf_decode::{Code, DecodeFault, Unit, decode};
 use helpers::{Kind, arguments};
-use reg_types::{Layout, Refusal, TypeFault, verify};
+use reg_types::verifier::verify;
+use reg_types::{Layout, Refusal, TypeFault};
 use std::alloc::{AllocError, Global};
 use std::fmt;
 

@@ -8,7 +8,8 @@ ghost use Rattle.line_session.specs.Buffering.{Sends};
 use crate::answering::SessionFault;
 use std::alloc::Global;
 use till_request::devices::MemoryOut;
-use till_request::{Answer, DeviceFault, LineOut, WriteFault, write_all, write_answer};
+use till_request::write::{write_all, write_answer};
+use till_request::{Answer, DeviceFault, LineOut, WriteFault};
 
 /// If at least this many bytes are buffered, the buffer is written before the next line is read.
 const MOST_WAITING: usize = 16_384;

@@ -11,9 +11,9 @@ ghost use Rattle.line_session.specs.Found.{IsEnd, cut_by};
 use crate::line_handler::{HandlerError, LineHandler};
 use std::alloc::Global;
 use std::fmt;
-use till_request::{
-    Answer, Found, InputFault, LineFault, LineIn, LineOut, WriteFault, find_line, write_answer,
-};
+use till_request::line::find_line;
+use till_request::write::write_answer;
+use till_request::{Answer, Found, InputFault, LineFault, LineIn, LineOut, WriteFault};
 
 /// The most reads that one session makes. Each read is of one byte.
 pub const READS: u32 = 67_108_864;

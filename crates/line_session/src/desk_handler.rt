@@ -8,7 +8,9 @@ ghost use Rattle.line_session.specs.Session.{IsUnsaid, StaysUnsaid, Writes, ends
 use crate::desk::{Clock, Desk};
 use crate::line_handler::{HandlerError, LineHandler};
 use std::alloc::Global;
-use till_request::{Answer, LineFault, LineOut, Role, WriteFault, parse_line, write_answer};
+use till_request::grammar::parse_line;
+use till_request::write::write_answer;
+use till_request::{Answer, LineFault, LineOut, Role, WriteFault};
 
 /// Returns the answer to a line from a role: the desk's answer to its act at the clock's moment, or the fault of a line
 /// that can't be read as an act of the role.

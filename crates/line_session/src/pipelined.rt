@@ -17,7 +17,8 @@ use crate::desk::{Clock, Desk};
 use crate::desk_handler::{answer_to, unsaid};
 use crate::doors::Doors;
 use std::alloc::Global;
-use till_request::{Answer, Found, LineFault, LineOut, Role, find_line};
+use till_request::line::find_line;
+use till_request::{Answer, Found, LineFault, LineOut, Role};
 
 /// The state of a session in progress: the reads that it can still make, and the buffered answers.
 #[derive(Drop)]

@@ -2,7 +2,9 @@
 use crate::parts::{ENTRIES, digits};
 use crate::station::{JournalFile, Peers, Station, Times};
 use crate::words::role_name;
-use day_page::{STATES, Sheet, Text, number, numbered, state_name};
+use day_page::names::state_name;
+use day_page::texts::{number, numbered};
+use day_page::{STATES, Sheet, Text};
 use decision_journal::{Decided, FIRST_REFUSAL, NOTHING, REFUSALS, Tally};
 use fuelling_point::{Point, State};
 use program_slots::Version;

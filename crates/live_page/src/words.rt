@@ -1,6 +1,7 @@
 //! Entries in words.
 use crate::parts::{NONE, digits, hundredths};
-use day_page::{STATES, Sheet, Text, state_name};
+use day_page::names::state_name;
+use day_page::{STATES, Sheet, Text};
 use decision_journal::Entry;
 use fuelling_point::{DispenserEvent, Order};
 use till_request::{Act, Reply, Request, Role};

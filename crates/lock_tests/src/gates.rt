@@ -3,7 +3,8 @@ ghost use Rattle.std.specs.Prelude.{◌≡◌, [], None};
 
 use crate::programs::ASKED;
 use fuelling_point::DispenserEvent;
-use reg_types::{Layout, verify};
+use reg_types::Layout;
+use reg_types::verifier::verify;
 use site_core::{Answered, CallFault, Config, Draft, Ready};
 use site_lock::{CloseFault, CloseRefusal, Forecourt, Gate, Pass, SiteLedger, Straight};
 use std::alloc::Global;

@@ -2,7 +2,7 @@
 ghost use Rattle.std.specs.Prelude.{◌<◌, ◌≤◌};
 
 use reg_types::Layout;
-use site_lock::verify_all;
+use site_lock::programs::verify_all;
 use std::alloc::{AllocError, Global};
 use std::test::Fail;
 use std::thread::Threads;

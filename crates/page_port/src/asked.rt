@@ -9,7 +9,7 @@ ghost use Rattle.page_port.specs.Asking.{lines_after, journal_at, view_at};
 
 use bytes::Bytes;
 use http::{Request, StatusCode, header};
-use till_request::number_u32;
+use till_request::numbers::number_u32;
 
 /// What can be looked at.
 #[derive(Clone, Copy)]

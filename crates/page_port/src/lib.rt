@@ -1,7 +1,7 @@
 //! The port of a served site on which a browser, Prometheus or a script looks at it: HTTP on 127.0.0.1.
 #![tactic(auto)]
 
-mod asked;
+pub mod asked;
 mod client;
 mod connections;
 mod journal_counts;
@@ -10,7 +10,7 @@ mod service;
 mod shown;
 mod timings;
 
-pub use asked::{Refusal, View, view_of};
+pub use asked::{Refusal, View};
 pub use connections::Connections;
 pub use journal_counts::JournalCounts;
 pub use port::PagePort;

@@ -3,8 +3,9 @@
 //! way by tools/faults.py, one allocation at a time.
 use crate::hoarding::{TURNS, leave_few, room_of};
 use crate::narrow::Narrow;
-use console::{play, read_config};
+use console::playing::play;
 use line_session::SessionFault;
+use site_config::ranges::read_config;
 use site_core::Config;
 use std::alloc::Global;
 use std::test::Fail;

@@ -6,10 +6,10 @@ mod rules;
 mod spills;
 mod table;
 mod types;
-mod verifier;
+pub mod verifier;
 
 pub use bpf_model::context::Layout;
 pub use operations::Operation;
 pub use refusal::{Refusal, TypeFault};
 pub use types::{Fact, RegType};
-pub use verifier::{Program, law_of_one_answer, verify};
+pub use verifier::Program;

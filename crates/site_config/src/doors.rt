@@ -453,7 +453,7 @@ fn number_of(key: Key, value: i64, low: u32, high: u32) -> Result<u32, ConfigFla
 /// Makes the settings of `[serve]` for a site that has `tills` tills and `points` points, at most 32. The error is the
 /// first K3, or that memory ran out.
 #[tactic(auto, unfolding(crate::specs::Doors::serve_of))]
-pub fn make_serve(
+pub(crate) fn make_serve(
     alloc: Global,
     tills: u32,
     points: u32,

@@ -6,7 +6,8 @@ ghost use Rattle.till_request.specs.Line.{TakesSome, is_input_fault};
 ghost use Rattle.site_config.specs.Head.{ends_head, head_part, IsHead, TakesByReads, TakesOpen, TakesReads};
 
 use std::alloc::Global;
-use till_request::{InputFault, LineIn, next_byte};
+use till_request::line::next_byte;
+use till_request::{InputFault, LineIn};
 
 /// How many bytes a configuration may have at most.
 pub const MOST_BYTES: usize = 65_536;

@@ -23,12 +23,12 @@ macro_rules! room_for {
 }
 
 mod document;
-mod doors;
+pub mod doors;
 mod fault;
 mod flaw;
-mod head;
+pub mod head;
 mod number;
-mod ranges;
+pub mod ranges;
 mod raw;
 mod served;
 mod settings;
@@ -36,9 +36,7 @@ mod text;
 mod typed;
 mod values;
 
-pub use doors::law_of_own_lines;
 pub use fault::ConfigFault;
 pub use flaw::{ConfigFlaw, Key, Place, Section, Side, Type};
-pub use head::{MOST_BYTES, config_part, read_head};
-pub use ranges::{read_config, read_settings};
+pub use head::MOST_BYTES;
 pub use settings::{Address, Door, Serve, Settings};

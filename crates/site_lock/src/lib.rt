@@ -3,7 +3,7 @@
 #![tactic(auto)]
 
 mod builder;
-mod check;
+pub mod check;
 mod close;
 mod desk;
 mod enter_fault;
@@ -15,10 +15,9 @@ mod locked_site;
 mod look;
 mod opening;
 mod pass;
-mod programs;
+pub mod programs;
 
 pub use builder::ForecourtBuilder;
-pub use check::{are_all, fault, fault_since};
 pub use close::{CloseFault, CloseRefusal, Closed};
 pub use desk::PassDesk;
 pub use enter_fault::EnterFault;
@@ -26,7 +25,8 @@ pub use forecourt::Forecourt;
 pub use gate::{Gate, Straight};
 pub use halted::Halted;
 pub use journal::{Journal, LineJournal, NoJournal};
-pub use line_session::{Clock, Desk, Doors, Ended, SessionFault, session, worker};
+pub use line_session::desk_session::session;
+pub use line_session::serving::worker;
+pub use line_session::{Clock, Desk, Doors, Ended, SessionFault};
 pub use look::{Excerpt, Look};
 pub use pass::{Pass, Receipt, SiteLedger};
-pub use programs::verify_all;

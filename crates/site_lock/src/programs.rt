@@ -2,7 +2,8 @@
 ghost use Rattle.std.specs.Prelude.{◌≡◌, ℕ, ◌<◌, ◌≤◌, length, IfOk, slice_index_or, vec_len};
 ghost use Rattle.site_lock.specs.Verdicts.{IsVerified};
 
-use reg_types::{Layout, Program, Refusal, TypeFault, verify};
+use reg_types::verifier::verify;
+use reg_types::{Layout, Program, Refusal, TypeFault};
 use std::alloc::{AllocError, Global};
 use std::thread;
 use std::thread::Threads;

@@ -26,7 +26,7 @@ fn put_number(text: &mut ShortText, number: u64)
 }
 
 /// Appends a space and a word to a text.
-pub fn put_word(text: &mut ShortText, word: &str)
+pub(crate) fn put_word(text: &mut ShortText, word: &str)
     requires { length text.old.bytes + length word.now + 1 ≤ SHORT }
     ensures text { text.new.bytes ≡ with_words text.old.bytes (word.now ∷ []) }
     ensures short { length text.new.bytes ≤ length text.old.bytes + length word.now + 1 }
@@ -36,7 +36,7 @@ pub fn put_word(text: &mut ShortText, word: &str)
 }
 
 /// Appends a space and a number in decimal digits to a text.
-pub fn put_word_number(text: &mut ShortText, number: u64)
+pub(crate) fn put_word_number(text: &mut ShortText, number: u64)
     requires { length text.old.bytes + 21 ≤ SHORT }
     ensures text { text.new.bytes ≡ with_words text.old.bytes (decimal number ∷ []) }
     ensures short { length text.new.bytes ≤ length text.old.bytes + 21 }
@@ -121,7 +121,7 @@ pub fn put_reply(text: &mut ShortText, reply: &Reply)
 }
 
 /// Returns the text of a line's fault: `L1` to `L4`, or `S31` if memory ran out.
-pub fn fault_word(fault: LineFault) -> &'static str
+pub(crate) fn fault_word(fault: LineFault) -> &'static str
     ensures text { result.now ≡ fault_text fault }
     ensures short { length result.now ≤ 3 }
 {
@@ -170,7 +170,7 @@ fn put_entered(text: &mut ShortText, number: u32, reply: &Reply)
 }
 
 /// Writes an answer, without an LF, into an empty text.
-pub fn put_answer(text: &mut ShortText, answer: &Answer)
+pub(crate) fn put_answer(text: &mut ShortText, answer: &Answer)
     requires { text.old.bytes ≡ [] }
     ensures text { text.new.bytes ≡ answer_text answer.now }
     ensures short { length text.new.bytes ≤ 173 }
@@ -186,7 +186,7 @@ pub fn put_answer(text: &mut ShortText, answer: &Answer)
 }
 
 /// Writes an answer with its LF into an empty text.
-pub fn put_line(text: &mut ShortText, answer: &Answer)
+pub(crate) fn put_line(text: &mut ShortText, answer: &Answer)
     requires { text.old.bytes ≡ [] }
     ensures { text.new.bytes ≡ answer_line answer.now }
 {
