@@ -1,7 +1,7 @@
 #!/usr/bin/env python3
-"""Lists the clauses of the public functions, or how they differ from those of another commit. A function is named by
-its crate, its type or trait and its own name. Its clauses are what comes after `requires` and `ensures`, with a blank
-for each row of blanks and ends of lines. The clauses of the crates of tests aren't listed.
+"""Lists the clauses of the functions that other files can call, or how they differ from those of another commit. A
+function is named by its crate, its type or trait and its own name. Its clauses are what comes after `requires` and
+`ensures`, with a blank for each row of blanks and ends of lines. The clauses of the crates of tests aren't listed.
 
 usage: tools/clauses.py              prints each clause on a line
        tools/clauses.py COMMIT       prints how the clauses of this folder differ from those of COMMIT: the lines that
@@ -18,7 +18,8 @@ from shared import HERE
 
 OPENERS, CLOSERS = "([{", ")]}"
 HEAD = re.compile(
-    r"(?P<owner>\b(?:impl|(?:pub(?:\([a-z]+\))? )?trait)\b[^;{]*\{)|(?P<function>\b(?P<public>pub )?fn (?P<name>\w+))"
+    r"(?P<owner>\b(?:impl|(?:pub(?:\([a-z]+\))? )?trait)\b[^;{]*\{)"
+    r"|(?P<function>\b(?P<public>pub(?:\(crate\))? )?fn (?P<name>\w+))"
 )
 CLAUSE = re.compile(r"\s*(requires|ensures)\b\s*([A-Za-z_][\w-]*)?\s*(?=\{)")
 
@@ -58,7 +59,8 @@ def clauses_behind(text, at):
 
 
 def owner_of(head):
-    """Returns the name of the type or trait of a block, and whether its functions are public without the word `pub`."""
+    """Returns the name of the type or trait of a block, and whether other files can call its functions without the word
+    `pub`."""
     words = " ".join(head[:-1].split())
     if "trait " in words:
         return re.search(r"trait (\w+)", words)[1], words.startswith("pub trait")
@@ -66,7 +68,7 @@ def owner_of(head):
 
 
 def clauses_of(path, crate):
-    """Yields each clause of a file's public functions as one line."""
+    """Yields each clause of a file's functions that other files can call as one line."""
     with open(path, encoding="utf-8") as file:
         text = bare(file.read())
     owners = []
