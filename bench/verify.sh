@@ -2,8 +2,8 @@
 # Verifies programs of 512 units of each kind, one after another, and prints for each kind the processor's time that one
 # takes and the memory that a kept one takes; then how long many of them take at once, by 1, 2 and 4 threads.
 # Usage: bench/verify.sh [PROGRAMS]; without a number 20000. Of five runs the least time counts.
-# The driver (verify_driver.txt) is built in a folder of its own beside copies of the crates, with what was proved of
-# them before; after ./fc --version that takes a minute, and else as long as the first call of ./fc.
+# The driver (verify_driver.txt) is built in a folder of its own beside copies of the crates, which are proved there
+# first: that takes as long as the first call of ./fc.
 set -eu
 here=$(CDPATH='' cd -- "$(dirname -- "$0")" && pwd -P)
 [ -x /usr/bin/time ] || { echo "verify.sh: GNU time is not at /usr/bin/time" >&2; exit 1; }
