@@ -103,23 +103,6 @@ fn count_of(mask: u32, before: &Counters, after: &Counters, c: u32) -> Option<(u
     }
 }
 
-/// Returns the values of each declared counter before and after a run, at the place of the counter's number.
-fn places_of(mask: u32, before: &Counters, after: &Counters) -> [Option<(u64, u64)>; 32]
-    ensures { result ≡ counts mask before.now after.now }
-{
-    let mut places = [None; 32];
-    for c in 0..32 {
-        // No counter from `c` on is declared.
-        if mask >> c == 0 {
-            return places;
-        }
-        if let Some(count) = count_of(mask, before, after, c) {
-            places[c as usize] = Some(count);
-        }
-    }
-    places
-}
-
 /// Returns the values of each declared counter before and after a run. The error is that memory ran out; if no counter
 /// is declared, there is no error.
 pub fn note_counts(
@@ -134,5 +117,15 @@ pub fn note_counts(
     if mask == 0 {
         return Ok(Counts::none(alloc));
     }
-    Counts::of(alloc, &places_of(mask, before, after))
+    let mut counts = Counts::with_room(alloc, mask.count_ones() as usize)?;
+    for c in 0..32 {
+        // No counter from `c` on is declared.
+        if mask >> c == 0 {
+            return Ok(counts);
+        }
+        if let Some((was, now)) = count_of(mask, before, after, c) {
+            counts.push(c, was, now)?;
+        }
+    }
+    Ok(counts)
 }

@@ -410,11 +410,15 @@ impl Station {
             let r0 = run(program, given, &self.view, &mut self.counters);
             return Ok((r0, counts));
         }
-        let mut after = self.counters;
-        let r0 = run(program, given, &self.view, &mut after);
-        let counts = note_counts(alloc, mask, &self.counters, &after)?;
-        self.counters = after;
-        Ok((r0, counts))
+        let before = self.counters;
+        let r0 = run(program, given, &self.view, &mut self.counters);
+        match note_counts(alloc, mask, &before, &self.counters) {
+            Ok(counts) => Ok((r0, counts)),
+            Err(error) => {
+                self.counters = before;
+                Err(error)
+            }
+        }
     }
 
     /// Sets the declared counters to those after a run that was made outside the site, and returns their values before
@@ -439,11 +443,16 @@ impl Station {
         ensures unchanged { OnErr result (self.new ≡ self.old) }
         ensures none { program.now.declared ≡ 0 → IsOk result }
     {
-        let mut adopted = self.counters;
-        rebase(program, given, &self.view, before, r0, after, &mut adopted);
-        let counts = note_counts(alloc, program.declared(), &self.counters, &adopted)?;
-        self.counters = adopted;
-        Ok(counts)
+        let own = self.counters;
+        let current = &mut self.counters;
+        rebase(program, given, &self.view, before, r0, after, current);
+        match note_counts(alloc, program.declared(), &own, &self.counters) {
+            Ok(counts) => Ok(counts),
+            Err(error) => {
+                self.counters = own;
+                Err(error)
+            }
+        }
     }
 
     /// Carries out what a program answered (0 is a denial), and returns the reply. `version` is the program's version.

@@ -18,8 +18,8 @@ rebase-requires-clause-ran c =
     view-is old c.self.inside.view c.self.invariant.2 c.self.invariant.3 refl ∙ ap view_of c.self.view_is in
     (λ i. outcome c.args.program.now (bytes_of c.args.given.now) (shown i) c.args.before.now) ∙ c.requires.ran
 
-pub returns-clause-ran : goal.returns-clause-ran
-returns-clause-ran c =
+pub returns-in-Ok-clause-ran : goal.returns-in-Ok-clause-ran
+returns-in-Ok-clause-ran c =
     let old : SiteState = record {
       points = c.self.inside.points.items;
       prices = c.self.inside.view.prices;

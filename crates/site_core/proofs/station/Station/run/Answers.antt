@@ -30,8 +30,8 @@ returns-then-mask-eq0-clause-noted c =
     c.in_ok-counts.ensures.noted ∙ ap (λ mask. counts mask was was) c.if-mask-eq0.true ∙ none-counted was was
     ∙ sym (none-counted before after) ∙ ap (λ mask. counts mask before after) (sym zero)
 
-pub returns-clause-ran : goal.returns-clause-ran
-returns-clause-ran c =
+pub returns-in-Ok-clause-ran : goal.returns-in-Ok-clause-ran
+returns-in-Ok-clause-ran c =
     let old : SiteState = record {
       points = c.self.inside.points.items;
       prices = c.self.inside.view.prices;
