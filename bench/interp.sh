@@ -4,7 +4,7 @@
 # Usage: bench/interp.sh [ROUNDS]; without a number 20. Of all turns the least time counts, since other work on the
 # machine only adds to it. Both must give the same answers.
 # The driver (interp_driver.txt) is built in a folder of its own beside copies of the crates, which are proved there
-# first: that takes some six minutes.
+# first: that takes some minutes.
 set -eu
 here=$(CDPATH='' cd -- "$(dirname -- "$0")" && pwd -P)
 command -v rt >/dev/null || { echo "interp.sh: the command rt (Rattle's kit) is not on PATH" >&2; exit 1; }
