@@ -6,10 +6,10 @@ usage: tools/build.py SOURCES NAME FOLDER    SOURCES: has crates.txt and crates/
                                              FOLDER: for what is proved, and for the program, FOLDER/NAME
 
 Each crate is proved by the toolchain's `rattle build`, over what the crates below it state: --statements leaves out
-their proofs, which nobody above reads. There are as many processes as processors, or as memory allows; FC_JOBS sets
-another number. Of the crates that can begin, the one with the longest chain up to the program comes first. Where
-processors would be idle, a crate gets several processes. What the toolchain prints goes to standard output, with a line
-'build: NAME proved' at the end of each crate.
+their proofs, which nobody above reads. As many crates are proved at the same time as there are processors, or as memory
+allows; FC_JOBS sets another number. Of the crates that can begin, the one with the longest chain up to the program
+comes first. Where fewer can begin, each gets several processes. What the toolchain prints goes to standard output, with
+a line 'build: NAME proved' at the end of each crate.
 The exit status is 0 if all was proved and the program was built.
 """
 import os
@@ -21,7 +21,7 @@ import time
 from concurrent.futures import FIRST_COMPLETED, ThreadPoolExecutor, wait
 
 MOST_JOBS = 4  # processes that one crate's proof can use well
-MEMORY = 4_500_000_000  # bytes that a process may need
+MEMORY = 4_500_000_000  # bytes that a crate's proof may need
 TARGET = "x86_64-unknown-linux-gnu"
 C_LIBRARIES = ("libos_c.a", "liblibc_c.a")  # what the kit's libraries of the system are linked with
 
@@ -131,30 +131,31 @@ class Build:
         return is_proved
 
     def run(self, most):
-        """Proves all crates by at most `most` processes, up to the first that can't be proved. Returns whether all were
-        proved."""
+        """Proves all crates, at most `most` at the same time, up to the first that can't be proved. Returns whether all
+        were proved."""
         left = sorted(self.crates.values(), key=lambda it: -it.chain)
         done, running = set(), {}
         with ThreadPoolExecutor(len(left)) as pool:
             while left or running:
                 ready = [it for it in left if done.issuperset(it.deps)]
-                idle = most - sum(jobs for _, jobs in running.values())
+                # While a crate is loaded it has one process: so its further ones don't keep others from beginning.
+                idle = most - len(running)
                 while ready and idle > 0:
                     jobs = max(1, min(MOST_JOBS, idle // len(ready)))
                     crate = ready.pop(0)
                     left.remove(crate)
-                    running[pool.submit(self.prove, crate.name, jobs)] = crate, jobs
-                    idle -= jobs
+                    running[pool.submit(self.prove, crate.name, jobs)] = crate.name
+                    idle -= 1
                 for one in wait(running, return_when=FIRST_COMPLETED).done:
-                    crate, _ = running.pop(one)
-                    if not one.result():
+                    name = running.pop(one)
+                    if one.result():
+                        done.add(name)
+                    else:
                         left = []
-                        continue
-                    done.add(crate.name)
         return len(done) == len(self.crates)
 
 
-def most_processes(processors):
+def most_crates(processors):
     asked = os.environ.get("FC_JOBS", "")
     if asked.isdigit() and int(asked) > 0:
         return int(asked)
@@ -166,7 +167,7 @@ def most_processes(processors):
 def main():
     sources, top, folder = sys.argv[1:]
     processors = len(os.sched_getaffinity(0))
-    if not Build(sources, top, folder).run(most_processes(processors)):
+    if not Build(sources, top, folder).run(most_crates(processors)):
         sys.exit(1)
 
 

@@ -62,6 +62,36 @@ impl<'a, L: SiteLedger, R: Wait, G: Gate + Drop, J: Journal> PassDesk<'a, L, R, 
     {
         self.pass
     }
+
+    // Calls the forecourt for an act, whose event is `what`, and returns the answer.
+    fn call(&mut self, moment: u64, act: Act, what: What) -> Answer
+        requires event { act_of what ≡ act }
+        requires good { IsGoodAct act }
+        requires accepted { load_refusal act ≡ None }
+        ensures answers { DeskAnswers L.config J.may_fail self.old.pass self.new.pass act moment result }
+        ensures gate { RoseWithin 0 2 (G.calls self.old.gate) (G.calls self.new.gate) }
+        ensures decided { AsksGate (G.calls self.old.gate) (G.calls self.new.gate) result act }
+        ensures decided_by { DeskDecides G.makes L.config self.old.pass.id moment self.old.gate self.new.gate
+            result act }
+    {
+        let (rt, forecourt) = (self.rt, self.forecourt);
+        let (pass, gate) = (&mut self.pass, &mut self.gate);
+        // This call gives the prover that the configuration is the one that the ledger names.
+        let _ = forecourt.config();
+        match what {
+            What::Till { till, request } => said(forecourt.ask(rt, pass, gate, till, moment, request)),
+            What::Dispenser { point, event } => {
+                said(forecourt.enter_event(rt, pass, 0, act, What::Dispenser { point, event }))
+            }
+            What::Load { slot, program } => said(forecourt.enter_event(
+                rt,
+                pass,
+                0,
+                act,
+                What::Load { slot, program },
+            )),
+        }
+    }
 }
 
 impl<L: SiteLedger, R: Wait, G: Gate + Drop, J: Journal> Desk for PassDesk<'_, L, R, G, J> {
@@ -76,47 +106,9 @@ impl<L: SiteLedger, R: Wait, G: Gate + Drop, J: Journal> Desk for PassDesk<'_, L
 
     fn answer(&mut self, act: Act, moment: u64) -> Answer {
         match event_of(self.alloc, &act) {
-            Ok(what) => {
-                let (pass, gate) = (&mut self.pass, &mut self.gate);
-                call(self.rt, self.forecourt, pass, gate, moment, act, what)
-            }
+            Ok(what) => self.call(moment, act, what),
             Err(refusal) => refused::<G, J>(refusal),
         }
-    }
-}
-
-// Calls the forecourt for an act, whose event is `what`, and returns the answer.
-fn call<L: SiteLedger, R: Wait, G: Gate, J: Journal>(
-    rt: &R,
-    forecourt: &Forecourt<L, J>,
-    pass: &mut Pass<L>,
-    gate: &mut G,
-    moment: u64,
-    act: Act,
-    what: What,
-) -> Answer
-    requires event { act_of what ≡ act }
-    requires good { IsGoodAct act }
-    requires accepted { load_refusal act ≡ None }
-    ensures answers { DeskAnswers L.config J.may_fail pass.old pass.new act moment result }
-    ensures gate { RoseWithin 0 2 (G.calls gate.old) (G.calls gate.new) }
-    ensures decided { AsksGate (G.calls gate.old) (G.calls gate.new) result act }
-    ensures decided_by { DeskDecides G.makes L.config pass.old.id moment gate.old gate.new result act }
-{
-    // This call gives the prover that the configuration is the one that the ledger names.
-    let _ = forecourt.config();
-    match what {
-        What::Till { till, request } => said(forecourt.ask(rt, pass, gate, till, moment, request)),
-        What::Dispenser { point, event } => {
-            said(forecourt.enter_event(rt, pass, 0, act, What::Dispenser { point, event }))
-        }
-        What::Load { slot, program } => said(forecourt.enter_event(
-            rt,
-            pass,
-            0,
-            act,
-            What::Load { slot, program },
-        )),
     }
 }
 
