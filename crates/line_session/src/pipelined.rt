@@ -20,11 +20,13 @@ use std::alloc::Global;
 use till_request::line::find_line;
 use till_request::{Answer, Found, LineFault, LineOut, Role};
 
-/// The state of a session in progress: the reads that it can still make, and the buffered answers.
+/// The state of a session in progress: the reads that it can still make, the last line that was read, and the buffered
+/// answers.
 #[derive(Drop)]
 struct Progress {
     alloc: Global,
     left: u32,
+    line: Vec<u8>,
     waiting: AnswerBuffer,
 }
 
@@ -37,6 +39,7 @@ impl Progress {
         Progress {
             alloc,
             left: READS,
+            line: Vec::new(alloc),
             waiting: AnswerBuffer::new(alloc),
         }
     }
@@ -63,27 +66,26 @@ impl Progress {
         self.waiting.flush(&mut connection.output)
     }
 
-    /// Answers a line. The answer is buffered, or written at once if memory runs out for that.
+    /// Answers the line that was read. The answer is buffered, or written at once if memory runs out for that.
     fn answer_line<O: LineOut, C: Clock, D: Desk>(
         &mut self,
         role: Role,
-        line: &[u8],
         output: &mut O,
         clock: &mut C,
         desk: &mut D,
     ) -> Result<(), SessionFault>
-        ensures ok { OnOk result (SaysOn (desk_says D.step C.tick role) line.now (clock.old, desk.old)
+        ensures ok { OnOk result (SaysOn (desk_says D.step C.tick role) self.old.line.items (clock.old, desk.old)
             (clock.new, desk.new) self.old.waiting.held.bytes.items self.new.waiting.held.bytes.items
             (O.written output.old) (O.written output.new)) }
         ensures err { IfErr result (λ fault. StaysOff (desk_says D.step C.tick role) (desk_drops D.step C.tick role)
-            (desk_takes role) fault line.now (clock.old, desk.old) (clock.new, desk.new)
+            (desk_takes role) fault self.old.line.items (clock.old, desk.old) (clock.new, desk.new)
             self.old.waiting.held.bytes.items self.new.waiting.held.bytes.items (O.written output.old)
             (O.written output.new)) }
         ensures failed { RoseBy (one_if (is_write result)) (O.failures output.old) (O.failures output.new) }
         ensures left { self.new.left ≡ self.old.left }
     {
         let alloc = self.alloc;
-        let answer = answer_to(alloc, role, line, clock, desk);
+        let answer = answer_to(alloc, role, &self.line, clock, desk);
         if let Some(fault) = unsaid(&answer) {
             return Err(SessionFault::from(fault));
         }
@@ -158,16 +160,59 @@ impl Progress {
         ensures asked { RoseBy (self.old.left - self.new.left) (S.In.asked connection.old.input)
             (S.In.asked connection.new.input) }
     {
-        let alloc = self.alloc;
-        let mut line = Vec::new(alloc);
         let mut count = 0u64;
         'turns: loop {
             self.flush_unless_more(doors, connection)?;
-            match find_line(&mut connection.input, &mut line, &mut self.left)? {
-                Found::Line => self.answer_line(role, &line, &mut connection.output, clock, desk)?,
+            match find_line(&mut connection.input, &mut self.line, &mut self.left)? {
+                Found::Line => self.answer_line(role, &mut connection.output, clock, desk)?,
                 found => return self.end(&mut connection.output, count, cut_of(found)),
             }
             count += 1;
+        }
+    }
+
+    /// Answers the lines of a connection in order, and then writes the answers that are still in the buffer. But after
+    /// a device has failed nothing more is written.
+    fn answer_all<S: Doors, C: Clock, D: Desk>(
+        &mut self,
+        role: Role,
+        doors: &S,
+        connection: &mut Connection<S::In, S::Out>,
+        clock: &mut C,
+        desk: &mut D,
+    ) -> Result<Ended, SessionFault>
+        requires { (self.old.left ≡ session_reads) × (self.old.waiting.held.bytes.items ≡ []) }
+        ensures said { IfOk result (λ ended. Ends (desk_says D.step C.tick role) (clock.old, desk.old)
+            (clock.new, desk.new) (S.In.remaining connection.old.input) (S.In.remaining connection.new.input)
+            (S.Out.written connection.old.output) (S.Out.written connection.new.output) ended.lines ended.cut) }
+        ensures broken { OnErr result
+            (Breaks (desk_says D.step C.tick role) (desk_drops D.step C.tick role) (clock.old, desk.old)
+            (clock.new, desk.new) (S.In.remaining connection.old.input) (S.In.remaining connection.new.input)
+            (S.Out.written connection.old.output) (S.Out.written connection.new.output)) }
+        ensures read_fault { RoseBy (one_if (is_read result)) (S.In.failures connection.old.input)
+            (S.In.failures connection.new.input) }
+        ensures write_fault { RoseBy (one_if (is_write result)) (S.Out.failures connection.old.output)
+            (S.Out.failures connection.new.output) }
+        ensures reads { SpendsReads session_reads result (S.In.reads connection.old.input)
+            (S.In.reads connection.new.input) (S.In.asked connection.old.input) (S.In.asked connection.new.input) }
+        ensures stopped { IfErr result (λ fault. fault ≢ SessionFault.Write
+            → StopsAtDoor (desk_says D.step C.tick role) (desk_drops D.step C.tick role) (desk_takes role) fault
+            (clock.old, desk.old) (clock.new, desk.new) (S.In.remaining connection.old.input)
+            (S.In.remaining connection.new.input) (S.Out.written connection.old.output)
+            (S.Out.written connection.new.output)) }
+    {
+        match self.answer_lines(role, doors, connection, clock, desk) {
+            Ok(ended) => {
+                self.waiting.flush(&mut connection.output)?;
+                Ok(ended)
+            }
+            Err(fault) => {
+                if device_failed(fault) {
+                    return Err(fault);
+                }
+                self.waiting.flush(&mut connection.output)?;
+                Err(fault)
+            }
         }
     }
 }
@@ -215,17 +260,5 @@ pub fn pipelined_session<S: Doors, C: Clock, D: Desk>(
         (S.Out.written connection.new.output)) }
 {
     let mut progress = Progress::new(alloc);
-    match progress.answer_lines(role, doors, connection, clock, desk) {
-        Ok(ended) => {
-            progress.waiting.flush(&mut connection.output)?;
-            Ok(ended)
-        }
-        Err(fault) => {
-            if device_failed(fault) {
-                return Err(fault);
-            }
-            progress.waiting.flush(&mut connection.output)?;
-            Err(fault)
-        }
-    }
+    progress.answer_all(role, doors, connection, clock, desk)
 }

@@ -185,6 +185,15 @@ decode_alone (BadRegister pc) = (λ e. absurd (cc), λ e. absurd (cc))
 decode_alone (HalfWide pc) = (λ e. absurd (cc), λ e. absurd (cc))
 decode_alone NoMemoryToDecode = (λ e. absurd (cc), λ e. absurd (cc))
 
+pub flow_alone : (us : List ProgramUnit) (fault : FlowFault) → IsFlowShown us fault → IsToldAlone (Flow fault)
+flow_alone us (BackwardJump pc) h = (λ e. absurd (cc), λ e. absurd (cc))
+flow_alone us (JumpOut pc) h = (λ e. absurd (cc), λ e. absurd (cc))
+flow_alone us (JumpIntoWide pc) h = (λ e. absurd (cc), λ e. absurd (cc))
+flow_alone us NoMemoryForFlow h = absurd h
+
+pub memory_alone : IsToldAlone OutOfMemory
+memory_alone = (λ e. absurd (cc), λ e. absurd (cc))
+
 pub begin_right : (bytes : List ℕ) (fault : DecodeFault) → IsRefusedFor bytes fault → shown_by (decode_told fault) ≡ None → BeginRight bytes
 begin_right bytes Length h e = absurd (cc)
 begin_right bytes (BadOpcode pc) h e = absurd (cc)
@@ -192,6 +201,10 @@ begin_right bytes (BadField pc) h e = absurd (cc)
 begin_right bytes (BadRegister pc) h e = absurd (cc)
 begin_right bytes (HalfWide pc) h e = absurd (cc)
 begin_right bytes NoMemoryToDecode h e = h
+
+-- bytes that begin right have the right length
+pub never_wrong : (P : Type 0) (bytes : List ℕ) → BeginRight bytes → has_right_length bytes ≡ false → P
+never_wrong P bytes right wrong = let never : true ≡ false = sym right.right_length ∙ wrong in absurd (cc)
 
 pub fault_of_err : {T : Type 0} (a : DecodeFault) → (let told : Result T DecodeFault = Err a in told ≡ Err Length) → a ≡ Length
 fault_of_err a e = cc

@@ -76,9 +76,9 @@ impl fmt::Display for Refusal {
 
     fn fmt<W: fmt::Write>(&self, f: &mut fmt::Formatter<W>) -> fmt::Result {
         match self {
-            Refusal::Decode(fault) => write!(f, "{fault}"),
-            Refusal::Flow(fault) => write!(f, "{fault}"),
-            Refusal::Type(fault) => write!(f, "{fault}"),
+            Refusal::Decode(fault) => fmt::Display::fmt(fault, f),
+            Refusal::Flow(fault) => fmt::Display::fmt(fault, f),
+            Refusal::Type(fault) => fmt::Display::fmt(fault, f),
             Refusal::OutOfMemory => f.write_str("out of memory"),
         }
     }

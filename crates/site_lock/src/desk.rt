@@ -79,7 +79,9 @@ impl<'a, L: SiteLedger, R: Wait, G: Gate + Drop, J: Journal> PassDesk<'a, L, R, 
         // This call gives the prover that the configuration is the one that the ledger names.
         let _ = forecourt.config();
         match what {
-            What::Till { till, request } => said(forecourt.ask(rt, pass, gate, till, moment, request)),
+            What::Till { till, request } => said(forecourt.ask(
+                rt, pass, gate, till, moment, request,
+            )),
             What::Dispenser { point, event } => {
                 said(forecourt.enter_event(rt, pass, 0, act, What::Dispenser { point, event }))
             }

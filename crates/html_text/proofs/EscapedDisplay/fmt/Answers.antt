@@ -1,10 +1,18 @@
-use Rattle.std.proofs.Common.{◌≡◌, ◌∙◌, ap, sym, map-id}
+use Rattle.std.proofs.Common.{◌≡◌, ◌∙◌, [], ap, sym, map-id}
 use Rattle.std.specs.List.{flat_map}
 use Rattle.std.proofs.Output.{has_written_of_eq}
+use Rattle.std.proofs.lemmas.Grind.{put_two}
+use Rattle.std.proofs.lemmas.List.{flat_map_more}
 use Rattle.std.proofs.lemmas.Iterator.{YieldsList-from_chars}
 use Rattle.std.proofs.lemmas.Iterator.Consumers.{YieldsList-end}
 use Rattle.html_text.specs.Escaping.{escaped, escaped_char}
 use Rattle.html_text.proofs.EscapedDisplay.fmt.Goals as goal
+
+-- what was written so far, and then this character
+pub loop-c-preserved : goal.loop-c-preserved
+loop-c-preserved g c =
+    λ plain. let before = c.loop-c.invariant plain in
+    put_two _ _ _ c.write.new.self _ _ _ before (c.in_ok-write.ensures.writes before.plain cc) (flat_map_more escaped_char [] c.loop-c.yielded c.in-Some.c)
 
 pub returns-clause-writes : goal.returns-clause-writes
 unfolding escaped

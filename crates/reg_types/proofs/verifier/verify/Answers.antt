@@ -1,4 +1,4 @@
-use Rattle.std.proofs.Common.{◌≡◌, sym, subst, ◌∙◌, Some, None, Err, ap}
+use Rattle.std.proofs.Common.{◌≡◌, sym, subst, ◌∙◌, Some, None, Err, ap, refl}
 use Rattle.bpf_model.specs.Reading.{units}
 use Rattle.bpf_decode.proofs.Decoding.{begun}
 use Rattle.reg_types.specs.LoadOptions.{terms_of}
@@ -9,9 +9,11 @@ use Rattle.bpf_model.specs.Flow.{GoesForward, flow_fault}
 use Rattle.reg_types.specs.Inference.{first_flaw}
 use Rattle.reg_types.specs.Passing.{AreInferred, IsPassRefused, IsToldAlone, decode_told}
 use Rattle.reg_types.specs.Refusals.{shown_by}
+use Rattle.reg_types.specs.declared.refusal.Refusal.TheVariants.{Flow}
 use Rattle.reg_types.specs.Shown.{IsRefusal, IsRefused, refusal_of}
 use Rattle.reg_types.proofs.Accepted.{good_by}
-use Rattle.reg_types.proofs.Answering.{accepted, pass_shown, pass_exact, exact_plain, begin_right, decode_exact, decode_shown, decode_alone, fault_of_err, flow_exact}
+use Rattle.reg_types.proofs.Answering.{accepted, pass_shown, pass_exact, exact_plain, begin_right, decode_exact, decode_shown, decode_alone, fault_of_err}
+use Rattle.reg_types.proofs.Answering.{flow_exact, flow_alone, pass_alone, memory_alone, never_wrong}
 use Rattle.reg_types.proofs.Walking.{walked}
 use Rattle.reg_types.proofs.verifier.verify.Goals as goal
 
@@ -56,64 +58,87 @@ returns-in-Err c =
       memory = λ none. begin_right c.args.bytes.now c.in-Err.fault c.in-Err.ensures.refused (sym (ap shown_by told) ∙ none);
     }
 
-pub returns-in-Err-check_flow-clause-answers : goal.returns-in-Err-check_flow-clause-answers
-returns-in-Err-check_flow-clause-answers c =
-    flow_exact c.args.bytes.now (terms_of (as_loaded c.args.bytes.now c.args.declared c.args.layout)) c.in-Ok.code c.in-Err-check_flow.fault c.in-Ok.ensures.ok
-    c.in-Err-check_flow.ensures.refused
+pub returns-in-Err-check_flow : goal.returns-in-Err-check_flow
+returns-in-Err-check_flow c =
+    let right = begun c.args.bytes.now c.in-Ok.code c.in-Ok.ensures.ok in
+    let exact = flow_exact c.args.bytes.now (terms_of (as_loaded c.args.bytes.now c.args.declared c.args.layout)) c.in-Ok.code c.in-Err-check_flow.fault c.in-Ok.ensures.ok
+    c.in-Err-check_flow.ensures.refused in
+    record {
+      same = tt;
+      good = tt;
+      answers = exact;
+      alone = flow_alone c.in-Ok.code c.in-Err-check_flow.fault c.in-Err-check_flow.ensures.refused;
+      refused = (c.in-Ok.code, c.in-Ok.ensures.ok, c.in-Err-check_flow.ensures.refused);
+      plain = exact_plain c.args.bytes.now (terms_of (as_loaded c.args.bytes.now c.args.declared c.args.layout)) (Flow c.in-Err-check_flow.fault) exact;
+      begins = tt;
+      length = never_wrong _ c.args.bytes.now right;
+      memory = λ none. right;
+    }
 
-pub returns-in-Err-infer-clause-answers : goal.returns-in-Err-infer-clause-answers
-returns-in-Err-infer-clause-answers c =
+pub returns-in_default : goal.returns-in_default
+returns-in_default c =
+    let right = begun c.args.bytes.now c.in-Ok.code c.in-Ok.ensures.ok in
+    record {
+      same = tt;
+      good = tt;
+      answers = tt;
+      alone = memory_alone;
+      refused = tt;
+      plain = λ p. refl;
+      begins = tt;
+      length = never_wrong _ c.args.bytes.now right;
+      memory = λ none. right;
+    }
+
+pub returns-in-Err-infer : goal.returns-in-Err-infer
+returns-in-Err-infer c =
+    let right = begun c.args.bytes.now c.in-Ok.code c.in-Ok.ensures.ok in
     let same = c.units-units.ensures.same ∙ c.code.ensures.same ∙ c.in-Ok-check_flow.ensures.ok.0 in
-    pass_exact c.args.bytes.now c.in-Ok.code (terms_of (as_loaded c.args.bytes.now c.args.declared c.args.layout)) c.in-Ok.ensures.ok
-    c.in-Ok-check_flow.ensures.ok.1 c.in-Err-infer.refusal
-    (subst (λ us. IsPassRefused us (terms_of (as_loaded c.args.bytes.now c.args.declared c.args.layout)) c.in-Err-infer.refusal) same
-    c.in-Err-infer.ensures.refused)
+    let passed : IsPassRefused c.in-Ok.code (terms_of (as_loaded c.args.bytes.now c.args.declared c.args.layout)) c.in-Err-infer.refusal =
+    subst (λ us. IsPassRefused us (terms_of (as_loaded c.args.bytes.now c.args.declared c.args.layout)) c.in-Err-infer.refusal) same c.in-Err-infer.ensures.refused in
+    let exact = pass_exact c.args.bytes.now c.in-Ok.code (terms_of (as_loaded c.args.bytes.now c.args.declared c.args.layout)) c.in-Ok.ensures.ok c.in-Ok-check_flow.ensures.ok.1 c.in-Err-infer.refusal passed in
+    record {
+      same = tt;
+      good = tt;
+      answers = exact;
+      alone = pass_alone c.in-Ok.code (terms_of (as_loaded c.args.bytes.now c.args.declared c.args.layout)) c.in-Err-infer.refusal passed;
+      refused = pass_shown c.args.bytes.now c.in-Ok.code (terms_of (as_loaded c.args.bytes.now c.args.declared c.args.layout)) c.in-Ok.ensures.ok c.in-Ok-check_flow.ensures.ok.1 c.in-Err-infer.refusal passed;
+      plain = exact_plain c.args.bytes.now (terms_of (as_loaded c.args.bytes.now c.args.declared c.args.layout)) c.in-Err-infer.refusal exact;
+      begins = tt;
+      length = never_wrong _ c.args.bytes.now right;
+      memory = λ none. right;
+    }
 
-pub returns-in-Err-infer-clause-refused : goal.returns-in-Err-infer-clause-refused
-returns-in-Err-infer-clause-refused c =
-    let same = c.units-units.ensures.same ∙ c.code.ensures.same ∙ c.in-Ok-check_flow.ensures.ok.0 in
-    pass_shown c.args.bytes.now c.in-Ok.code (terms_of (as_loaded c.args.bytes.now c.args.declared c.args.layout)) c.in-Ok.ensures.ok
-    c.in-Ok-check_flow.ensures.ok.1 c.in-Err-infer.refusal
-    (subst (λ us. IsPassRefused us (terms_of (as_loaded c.args.bytes.now c.args.declared c.args.layout)) c.in-Err-infer.refusal) same
-    c.in-Err-infer.ensures.refused)
+pub returns-in_default-operations_of : goal.returns-in_default-operations_of
+returns-in_default-operations_of c =
+    let right = begun c.args.bytes.now c.in-Ok.code c.in-Ok.ensures.ok in
+    record {
+      same = tt;
+      good = tt;
+      answers = tt;
+      alone = memory_alone;
+      refused = tt;
+      plain = λ p. refl;
+      begins = tt;
+      length = never_wrong _ c.args.bytes.now right;
+      memory = λ none. right;
+    }
 
-pub returns-in-Err-infer-clause-plain : goal.returns-in-Err-infer-clause-plain
-returns-in-Err-infer-clause-plain c =
-    let same = c.units-units.ensures.same ∙ c.code.ensures.same ∙ c.in-Ok-check_flow.ensures.ok.0 in
-    exact_plain c.args.bytes.now (terms_of (as_loaded c.args.bytes.now c.args.declared c.args.layout)) c.in-Err-infer.refusal
-    (pass_exact c.args.bytes.now c.in-Ok.code (terms_of (as_loaded c.args.bytes.now c.args.declared c.args.layout)) c.in-Ok.ensures.ok
-    c.in-Ok-check_flow.ensures.ok.1 c.in-Err-infer.refusal
-    (subst (λ us. IsPassRefused us (terms_of (as_loaded c.args.bytes.now c.args.declared c.args.layout)) c.in-Err-infer.refusal) same
-    c.in-Err-infer.ensures.refused))
-
-pub returns-clause-good : goal.returns-clause-good
-returns-clause-good c =
+pub returns : goal.returns
+returns c =
+    let right = begun c.args.bytes.now c.in-Ok.code c.in-Ok.ensures.ok in
     let flow = c.in-Ok-check_flow.ensures.ok.0 in
-    let same = c.units-units.ensures.same ∙ c.code.ensures.same ∙ flow in
-    good_by c.args.bytes.now (terms_of (as_loaded c.args.bytes.now c.args.declared c.args.layout)) c.in-Ok.code c.in-Ok.ensures.ok
-    (subst GoesForward flow c.code.ensures.forward)
-    (subst (λ us. first_flaw us (terms_of (as_loaded c.args.bytes.now c.args.declared c.args.layout)) ≡ None) same c.in-Ok-infer.ensures.flawless)
-
-pub returns-clause-answers : goal.returns-clause-answers
-returns-clause-answers c =
-    let same = c.units-units.ensures.same ∙ c.code.ensures.same ∙ c.in-Ok-check_flow.ensures.ok.0 in (
-      ap (λ bytes. as_loaded bytes c.args.declared c.args.layout) c.in-Ok-from_slice.ensures.items,
-      accepted c.args.bytes.now c.in-Ok.code (terms_of (as_loaded c.args.bytes.now c.args.declared c.args.layout)) c.in-Ok.ensures.ok
-          c.in-Ok-check_flow.ensures.ok.1
-          (subst (λ us. first_flaw us (terms_of (as_loaded c.args.bytes.now c.args.declared c.args.layout)) ≡ None) same c.in-Ok-infer.ensures.flawless),
-    )
-
-pub returns-in_default-clause-memory : goal.returns-in_default-clause-memory
-returns-in_default-clause-memory c = λ none. begun c.args.bytes.now c.in-Ok.code c.in-Ok.ensures.ok
-
-pub returns-in_default-operations_of-clause-memory : goal.returns-in_default-operations_of-clause-memory
-returns-in_default-operations_of-clause-memory c = λ none. begun c.args.bytes.now c.in-Ok.code c.in-Ok.ensures.ok
-
-pub returns-in-Err-check_flow-clause-memory : goal.returns-in-Err-check_flow-clause-memory
-returns-in-Err-check_flow-clause-memory c = λ none. begun c.args.bytes.now c.in-Ok.code c.in-Ok.ensures.ok
-
-pub returns-in-Err-infer-clause-memory : goal.returns-in-Err-infer-clause-memory
-returns-in-Err-infer-clause-memory c = λ none. begun c.args.bytes.now c.in-Ok.code c.in-Ok.ensures.ok
-
-pub returns-clause-begins : goal.returns-clause-begins
-returns-clause-begins c = begun c.args.bytes.now c.in-Ok.code c.in-Ok.ensures.ok
+    let units_are = c.units-units.ensures.same ∙ c.code.ensures.same ∙ flow in
+    let flawless = subst (λ us. first_flaw us (terms_of (as_loaded c.args.bytes.now c.args.declared c.args.layout)) ≡ None) units_are c.in-Ok-infer.ensures.flawless in
+    let same = ap (λ bytes. as_loaded bytes c.args.declared c.args.layout) c.in-Ok-from_slice.ensures.items in
+    record {
+      same = same;
+      good = good_by c.args.bytes.now (terms_of (as_loaded c.args.bytes.now c.args.declared c.args.layout)) c.in-Ok.code c.in-Ok.ensures.ok (subst GoesForward flow c.code.ensures.forward) flawless;
+      answers = (same, accepted c.args.bytes.now c.in-Ok.code (terms_of (as_loaded c.args.bytes.now c.args.declared c.args.layout)) c.in-Ok.ensures.ok c.in-Ok-check_flow.ensures.ok.1 flawless);
+      alone = tt;
+      refused = tt;
+      plain = tt;
+      begins = right;
+      length = never_wrong _ c.args.bytes.now right;
+      memory = tt;
+    }

@@ -1,5 +1,6 @@
 use Rattle.std.proofs.Common.{rules}
 use Rattle.till_request.specs.Line.{TakesHeld}
+use Rattle.till_request.proofs.Counts.{rose_left}
 use Rattle.till_request.proofs.Taken.{goes_on, goes_part}
 use Rattle.till_request.proofs.line.next_behind.Goals as goal
 
@@ -20,3 +21,13 @@ returns-clause-given g c =
     c.read_held.new.line.items = search rules in
     goes_part old behind (g.I.LineIn.remaining c.next_byte.new.input) c.args.line.now.items c.read_held.new.line.items c.next_byte.result held
     c.next_byte.ensures.kept
+
+pub returns-clause-counted : goal.returns-clause-counted
+returns-clause-counted g c =
+    rose_left c.args.left.now c.read_held.new.left c.next_byte.new.left c.read_held.ensures.left c.next_byte.ensures.left c.read_held.ensures.counted
+    c.next_byte.ensures.counted
+
+pub returns-clause-asked : goal.returns-clause-asked
+returns-clause-asked g c =
+    rose_left c.args.left.now c.read_held.new.left c.next_byte.new.left c.read_held.ensures.left c.next_byte.ensures.left c.read_held.ensures.asked_for
+    c.next_byte.ensures.asked

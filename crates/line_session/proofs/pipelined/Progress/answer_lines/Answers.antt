@@ -35,7 +35,7 @@ returns-in_err-answer_line-in-Line-clause-broken g c =
     let t = rw (c.in-Line.is, c.in_ok-flush_unless_more.ensures.input) at c.in_ok-found.ensures.taken in
     if_handed _ _ c.from_residual-in_err-answer_line-in-Line.ensures _
     (breaks_said (desk_says g.D.Desk.step g.C.Clock.tick c.args.role) (desk_drops g.D.Desk.step g.C.Clock.tick c.args.role) (desk_takes c.args.role) _ _ _ _ _ _ _ _ _ _
-    _ _ c.turns.count c.find_line.new.line.items way t.1 t.0 (rw c.deref.ensures.value at c.in_err-answer_line-in-Line.ensures.err))
+    _ _ c.turns.count c.find_line.new.line.items way t.1 t.0 c.in_err-answer_line-in-Line.ensures.err)
 
 pub returns-in_err-answer_line-in-Line-clause-stopped : goal.returns-in_err-answer_line-in-Line-clause-stopped
 returns-in_err-answer_line-in-Line-clause-stopped g c =
@@ -43,7 +43,7 @@ returns-in_err-answer_line-in-Line-clause-stopped g c =
     let t = rw (c.in-Line.is, c.in_ok-flush_unless_more.ensures.input) at c.in_ok-found.ensures.taken in
     if_handed _ _ c.from_residual-in_err-answer_line-in-Line.ensures _
     (stops_said (desk_says g.D.Desk.step g.C.Clock.tick c.args.role) (desk_drops g.D.Desk.step g.C.Clock.tick c.args.role) (desk_takes c.args.role) _ _ _ _ _ _ _ _ _ _ _ _
-    c.turns.count c.find_line.new.line.items way t.1 t.0 (rw c.deref.ensures.value at c.in_err-answer_line-in-Line.ensures.err))
+    c.turns.count c.find_line.new.line.items way t.1 t.0 c.in_err-answer_line-in-Line.ensures.err)
 
 pub returns-in_default-clause-said : goal.returns-in_default-clause-said
 returns-in_default-clause-said g c =
@@ -71,7 +71,7 @@ turns-preserved g c =
     let t = rw (c.in-Line.is, c.in_ok-flush_unless_more.ensures.input) at c.in_ok-found.ensures.taken in
     record {
       answering = waits_more (desk_says g.D.Desk.step g.C.Clock.tick c.args.role) _ _ _ _ _ _ _ _ _ _ _ c.turns.count c.find_line.new.line.items way t.1 t.0
-          (rw c.deref.ensures.value at c.in_ok-answer_line-in-Line.ensures.ok);
+          c.in_ok-answer_line-in-Line.ensures.ok;
       within = omega (arith, c.turns.invariant.within, c.in_ok-flush_unless_more.ensures.left, c.in_ok-found.ensures.used, c.in_ok-answer_line-in-Line.ensures.left);
       reads = rw c.in_ok-answer_line-in-Line.ensures.left (rose_left c.args.self.now.left c.turns.self.left c.find_line.new.left (omega (arith, c.turns.invariant.within))
           (omega (arith, c.in_ok-found.ensures.left, c.in_ok-flush_unless_more.ensures.left)) c.turns.invariant.reads
