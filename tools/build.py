@@ -21,7 +21,7 @@ import time
 from concurrent.futures import FIRST_COMPLETED, ThreadPoolExecutor, wait
 
 MOST_JOBS = 4  # processes that one crate's proof can use well
-MEMORY = 4_500_000_000  # bytes that a crate's proof may need
+MEMORY = 4_500_000_000  # bytes for each crate that is proved at the same time
 TARGET = "x86_64-unknown-linux-gnu"
 C_LIBRARIES = ("libos_c.a", "liblibc_c.a")  # what the kit's libraries of the system are linked with
 
@@ -138,7 +138,7 @@ class Build:
         with ThreadPoolExecutor(len(left)) as pool:
             while left or running:
                 ready = [it for it in left if done.issuperset(it.deps)]
-                # While a crate is loaded it has one process: so its further ones don't keep others from beginning.
+                # A crate counts once, however many processes it gets: while it is loaded, it has only one.
                 idle = most - len(running)
                 while ready and idle > 0:
                     jobs = max(1, min(MOST_JOBS, idle // len(ready)))
