@@ -19,7 +19,9 @@ refused. This has to hold:
 If there is no C compiler (CC, or cc), nothing is tried, and that is printed. The last line is 'N passed, M failed': it
 counts the calls, each with one kind and one way of refusing.
 """
+import functools
 import itertools
+import multiprocessing
 import os
 import re
 import shlex
@@ -39,6 +41,7 @@ UNHINDERED = ("none", 0, "once")
 CUT = ("cut", 0, "on")
 COUNTS = struct.Struct("5Q")
 PATIENCE = 60  # seconds that a call may take
+RUNS_AT_ONCE = 16  # of one call: those of a served site wait more than they compute
 SILENCE = 5  # seconds after which a peer that isn't answered hangs up
 DEBUG = re.compile(r"::|\w+Fault\b|\w+Error\b|\b(Os|Custom|Error) \{|\bKind\(|panicked")
 
@@ -128,8 +131,8 @@ class Shim:
         subprocess.run([compiler, "-shared", "-fPIC", "-O2", "-nostdlib", "-o", self.library, source], check=True)
 
     def path(self, name):
-        """A path below the folder that no other run uses."""
-        return os.path.join(self.folder, f"{name}{next(self.numbers)}")
+        """A path below the folder that no other run uses, in this process or another."""
+        return os.path.join(self.folder, f"{name}{os.getpid()}.{next(self.numbers)}")
 
     def environment(self, fault, counts):
         """The environment in which the calls of `fault` are refused. The library writes its counts to `counts`."""
@@ -539,15 +542,16 @@ def calls_of_sites(shim, taken):
     yield Served("served day with a page", has_page=True)
 
 
-def look(shim, call, pool):
+def look(shim, call):
     """Tries a call with each fault. Returns the number of runs, and what is wrong, by kind and way of refusing."""
     plain = call.run(shim)
     wrong, runs = {}, 2
-    for kind, how in itertools.product(KINDS, ("once", "on")):
-        faults = [(kind, at, how) for at in range(1, plain.calls[kind] + 2)]
-        ill = pool.map(lambda fault: (fault, call.ill(shim, call.run(shim, fault), plain)), faults)
-        wrong[kind, how] = [(fault, what) for fault, what in ill if what]
-        runs += len(faults)
+    with ThreadPoolExecutor(RUNS_AT_ONCE) as pool:
+        for kind, how in itertools.product(KINDS, ("once", "on")):
+            faults = [(kind, at, how) for at in range(1, plain.calls[kind] + 2)]
+            ill = pool.map(lambda fault: (fault, call.ill(shim, call.run(shim, fault), plain)), faults)
+            wrong[kind, how] = [(fault, what) for fault, what in ill if what]
+            runs += len(faults)
     cut = call.run(shim, CUT)
     is_same = cut.answers == plain.answers if plain.answers else cut.seen() == plain.seen()
     wrong["cut", "on"] = [] if is_same else [(CUT, f"it isn't as unhindered: {cut.seen()}")]
@@ -562,14 +566,15 @@ def main():
         print("0 passed, 0 failed")
         return
     passed = failed = runs = 0
-    with tempfile.TemporaryDirectory() as folder, ThreadPoolExecutor(2 * (os.cpu_count() or 1)) as pool:
+    processes = multiprocessing.get_context("fork")
+    with tempfile.TemporaryDirectory() as folder, socket.create_server(("127.0.0.1", 0)) as taken:
         shim = Shim(program, folder)
         shim.build(compiler)
-        with socket.create_server(("127.0.0.1", 0)) as taken:
-            for call in itertools.chain(calls_of_files(shim), calls_of_sites(shim, taken.getsockname()[1])):
-                if word not in call.name:
-                    continue
-                count, wrong = look(shim, call, pool)
+        all_calls = [*calls_of_files(shim), *calls_of_sites(shim, taken.getsockname()[1])]
+        # The last ones take longest, so they begin first.
+        calls = [call for call in reversed(all_calls) if word in call.name]
+        with processes.Pool(os.cpu_count() or 1) as pool:
+            for call, (count, wrong) in zip(calls, pool.imap(functools.partial(look, shim), calls)):
                 runs += count
                 for (kind, how), found in wrong.items():
                     passed, failed = passed + (not found), failed + bool(found)
