@@ -14,21 +14,20 @@ use helpers::View;
 use reg_types::Program;
 
 /// Sets `now` to the counters that a run on `now` would leave, without that run. An earlier run on the counters
-/// `before` answered `answer` and left `after`. A run depends only on the declared counters, and these must be the same
-/// in `before` and `now`. So the answer is the same, and the declared counters become those of `after`.
+/// `before` left `after`. A run depends only on the declared counters, and these must be the same in `before` and `now`.
+/// So the answer is the same, and the declared counters become those of `after`.
 pub fn rebase(
     program: &Program,
     context: &Context,
     view: &View,
     before: &Counters,
-    answer: u64,
     after: &Counters,
     now: &mut Counters,
 )
     requires layout { layout_of context.now ≡ program.now.layout }
-    requires ran { outcome program.now (bytes_of context.now) view.now before.now ≡ Ended answer after.now }
     requires agree { Agrees program.now.declared before.now now.old }
-    ensures ran { outcome program.now (bytes_of context.now) view.now now.old ≡ Ended answer now.new }
+    ensures ran { (answer : ℕ) → outcome program.now (bytes_of context.now) view.now before.now ≡ Ended answer after.now
+        → outcome program.now (bytes_of context.now) view.now now.old ≡ Ended answer now.new }
     ensures counters { (c : ℕ) → counter now.new c ≡ adopted program.now.declared after.now now.old c }
 {
     let _ops = program.ops();

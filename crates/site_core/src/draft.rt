@@ -217,7 +217,6 @@ impl Ready {
             &draft.program,
             &draft.context,
             &draft.counters,
-            self.r0,
             &self.after,
         );
         let counts = match adopted {

@@ -430,14 +430,13 @@ impl Station {
         program: &Program,
         given: &Context,
         before: &Counters,
-        r0: u64,
         after: &Counters,
     ) -> Result<Counts, AllocError>
         requires layout { layout_of given.now ≡ program.now.layout }
-        requires ran { outcome program.now (bytes_of given.now) (view_of self.old) before.now ≡ Ended r0 after.now }
         requires agree { Agrees program.now.declared before.now self.old.counters }
-        ensures ran { OnOk result (outcome program.now (bytes_of given.now) (view_of self.old) self.old.counters
-            ≡ Ended r0 self.new.counters) }
+        ensures ran { OnOk result ((r0 : ℕ)
+            → outcome program.now (bytes_of given.now) (view_of self.old) before.now ≡ Ended r0 after.now
+            → outcome program.now (bytes_of given.now) (view_of self.old) self.old.counters ≡ Ended r0 self.new.counters) }
         ensures noted { IfOk result (λ noted. noted ≡ counts program.now.declared self.old.counters self.new.counters) }
         ensures rest { self.new ≡ with_counters self.old self.new.counters }
         ensures unchanged { OnErr result (self.new ≡ self.old) }
@@ -445,7 +444,7 @@ impl Station {
     {
         let own = self.counters;
         let current = &mut self.counters;
-        rebase(program, given, &self.view, before, r0, after, current);
+        rebase(program, given, &self.view, before, after, current);
         match note_counts(alloc, program.declared(), &own, &self.counters) {
             Ok(counts) => Ok(counts),
             Err(error) => {

@@ -6,6 +6,7 @@ use Rattle.till_request.specs.declared.act.Act.TheVariants as act
 use Rattle.bpf_model.specs.Layouts.{bytes_of}
 use Rattle.bpf_model.specs.declared.context.Layout.{Layout}
 use Rattle.site_core.specs.Context.{context}
+use Rattle.site_core.specs.State.{view_of}
 use Rattle.site_core.proofs.Contexts.{same-context, context-layout}
 use Rattle.site_core.specs.Keeping.{Agrees, Performs}
 use Rattle.site_core.specs.Draft.{DraftValue, ReadyValue}
@@ -41,8 +42,10 @@ returns-clause-performed c =
     still.context_is in
     let after : Counters = c.adopt-adopted.new.self.counters in
     let r0 = c.self.inside.r0 in
+    let outside : outcome c.deref.result.now (bytes_of d.context) (view_of s) d.counters ≡ Ended r0 c.self.inside.after =
+    (λ i. outcome (c.deref.ensures i) draft.context (still.view_is i) draft.counters) ∙ subst (λ (x : DraftValue). outcome x.version.program x.context x.view x.counters ≡ Ended r0 c.self.inside.after) (sym c.draft.view_is) c.self.invariant in
     let ran : outcome draft.version.program draft.context draft.view s.counters ≡ Ended r0 after =
-    (λ i. outcome (sym c.deref.ensures i) draft.context (sym still.view_is i) s.counters) ∙ c.in-Ok-adopted.ensures.ran in
+    (λ i. outcome (sym c.deref.ensures i) draft.context (sym still.view_is i) s.counters) ∙ c.in-Ok-adopted.ensures.ran r0 outside in
     let counted : c.in-Ok-adopted.counts ≡ counts (arc_value d.program).declared s.counters after =
     c.in-Ok-adopted.ensures.noted ∙ ap (λ (t : ProgramText). counts t.declared s.counters after) c.deref.ensures in
     let told : settled (with_counters s after) d.till q d.version r0 ≡ (c.settle-reply.result, c.settle-reply.new.self) =

@@ -5,21 +5,8 @@ use Rattle.site_core.specs.State.{SiteState, view_of}
 use Rattle.site_core.proofs.Filling.{view-is}
 use Rattle.site_core.proofs.station.Station.adopt.Goals as goal
 
-pub rebase-requires-clause-ran : goal.rebase-requires-clause-ran
-rebase-requires-clause-ran c =
-    let old : SiteState = record {
-      points = c.self.inside.points.items;
-      prices = c.self.inside.view.prices;
-      counters = c.self.inside.counters;
-      cleared = c.self.inside.cleared;
-      clears = c.self.inside.clears;
-    } in
-    let shown : c.self.inside.view ≡ view_of c.args.self.now =
-    view-is old c.self.inside.view c.self.invariant.2 c.self.invariant.3 refl ∙ ap view_of c.self.view_is in
-    (λ i. outcome c.args.program.now (bytes_of c.args.given.now) (shown i) c.args.before.now) ∙ c.requires.ran
-
 pub returns-in-Ok-clause-ran : goal.returns-in-Ok-clause-ran
-returns-in-Ok-clause-ran c =
+returns-in-Ok-clause-ran c = λ r0 ran.
     let old : SiteState = record {
       points = c.self.inside.points.items;
       prices = c.self.inside.view.prices;
@@ -30,4 +17,5 @@ returns-in-Ok-clause-ran c =
     let shown : c.self.inside.view ≡ view_of c.args.self.now =
     view-is old c.self.inside.view c.self.invariant.2 c.self.invariant.3 refl ∙ ap view_of c.self.view_is in
     let counted : c.self.inside.counters ≡ c.args.self.now.counters = ap (λ (s : SiteState). s.counters) c.self.view_is in
-    (λ i. outcome c.args.program.now (bytes_of c.args.given.now) (sym shown i) (sym counted i)) ∙ c.rebase.ensures.ran
+    let before = (λ i. outcome c.args.program.now (bytes_of c.args.given.now) (shown i) c.args.before.now) ∙ ran in
+    (λ i. outcome c.args.program.now (bytes_of c.args.given.now) (sym shown i) (sym counted i)) ∙ c.rebase.ensures.ran r0 before
