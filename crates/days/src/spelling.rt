@@ -1,16 +1,17 @@
 //! Writes the lines of an opening's text.
 
-ghost use Rattle.std.specs.Prelude.{◌≡◌, ◌∷◌, [], OnOk, decimal, string_bytes};
+ghost use Rattle.std.specs.Prelude.{◌≡◌, ◌∷◌, [], OnOk, Some, codes, decimal, string_bytes};
 ghost use Rattle.hex.specs.Hex.{encode_lower};
 ghost use Rattle.till_request.specs.Short.{with_words};
 ghost use Rattle.till_request.specs.Spelling.{load_word as load_by};
-ghost use Rattle.days.specs.Text.{line_spelling, line_words, order_word, yes_or_no};
+ghost use Rattle.days.specs.Text.{line_spelling, line_words, order_word, version_lines, yes_or_no};
 ghost use Rattle.days.specs.Spelling.{AddsLines, with_line};
 
 use crate::line::Line;
 use bpf_model::context::Layout;
 use fuelling_point::{Order, Snapshot, Transaction};
 use itoa::Buffer;
+use program_slots::Version;
 use std::alloc::{AllocError, Global};
 
 /// Appends a space and a word. The error is that memory ran out.
@@ -103,25 +104,22 @@ fn put_versions(text: &mut String, count: u32) -> Result<(), AllocError>
     put_number(text, u64::from(count))
 }
 
-/// Appends the words of a version's line. The error is that memory ran out.
+/// Appends the words of a version's line up to its program's bytes. The error is that memory ran out.
 fn put_version(
-    alloc: Global,
     text: &mut String,
     slot: u64,
     number: u32,
     mask: u32,
     layout: Layout,
-    bytes: &[u8],
 ) -> Result<(), AllocError>
-    ensures { OnOk result (string_bytes text.new
-        ≡ with_line (string_bytes text.old) (line_words (Line.Version slot number mask layout bytes.now))) }
+    ensures { OnOk result (string_bytes text.new ≡ with_line (string_bytes text.old)
+        (codes "version" ∷ decimal slot ∷ decimal number ∷ decimal mask ∷ load_by layout ∷ [])) }
 {
     text.push_str("version")?;
     put_number(text, slot)?;
     put_number(text, u64::from(number))?;
     put_number(text, u64::from(mask))?;
-    put_word(text, load_word(layout))?;
-    put_hex(alloc, text, bytes)
+    put_word(text, load_word(layout))
 }
 
 /// Appends the words of a point's own line. The error is that memory ran out.
@@ -205,15 +203,10 @@ fn put_words(alloc: Global, text: &mut String, line: &Line) -> Result<(), AllocE
             mask,
             layout,
             bytes,
-        } => put_version(
-            alloc,
-            text,
-            *slot,
-            *number,
-            *mask,
-            *layout,
-            bytes.as_slice(),
-        ),
+        } => {
+            put_version(text, *slot, *number, *mask, *layout)?;
+            put_hex(alloc, text, bytes.as_slice())
+        }
         Line::Price(product, price) => put_price(text, *product, *price),
         Line::Counter(counter, value, bound) => put_counter(text, *counter, *value, *bound),
         Line::Point(point, values) => put_point(text, *point, values),
@@ -238,19 +231,19 @@ pub(crate) fn put_line(alloc: Global, text: &mut String, line: &Line) -> Result<
     text.push_str("\n")
 }
 
-/// Appends a version's line with its LF. The error is that memory ran out.
+/// Appends the line of a slot's version with its LF. The error is that memory ran out.
 pub(crate) fn put_version_line(
     alloc: Global,
     text: &mut String,
     slot: u64,
-    number: u32,
-    mask: u32,
-    layout: Layout,
-    bytes: &[u8],
+    version: &Version,
 ) -> Result<(), AllocError>
-    ensures { OnOk result (AddsLines (string_bytes text.old) (string_bytes text.new)
-        (Line.Version slot number mask layout bytes.now ∷ [])) }
+    ensures { OnOk result
+        (AddsLines (string_bytes text.old) (string_bytes text.new) (version_lines slot (Some version.now))) }
 {
-    put_version(alloc, text, slot, number, mask, layout, bytes)?;
+    let program = &version.program;
+    let (mask, layout) = (program.declared(), program.layout());
+    put_version(text, slot, version.number, mask, layout)?;
+    put_hex(alloc, text, program.bytes())?;
     text.push_str("\n")
 }

@@ -40,11 +40,7 @@ fn put_rule(
 {
     match rule {
         None => Ok(()),
-        Some(version) => {
-            let (mask, layout) = (version.program.declared(), version.program.layout());
-            let bytes = version.program.bytes();
-            put_version_line(alloc, text, slot, version.number, mask, layout, bytes)
-        }
+        Some(version) => put_version_line(alloc, text, slot, version),
     }
 }
 
