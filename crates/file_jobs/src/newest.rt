@@ -252,18 +252,35 @@ fn close_day(
     let path = folder.file(rt, number, Part::Journal)?;
     let config = begin_day(rt, folder, number, config)?;
     // The file is locked until the opening is there.
-    let Closing { closed, file } = close_journal(rt, &config, &path)?;
-    if closed.site.history().is_empty() {
+    let closing = close_journal(rt, &config, &path)?;
+    put_close(rt, folder, number, &path, &closing, unkept)
+}
+
+/// Writes what the close of a day leaves, unless the day has no entry: the text of its configuration, `unkept`, if the
+/// folder doesn't have it yet, and the opening of the next day. Before that it syncs the day's journal, whose path is
+/// `journal`. Returns the number of the day that is then the newest.
+fn put_close(
+    rt: &HostRuntime,
+    folder: Folder<'_>,
+    number: u32,
+    journal: &str,
+    closing: &Closing,
+    unkept: Option<&[u8]>,
+) -> Result<u32, Stop>
+    ensures newest { IfOk result (λ newest. (newest ≡ number) ⊎ (newest ≡ number + 1)) }
+    ensures refused { IfErr result (SaysOrFails 1) }
+{
+    if closing.closed.site.history().is_empty() {
         return Ok(number);
     }
     check_newest(rt, folder, number)?;
     if let Some(text) = unkept {
         folder.put(rt, number, Part::Config, text)?;
     }
-    if let Err(error) = file.sync_all() {
-        return Err(Stop::Said(cannot_use(rt, &path, &error)));
+    if let Err(error) = closing.file.sync_all() {
+        return Err(Stop::Said(cannot_use(rt, journal, &error)));
     }
-    leave(rt, folder, number, &closed)
+    leave(rt, folder, number, &closing.closed)
 }
 
 /// Writes the opening that a day leaves for the next one, and returns the next one's number.
