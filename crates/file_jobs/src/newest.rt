@@ -66,45 +66,48 @@ pub fn newest_day(
     ensures unkept { IfOk result (λ newest. IfSome newest.unkept (λ text. text ≡ given.entry.text)) }
     ensures refused { IfErr result (SaysOrFails 1) }
 {
+    let number = number_of(rt, folder, &given, is_new_day)?;
+    let journal = folder.file(rt, number, Part::Journal)?;
+    let kept = settled_config(rt, folder, number)?;
+    tell_other(rt, folder, number, &given, &kept)?;
     let Given {
-        word,
+        word: _,
         text,
         settings: Settings { config, serve },
     } = given;
-    let number = number_of(rt, folder, &config, &text, is_new_day)?;
-    let (config, unkept) = match settled_config(rt, folder, number)? {
+    let (config, unkept) = match kept {
         None => (config, Some(text)),
-        Some(kept) => {
-            tell_other(rt, folder, number, word, kept.is_same(&config))?;
-            (kept, None)
-        }
+        Some(kept) => (kept, None),
     };
-    let config = begin_day(rt, folder, number, config)?;
-    let journal = folder.file(rt, number, Part::Journal)?;
-    Ok(Newest {
-        day: Day {
-            config,
-            serve,
-            number,
-        },
-        journal,
-        unkept,
-    })
+    match begin_day(rt, folder, number, config) {
+        Ok(config) => Ok(Newest {
+            day: Day {
+                config,
+                serve,
+                number,
+            },
+            journal,
+            unkept,
+        }),
+        Err(stop) => Err(stop),
+    }
 }
 
-/// Prints that a day goes on with the configuration that the folder has for it, if that isn't the one that `word`
-/// names.
+/// Prints that a day goes on with the configuration that the folder has for it, `kept`, if that isn't the given one.
 fn tell_other(
     rt: &HostRuntime,
     folder: Folder<'_>,
     day: u32,
-    word: &str,
-    is_same: bool,
+    given: &Given<'_>,
+    kept: &Option<Config>,
 ) -> Result<(), Stop>
     ensures { IfErr result IsFailed }
 {
-    if !is_same {
-        let path = folder.file(rt, day, Part::Config)?;
+    let Some(kept) = kept else {
+        return Ok(());
+    };
+    if !kept.is_same(&given.settings.config) {
+        let (path, word) = (folder.file(rt, day, Part::Config)?, given.word);
         let _ = eprintln!(rt;
             "fc: day {day} goes on with {path}: tills, slots and bounds of {word} count from the next day on"
         );
@@ -131,13 +134,12 @@ fn going_on(span: Option<Span>, is_new_day: bool) -> Going
 }
 
 /// Returns the number of the newest day of a folder, or 1 if it has none. If `is_new_day`, closes that day first,
-/// unless it has no entry, and returns the number of the next one. `config` is the configuration for a day for which
-/// the folder has none, and `text` is its text.
+/// unless it has no entry, and returns the number of the next one. The given configuration is that of a day for which
+/// the folder has none.
 fn number_of(
     rt: &HostRuntime,
     folder: Folder<'_>,
-    config: &Config,
-    text: &[u8],
+    given: &Given<'_>,
     is_new_day: bool,
 ) -> Result<u32, Stop>
     ensures { IfErr result (SaysOrFails 1) }
@@ -148,7 +150,10 @@ fn number_of(
     };
     match settled_config(rt, folder, newest)? {
         Some(kept) => close_day(rt, folder, newest, kept, None),
-        None => close_day(rt, folder, newest, config.copied(rt.alloc())?, Some(text)),
+        None => {
+            let config = given.settings.config.copied(rt.alloc())?;
+            close_day(rt, folder, newest, config, Some(&given.text))
+        }
     }
 }
 
