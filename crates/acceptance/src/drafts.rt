@@ -67,7 +67,7 @@ struct Row {
 }
 
 const ROWS: [Row; 8] = [
-    // The run doesn't depend on what changes in between here, so the decision is entered.
+    // The run doesn't depend on what these events change, so the decision is entered.
     Row {
         before: OPENED,
         asked: RELEASE,

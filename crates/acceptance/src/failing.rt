@@ -278,8 +278,8 @@ fn unlike_after_journal_reads(alloc: Global) -> Result<Option<u64>, Fail> {
     Ok(Some(100))
 }
 
-/// The result of writing a journal, how many writes failed, and whether the output is a beginning of the journal, and
-/// the whole of it.
+/// The result of writing a journal, how many writes failed, whether the output is a beginning of the journal, and
+/// whether it is as long as the journal.
 #[derive(Clone, Copy, PartialEq)]
 struct Written {
     told: Result<(), JournalFault>,

@@ -276,8 +276,8 @@ fn is_full(width: Width) -> bool
     matches!(width, Width::Bits64)
 }
 
-// Parses the tokens after `r1 = -`, which for NEG are the same register again. This function and the next three are for
-// one form each that exists only with `=`: NEG, a sign extension, END and a wide load.
+// Parses the tokens after `r1 = -`: for NEG, the same register again. This function and the next three parse one form
+// each: NEG, a sign extension, END and a wide load. These forms exist only with `=`.
 fn negated(width: Width, dst: u8, tokens: &[Token]) -> Option<Statement>
     ensures { result ≡ spec.only_assigned width dst (Token.Minus ∷ tokens.now) }
 {

@@ -1,5 +1,5 @@
-// Labels, and the units that they name. A row is a parsed line with a name. The name is the label that the line
-// defines, or the last word of an instruction, which for a jump is the label of its target.
+// Labels, and the units that they name. A row is a parsed line with a label. For a line that defines a label it is this
+// label. For an instruction it is the last word, which in a jump to a label names the target.
 
 ghost use Rattle.std.specs.Prelude.{◌≡◌, ◌≤◌, ◌++◌, [], ℕ, List, map, IfOk, OnOk, Some, is_some};
 ghost use Rattle.bpf_asm.specs.Program as spec;
@@ -35,7 +35,7 @@ pub fn units_in(rows: &[(Line, &[u8])]) -> u64
     units
 }
 
-// Adds to the list the label that a row defines, if it defines one, with the unit that it names, which is `at`.
+// Adds to `labels` the label that a row defines, if it defines one, with the unit that the label names, which is `at`.
 fn define<'a>(
     labels: &mut Vec<(&'a [u8], u64)>,
     says: Line,
@@ -103,7 +103,7 @@ fn goes_to_label(statement: Statement) -> bool
     matches!(statement, Statement::Jump(_, _, Target::Label))
 }
 
-// Returns whether a row defines a label of `seen` again, or jumps to one that no row defines.
+// Returns whether a row defines a label of `seen` again, or jumps to a label that no row defines.
 fn is_wrong(labels: &[(&[u8], u64)], seen: &[&[u8]], says: Line, name: &[u8]) -> bool
     ensures { result ≡ spec.is_wrong (map (λ d. spec.definition d.0.now d.1) labels.now)
         (map (λ t. t.now) seen.now) says name.now }
@@ -126,8 +126,8 @@ fn note<'a>(seen: &mut Vec<&'a [u8]>, says: Line, name: &'a [u8]) -> Result<(), 
     }
 }
 
-/// Returns the fault of the first row that defines a label again, or jumps to one that no row defines; `None` if no row
-/// does.
+/// Returns the fault of the first row that defines a label again, or jumps to a label that no row defines; `None` if
+/// there is no such row.
 pub fn label_fault(
     alloc: Global,
     labels: &[(&[u8], u64)],

@@ -168,7 +168,7 @@ fn register_or_name(text: &[u8]) -> Token
     }
 }
 
-/// Returns the number of bytes of a line before its comment.
+/// Returns the number of bytes of a line before its comment, or of the whole line if it has no comment.
 pub fn code_len(line: &[u8]) -> usize
     ensures value { result ≡ spec.code_len line.now }
     ensures within { result ≤ length line.now }
@@ -180,7 +180,7 @@ pub fn code_len(line: &[u8]) -> usize
     at
 }
 
-/// Returns the texts of a line's tokens; `None` if a byte that isn't blank can't begin a token.
+/// Returns the texts of a line's tokens; `None` if the line has a part that is neither a token nor blank.
 pub fn split<'a>(alloc: Global, text: &'a [u8]) -> Result<Option<Vec<&'a [u8]>>, AllocError>
     ensures { IfOk result (λ found. option_map (λ v. map (λ t. t.now) v.items) found ≡ spec.split text.now) }
 {
@@ -255,7 +255,7 @@ fn number(text: &[u8]) -> Option<u64>
     }
 }
 
-/// Returns the token of a text.
+/// Returns the token whose text this is; `Name` if the text has no token of its own.
 pub fn kind_of(text: &[u8]) -> Token
     ensures { result ≡ spec.kind_of text.now }
 {

@@ -17,7 +17,8 @@ use grammar::Line;
 use std::alloc::{AllocError, Global};
 use std::fmt::Write;
 
-/// Why a text can't be assembled. The number is that of a line, counted from 1. `explain` finds what its message shows.
+/// Why a text can't be assembled. The number is that of a line, counted from 1. `flaw::explain` returns what a message
+/// about the fault shows.
 #[derive(Clone, Copy)]
 pub enum AsmFault {
     /// A1: the line can't be parsed.
@@ -69,8 +70,8 @@ pub fn disassemble(alloc: Global, code: &Code) -> Result<String, AllocError>
     Ok(out)
 }
 
-/// Returns the line, with its LF, of the instruction that begins at a unit, as `disassemble` writes it; `None` if none
-/// begins there, for which no memory is taken.
+/// Returns the line, with its LF, of the instruction that begins at a unit, as `disassemble` writes it. Returns `None`
+/// if no instruction begins there, for which no memory is taken.
 pub fn instruction_line(alloc: Global, code: &Code, unit: u32) -> Result<Option<String>, AllocError>
     ensures line { IfOk result (λ found. option_map string_bytes found ≡ line_of_unit code.now unit) }
     ensures none { line_of_unit code.now unit ≡ None → IsOk result }
@@ -81,7 +82,7 @@ pub fn instruction_line(alloc: Global, code: &Code, unit: u32) -> Result<Option<
     }
 }
 
-/// Returns the line of the instruction that begins at the first of these units; `None` if none begins there.
+/// Returns the line of the instruction that begins at the first of these units; `None` if no instruction begins there.
 fn front_line(alloc: Global, units: &[Unit]) -> Result<Option<String>, AllocError>
     ensures line { IfOk result (λ found. option_map string_bytes found ≡ front_of units.now) }
     ensures none { front_of units.now ≡ None → IsOk result }
@@ -97,8 +98,8 @@ fn front_line(alloc: Global, units: &[Unit]) -> Result<Option<String>, AllocErro
     }
 }
 
-/// Returns the text of a program, like `disassemble`, with the number of its first unit and `: ` before each
-/// instruction.
+/// Returns the text of a program, like `disassemble`, but each line begins with the number of its instruction's first
+/// unit and `: `.
 pub fn disassemble_numbered(alloc: Global, code: &Code) -> Result<String, AllocError>
     ensures { IfOk result (λ text. string_bytes text ≡ numbered_from 0 code.now) }
 {
@@ -131,7 +132,7 @@ fn is_length(count: u64) -> bool
 }
 
 // Returns the program of parsed lines whose numbers are in range. The error is that it doesn't have 1 to 512 units,
-// else the first wrong label, or that memory ran out. None is taken before the units are counted.
+// else the first wrong label, or that memory ran out. No memory is taken before the units are counted.
 fn assemble_rows(alloc: Global, rows: &[(Line, &[u8])]) -> Result<Code, AsmFault>
     requires fits { spec.AreRight (map (λ p. spec.row p.0 p.1.now) rows.now) }
     requires sound { AreSound (map (λ p. spec.row p.0 p.1.now) rows.now) }

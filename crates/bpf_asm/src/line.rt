@@ -77,9 +77,9 @@ fn row_by<'a>(alloc: Global, words: &[&'a [u8]]) -> Result<Option<(Line, &'a [u8
     Ok(row_with(tokens.as_slice(), words))
 }
 
-/// Parses a line, and returns it with its label. That is the label that the line defines, or for an instruction its
-/// last word, which for a jump is the label of its target. Returns `None` if the line can't be parsed. A line with a byte
-/// that isn't ASCII takes no memory.
+/// Parses a line, and returns it with its label. For a line that defines a label it is this label. For an instruction
+/// it is the last word, which in a jump to a label names the target. Returns `None` if the line can't be parsed. A line
+/// with a byte that isn't ASCII takes no memory.
 pub fn row_of<'a>(alloc: Global, line: &'a [u8]) -> Result<Option<(Line, &'a [u8])>, AllocError>
     ensures found { IfOk result (λ found. option_map (λ p. spec.row p.0 p.1.now) found ≡ spec.row_of line.now) }
     ensures other { list_all (λ b. nat_lt b 128) line.now ≡ false → IsOk result }
@@ -170,7 +170,7 @@ pub fn cut<'a>(alloc: Global, text: &'a [u8]) -> Result<Vec<&'a [u8]>, AllocErro
 }
 
 /// Parses line `number`, and returns it with its label. The error is that it can't be parsed (A1), that a number in it
-/// is out of range (A3), or that memory ran out, but never for a line with a byte that isn't ASCII.
+/// is out of range (A3), or that memory ran out. A line with a byte that isn't ASCII takes no memory.
 fn row_at<'a>(alloc: Global, number: u64, line: &'a [u8]) -> Result<(Line, &'a [u8]), AsmFault>
     ensures ok { IfOk result (λ p. spec.row_of line.now ≡ Some (spec.row p.0 p.1.now)) }
     ensures none { IfOk result (λ p. spec.row_fault number (spec.row_of line.now) ≡ None) }

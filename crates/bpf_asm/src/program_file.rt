@@ -7,10 +7,10 @@ use hex::FromHexError;
 use std::alloc::{AllocError, Global};
 use std::fmt;
 
-/// The most bytes that a configuration, a program file or an assembler text can have.
+/// The most bytes that a program file or an assembler text can have.
 pub const MOST_BYTES: usize = 65_536;
 
-/// Why a file isn't a program file.
+/// Why a program file can't be read.
 #[derive(Clone, Copy)]
 pub enum ProgramFileFault {
     /// L1: the file is too long.
@@ -78,8 +78,9 @@ fn bytes_of(alloc: Global, digits: &[u8]) -> Result<Vec<u8>, ProgramFileFault>
     }
 }
 
-/// Reads a program file: at most 65,536 bytes of hexadecimal digits in either case, between which spaces, tabs, CR and
-/// LF are skipped. A file that is too long is refused before its digits are checked.
+/// Reads a program file, and returns the program's bytes. The file has at most 65,536 bytes: hexadecimal digits in
+/// either case, and spaces, tabs, CR and LF, which are skipped. A file that is too long is refused before its digits
+/// are checked.
 #[tactic(auto, unfolding(crate::specs::ProgramFile::program_in))]
 pub fn read_program(alloc: Global, text: &[u8]) -> Result<Vec<u8>, ProgramFileFault>
     ensures given { Gives (λ bytes. bytes.items) result (program_in text.now) }

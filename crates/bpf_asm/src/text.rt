@@ -249,7 +249,7 @@ fn write_right(
     }
 }
 
-// Returns the width of the register before an operator: END is written with that of 64 bits.
+// Returns the width of the register before an operator: 64 bits for END, else the instruction's width.
 fn width_of_left(operator: Operator, width: Width) -> Width
     ensures { result ≡ left_width operator width }
 {
@@ -275,7 +275,7 @@ fn write_arithmetic(
     write_right(out, operator, width, source, inst)
 }
 
-// Returns the number of a wide load, by its lower and its upper half.
+// Returns the number of a wide load, given its lower and its upper 32 bits.
 fn wide_number(low: i32, high: i32) -> u64
     ensures { result ≡ upper low high }
 {

@@ -23,7 +23,7 @@ pub enum Format {
     Json,
 }
 
-/// A word in a cell.
+/// One of the fixed words that a cell of an exported row can hold.
 #[derive(Clone, Copy)]
 pub enum Word {
     Till,

@@ -88,7 +88,8 @@ impl<W: Write + Drop> CsvRows<W> {
         Ok(CsvRows { writer, row })
     }
 
-    /// Writes the bytes that are still buffered, and returns the underlying writer. The error is that writer's own.
+    /// Writes the bytes that are still buffered, and returns the underlying writer. The error is that of the underlying
+    /// writer.
     pub(crate) fn finish(self) -> Result<W, RowsFault>
         ensures text { IfOk result (λ out. Keeps (text_written W.contents self.writer) (W.contents out)) }
         ensures cause { result ≢ Err RowsFault.OutOfMemory }

@@ -33,7 +33,7 @@ fn cell_value(alloc: Global, cell: Cell) -> Result<Value, AllocError>
     }
 }
 
-/// Puts the value of each cell under its name, first to last. The error is that memory ran out.
+/// Puts the value of each cell under the name of its column, first to last. The error is that memory ran out.
 fn put_cells(
     members: &mut Map<String, Value>,
     alloc: Global,

@@ -33,8 +33,8 @@ pub(crate) fn run_cells(run: &Option<Run>) -> RunCells
     }
 }
 
-/// Returns the number in `size` bytes at an offset, the least significant byte first. Returns `Nothing` if the bytes
-/// end before.
+/// Returns the cell of the number in `size` bytes at an offset, the least significant byte first. Returns `Nothing` if
+/// there are too few bytes.
 fn number_at(bytes: &[u8], offset: usize, size: usize) -> Cell
     requires some { 1 ≤ size }
     requires few { size ≤ 8 }
@@ -48,7 +48,8 @@ fn number_at(bytes: &[u8], offset: usize, size: usize) -> Cell
     }
 }
 
-/// Returns the field of `size` bytes at an offset of a run's context, or `Nothing` if no rule ran.
+/// Returns the cell of the field of `size` bytes at an offset of a run's context. Returns `Nothing` if no rule ran, or
+/// if the context ends before the field does.
 pub(crate) fn field_cell(run: &Option<Run>, offset: usize, size: usize) -> Cell
     requires some { 1 ≤ size }
     requires few { size ≤ 8 }

@@ -13,8 +13,8 @@ pub(crate) trait RowTaker {
     /// The format of the rows.
     ghost format: { Format };
 
-    /// What the underlying writer had before, followed by the bytes of all rows that were taken; `None` if that isn't
-    /// known.
+    /// What the underlying writer had before, followed by the names of the columns if the format begins with them, and
+    /// by the bytes of all rows that were taken. It is `None` if that isn't known.
     ghost taken: { Self → Option (List ℕ) };
 
     /// States that a row can be taken. After an error this may no longer be so.

@@ -37,8 +37,8 @@ fn put_some<T: RowTaker, const N: usize>(
     }
 }
 
-/// Writes the row of an entry, or nothing if it has none; then there is no error. `standing` is the state before the
-/// entry.
+/// Writes the row of an entry. If the entry has no row, nothing is written, and there is no error. `standing` is the
+/// state before the entry.
 fn put_row<T: RowTaker>(
     to: &mut T,
     rows: Rows,
@@ -110,8 +110,8 @@ fn write_json<W: Write + Drop>(
     Ok(to.out)
 }
 
-/// Writes the rows of a site's history, one after another, and returns the writer. Only one row at a time is in memory.
-/// The error is that memory ran out, or the writer's own error. After an error some of the rows may be written.
+/// Writes the rows of a site's history, one after another, and returns the writer. The rows are made one at a time. The
+/// error is that memory ran out, or the writer's own error. After an error some of the rows may be written.
 pub fn write_rows<W: Write + Drop>(
     alloc: Global,
     site: &Site,

@@ -76,7 +76,7 @@ pub(crate) fn add_points(sheet: &mut Sheet, sums: &[Sum]) {
 /// How far from the left of the picture the bars of refusals begin: their names in words come before.
 const NUMBERS: usize = 440;
 
-/// Returns the greatest of the counts, and how many counts aren't 0. Each of these gets a bar.
+/// Returns the greatest of the counts, and how many counts aren't 0. Each count that isn't 0 gets a bar.
 pub(crate) fn most_refused(counts: &[usize]) -> (usize, usize) {
     let (mut most, mut bars) = (0usize, 0usize);
     for count in counts {
@@ -143,8 +143,7 @@ fn add_hour(sheet: &mut Sheet, hour: usize, height: usize) {
     sheet.add("\n");
 }
 
-/// The bound for the number of columns. From this many versions on, neighbouring versions share a column, so that there
-/// are fewer columns than this.
+/// The most columns. If there are this many versions or more, neighbouring versions share a column.
 const COLUMNS: usize = 1000;
 
 /// Adds the picture of decisions by version, in the order of the versions in `totals`. Each version has a column of two

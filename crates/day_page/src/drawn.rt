@@ -111,7 +111,7 @@ fn add_path_head(sheet: &mut Sheet, state: State) {
     );
 }
 
-/// Returns the first step from `from` on in which the point isn't in this state.
+/// Returns the first step at or after `from` in which the point isn't in this state, or `bands.steps` if there is none.
 fn end_of(bands: &Bands, place: usize, state: State, from: usize) -> usize {
     for step in from..bands.steps {
         if !is_at(bands, place, state, step) {

@@ -1,5 +1,5 @@
-//! A page of HTML that shows what a site's history adds up to, in tables and pictures; and the pieces of which another
-//! page is made as well.
+//! A page of HTML that shows what a site's history adds up to, in tables and pictures. Some of its parts serve another
+//! page too.
 #![tactic(auto)]
 
 mod bars;

@@ -212,7 +212,7 @@ fn has_sale(sums: &[Sum]) -> bool {
     false
 }
 
-/// Adds the picture and the table of sales by hour, if the sales have moments.
+/// Adds the picture and the table of sales by hour, or a note if no sale has a moment.
 fn add_hours(sheet: &mut Sheet, sums: &[Sum]) {
     if !has_sale(sums) {
         return sheet.add(

@@ -5,7 +5,8 @@ use crate::texts::{Text, number, numbered};
 use day_report::{CarriedRule, Load, Outcomes, PriceChange, Sum, Totals, Unpaid};
 use fuelling_point::Point;
 
-/// The most rows of the tables of price changes and of decisions by version and till. Further rows are left out.
+/// The most rows of the table of price changes, and of the table of decisions by version and till. Rows over that
+/// number are left out.
 const ROWS: usize = 1000;
 
 /// Makes the start of a table: its id, and the names of its columns.
@@ -129,7 +130,7 @@ pub(crate) fn add_unpaid(sheet: &mut Sheet, unpaid: &[Unpaid]) {
     sheet.add(FOOT);
 }
 
-/// Returns the count at a place, or 0 if the list ends before.
+/// Returns the count at a place, or 0 if the list has no such place.
 fn count_at(counts: &[u64], place: usize) -> u64 {
     counts.get(place).copied().unwrap_or(0)
 }
@@ -142,8 +143,8 @@ pub(crate) fn outcome_of(outcomes: &Outcomes, place: usize) -> (u64, u64) {
     )
 }
 
-/// Adds the row of the version at a place, with how many requests it granted and denied. `slot` is its slot, `entry`
-/// says which entry loaded it, and `loaded` when.
+/// Adds the row of the version at a place, with how many requests it granted and denied. `rule` has its slot and its
+/// number. `entry` names the entry that loaded it or says that it was carried in, and `loaded` says when it was loaded.
 fn add_version(
     sheet: &mut Sheet,
     totals: &Totals,
@@ -205,8 +206,8 @@ pub(crate) fn add_versions(sheet: &mut Sheet, totals: &Totals) {
     sheet.add(FOOT);
 }
 
-/// Adds a row for each till whose requests the version at place `at` decided, after `rows` rows. Returns the number of
-/// rows after that. Rows beyond `ROWS` are counted but left out.
+/// Adds a row for each till of which the version at place `at` decided a request. `rows` is how many rows there were
+/// before. Returns how many there are then. Rows beyond `ROWS` are counted but left out.
 fn add_tills(sheet: &mut Sheet, tills: &[Outcomes], at: usize, version: u32, rows: usize) -> usize {
     let mut rows = rows;
     for (place, outcomes) in tills.iter().enumerate() {

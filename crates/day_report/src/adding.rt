@@ -80,7 +80,7 @@ pub struct CarriedIn {
 }
 
 /// An unpaid transaction: its point, its number there, its amount in cents, its volume in centilitres, and the till
-/// that locked it, or 0 if none did.
+/// that holds it, or 0 if no till does.
 #[derive(Clone, Copy)]
 pub struct Unpaid {
     pub point: usize,
@@ -212,7 +212,8 @@ fn cents_of(unpaid: &[Unpaid]) -> u128
     cents
 }
 
-/// The totals of what was sold: at each fuelling point, by each till that cleared sales, and in each hour of the day.
+/// The totals of the sales at each fuelling point, of what each of the tills 1 to 64 cleared, and of the sales in each
+/// hour of the day.
 #[derive(Drop)]
 struct Sums {
     points: Vec<Sum>,
@@ -438,8 +439,8 @@ pub fn add_up(alloc: Global, config: &Config, entries: &[Entry]) -> Result<Total
     })
 }
 
-/// Returns what an opening carries in. The error is that memory ran out. If it carries no transaction and no rule in
-/// there is no error.
+/// Returns what an opening carries in. The error is that memory ran out, which it can't if the opening has no unpaid
+/// transaction and no rule.
 fn carried_by(alloc: Global, opening: &Opening) -> Result<CarriedIn, AllocError>
     requires { length opening.now.rules ≤ 16 }
     ensures found { IfOk result (λ found. found ≡ carried_in opening.now) }
@@ -456,7 +457,7 @@ fn carried_by(alloc: Global, opening: &Opening) -> Result<CarriedIn, AllocError>
 }
 
 /// Returns what the opening of this configuration carries in, or `None` if it has no opening. The error is that memory
-/// ran out. Without an opening, or if it carries no transaction and no rule in, there is no error.
+/// ran out, which it can't without an opening, or if the opening has no unpaid transaction and no rule.
 pub fn carried_in(alloc: Global, config: &Config) -> Result<Option<CarriedIn>, AllocError>
     ensures found { IfOk result (λ found. found ≡ option_map carried_in config.now.opening) }
     ensures none { IfSome config.now.opening

@@ -2,9 +2,9 @@
 
 ghost use Rattle.day_report.specs.Laws.{SalesTellTheSite, VersionsTellAllDecisions};
 
-/// A law: the sales in the journal of a site agree with the site's own state. The points are the site's points. What
-/// was cleared before the day and the sales together are what the site cleared: their number, and their total over all
-/// sales, over all points and over all tills.
+/// A law: the sales in the journal of a site agree with the site's own state. The points after the last entry are the
+/// site's points. What was cleared before the day, plus the sales, is what the site cleared: in number, and in total
+/// over all sales, over all points and over all tills.
 pub fn law_of_sales()
     ensures { SalesTellTheSite }
 {}

@@ -36,8 +36,7 @@ fn load_of(moment: u64, entry: &Entry) -> Option<Load>
     }
 }
 
-/// Returns the last moment up to and with an entry: the entry's own, or, if it has none, `moment`, the last one before
-/// it.
+/// Returns the moment of an entry, or, if the entry has none, `moment`, which is the last moment before the entry.
 fn moment_after(moment: u64, entry: &Entry) -> u64
     ensures { result ≡ moment_after moment entry.now }
 {

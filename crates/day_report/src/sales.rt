@@ -129,7 +129,7 @@ pub enum Part {
     Point(u32),
     /// The sales that this till cleared.
     Till(u32),
-    /// The sales whose moment is in this hour of the day, 0 to 23 in UTC.
+    /// The sales whose moment is in this hour of the day, 0 to 23 in UTC. A sale without a moment is in no hour.
     Hour(u32),
 }
 

@@ -33,7 +33,7 @@ pub enum Axis {
     Time(u64, u64),
 }
 
-/// Returns the first of two moments that is one. A moment of 0 is none.
+/// Returns `first`, or `moment` if `first` is 0, which stands for no moment.
 fn first_or(first: u64, moment: u64) -> u64
     ensures { result ≡ first_or first moment }
 {
@@ -63,8 +63,8 @@ pub fn axis_of(entries: &[Entry]) -> Axis
     Axis::Time(first, last)
 }
 
-/// Returns the number of the step, counted from 0, that `at` belongs to. The range from 0 to `most` is divided into
-/// `steps` equal steps.
+/// Returns the number of the step, counted from 0, that `at` belongs to. The numbers below `most` are divided into
+/// `steps` equal steps. Returns 0 if `most` is 0, and otherwise `steps` if `at` isn't below `most`.
 pub fn step_of(at: u64, most: u128, steps: usize) -> usize
     ensures step { result ≡ step_of at most steps }
     ensures few { result ≤ steps }
@@ -104,8 +104,8 @@ fn step_at(axis: Axis, place: usize, entry: &Entry, steps: usize) -> Option<usiz
     }
 }
 
-/// Appends `place` to the cuts until there is one for each step before this one. Without a step nothing is appended. The
-/// error is that memory ran out. If nothing is appended there is no error.
+/// Appends `place` to the cuts until there is a cut for each step before `step`. If `step` is `None`, nothing is
+/// appended. The error is that memory ran out, which it can't if nothing is appended.
 fn cut_at(cuts: &mut Vec<usize>, step: Option<usize>, place: usize) -> Result<(), AllocError>
     ensures cut { OnOk result (cuts.new.items ≡ with_cut cuts.old.items step place) }
     ensures none { IfSome step (λ step. step ≤ length cuts.old.items) → IsOk result }
@@ -118,7 +118,7 @@ fn cut_at(cuts: &mut Vec<usize>, step: Option<usize>, place: usize) -> Result<()
 
 /// Divides a history into the steps of a picture's axis. Returns for each step how many entries belong to it or to an
 /// earlier step. If the axis is time, an entry without a moment belongs to the step of the entry before it. The error
-/// is that memory ran out. Without a step there is no error.
+/// is that memory ran out, which it can't if `steps` is 0.
 fn cuts(
     alloc: Global,
     entries: &[Entry],
@@ -182,8 +182,8 @@ fn show_point(states: &mut [State], points: &[Point], n: Option<u32>)
     }
 }
 
-/// Applies the entries of a step to the points. If a point has in the step a state with a greater number than its state
-/// in `states`, that one is stored there.
+/// Applies the entries of a step to the points. After each entry, the state of the point that it names is stored in
+/// `states`, if this state has a greater number than the one that is stored there.
 fn follow_step(points: &mut [Point], states: &mut [State], entries: &[Entry])
     requires few { HaveRoom points.old (length entries.now) }
     ensures stand { points.new ≡ stand points.old entries.now }

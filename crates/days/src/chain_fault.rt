@@ -29,7 +29,7 @@ pub enum Unbegun {
     NoOpening,
     /// The day is day 1, and has an opening.
     HasOpening,
-    /// The bytes of the opening, and why they aren't the text of one.
+    /// The bytes that are given as the opening, and why they aren't the text of an opening.
     Flawed(Vec<u8>, OpeningFlaw),
     /// The opening is one for the day of this number.
     OtherDay(u32),
@@ -44,8 +44,8 @@ pub enum Unclosed<J> {
     Text(J, JournalFault),
     /// The configuration that the day's site begins with, and why it can't have the entries of the journal.
     History(Config, AuditFault),
-    /// Memory ran out before the journal was read: the device of the journal, if the day has one, from which nothing
-    /// was read.
+    /// Memory ran out before anything of the journal was read. The value is the device of the journal, if the day has
+    /// one.
     OutOfMemory(Option<J>),
 }
 

@@ -19,8 +19,8 @@ pub struct Closed {
 }
 
 impl Closed {
-    /// Returns the opening that day number `day`, of which this is the close, leaves for the next day. The error is
-    /// that `day` is the greatest number that a day can have, that a number that only grows is too great for an
+    /// Returns the opening that this day leaves for the next day. `day` is the number of this day. The error is that
+    /// `day` is the greatest number that a day can have, that one of the numbers that only grow is too great for an
     /// opening, or that memory ran out.
     pub fn opening(&self, day: u32) -> Result<OpeningFile, Uncarried>
         ensures left { IfOk result (λ file. file ≡ left_by day self.now.site) }

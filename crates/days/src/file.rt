@@ -19,8 +19,8 @@ pub struct OpeningFile {
 /// Why bytes aren't the text of an opening. The number is that of a line, counted from 1.
 #[derive(Clone, Copy)]
 pub enum OpeningFlaw {
-    /// The first line that no opening has after the lines before it; or, if the text ends too early, the number after
-    /// the last line's.
+    /// No opening has this line after the lines before it. If the text ends too early, the number is the one after that
+    /// of the last line.
     BadLine(u32),
     /// The last line has no LF.
     CutLine(u32),

@@ -10,13 +10,13 @@ use fuelling_point::{Point, Transaction};
 use site_core::{Config, Opening};
 use std::fmt::{self, Display};
 
-/// Why a site of a configuration can't begin with an opening: the first of these cases that is so.
+/// Why a site of a configuration can't begin with an opening: the first of these cases that applies.
 #[derive(Clone, Copy)]
 pub enum Misfit {
     /// How many points the opening has, and how many the configuration.
     Points(usize, usize),
-    /// The place of the first point that has such a transaction, counted from 0; the transaction, which is held by a
-    /// till that the configuration hasn't; and how many tills the configuration has.
+    /// A till that the configuration hasn't holds an unpaid transaction: the place of the first point with such a
+    /// transaction, counted from 0, its first such transaction, and how many tills the configuration has.
     Till(usize, Transaction, u32),
     /// The first counter whose value is over its bound: its number, its value in the opening, and its smaller bound in
     /// the configuration.
@@ -86,8 +86,9 @@ impl Display for OverBound {
     }
 }
 
-/// Returns the opening with other bounds of its counters: those in the configuration. The error is why no site of this
-/// configuration can begin with it; if there is more than one reason, the first in the order of `Misfit`.
+/// Returns the opening with the bounds of its counters replaced by those in the configuration. The error is why no site
+/// of this configuration can begin with the opening. If there are several reasons, it is the first in the order of
+/// `Misfit`.
 pub fn fitted(config: &Config, opening: Opening) -> Result<Opening, Misfit>
     ensures same { IfOk result (λ new. new ≡ record opening { counters = new.counters }) }
     ensures bounds { IfOk result (λ new. AreBounded opening.counters config.now.counters new.counters) }
@@ -110,8 +111,8 @@ pub fn fitted(config: &Config, opening: Opening) -> Result<Opening, Misfit>
     }
 }
 
-/// Returns the place of the first point, counted from 0, that has an unpaid transaction that a till with a number over
-/// `tills` holds, and the first such transaction of this point. Returns `None` if there is none.
+/// Finds the first point that has an unpaid transaction held by a till whose number is over `tills`. Returns the
+/// point's place, counted from 0, and the point's first such transaction, or `None` if there is no such point.
 fn held_over(points: &[Point], tills: u32) -> Option<(usize, Transaction)>
     ensures { MatchOption result (HaveTills tills points.now) (λ m. IsHeldOver tills points.now m.0 m.1) }
 {
@@ -123,8 +124,8 @@ fn held_over(points: &[Point], tills: u32) -> Option<(usize, Transaction)>
     None
 }
 
-/// Returns the first unpaid transaction of the point that a till with a number over `tills` holds, or `None` if there
-/// is none.
+/// Returns the point's first unpaid transaction that is held by a till whose number is over `tills`, or `None` if there
+/// is no such transaction.
 fn held_at(point: &Point, tills: u32) -> Option<Transaction>
     ensures { MatchOption result (All (HasTill tills) point.now.unpaid)
         (λ t. first_held tills point.now.unpaid ≡ Some t) }
@@ -149,8 +150,8 @@ fn held(place: Option<Transaction>, tills: u32) -> Option<Transaction>
     }
 }
 
-/// Returns the counters with their values, and with these bounds in place of theirs. The error is the first counter
-/// whose value is over its bound: its number, its value and its bound.
+/// Returns the counters with their values, and with these bounds in place of their own. The error is the first counter
+/// whose value is over its new bound: its number, its value and its new bound.
 fn rebounded(counters: &Counters, bounds: &[(u64, u64); 32]) -> Result<Counters, (u32, u64, u64)>
     ensures bounds { IfOk result (AreBounded counters.now bounds.now) }
     ensures within { OnOk result (AreWithin counters.now bounds.now) }

@@ -24,8 +24,8 @@ pub(crate) fn is_same(text: &[u8], other: &[u8]) -> bool
     text == other
 }
 
-/// Returns the line that these bytes spell. `room` is overwritten. The error is `Misplaced` if they spell none, or that
-/// memory ran out.
+/// Returns the line that these bytes spell. `room` is overwritten. The error is `Misplaced` if the bytes don't spell a
+/// line, or that memory ran out.
 fn read_line(alloc: Global, room: &mut String, bytes: &[u8]) -> Result<Line, StepFault>
     ensures { LineFound bytes.now result }
 {
@@ -47,8 +47,8 @@ fn read_line(alloc: Global, room: &mut String, bytes: &[u8]) -> Result<Line, Ste
     }
 }
 
-/// Reads the line of these bytes, and adds it to the reading. `room` is overwritten. The error has `number` as the
-/// number of the line.
+/// Reads the line of these bytes, and adds it to the reading. `room` is overwritten. The error is `BadLine` or
+/// `BadProgram` with `number` as the number of the line, or that memory ran out.
 fn take_line(
     alloc: Global,
     room: &mut String,
@@ -98,10 +98,10 @@ fn read_lines(alloc: Global, reading: &mut Reading, text: &[u8]) -> Result<u32, 
 
 /// Reads the text of an opening, and returns the opening. No other opening has the same text.
 ///
-/// The error is `BadLine` with the number of the first line that no opening has after the lines before it; or, if the
-/// text ends too early, with the number after the last line's. It is `CutLine` if the last line has no LF, and
-/// `BadProgram` if the verifier refuses the program of a line. A flaw further up in the text comes first. The error can
-/// also be that memory ran out.
+/// The error is the first flaw in the text. `BadLine` has the number of the first line that no opening has after the
+/// lines before it. If the text ends too early, this is the number after that of the last line. The error is `CutLine`
+/// if the last line has no LF, and `BadProgram` if the verifier refuses the program of a line. It can also be that
+/// memory ran out.
 pub fn read_opening(alloc: Global, text: &[u8]) -> Result<OpeningFile, OpeningFlaw>
     ensures read { IfOk result (λ file. opening_text file ≡ text.now) }
     ensures good { IfOk result (λ file. IsOpeningFile file) }

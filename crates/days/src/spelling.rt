@@ -39,7 +39,7 @@ fn put_hex(alloc: Global, text: &mut String, bytes: &[u8]) -> Result<(), AllocEr
     put_word(text, digits.as_str())
 }
 
-/// Returns the word of a load of a program whose contexts have this layout.
+/// Returns the word of a request that loads a program for contexts of this layout.
 fn load_word(layout: Layout) -> &'static str
     ensures { result.now ≡ load_by layout }
 {
@@ -85,7 +85,7 @@ fn put_day(text: &mut String, day: u32) -> Result<(), AllocError>
     put_number(text, u64::from(day))
 }
 
-/// Appends the words of the line of what was cleared. The error is that memory ran out.
+/// Appends the words of the line that says what was cleared. The error is that memory ran out.
 fn put_cleared(text: &mut String, total: u64, count: u64) -> Result<(), AllocError>
     ensures { OnOk result (string_bytes text.new
         ≡ with_line (string_bytes text.old) (line_words (Line.Cleared total count))) }
@@ -95,7 +95,7 @@ fn put_cleared(text: &mut String, total: u64, count: u64) -> Result<(), AllocErr
     put_number(text, count)
 }
 
-/// Appends the words of the line of how many versions there were. The error is that memory ran out.
+/// Appends the words of the line that says how many versions were loaded. The error is that memory ran out.
 fn put_versions(text: &mut String, count: u32) -> Result<(), AllocError>
     ensures { OnOk result (string_bytes text.new
         ≡ with_line (string_bytes text.old) (line_words (Line.Versions count))) }

@@ -26,8 +26,8 @@ const MOST: u32 = 4_290_000_000;
 /// The greatest total of cleared amounts in cents, and the greatest number of cleared transactions.
 const MOST_CLEARED: u64 = 1_000_000_000_000_000_000;
 
-/// The place of the line of slot 0, after those of the first three lines. A line's place says where in an opening it
-/// can come; the lines of slots 1 to 15 have the places after this one.
+/// A line's place is a number that says where in an opening the line can come. The first three lines have the places 0
+/// to 2. This is the place of the line of slot 0, and the lines of slots 1 to 15 have the places after it.
 const SLOTS_AT: u32 = 3;
 
 /// The place of the line of product 1.
@@ -45,7 +45,7 @@ const END_AT: u32 = 60;
 /// Why a line isn't taken.
 #[derive(Clone, Copy)]
 pub(crate) enum StepFault {
-    /// The line can't come next.
+    /// The line can't come next, or one of its values isn't allowed there.
     Misplaced,
     /// The verifier refuses the line's program.
     Refused(Refusal),
@@ -296,10 +296,10 @@ impl Reading {
         Ok(())
     }
 
-    /// Takes a line, if it can come next.
+    /// Takes a line, if it can come next with these values.
     ///
-    /// The error is `Misplaced` if the line can't come next, else `Refused` if the verifier refuses its program. It can
-    /// also be that memory ran out.
+    /// The error is `Misplaced` if the line can't come next, or if one of its values isn't allowed there. Otherwise it
+    /// is `Refused` if the verifier refuses the line's program. It can also be that memory ran out.
     pub(crate) fn take(&mut self, alloc: Global, line: &Line) -> Result<(), StepFault>
         ensures { Steps self.old line.now result self.new }
     {
@@ -323,7 +323,7 @@ impl Reading {
     }
 }
 
-/// Returns whether no unpaid transaction is there.
+/// Returns whether both transactions are missing.
 fn has_none(unpaid: &[Option<Transaction>; 2]) -> bool
     ensures { IsTrue result ↔ (unpaid.now ≡ None ∷ None ∷ []) }
 {
@@ -354,8 +354,8 @@ fn verified(
     }
 }
 
-/// Returns the point with one more unpaid transaction, newer than those that it has; `None` if no point can have them
-/// all.
+/// Returns the point with this transaction added after its other unpaid ones, or `None` if no point can have all these
+/// values.
 fn owing(point: &Point, unpaid: Transaction) -> Option<Point>
     ensures state { IfSome result (λ new. new ≡ with_unpaid point.now unpaid) }
     ensures when { IsTrue (is_some result) ↔ IsPointState (with_unpaid point.now unpaid) }

@@ -27,7 +27,7 @@ pub fn tell_unclosed(rt: &HostRuntime, word: &str, why: ServeFault) -> u8 {
     match why {
         ServeFault::NotClosed(why) => refuse_close(rt, word, why),
         ServeFault::OutOfMemory => out_of_memory(rt),
-        // The failure of the journal was printed when it happened.
+        // This case never happens: `NoJournal` can't fail, and `JournalRecord` prints that a kept journal failed.
         ServeFault::Journal => FAILED,
     }
 }

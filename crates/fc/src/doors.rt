@@ -17,7 +17,7 @@ pub struct Opened<'a> {
     pub files: Vec<SocketFile<'a>>,
 }
 
-/// The name of a door that is printed for an operator: whose lines the door takes.
+/// The name that is printed for a door with this role, such as `tills` or `points 1 3`.
 #[derive(Clone, Copy)]
 struct Name(Role);
 
@@ -96,8 +96,8 @@ impl Display for OpenDoors<'_> {
     }
 }
 
-/// Returns the file mode of a socket for this role. Only the program's own user may connect to the owner's socket, and
-/// also the user's group to the others.
+/// Returns the file mode of a socket for this role. Only the program's own user may connect to the owner's socket. To
+/// the other sockets the user's group may connect too.
 fn mode_of(role: Role) -> u32 {
     match role {
         Role::Owner | Role::All => 0o600,

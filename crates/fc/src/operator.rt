@@ -7,8 +7,8 @@ use std::sync::{Mutex, Wait};
 use std::time::{Clock, SystemTime, UNIX_EPOCH};
 use till_request::{LineFault, Role};
 
-/// Prints reports for an operator on standard error, at most ten lines a second. If nobody reads them, the site is
-/// served all the same.
+/// Prints reports for an operator on standard error: at most ten a second, and a line that says how many were held back
+/// before. If nobody reads them, the site is served all the same.
 #[derive(Drop)]
 pub struct Operator<'a, H: Wait + Clock> {
     rt: &'a HostRuntime,
@@ -17,7 +17,7 @@ pub struct Operator<'a, H: Wait + Clock> {
     connections: Option<&'a Connections>,
 }
 
-/// The name of a worker's peer that is printed for an operator: whose lines the worker takes.
+/// The name that is printed for the peer of a worker with this role, such as `till 3` or `a dispenser`.
 #[derive(Clone, Copy)]
 struct Peer(Role);
 
@@ -50,8 +50,8 @@ fn code_of(failure: SessionFailure) -> &'static str {
 }
 
 impl<'a, H: Wait + Clock> Operator<'a, H> {
-    /// Makes an operator's reports, with none printed yet. Workers and connections are counted in `connections`, if it is
-    /// there. `host` is the same runtime as `rt`.
+    /// Makes the printer of an operator's reports, with none printed yet. If `connections` is there, workers and
+    /// connections are counted in it. `host` is the same runtime as `rt`.
     pub fn new(
         rt: &'a HostRuntime,
         host: &'a H,
@@ -65,8 +65,8 @@ impl<'a, H: Wait + Clock> Operator<'a, H> {
         }
     }
 
-    /// Returns the current second. If the clock can't be read, or is before 1970, the second is 0, so that all lines
-    /// count for one second.
+    /// Returns the current time in whole seconds since the start of 1970. If the clock can't be read, or is before
+    /// 1970, returns 0, so that all lines count for one second.
     fn second(&self) -> u64 {
         match SystemTime::now(self.host) {
             Ok(time) => match time.duration_since(UNIX_EPOCH) {

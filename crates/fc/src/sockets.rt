@@ -10,7 +10,8 @@ use std::os::unix::net::{UnixListener, UnixStream};
 /// more.
 const MOST_BYTES: usize = 104;
 
-/// The folder in which the socket of a path is bound at first. Its name is the path's name with a dot before it.
+/// The folder in which the socket of a path is bound, before its file is moved to the path. The folder is beside the
+/// path, and its name is the path's last name with a dot before it.
 #[derive(Clone, Copy)]
 pub struct Beside<'a>(pub &'a str);
 
@@ -71,8 +72,8 @@ impl Drop for SocketFile<'_> {
 /// A listening socket, and its file.
 pub type Listening<'a> = (UnixListener, SocketFile<'a>);
 
-/// Returns an error if somebody listens at a socket. To find out, it connects to the socket, which a served site counts
-/// as a connection.
+/// Returns an error if somebody listens at a socket, or if that can't be found out. To find out, this connects to the
+/// socket, and a site that is served there counts it as a connection.
 fn ask<H: Net>(host: &H, path: &str) -> io::Result<()> {
     match UnixStream::connect(host, path) {
         Ok(_) => Err(io::Error::new(ErrorKind::AddrInUse, "another process listens there")),
@@ -105,7 +106,8 @@ fn is_socket_s(entry: io::Result<DirEntry>) -> io::Result<bool> {
     }
 }
 
-/// Returns whether a killed process may have left a folder: it has nothing in it but a socket with the name `s`.
+/// Returns whether a killed process may have left what is at this path: a folder that is empty, or has only a socket
+/// with the name `s`.
 fn is_left(rt: &HostRuntime, folder: &str) -> io::Result<bool> {
     if !find(rt, folder)?.kind.is_dir() {
         return Ok(false);
@@ -127,7 +129,9 @@ fn remove(rt: &HostRuntime, path: &str) -> io::Result<()> {
     }
 }
 
-/// Makes a folder beside a path again, if a killed process may have left it there. Returns whether it did.
+/// Removes a folder that a killed process may have left beside a path, and makes it again. Returns false, and removes
+/// nothing, if no killed process can have left what is there. If somebody listens at the socket in it, that is an
+/// error.
 fn make_again<H: Net>(rt: &HostRuntime, host: &H, folder: &str, socket: &str) -> io::Result<bool> {
     if !is_left(rt, folder)? {
         return Ok(false);
@@ -139,8 +143,8 @@ fn make_again<H: Net>(rt: &HostRuntime, host: &H, folder: &str, socket: &str) ->
     Ok(true)
 }
 
-/// Makes the folder beside a path, which nobody else may enter. Returns false if something with its name is there
-/// already that a killed process can't have left.
+/// Makes the folder beside a path, which nobody else may enter. A folder that a killed process may have left there is
+/// replaced. Returns false if anything else has the folder's name.
 fn make_folder<H: Net>(rt: &HostRuntime, host: &H, folder: &str, socket: &str) -> io::Result<bool> {
     match rt.create_dir_with_mode(folder, 0o700) {
         Ok(()) => Ok(true),
@@ -151,8 +155,8 @@ fn make_folder<H: Net>(rt: &HostRuntime, host: &H, folder: &str, socket: &str) -
     }
 }
 
-/// Gives a socket's file a second name at its path, where nothing else may be. A socket there at which nobody listens
-/// is removed first.
+/// Gives a socket's file a second name: the path. If a socket at which nobody listens is at the path already, it is
+/// removed first. Anything else there is an error.
 fn put_at<H: Net>(rt: &HostRuntime, host: &H, socket: &str, path: &str) -> io::Result<()> {
     match fs::hard_link(rt, socket, path) {
         Err(error) if error.kind() == ErrorKind::AlreadyExists => {
@@ -196,7 +200,7 @@ fn bind_and_move<'a, H: Files + Net>(
     path: &'a str,
     mode: u32,
 ) -> io::Result<Option<Listening<'a>>> {
-    // If this fails, a socket with this name belongs to another process, and is left there.
+    // If this fails, and a socket has this name, then it belongs to another process, so it isn't removed.
     let listener = UnixListener::bind(host, socket)?;
     match move_to(rt, host, socket, path, mode) {
         Ok(file) => Ok(Some((listener, file))),
@@ -230,7 +234,7 @@ fn bind_beside<'a, H: Files + Net>(
 /// path. So the file has this mode from the moment at which others can see it. A socket at the path at which nobody
 /// listens is replaced. Anything else there is an error, and stays as it is.
 ///
-/// Returns `None` if something with the name of the folder is there already that a killed process can't have left.
+/// Returns `None` if something that a killed process can't have left already has the name of that folder.
 pub fn listen_at<'a, H: Files + Net>(
     rt: &'a HostRuntime,
     host: &H,

@@ -52,8 +52,7 @@ fn audited(
     }
 }
 
-/// Opens and reads a journal again, and prints on standard error why it was refused. Prints nothing if it can't be
-/// opened.
+/// Opens and reads a journal again, and prints on standard error why it was refused, or why it can't be opened or read.
 pub(crate) fn explain_journal(rt: &HostRuntime, word: &str, config: Config) {
     if let Ok(source) = source_of(rt, word) {
         explain_source(rt, word, config, &mut stream(source));
@@ -79,7 +78,7 @@ fn tell_unread(rt: &HostRuntime, word: &str, fault: JournalFault, failure: Optio
     }
 }
 
-/// Returns the system's error of a failed read, if a journal can't be read since a read failed.
+/// Returns `failure`, the system's error of a failed read, if a failed read is why a journal can't be read.
 fn device_error(fault: JournalFault, failure: Option<&io::Error>) -> Option<&io::Error>
     ensures { result ≡ device_error fault failure.entry }
 {
@@ -99,8 +98,8 @@ fn line_in(fault: JournalFault) -> Option<u32>
     }
 }
 
-/// Prints on standard error why a journal can't be read. For a fault of its text, prints the fault's line on standard
-/// output too.
+/// Prints on standard error why a journal can't be read. For a fault of its text, also prints the fault (`J1 LINE` or
+/// `J2`) on standard output. The result has the exit status.
 pub(crate) fn tell_journal_fault(
     rt: &HostRuntime,
     word: &str,

@@ -63,7 +63,7 @@ impl<'a> FolderIn<'a> {
         }
     }
 
-    /// Returns the number of the next day, or `None` after the newest, and goes on to the day behind it.
+    /// Returns the number of the next day, or `None` after the newest, and goes on to the day after that.
     fn turn(&mut self) -> Option<u32>
         ensures day { result ≡ self.old.next }
         ensures next { self.new.next ≡ turn self.old.next self.old.newest }
@@ -174,8 +174,8 @@ fn audit_span(rt: &HostRuntime, folder: Folder<'_>, config: Config, span: Span) 
     }
 }
 
-/// Prints why the days of a folder are refused. The inner result has the exit status; the error is that memory ran out
-/// before anything was printed.
+/// Prints why the days of a folder are refused, as `refuse_cause` does. The error is that memory ran out before
+/// anything was printed.
 fn refuse_days(
     rt: &HostRuntime,
     days: FolderIn<'_>,
@@ -189,8 +189,8 @@ fn refuse_days(
     Ok(refuse_cause(rt, days, day, (&opening, &journal), cause))
 }
 
-/// Prints why the days of a folder are refused at this day. `paths` names the day's opening and its journal. The result
-/// has the exit status.
+/// Prints why the days of a folder are refused at this day, and returns why the job stops. `paths` names the day's
+/// opening and its journal. If the day couldn't be read, prints nothing, and returns what reading it returned.
 fn refuse_cause(
     rt: &HostRuntime,
     days: FolderIn<'_>,
@@ -258,8 +258,8 @@ fn left_line(day: u32, line: &[u8]) -> Option<Left<'_>>
     }
 }
 
-/// The message for a line of an opening that isn't the one that the day before left: that day's number, and the line
-/// that it left.
+/// The message for a line of an opening that differs from what the day before left: the number of the day before, and
+/// the line that it left.
 #[derive(Drop)]
 struct Left<'a>(u32, &'a str);
 

@@ -170,7 +170,8 @@ pub(crate) fn refuse_with<D: Display>(
     refuse(rt, code)
 }
 
-/// Prints on standard error why a file can't be opened, read or written, and returns the exit status, which is `FAILED`.
+/// Prints on standard error why a file can't be opened, read or written, and returns the exit status, which is
+/// `FAILED`.
 pub fn cannot_use(rt: &HostRuntime, word: &str, error: &io::Error) -> u8
     ensures { result ≡ 3 }
 {
@@ -266,8 +267,8 @@ pub(crate) fn tell_text(rt: &HostRuntime, word: &str, text: &[u8]) -> Result<(),
     }
 }
 
-/// Returns the line that an assembler text's fault names, if it names one, and its number, A1 to A4. Returns `None` if
-/// memory ran out.
+/// Returns the line that an assembler text's fault names, if it names one, and the fault's number, A1 to A4. Returns
+/// `None` if memory ran out.
 fn asm_code(fault: AsmFault) -> Option<(Option<u64>, &'static str)>
     ensures code { option_map (λ told. (told.0, told.1.now)) result ≡ asm_code fault }
     ensures some { IfSome result (λ _. fault ≢ AsmFault.OutOfMemory) }
@@ -350,7 +351,8 @@ pub(crate) fn complain_journal<D: Display>(
     }
 }
 
-/// Returns the number of a fault that breaks a play off, as it is printed, or `None` if that is told in another way.
+/// Returns the number of a fault that breaks a play off, as it is printed, or `None` for a fault that another function
+/// prints.
 pub(crate) fn session_code(fault: SessionFault) -> Option<&'static str>
     ensures { option_map (λ code. code.now) result ≡ session_code fault }
 {

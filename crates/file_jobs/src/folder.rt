@@ -1,5 +1,6 @@
-//! The folder of a station's days. Each file has its day's number in its name, in six digits or more: a day's journal,
-//! as `000002.journal`, the opening that the day begins with, and the configuration of its site.
+//! The folder of a station's days. A day has up to three files there: its journal, such as `000002.journal`, the
+//! opening that it begins with, and the configuration of its site. Their names have the day's number in six digits or
+//! more.
 ghost use Rattle.std.specs.Prelude.{◌≡◌, true, false, IfOk, IfErr, string_bytes};
 ghost use Rattle.file_jobs.specs.Asked.{is_input};
 ghost use Rattle.file_jobs.specs.Statuses.{Fails};
@@ -15,7 +16,7 @@ use std::fs::{self, File, read_dir};
 use std::io::{self, ErrorKind, Write};
 use till_request::numbers::number_u32;
 
-/// A file of a day.
+/// Which file of a day is meant.
 #[derive(Clone, Copy)]
 pub enum Part {
     Config,
@@ -71,8 +72,8 @@ impl<'a> Folder<'a> {
         format!(in rt.alloc(); "{path}/{day:06}.{ending}")
     }
 
-    /// Returns whether the folder has such a file of this day. If that can't be found out, prints why; the error has
-    /// the exit status.
+    /// Returns whether the folder has the file `part` of this day. If that can't be found out, prints why; the error
+    /// has the exit status.
     pub fn has(self, rt: &HostRuntime, day: u32, part: Part) -> Result<bool, Stop>
         ensures { IfErr result Fails }
     {
@@ -83,8 +84,8 @@ impl<'a> Folder<'a> {
         }
     }
 
-    /// Returns whether the folder has such a file of this day, and the file isn't empty. If that can't be found out,
-    /// prints why; the error has the exit status.
+    /// Returns whether the folder has the file `part` of this day, and the file isn't empty. If that can't be found
+    /// out, prints why; the error has the exit status.
     pub fn has_bytes(self, rt: &HostRuntime, day: u32, part: Part) -> Result<bool, Stop>
         ensures { IfErr result Fails }
     {
@@ -107,9 +108,9 @@ impl<'a> Folder<'a> {
         }
     }
 
-    /// Writes a file of this day. Even if the program is stopped meanwhile, either the whole file is there or none: it
-    /// is written and synced under another name, and then renamed. If that fails, prints why; the error has the exit
-    /// status.
+    /// Writes a file of this day: it is written and synced under another name, and then renamed. So even if the program
+    /// is stopped meanwhile, either the whole new file is there, or what was there before. If that fails, prints why;
+    /// the error has the exit status.
     pub fn put(self, rt: &HostRuntime, day: u32, part: Part, bytes: &[u8]) -> Result<(), Stop>
         ensures { IfErr result Fails }
     {
@@ -151,7 +152,7 @@ fn span_of(rt: &HostRuntime, folder: &str) -> io::Result<Option<Span>> {
     Ok(span)
 }
 
-/// Returns the oldest and the newest day of a folder that also has a file with this name.
+/// Returns the oldest and the newest day of a folder that has the days in `span` and also a file with this name.
 fn with_name(span: Option<Span>, name: &str) -> Option<Span>
     ensures { result ≡ with_found span (day_named name.now) }
 {
@@ -194,7 +195,8 @@ fn shows_day(ending: &str) -> bool
     ending == Part::Journal.ending() || ending == Part::Opening.ending()
 }
 
-/// Returns the day's number that these digits are, as they stand in a name: six, or more without a zero in front.
+/// Returns the day's number that these digits spell in a file's name: six digits, or more than six without a zero in
+/// front. Returns `None` if they aren't such digits, or if the number is 0 or isn't below 2^32.
 fn day_of(digits: &[u8]) -> Option<u32>
     ensures { result ≡ day_of digits.now }
 {

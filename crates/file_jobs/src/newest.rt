@@ -17,8 +17,8 @@ use site_config::Settings;
 use site_core::Config;
 use std::fmt::{self, Display};
 
-/// The newest day of a folder, the path of the day's journal, and the text of the day's configuration, if the folder
-/// doesn't have it yet.
+/// The newest day of a folder, the path of the day's journal, and the text of the day's configuration, if it must still
+/// be written into the folder (`unkept`).
 #[derive(Drop)]
 pub struct Newest {
     pub day: Day,
@@ -51,9 +51,10 @@ pub fn read_given<'a>(rt: &HostRuntime, word: &'a str) -> Result<Given<'a>, Stop
     }
 }
 
-/// Returns the newest day of a folder, or the first if it has none, for a site of this configuration. If `is_new_day`,
-/// closes that day first, unless it has no entry, and returns the next one. If a file can't be used or is refused,
-/// prints why; the error has the exit status.
+/// Returns the day that a station goes on with: the newest day of its folder, or day 1 if it has no day. If
+/// `is_new_day` and the newest day has an entry, closes that day first, and returns the next one. `given` says how the
+/// day is served. Its configuration is used for a day that has none in the folder, or whose journal is missing or
+/// empty. If a file can't be used or is refused, prints why; the error has the exit status.
 pub fn newest_day(
     rt: &HostRuntime,
     folder: Folder<'_>,
@@ -115,14 +116,14 @@ fn tell_other(
     Ok(())
 }
 
-/// The day with which a station goes on: the one of this number, or the one behind it.
+/// The day with which a station goes on: the day of this number, or the day after it.
 #[derive(Clone, Copy)]
 enum Going {
     With(u32),
     Behind(u32),
 }
 
-/// Returns with which day a station goes on whose folder has these days.
+/// Returns the day with which a station goes on. `span` has the oldest and the newest day of its folder.
 fn going_on(span: Option<Span>, is_new_day: bool) -> Going
     ensures { result ≡ going_on span is_new_day }
 {
@@ -133,9 +134,10 @@ fn going_on(span: Option<Span>, is_new_day: bool) -> Going
     }
 }
 
-/// Returns the number of the newest day of a folder, or 1 if it has none. If `is_new_day`, closes that day first,
-/// unless it has no entry, and returns the number of the next one. The given configuration is that of a day for which
-/// the folder has none.
+/// Returns the number of the day that a station goes on with: the newest day of its folder, or 1 if it has no day. If
+/// `is_new_day` and the newest day has an entry, closes that day first, and returns the number of the next one. The
+/// configuration in `given` is used if the folder has none for the day to close, or if that day's journal is missing or
+/// empty.
 fn number_of(
     rt: &HostRuntime,
     folder: Folder<'_>,
@@ -176,8 +178,8 @@ pub(crate) fn kept_config(
     }
 }
 
-/// Returns the configuration with which a day goes on. Returns `None` if the day can still begin with another one: the
-/// folder has none for the day, or the day has no entry.
+/// Returns the configuration with which a day goes on. Returns `None` if the folder has no configuration for the day,
+/// or if the day's journal is missing or empty: such a day can still begin with another configuration.
 fn settled_config(rt: &HostRuntime, folder: Folder<'_>, day: u32) -> Result<Option<Config>, Stop>
     ensures { IfErr result (SaysOrFails 1) }
 {
@@ -188,7 +190,8 @@ fn settled_config(rt: &HostRuntime, folder: Folder<'_>, day: u32) -> Result<Opti
     }
 }
 
-/// Returns the configuration of a site that begins a day with the opening in its folder. The first day has no opening.
+/// Returns the configuration with the opening that the folder has for this day. The first day has no opening. If the
+/// opening is missing, is another day's or is refused, prints why; the error has the exit status.
 fn begin_day(
     rt: &HostRuntime,
     folder: Folder<'_>,
@@ -242,8 +245,8 @@ impl Display for OfDay {
 }
 
 /// Closes a day, unless it has no entry: syncs the day's journal, and writes the opening of the next day. Returns the
-/// number of the day that is then the newest. `config` is the configuration of the day's site. `unkept` is the
-/// configuration's text, if the folder doesn't have it yet; the text of a closed day is written there.
+/// number of the day that is then the newest. `config` is the configuration of the day's site, without an opening.
+/// `unkept` is the configuration's text, if closing the day must also write it into the folder.
 fn close_day(
     rt: &HostRuntime,
     folder: Folder<'_>,
@@ -261,9 +264,9 @@ fn close_day(
     put_close(rt, folder, number, &path, &closing, unkept)
 }
 
-/// Writes what the close of a day leaves, unless the day has no entry: the text of its configuration, `unkept`, if the
-/// folder doesn't have it yet, and the opening of the next day. Before that it syncs the day's journal, whose path is
-/// `journal`. Returns the number of the day that is then the newest.
+/// Does what is left to do for the close of a day, unless the day has no entry: writes the text of its configuration,
+/// `unkept`, if there is one, then syncs the day's journal, whose path is `journal`, and then writes the opening of the
+/// next day. Returns the number of the day that is then the newest.
 fn put_close(
     rt: &HostRuntime,
     folder: Folder<'_>,
@@ -322,7 +325,7 @@ pub fn check_newest(rt: &HostRuntime, folder: Folder<'_>, number: u32) -> Result
     Err(Stop::Said(FAILED))
 }
 
-/// Prints why a day can't be closed. `journal` names the file of its journal.
+/// Prints why a day can't be closed. `journal` names the file of its journal. The result has the exit status.
 pub(crate) fn refuse_uncarried(rt: &HostRuntime, journal: &str, why: Uncarried) -> Stop
     ensures { result ≡ Stop.Said (uncarried_status why) }
 {

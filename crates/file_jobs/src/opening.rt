@@ -103,8 +103,8 @@ pub fn refuse_opening(rt: &HostRuntime, word: &str, text: &[u8], flaw: OpeningFl
     }
 }
 
-/// Returns the words and the number for the line for which a text is no opening. A refused program has no words here,
-/// and for want of memory there are neither words nor a number.
+/// Returns the words and the number that are printed for this flaw of an opening. The words for a refused program are
+/// made elsewhere, and if memory ran out, there are neither words nor a number: both are empty texts.
 fn opening_words(text: &[u8], flaw: OpeningFlaw) -> (&'static str, &'static str)
     ensures { (result.0.now, result.1.now) ≡ opening_words text.now flaw }
 {
@@ -116,8 +116,8 @@ fn opening_words(text: &[u8], flaw: OpeningFlaw) -> (&'static str, &'static str)
     }
 }
 
-/// Returns what is wrong with the line of this number, counted from 1: no opening has this line after the lines before
-/// it, or the text has ended.
+/// Returns what is wrong with the line of this number, counted from 1: no opening has such a line at this place, or the
+/// text ends before it.
 fn bad_line(text: &[u8], number: u32) -> &'static str
     ensures { result.now ≡ bad_line text.now number }
 {
@@ -156,7 +156,7 @@ fn explain_rule(
     line: &[u8],
     refusal: Refusal,
 ) -> Result<(), AllocError> {
-    // The same line was read before, so only memory can be missing here.
+    // The same line was read before, so `None` can only mean that memory ran out.
     let Some((slot, program)) = rule_in(rt.alloc(), line) else {
         return Err(AllocError);
     };
@@ -241,7 +241,7 @@ fn is_want(fault: OpeningFault) -> bool
     }
 }
 
-/// Prints what is wrong with a file. There is no number, and nothing on standard output.
+/// Prints on standard error what is wrong with a file, without a fault's number. Prints nothing on standard output.
 pub fn refuse_words<D: Display>(rt: &HostRuntime, word: &str, words: &D) -> Stop
     ensures { result ≡ Stop.Said 1 }
 {

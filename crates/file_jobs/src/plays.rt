@@ -56,7 +56,8 @@ fn status_of(
     }
 }
 
-/// Prints on standard error which device failed in a play, with its error.
+/// Prints on standard error why a play was broken off: a read or a write failed, or no more reads may be made. `read`
+/// is the error of a failed read.
 fn tell_broken(
     rt: &HostRuntime,
     word: &str,
@@ -73,7 +74,7 @@ fn tell_broken(
     }
 }
 
-/// Returns the system's error of a failed read, if a play is broken off since a read failed.
+/// Returns `read`, the system's error of a failed read, if a failed read is why a play is broken off.
 fn read_error(fault: SessionFault, read: Option<&io::Error>) -> Option<&io::Error>
     ensures { result ≡ read_error fault read.entry }
 {

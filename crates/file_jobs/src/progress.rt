@@ -44,7 +44,7 @@ impl<'a> Progress<'a> {
     }
 
     /// Counts the bytes that a read returned, and the lines that end in them. No bytes mean that the input is at its
-    /// end. Counts nothing if the line isn't shown.
+    /// end. Does nothing if the progress line isn't to be shown.
     pub fn see(&self, bytes: &[u8]) {
         if !self.is_shown {
             return;

@@ -8,7 +8,7 @@ use std::alloc::AllocError;
 use std::cell::Cell;
 use till_request::Act;
 
-/// Prints on standard error why a load is refused, with the number of its line.
+/// A printer of why a load is refused, with the number of the load's line, on standard error.
 #[derive(Drop)]
 pub struct RefusedLoads<'a, 'b> {
     rt: &'a HostRuntime,

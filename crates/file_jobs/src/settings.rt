@@ -71,7 +71,8 @@ pub fn day_of(rt: &HostRuntime, site: SiteFiles<'_>) -> Result<Day, Stop>
     }
 }
 
-/// Returns the configuration with the site's opening, if it has one. Without an opening it is the first day.
+/// Returns the configuration with the site's opening, if the site has one, and the day's number, which is 1 without an
+/// opening. If the opening is refused, prints why; the error has the exit status.
 fn begun_by(rt: &HostRuntime, site: SiteFiles<'_>, config: Config) -> Result<Begun, Stop>
     ensures first { site.entry.opening ≡ None → result ≡ Ok (record { config = config; number = 1 }) }
     ensures opened { IsSome site.entry.opening → IfOk result (λ begun. BeginsDay config begun.number begun.config) }
@@ -83,7 +84,7 @@ fn begun_by(rt: &HostRuntime, site: SiteFiles<'_>, config: Config) -> Result<Beg
     }
 }
 
-/// Prints that two files of a call are standard input. The result has the exit status.
+/// Prints that the command line names standard input for two files. The result has the exit status.
 fn refuse_twice(rt: &HostRuntime) -> Stop
     ensures { result ≡ Stop.Said 2 }
 {
@@ -105,8 +106,8 @@ pub(crate) fn settings_in(rt: &HostRuntime, word: &str, text: &[u8]) -> Result<S
     }
 }
 
-/// Reads the configuration of a site, and its opening, if it has one, and opens the other file. Only one of the files
-/// may be standard input. If one fails, prints why; the error has the exit status.
+/// Reads the configuration of a site, and its opening, if it has one, and opens the file that `other` names. If one of
+/// them can't be read or is refused, or if two are standard input, prints why; the error has the exit status.
 pub(crate) fn day_and(
     rt: &HostRuntime,
     site: SiteFiles<'_>,

@@ -1,9 +1,10 @@
 //! The exit statuses of the program.
 /// The job was done. A request that a play answers with a refusal counts as done.
 pub const DONE: u8 = 0;
-/// The input was refused.
+/// The input was refused, or a served site couldn't be closed (C1 to C3).
 pub const REFUSED: u8 = 1;
 /// The command line isn't valid.
 pub const USAGE: u8 = 2;
-/// A device failed, more reads were needed than a session may make, or memory ran out.
+/// The job couldn't be done, or its result couldn't be printed: a file, a socket or a lock couldn't be had or failed,
+/// the next day had begun already, a session needed more reads than it may make, or memory ran out.
 pub const FAILED: u8 = 3;

@@ -89,8 +89,8 @@ fn fault_of_landing(landing: Option<Unit>) -> Option<JumpFault>
     }
 }
 
-// Returns what is wrong with the jump at unit `pc`; `None` if nothing is, or if `distance` is `None` since no jump
-// begins there.
+// Returns what is wrong with the jump at unit `pc` over this distance; `None` if nothing is wrong. A `distance` of
+// `None` means that no jump begins there, and the result is `None`.
 fn fault_of_distance(units: &[Unit], pc: usize, distance: Option<i64>) -> Option<JumpFault>
     requires { pc < UNITS }
     ensures { result ≡ distance_fault units.now pc distance }

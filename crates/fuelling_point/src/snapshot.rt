@@ -55,8 +55,8 @@ fn are_places(first: Option<Transaction>, second: Option<Transaction>, state: St
     }
 }
 
-/// Returns whether the place is free, or its transaction has values that an unpaid one can have: a number from 1 to
-/// `last`, the number of the point's newest transaction, and an amount and a volume in their ranges.
+/// Returns whether the place is free, or its transaction has a number from 1 to `last` and an amount and a volume of at
+/// most 999,999,999. `last` is the number of the point's newest transaction.
 fn is_kept(place: Option<Transaction>, last: u32) -> bool
     ensures { IsTrue result ↔ Keeps last place }
 {

@@ -95,8 +95,8 @@ fn price_of(view: &View, number: u64) -> u64
     u64::from(view.prices[(number - 1) as usize])
 }
 
-// Writes the 16-byte record of a point to the stack at place `at`: all zeros if there is no point. Returns 1 if there
-// is one, else 0.
+// Writes the 16-byte record of a point to the stack at place `at`, or 16 zeros if there is no point. Returns 1 if there
+// is a point, else 0.
 fn put_point(point: Option<PointView>, at: u64, stack: &mut [u8; 512]) -> u64
     requires { at + 16 ≤ STACK_BYTES }
     ensures answer { result ≡ is_there point }

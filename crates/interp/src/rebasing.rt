@@ -13,9 +13,10 @@ use counters::Counters;
 use helpers::View;
 use reg_types::Program;
 
-/// Sets `now` to the counters that a run on `now` would leave, without that run. An earlier run on the counters
-/// `before` left `after`. A run depends only on the declared counters, and these must be the same in `before` and `now`.
-/// So the answer is the same, and the declared counters become those of `after`.
+/// Sets `now` to the counters that a run on `now` would leave, without that run. An earlier run, on the same context
+/// and view, began with the counters `before` and left `after`. Of the counters, a run depends only on the declared
+/// ones, and these must be the same in `before` and `now`. So the answer is the same, and the declared counters become
+/// those of `after`.
 pub fn rebase(
     program: &Program,
     context: &Context,

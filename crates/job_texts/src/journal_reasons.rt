@@ -25,7 +25,7 @@ use till_request::{Act, LineIn};
 pub enum JournalFlaw {
     /// J1 or J2: a line isn't an entry, or the last line has no LF.
     Text(JournalFault),
-    /// F1: the number of an entry (the first) isn't its place (the second).
+    /// F1: the number of an entry isn't its place. The values are the number and the place.
     Number(u32, u32),
     /// F2: the verifier refuses the program of a load. The number is that of the load's slot.
     Program(u32, RefusedProgram),
@@ -91,8 +91,8 @@ fn answered_after(
     }
 }
 
-/// Returns how an entry that an audit refuses differs from the entry that the site makes after the entries `before`.
-/// The error is that memory ran out.
+/// Returns how an entry that an audit refuses differs from the entry that the site makes after the entries `before`, or
+/// `NoEntry` if the site's history is full. The error is that memory ran out.
 fn entry_flaw(
     alloc: Global,
     config: Config,
@@ -140,7 +140,7 @@ fn load_flaw(alloc: Global, act: &Act, refusal: Refusal) -> Result<JournalFlaw, 
 }
 
 /// Returns what is wrong with an entry that an audit refuses after the entries `before`. The error is that memory ran
-/// out; for a wrong number none is taken.
+/// out, which it can't for `BadNumber`.
 fn fault_flaw(
     alloc: Global,
     config: Config,
@@ -172,7 +172,8 @@ fn place_of(fault: AuditFault) -> Option<u32>
     }
 }
 
-/// Returns the place of the entry that an audit refuses, and what is wrong with it. The error is that memory ran out.
+/// Returns the place of the entry that an audit refuses, counted from 1, and what is wrong with it. The error is that
+/// memory ran out.
 fn shown_flaw(
     alloc: Global,
     config: Config,
@@ -192,8 +193,8 @@ fn shown_flaw(
     Ok((place, flaw))
 }
 
-/// Audits entries. Returns the place of the first one that is at fault, and what is wrong with it. Returns `None` if a
-/// site of this configuration can have these entries. The error is that memory ran out.
+/// Audits entries. Returns the place of the first wrong entry, counted from 1, and what is wrong with it. Returns
+/// `None` if a site of this configuration can have these entries. The error is that memory ran out.
 pub fn entries_flaw(
     alloc: Global,
     config: Config,

@@ -79,7 +79,8 @@ impl fmt::Display for LineAtFault<'_> {
     }
 }
 
-/// What is wrong with an instruction: for an argument of a helper, what it must be.
+/// What is wrong with an instruction, to be written in words. If the argument of a helper is at fault, the kind is what
+/// it must be.
 #[derive(Clone, Copy)]
 struct Wrong(Refusal, Option<Kind>);
 
@@ -154,7 +155,8 @@ fn wanted_by(code: &Code, refusal: Refusal) -> Option<Kind>
     }
 }
 
-/// Returns the kind that a helper takes as argument 1 or 2.
+/// Returns the kind that a helper takes as argument 1 or 2, or `None` for another argument or if there is no such
+/// helper.
 fn kind_of(helper: i32, argument: u32) -> Option<Kind>
     ensures { result ≡ wanted_at helper argument }
 {
@@ -190,8 +192,9 @@ fn units_of(alloc: Global, bytes: &[u8]) -> Result<Option<Code>, AllocError>
     }
 }
 
-/// Returns a refusal of these bytes in words, with the instruction at the unit that it names, or that unit's digits if
-/// the bytes don't decode. The error is that memory ran out; for a refusal that names no unit none is taken.
+/// Returns a refusal of these bytes, with the line of the unit that the refusal names: the instruction there, or the
+/// unit's digits if the bytes don't decode. The error is that memory ran out, which it can't if the refusal names no
+/// unit.
 pub fn explain_refusal(
     alloc: Global,
     bytes: &[u8],
@@ -231,8 +234,8 @@ pub fn explain_refusal(
     }
 }
 
-/// Returns why the bytes of a program are refused, or `None` if they are accepted. The error is that memory ran out;
-/// for a wrong length none is taken.
+/// Returns why the bytes of a program are refused, or `None` if they are accepted. The error is that memory ran out,
+/// which it can't if the number of bytes is wrong.
 pub fn refused_program(
     alloc: Global,
     bytes: &[u8],

@@ -7,7 +7,7 @@ use std::alloc::{AllocError, Global};
 use std::test::Fail;
 use std::thread::Threads;
 
-/// A program that grants what is asked: it answers the asked amount of its context.
+/// A program that grants what is asked: its answer is the asked amount, which it reads from its context.
 pub const ASKED: [u8; 16] = [0x79, 0x10, 0x18, 0, 0, 0, 0, 0, 0x95, 0, 0, 0, 0, 0, 0, 0];
 
 /// A program that ends without an answer in R0, which the verifier refuses.

@@ -1,4 +1,4 @@
-//! Tests of serving over the loopback interface. The peers are a thread of the test.
+//! Tests of serving over the loopback interface. A thread of the test connects as each of the peers.
 use line_session::Doors;
 use site_core::{Config, Site};
 use site_server::{
@@ -92,7 +92,7 @@ fn addresses_of(ports: &Ports) -> io::Result<Addresses> {
     })
 }
 
-/// Makes a door with one worker of each port: for till 1, for dispensers and for the owner.
+/// Makes a door of each port, each with one worker: for till 1, for dispensers and for the owner.
 fn doors_at(alloc: Global, ports: Ports) -> Result<Vec<OpenDoor>, AllocError> {
     let mut doors = Vec::new(alloc);
     for (role, listener) in [
@@ -128,7 +128,7 @@ fn ask<R: Net<Listener = TcpListener, Stream = TcpStream>>(
 }
 
 /// Sends lines as three peers in turn. The owner loads a program, a till opens a point and asks for a release, and the
-/// dispenser takes its order. Returns their answers.
+/// dispenser asks for its order. Returns the answers that they get.
 fn in_turn<R: Net<Listener = TcpListener, Stream = TcpStream>>(
     rt: &R,
     alloc: Global,
@@ -145,7 +145,7 @@ fn in_turn<R: Net<Listener = TcpListener, Stream = TcpStream>>(
     Ok(heard)
 }
 
-/// Makes the settings for serving a new site, with one connection of each kind.
+/// Makes what is needed to serve a new site, with one connection for each worker.
 fn serving(alloc: Global, ports: Ports) -> Result<Serving, Fail> {
     let crew = Crew::new(alloc, doors_at(alloc, ports)?)?.ok_or("a crew")?;
     Ok(Serving {

@@ -1,5 +1,6 @@
-//! The slots that programs are loaded into. Each load makes a new version, whose number is never used again. A slot
-//! stores the number of its newest version. Slots may begin with versions that were made before them.
+//! The slots that programs are installed in. Each program that is installed is a new version, whose number is never
+//! used again. The version in a slot is the newest that was installed there, and older ones are kept. Slots can begin
+//! with versions that were made earlier.
 #![tactic(auto)]
 
 ghost use Rattle.std.specs.Prelude.{◌≡◌, ℕ, ◌+◌, ◌≤◌, length, map, All, slice_index_or, Some, None};
@@ -18,7 +19,8 @@ use std::marker::Model;
 use std::sync::Arc;
 pub use version::Version;
 
-/// The greatest number of versions that can be installed, in all slots together.
+/// The greatest number of versions that can be installed, in all slots together. Those that slots begin with don't
+/// count.
 pub const VERSIONS: usize = 4096;
 
 /// The number of slots.
@@ -29,9 +31,9 @@ pub const SLOTS: u32 = 16;
 pub enum SlotFault {
     /// S32: the slots are 0 to 15.
     NoSuchSlot,
-    /// S30: all 4,096 versions are used.
+    /// S30: 4,096 versions were installed already.
     VersionsFull,
-    /// S31.
+    /// S31: memory ran out.
     OutOfMemory,
 }
 
@@ -64,9 +66,9 @@ impl Slots {
         Self::opened(alloc, 0, Vec::new(alloc))
     }
 
-    /// Makes 16 slots, of which slot k begins with the version at place k of `opened`, or with none if there is none.
-    /// `before`, at most 4,290,000,000, is how many versions were ever made; the versions in `opened` have numbers from
-    /// 1 to `before`. Allocates no memory.
+    /// Makes 16 slots. Slot k begins with the version at place k of `opened`, or empty if that place has no version.
+    /// `before`, at most 4,290,000,000, is how many versions were made before these slots began. The versions in
+    /// `opened` have numbers from 1 to `before`. Allocates no memory.
     pub fn opened(alloc: Global, before: u32, opened: Vec<Option<Version>>) -> Self
         requires few { before ≤ 4290000000 }
         requires rules { All (IsRule before) opened.items }
@@ -127,8 +129,8 @@ impl Slots {
         Some(number)
     }
 
-    /// Returns the program of the version of this number, which was installed in a slot or is one that a slot began
-    /// with. `None` if there is no such version.
+    /// Returns the program of the version of this number: one that was installed, or one that a slot began with.
+    /// Returns `None` if there is no such version.
     pub fn version(&self, number: u32) -> Option<&Arc<Program>>
         ensures { MatchOption result (program_of self.now number ≡ None)
             (λ program. program_of self.now number ≡ Some (arc_value program.now)) }
@@ -161,7 +163,7 @@ impl Slots {
         Ok(rules)
     }
 
-    // Returns a copy of the version in a slot. The error is that memory ran out; for an empty slot none is taken.
+    // Returns a copy of the version in a slot. The error is that memory ran out. For an empty slot no memory is taken.
     fn rule(&self, slot: u32) -> Result<Option<Version>, AllocError>
         ensures empty { version_in self.now slot ≡ None → IsOk result }
         ensures same { IfOk result (λ rule. rule ≡ version_in self.now slot) }

@@ -2,8 +2,8 @@
 use std::alloc::Global;
 
 /// To leave a free block, a block that is larger by this many bytes is freed, and this many bytes of it are allocated
-/// again. The free block must be a part of a larger one. A freed block of up to 1,032 bytes would be reused for its own
-/// size only.
+/// again. The free block must be a part of a larger one, since a freed block of up to 1,032 bytes would be reused for
+/// its own size only.
 const HELD: usize = 1080;
 
 /// The most sizes of the free block that are tried for a line.
@@ -33,7 +33,7 @@ fn hoard(alloc: Global, blocks: &mut Vec<Vec<u8>>) {
     }
 }
 
-/// All memory except one free block. It is freed when this is dropped.
+/// All memory of the process except one free block. This memory is freed when this is dropped.
 #[derive(Drop)]
 pub struct Taken {
     blocks: Vec<Vec<u8>>,

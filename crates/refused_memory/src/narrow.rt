@@ -6,8 +6,8 @@ use std::alloc::Global;
 use till_request::devices::MemoryIn;
 use till_request::{DeviceFault, LineIn};
 
-/// An input that gives a script from memory. From the first byte of one line to its end, all memory except one free
-/// block is allocated.
+/// An input that gives a script from memory. From the first read of one line until the first read after that line, so
+/// also while the line is answered, all memory except one free block is allocated.
 #[derive(Drop)]
 pub struct Narrow {
     input: MemoryIn,
@@ -31,7 +31,7 @@ impl Narrow {
         }
     }
 
-    /// Allocates all memory except the free block if the line begins, and frees it if the line has ended.
+    /// If the line begins, allocates all memory except one free block. If the line has ended, frees that memory.
     fn turn(&mut self)
         ensures { self.new.input ≡ self.old.input }
     {

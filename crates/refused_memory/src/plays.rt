@@ -144,8 +144,8 @@ fn wanted_of(alloc: Global, site: &str, script: &str, line: usize) -> Option<Wan
     })
 }
 
-/// Plays a script again and again, with a larger free block each time, until the line is answered. Returns how often
-/// the line was answered `S31`, and how often the play ended with `OutOfMemory`. Returns `None` if the play wrote
+/// Plays a script again and again, with a larger free block each time, until the line has enough memory. Returns how
+/// often the line was answered `S31`, and how often the play ended with `OutOfMemory`. Returns `None` if the play wrote
 /// something wrong, or if no free block was large enough.
 fn count_refusals(
     alloc: Global,
@@ -172,8 +172,8 @@ fn refused_at(alloc: Global, site: &str, script: &str, line: usize) -> Option<(u
     count_refusals(alloc, site, script, line, &wanted)
 }
 
-/// Tries each line of a script in turn. Returns for how many lines the act was refused memory (`S31`), and for how many
-/// the play ended with `OutOfMemory` since the line itself found no memory.
+/// Tries each line of a script in turn. Returns for how many lines the answer was `S31` at least once, and for how many
+/// the play ended with `OutOfMemory` at least once.
 fn refused_in(alloc: Global, site: &str, script: &str, lines: usize) -> Option<(u32, u32)> {
     let (mut wanted, mut ended) = (0u32, 0u32);
     for line in 0..lines {

@@ -129,7 +129,7 @@ fn show_type(fault: TypeFault) -> (u32, Option<u32>, Option<u32>)
 
 impl Refusal {
     /// Returns the number of the fault (1 for V1, to 20 for V20), then its unit and its register or argument, where it
-    /// has them. Returns `None` for `OutOfMemory`.
+    /// has them. Returns `None` if memory ran out.
     pub fn shown(self) -> Option<(u32, Option<u32>, Option<u32>)>
         ensures { result ≡ shown_by self }
     {

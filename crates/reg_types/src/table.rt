@@ -105,7 +105,7 @@ impl Table {
     }
 
     /// Adds the fact that a jump brings to its target `at`: joins it with the target's stored fact, or stores it if
-    /// there is none. The error is that memory ran out, which is taken only to store a fact for a unit that has none.
+    /// there is none. The error is that memory ran out. Memory is taken only if the target has no stored fact.
     pub fn enter(&mut self, at: u32, fact: &Fact) -> Result<(), AllocError>
         requires { at ≤ UNITS }
         ensures entered { OnOk result ((q : ℕ)
