@@ -1,13 +1,11 @@
 //! The desk of a forecourt and a pass.
-ghost use Rattle.std.specs.Prelude.{◌≡◌, ℕ, None};
+ghost use Rattle.std.specs.Prelude.{◌≡◌, ℕ};
 ghost use Rattle.till_request.specs.declared.act.Act.{Act};
 ghost use Rattle.reg_types.specs.Shown.{IsRefusal};
-ghost use Rattle.site_core.specs.Audit.{IsGoodAct, IsRefusedAct};
+ghost use Rattle.site_core.specs.Audit.{IsRefusedAct};
 ghost use Rattle.site_core.specs.Histories.{load_refusal};
 ghost use Rattle.site_core.specs.Limits.{ConfigValue};
-ghost use Rattle.site_core.specs.Site.{act_of};
 ghost use Rattle.site_lock.specs.Passes.{PassView};
-ghost use Rattle.site_lock.specs.Calls.{RoseWithin};
 ghost use Rattle.site_lock.specs.Desks.{AsksGate, DeskAnswers, DeskDecides, said_of};
 
 use super::enter_fault::EnterFault;
@@ -18,7 +16,7 @@ use super::pass::{Pass, SiteLedger};
 use line_session::Desk;
 use reg_types::Refusal;
 use site_core::auditing::event_of;
-use site_core::{Answered, CallFault, What};
+use site_core::{Answered, CallFault};
 use std::alloc::Global;
 use std::sync::Wait;
 use till_request::{Act, Answer};
@@ -62,38 +60,6 @@ impl<'a, L: SiteLedger, R: Wait, G: Gate + Drop, J: Journal> PassDesk<'a, L, R, 
     {
         self.pass
     }
-
-    // Calls the forecourt for an act, whose event is `what`, and returns the answer.
-    fn call(&mut self, moment: u64, act: Act, what: What) -> Answer
-        requires event { act_of what ≡ act }
-        requires good { IsGoodAct act }
-        requires accepted { load_refusal act ≡ None }
-        ensures answers { DeskAnswers L.config J.may_fail self.old.pass self.new.pass act moment result }
-        ensures gate { RoseWithin 0 2 (G.calls self.old.gate) (G.calls self.new.gate) }
-        ensures decided { AsksGate (G.calls self.old.gate) (G.calls self.new.gate) result act }
-        ensures decided_by { DeskDecides G.makes L.config self.old.pass.id moment self.old.gate self.new.gate
-            result act }
-    {
-        let (rt, forecourt) = (self.rt, self.forecourt);
-        let (pass, gate) = (&mut self.pass, &mut self.gate);
-        // This call gives the prover that the configuration is the one that the ledger names.
-        let _ = forecourt.config();
-        match what {
-            What::Till { till, request } => said(forecourt.ask(
-                rt, pass, gate, till, moment, request,
-            )),
-            What::Dispenser { point, event } => {
-                said(forecourt.enter_event(rt, pass, 0, act, What::Dispenser { point, event }))
-            }
-            What::Load { slot, program } => said(forecourt.enter_event(
-                rt,
-                pass,
-                0,
-                act,
-                What::Load { slot, program },
-            )),
-        }
-    }
 }
 
 impl<L: SiteLedger, R: Wait, G: Gate + Drop, J: Journal> Desk for PassDesk<'_, L, R, G, J> {
@@ -107,9 +73,19 @@ impl<L: SiteLedger, R: Wait, G: Gate + Drop, J: Journal> Desk for PassDesk<'_, L
         × DeskDecides G.makes L.config desk.pass.id moment desk.gate after.gate answer act };
 
     fn answer(&mut self, act: Act, moment: u64) -> Answer {
-        match event_of(self.alloc, &act) {
-            Ok(what) => self.call(moment, act, what),
-            Err(refusal) => refused::<G, J>(refusal),
+        let (rt, alloc, forecourt) = (self.rt, self.alloc, self.forecourt);
+        let (pass, gate) = (&mut self.pass, &mut self.gate);
+        // This call gives the prover that the configuration is the one that the ledger names.
+        let _ = forecourt.config();
+        match &act {
+            Act::Till { till, request } => said(forecourt.ask(
+                rt, pass, gate, *till, moment, *request,
+            )),
+            Act::Dispenser { point, event } => said(forecourt.report(rt, pass, *point, *event)),
+            Act::Load { .. } => match event_of(alloc, &act) {
+                Ok(what) => said(forecourt.enter_event(rt, pass, 0, act, what)),
+                Err(refusal) => refused::<G, J>(refusal),
+            },
         }
     }
 }
