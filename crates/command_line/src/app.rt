@@ -13,9 +13,9 @@ use std::alloc::{AllocError, Global};
 /// An argument of a subcommand.
 #[derive(Clone, Copy)]
 enum Argument {
-    /// A file that must be given: its name, and its help text.
+    /// A file that must be given: the argument's name, and its help text.
     File(&'static str, &'static str),
-    /// A file that may be left out: its name, and its help text.
+    /// A file that may be left out: the argument's name, and its help text.
     SpareFile(&'static str, &'static str),
     /// The argument that says which rows `export` prints.
     Kind,

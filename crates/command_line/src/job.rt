@@ -23,9 +23,9 @@ pub enum Format {
     Json,
 }
 
-/// The job that a command line asks for. Each `String` is the name of a file, as it was given. Only the `String` of
-/// `Show` is a text to print. An `opening` is the file of the opening that the site begins with, if one is given. A
-/// `folder` has the files of a station's days.
+/// The job that a command line asks for. Each `String` is the name of a file or of a folder, as it was given, except
+/// that of `Show`, which is a text to print. An `opening` is the file of the opening that the site begins with, if one
+/// is given. A `folder` has the files of a station's days.
 #[derive(Drop)]
 pub enum Job {
     /// No argument was given: play a configuration and then a script, both read from standard input.
@@ -34,7 +34,7 @@ pub enum Job {
     Asm(String),
     /// Print a program file as assembler text.
     Dis(String),
-    /// Print a program file as assembler text, with the number of its first unit before each instruction.
+    /// Print a program file as assembler text, and before each instruction the number of its first unit.
     DisUnits(String),
     /// Verify a program file, for contexts of this layout. Bit c of `counters` declares counter c.
     Verify {

@@ -394,7 +394,7 @@ fn has_days(matches: &ArgMatches) -> bool
     }
 }
 
-/// Returns what is wrong with the values of `audit` that ask for no job.
+/// Returns what is wrong with the values of `audit`, if they ask for no job.
 fn unaudited_by(matches: &ArgMatches) -> &'static str
     ensures { result.now ≡ unaudited_by (rows_of (found_of matches.now)) }
 {
@@ -405,7 +405,7 @@ fn unaudited_by(matches: &ArgMatches) -> &'static str
     }
 }
 
-/// Returns what is wrong with the values of `serve` that ask for no job.
+/// Returns what is wrong with the values of `serve`, if they ask for no job.
 fn unserved_by(matches: &ArgMatches) -> &'static str
     ensures { result.now ≡ unserved_by (rows_of (found_of matches.now)) }
 {
@@ -449,8 +449,8 @@ fn unasked_text(alloc: Global, matches: &ArgMatches) -> Result<String, AllocErro
     format!(in alloc; "{words}\n\nFor more information, try '--help'.\n")
 }
 
-/// Returns the job of a parsed command line. The error is the message for one that asks for no job, or that memory ran
-/// out.
+/// Returns the job of a parsed command line. The error is `Usage` with a message if the command line asks for no job,
+/// or that memory ran out.
 fn found_job(alloc: Global, matches: &ArgMatches) -> Result<Job, CommandFault>
     ensures asked { IfOk result (λ job. asked_of (subcommand_rows_of matches.now) ≡ asked job) }
     ensures some { IfOk result (λ job. IsSome (asked job)) }

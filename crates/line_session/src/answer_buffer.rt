@@ -14,8 +14,8 @@ use till_request::{Answer, DeviceFault, LineOut, WriteFault};
 /// If at least this many bytes are buffered, the buffer is written before the next line is read.
 const MOST_WAITING: usize = 16_384;
 
-/// Answers that are buffered in memory, to be written to a device together. If memory runs out for an answer, it is
-/// written at once, after those in the buffer.
+/// Answers that are buffered in memory, to be written to a device together. If memory runs out for an answer, that
+/// answer is written at once, after those in the buffer.
 #[derive(Drop)]
 pub struct AnswerBuffer {
     held: MemoryOut,
@@ -55,7 +55,8 @@ impl AnswerBuffer {
         }
     }
 
-    /// Appends an answer's line to the buffer, and returns true. If memory runs out, changes nothing and returns false.
+    /// Appends an answer's line to the buffer, and returns true. If memory runs out, leaves the buffered answers as
+    /// they are and returns false.
     fn hold(&mut self, alloc: Global, answer: &Answer) -> bool
         ensures waits { result ≡ true
             → self.new.held.bytes.items ≡ self.old.held.bytes.items ++ answer_line answer.now }
@@ -71,8 +72,8 @@ impl AnswerBuffer {
         }
     }
 
-    /// Appends an answer's line to the buffer. If memory runs out for that, writes the buffered answers and then this
-    /// line.
+    /// Appends an answer's line to the buffer. If there is no memory for the line, writes the buffered answers and then
+    /// the line.
     pub fn put<O: LineOut>(
         &mut self,
         alloc: Global,

@@ -85,8 +85,8 @@ impl From<HandlerError> for SessionFault {
     }
 }
 
-/// Returns the fault that ends a session: the line is too long, or the last one has no LF. `None` for a whole line, or
-/// if no byte came before the end of the input.
+/// Returns the fault that ends a session: the line is too long, or it is the last line and has no LF. Returns `None` if
+/// a whole line was read, or if no byte came before the end of the input.
 pub(crate) fn cut_of(found: Found) -> Option<LineFault>
     ensures { result ≡ cut_by found }
 {
@@ -129,7 +129,7 @@ fn end<O: LineOut>(
 /// Answers the lines of an input in order, with at most `left` reads, and sets `left` to the number of reads that
 /// remain.
 ///
-/// A line that is too long, or a last one without LF, is answered with its fault, and the session ends. An answer is
+/// A line that is too long, or a last line without LF, is answered with its fault, and the session ends. An answer is
 /// written in part only if a write fails.
 pub fn answer_lines_within<I: LineIn, O: LineOut, C, D, S: LineHandler<C, D>>(
     alloc: Global,

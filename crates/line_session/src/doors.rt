@@ -19,7 +19,7 @@ pub trait Doors {
     /// States which state the doors may have after a connection couldn't be opened.
     ghost fails: { Self → Self → Type 0 };
 
-    /// States that whoever hears of the sessions at these doors was told that one of them ended so.
+    /// States that these doors reported that a session ended with this outcome.
     ghost told: { Self → Result Ended SessionFault → Type 0 };
 
     /// Waits for the next connection, and returns its input and its output. The error is that it couldn't be opened.
@@ -27,8 +27,8 @@ pub trait Doors {
         ensures ok { IfOk result (λ door. opens self.old door.0 door.1 self.new) }
         ensures err { OnErr result (fails self.old self.new) };
 
-    /// Returns whether more input has already arrived, so that the answers to several lines may be written together.
-    /// The default returns false.
+    /// Returns whether the next line has already arrived whole, so that the answers to several lines may be written
+    /// together. The default returns false.
     fn has_buffered_line(&self, _input: &Self::In) -> bool {
         false
     }

@@ -44,7 +44,7 @@ impl Progress {
         }
     }
 
-    /// Writes the buffered answers, unless they are few and a further line has already arrived.
+    /// Writes the buffered answers, unless they have fewer than 16,384 bytes and the next line has already arrived.
     fn flush_unless_more<S: Doors>(
         &mut self,
         doors: &S,
@@ -66,7 +66,7 @@ impl Progress {
         self.waiting.flush(&mut connection.output)
     }
 
-    /// Answers the line that was read. The answer is buffered, or written at once if memory runs out for that.
+    /// Answers the line that was read. The answer is buffered, or written at once if there is no memory to buffer it.
     fn answer_line<O: LineOut, C: Clock, D: Desk>(
         &mut self,
         role: Role,
@@ -217,7 +217,7 @@ impl Progress {
     }
 }
 
-/// Returns whether a fault is that of a device. After such a fault nothing more is written.
+/// Returns whether a fault is that a device failed, in a read or a write. After such a fault nothing more is written.
 fn device_failed(fault: SessionFault) -> bool
     ensures yes { result ≡ true → (fault ≡ SessionFault.Read) ⊎ (fault ≡ SessionFault.Write) }
     ensures no { result ≡ false → (fault ≢ SessionFault.Read) × (fault ≢ SessionFault.Write) }
@@ -228,8 +228,8 @@ fn device_failed(fault: SessionFault) -> bool
     }
 }
 
-/// Answers the lines of a connection in order, as acts of a role, like `session`; but if the doors say that more input
-/// has arrived, several answers are written together.
+/// Answers the lines of a connection in order, as acts of a role, like `session`; but if the doors say that the next
+/// line has already arrived, several answers are written together.
 ///
 /// After a failed read, answers that are still buffered are not written.
 pub fn pipelined_session<S: Doors, C: Clock, D: Desk>(

@@ -33,7 +33,7 @@ fn serve_connection<S: Doors, C: Clock, D: Desk>(
     }
 }
 
-/// Returns 1 for a connection whose session ended without fault, and 0 otherwise.
+/// Returns 1 for a connection whose session ended without a `SessionFault`, and 0 otherwise.
 fn one_if_good(outcome: Option<Result<Ended, SessionFault>>) -> u64
     ensures counted { result ≡ one_good outcome }
     ensures most { result ≤ 1 }
@@ -45,7 +45,7 @@ fn one_if_good(outcome: Option<Result<Ended, SessionFault>>) -> u64
 }
 
 /// Serves `connections` connections of a role, one after another, and returns how many of their sessions ended without
-/// fault.
+/// a `SessionFault`.
 ///
 /// A connection that can't be opened counts as one of the `connections`, but not in the number that is returned.
 pub fn worker<S: Doors, C: Clock, D: Desk>(

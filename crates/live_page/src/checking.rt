@@ -20,8 +20,8 @@ fn without_worker(peers: &[Peers]) -> Option<Role>
     }
 }
 
-/// Returns whether all is well with a station whose journal has so many entries, or the first of these: the journal
-/// failed; it is nearly full; a role has no worker left.
+/// Returns the first of these that holds for a station whose journal has this many entries: the journal failed, the
+/// journal is nearly full, a role has no worker left. If none holds, returns `Well`.
 pub fn health(has_failed: bool, entries: u32, peers: &[Peers]) -> Health
     ensures { result ≡ health_of has_failed entries peers.now }
 {

@@ -4,7 +4,7 @@ use day_page::Text;
 /// The number of entries that a journal can have.
 pub(crate) const ENTRIES: u64 = 1_048_576;
 
-/// A text of no words.
+/// The empty text.
 pub(crate) const NONE: Text = Text::Words("");
 
 /// Returns a number in plain digits.

@@ -82,7 +82,7 @@ const BYTES: &str =
 
 const SYNCS: &str = summary!("fc_journal_sync_seconds": "Syncs of the journal's file, in seconds.");
 
-/// Returns how many versions were loaded.
+/// Returns how many versions were loaded in this journal.
 fn loads(tally: &Tally) -> usize {
     tally
         .versions()

@@ -80,13 +80,13 @@ fn add_headline(sheet: &mut Sheet, station: &Station<'_>) {
     sheet.add("</ul>\n");
 }
 
-/// Returns cents as money, and no words for 0.
+/// Returns cents as money, or the empty text for 0.
 fn money_or_none(cents: u64) -> Text {
     if cents == 0 { NONE } else { hundredths(cents) }
 }
 
-/// Returns the number of a nozzle and the price of its product, which has the same number; no words for nozzle 0, which
-/// stands for none.
+/// Returns the number of a nozzle and the price of its product, which has the same number. Both are empty for nozzle 0,
+/// which means that no nozzle is up.
 fn nozzle_texts(nozzle: u32, prices: &[u32; 8]) -> (Text, Text) {
     match prices.get((nozzle as usize).wrapping_sub(1)) {
         None => (NONE, NONE),

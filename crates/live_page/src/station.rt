@@ -17,7 +17,7 @@ pub struct Station<'a> {
     pub has_failed: bool,
     /// The file in which the journal is kept, if it is kept in one.
     pub journal: Option<JournalFile>,
-    /// The waits of looks for the site's lock.
+    /// How often looks waited for the site's lock, and how long in all.
     pub waits: Times,
     /// What the entries came to.
     pub tally: &'a Tally,
@@ -41,7 +41,7 @@ pub struct Times {
 /// The file in which a journal is kept.
 #[derive(Clone, Copy)]
 pub struct JournalFile {
-    /// Its length.
+    /// The length of the file, in bytes.
     pub bytes: u64,
     /// The syncs of the file, if answers wait for them.
     pub syncs: Option<Times>,
@@ -56,7 +56,7 @@ pub struct Peers {
     pub workers: u32,
     /// The number of connections that are open.
     pub open: u64,
-    /// The number of connections since the site is served.
+    /// The number of connections since the serving of the site began.
     pub total: u64,
 }
 
@@ -76,7 +76,7 @@ impl Health {
     ghost use Rattle.std.specs.Prelude.{◌≡◌};
     ghost use Rattle.live_page.specs.Health.{health_text};
 
-    /// Returns the few words for it: `ok` if all is well.
+    /// Returns this health in a few words, `ok` if all is well.
     pub(crate) fn words(self) -> &'static str
         ensures { result.now ≡ health_text self }
     {

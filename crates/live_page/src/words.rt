@@ -6,7 +6,7 @@ use decision_journal::Entry;
 use fuelling_point::{DispenserEvent, Order};
 use till_request::{Act, Reply, Request, Role};
 
-/// A form with a place for two texts at most, and these texts. A text without a place is `NONE`.
+/// A form with at most two places, and the texts for them. A text that has no place is `NONE`.
 #[derive(Clone, Copy)]
 struct Phrase(&'static str, Text, Text);
 
@@ -25,7 +25,7 @@ fn of_amount(form: &'static str, number: u32, amount: u64) -> Phrase {
     Phrase(form, digits(number), hundredths(amount))
 }
 
-/// Returns a phrase of no number.
+/// Returns a phrase whose form has no places.
 fn plain(form: &'static str) -> Phrase {
     Phrase(form, NONE, NONE)
 }
@@ -118,7 +118,7 @@ fn order_words(order: Order) -> Phrase {
     }
 }
 
-/// Returns the name of the order that is pending at a point, or no words.
+/// Returns the name of the order that is pending at a point, or an empty string if there is none.
 pub(crate) fn order_name(order: Option<Order>) -> &'static str {
     match order {
         None => "",
@@ -158,7 +158,7 @@ fn grant_words(is_price: bool, value: u64, version: u32) -> Phrase {
     Phrase("granted {} by version {}", granted, digits(version))
 }
 
-/// Returns the words for a refusal. The number after it is a state, a slot or a version.
+/// Returns the words for a refusal. `value` is a state, a slot or a version.
 fn refusal_words(number: u32, value: Option<u32>) -> Phrase {
     let refusal = Text::Refusal(number);
     let Some(value) = value else {
@@ -172,7 +172,7 @@ fn refusal_words(number: u32, value: Option<u32>) -> Phrase {
     }
 }
 
-/// Returns the words for what an entry was replied.
+/// Returns the reply of an entry in words.
 fn reply_words(entry: &Entry) -> Phrase {
     match entry.reply {
         Reply::Done => plain("done"),

@@ -1,4 +1,4 @@
-//! What a request asks for, and why another is refused.
+//! What a request asks for, or why it is refused.
 ghost use Rattle.std.specs.Prelude.{◌≡◌, option_copied};
 ghost use Rattle.http.specs.Request.{head_of};
 ghost use Rattle.http_uri.specs.Uri.{uri_query};
@@ -16,24 +16,24 @@ use till_request::numbers::number_u32;
 pub enum View {
     /// The station now, as a page of HTML.
     Page,
-    /// Its numbers, for Prometheus.
+    /// The station's numbers, for Prometheus.
     Metrics,
     /// Whether all is well.
     Health,
-    /// The journal's lines behind the entry with this number; 0 for all.
+    /// The journal's lines after the entry with this number. For 0 they begin with the first entry.
     Journal(u32),
 }
 
 /// Why a request is refused.
 #[derive(Clone, Copy)]
 pub enum Refusal {
-    /// It names another host than this machine: a page of another site may have sent it.
+    /// It names another host than this machine, so a page from elsewhere may have sent it.
     OtherHost,
     /// Nothing is at its path.
     NoSuchPath,
     /// Its method is neither GET nor HEAD.
     OtherMethod,
-    /// Its query isn't the number of an entry.
+    /// It asks for the journal, and its query isn't `after=` and a number from 0 to 4,294,967,295.
     NoNumber,
 }
 
@@ -64,8 +64,8 @@ impl Refusal {
     }
 }
 
-/// Returns whether what follows a host's name is a port, with its colon, or nothing. The form of a port was checked when
-/// the request was read.
+/// Returns whether what follows a host's name is a port, with its colon, or nothing. The form of a port was checked
+/// when the request was read.
 fn is_port(rest: &[u8]) -> bool
     ensures { result ≡ is_port rest.now }
 {
@@ -93,7 +93,7 @@ fn is_here(host: &[u8]) -> bool
     is_named(host, b"localhost") || is_named(host, b"127.0.0.1") || is_named(host, b"[::1]")
 }
 
-/// Returns the lines behind the entry whose number these digits spell.
+/// Returns the view of the lines after the entry whose number these digits spell.
 fn lines_after(digits: &[u8]) -> Result<View, Refusal>
     ensures { result ≡ lines_after (number 32 digits.now) }
 {
@@ -103,7 +103,8 @@ fn lines_after(digits: &[u8]) -> Result<View, Refusal>
     }
 }
 
-/// Returns the lines that a query asks for: `after=` and a number. Without a query these are all lines.
+/// Returns the view of the lines that a query asks for: `after=` and a number. Without a query they begin with the
+/// first entry.
 fn journal_at(query: Option<&[u8]>) -> Result<View, Refusal>
     ensures { result ≡ journal_at (option_copied query.entry) }
 {
@@ -121,8 +122,8 @@ fn journal_at(query: Option<&[u8]>) -> Result<View, Refusal>
     }
 }
 
-/// Returns what a path shows. The query of `/journal` gives the entry behind which its lines begin; that of another
-/// path doesn't matter.
+/// Returns what a path shows. The query of `/journal` gives the entry after which its lines begin. That of another path
+/// doesn't matter.
 fn view_at(path: &[u8], query: Option<&[u8]>) -> Result<View, Refusal>
     ensures { result ≡ view_at path.now (option_copied query.entry) }
 {
@@ -161,7 +162,7 @@ fn host_of(request: &Request<Bytes>) -> Option<&[u8]>
     }
 }
 
-/// Returns whether a request for this host is for this machine. A request that names no host is.
+/// Returns whether a request for this host is for this machine. If a request names no host, the result is true.
 fn is_for_here(host: Option<&[u8]>) -> bool
     ensures { result ≡ is_for_here (option_copied host.entry) }
 {

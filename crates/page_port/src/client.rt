@@ -7,7 +7,7 @@ use std::io::{self, ErrorKind, Read};
 use std::net::{Shutdown, TcpStream};
 use std::time::{Clock, Instant};
 
-/// The most seconds from a connection to its request, and from there to its answer's end.
+/// The most seconds from the opening of a connection until its answer is made, and from then until the connection ends.
 const MOST_SECONDS: u64 = 5;
 
 /// A request's head has at most 8,192 bytes, and a request has no body.
@@ -69,7 +69,8 @@ impl Client {
         matches!(self.connection.state(), State::Open)
     }
 
-    /// Answers the request, if it is there now. The answer's time begins once it is made, however long that took.
+    /// Answers the request, if it is there now. The seconds for the answer begin once it is made, however long that
+    /// took.
     fn answer<S: Service, R: Clock>(&mut self, rt: &R, service: &mut S) -> io::Result<()> {
         if self.is_open() {
             self.connection.advance(service);
@@ -120,7 +121,8 @@ impl Client {
         }
     }
 
-    /// Does what can be done at once. After a failure it is over: a peer that goes away is of no interest to anybody.
+    /// Does what can be done at once. After a failure the result is `Over`: a peer that goes away is of no interest to
+    /// anybody.
     pub fn turn<S: Service, R: Clock>(&mut self, rt: &R, service: &mut S) -> Turn {
         match self.go_on(rt, service) {
             Ok(turn) => turn,

@@ -33,7 +33,7 @@ impl JournalCounts {
         self.bytes.fetch_add(bytes as u64, Ordering::SeqCst);
     }
 
-    /// Counts a sync that took so long.
+    /// Counts a sync that took so long, if answers wait for syncs.
     pub fn synced(&self, taken: Duration) {
         if let Some(syncs) = &self.syncs {
             syncs.add(taken);

@@ -41,7 +41,7 @@ pub struct PagePort<'a> {
     rt: &'a HostRuntime,
     pub(crate) tills: u32,
     listener: TcpListener,
-    /// The same socket once more, which can be shut down.
+    /// A second handle of the same socket, by which it can be shut down.
     handle: TcpStream,
     keys: RandomState,
     pub(crate) connections: Connections,
@@ -65,11 +65,13 @@ fn listen<H: Net<Listener = TcpListener, Stream = TcpStream>>(
     }
 }
 
-/// Gives each client a turn, and closes the connections that are over. Returns whether one of them went on.
+/// Gives each client a turn, and closes the connections that are over. Returns whether a client moved bytes or was
+/// over.
 fn take_turns<S: Service, R: Clock>(rt: &R, clients: &mut Vec<Client>, service: &mut S) -> bool {
     let mut went_on = false;
     for place in 0..clients.len() {
-        // Where one was over in this loop, the last one took its place, and has its turn in the next loop.
+        // If a client was over, the list is shorter now: the last client took its place, and has its turn in the next
+        // call.
         let Some(client) = clients.get_mut(place) else {
             break;
         };
@@ -88,9 +90,9 @@ fn take_turns<S: Service, R: Clock>(rt: &R, clients: &mut Vec<Client>, service: 
 }
 
 impl<'a> PagePort<'a> {
-    /// Opens a port of 127.0.0.1, on which a site with so many tills and these workers is to be looked at. `journal` has
-    /// the counts of the file in which its journal is kept, if it is kept in one. A port above 65,535 is `InvalidInput`.
-    /// `host` is the same runtime as `rt`.
+    /// Opens a port of 127.0.0.1, on which a site with so many tills and these workers is to be looked at. `journal`
+    /// has the counts of the file in which its journal is kept, if it is kept in one. A port above 65,535 is
+    /// `InvalidInput`. `host` is the same runtime as `rt`.
     pub fn open<H: Net<Listener = TcpListener, Stream = TcpStream>>(
         rt: &'a HostRuntime,
         host: &H,
@@ -133,8 +135,8 @@ impl<'a> PagePort<'a> {
         }
     }
 
-    /// Returns whether a write to the journal's file or a sync of it failed. The site's lock knows of it only from the next
-    /// event on.
+    /// Returns whether a write to the journal's file or a sync of it failed. After a failed sync the site itself learns
+    /// of it only at the next event.
     pub(crate) fn has_journal_failed(&self) -> bool {
         match self.journal {
             Some(counts) => counts.has_failed(),
@@ -159,7 +161,8 @@ impl<'a> PagePort<'a> {
         Ok(clients.push(client)?)
     }
 
-    /// Waits after a connection couldn't be accepted. Prints that for an operator, if none failed just before.
+    /// Waits after a connection couldn't be accepted. Prints the error for an operator, unless the attempt before
+    /// failed too.
     fn pause(&self, has_failed: bool, error: &io::Error) {
         if !has_failed {
             let _ = eprintln!(self.rt; "fc: no connection for the page: {error}");
@@ -167,8 +170,8 @@ impl<'a> PagePort<'a> {
         thread::sleep(self.rt, Duration::from_millis(PAUSE_MILLISECONDS));
     }
 
-    /// Accepts the next connection, if there is one, and there is room for it. Returns whether it did. `has_failed` says
-    /// whether the last one couldn't be accepted.
+    /// Accepts the next connection, if there is one, and there is room for it. Returns whether it did. `has_failed`
+    /// says whether the last one couldn't be accepted.
     fn accept_next<R: Clock>(
         &self,
         rt: &R,
@@ -204,7 +207,7 @@ impl Watcher for PagePort<'_> {
         rt: &R,
         forecourt: &Forecourt<L, J>,
     ) {
-        // The first look counts all entries. If memory runs out for that, the next one does.
+        // The first look counts all entries. If memory runs out for that, the next look counts them.
         let _ = forecourt.look(rt, 0);
         let mut answers = Answers {
             rt,

@@ -134,8 +134,8 @@ fn make_bits(list: Place, points: u32, values: &[i64]) -> Result<u32, ConfigFlaw
     add_points(list, points, values)
 }
 
-/// States that by the configuration a door takes a line of a till, or a line that names a point, exactly if a session
-/// of its role may send it. Does nothing.
+/// States that a door's role in the configuration and the role of its sessions agree: the door takes a line of a till,
+/// or a line that names a point, exactly if the role of its sessions may send that line. Does nothing.
 pub fn law_of_own_lines()
     ensures { DoorsTakeOwnLines }
 {}
@@ -365,9 +365,9 @@ fn first_left(side: Side, doors: &[RawDoor], most: u32) -> Option<ConfigFlaw>
     None
 }
 
-/// Checks the doors of one side. `shared` is the number of the shared door's workers, and `most` the most workers that
-/// the side may have. The error is `TooManyWorkers`, or `WithoutDoor` for the first till, or point, whose lines no door
-/// takes.
+/// Checks the doors of one side. `shared` is the number of the shared door's workers, `most` is the most workers that
+/// the side may have, and `numbers` is how many tills or points the site has. The error is `TooManyWorkers`, or
+/// `WithoutDoor` for the first till, or point, whose lines no door takes.
 #[tactic(auto, unfolding(crate::specs::Doors::side_fits))]
 fn check_side(
     side: Side,
@@ -451,7 +451,7 @@ fn number_of(key: Key, value: i64, low: u32, high: u32) -> Result<u32, ConfigFla
 }
 
 /// Makes the settings of `[serve]` for a site that has `tills` tills and `points` points, at most 32. The error is the
-/// first K3, or that memory ran out.
+/// first flaw that is a K3, or that memory ran out.
 #[tactic(auto, unfolding(crate::specs::Doors::serve_of))]
 pub(crate) fn make_serve(
     alloc: Global,

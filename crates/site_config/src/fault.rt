@@ -7,7 +7,7 @@ pub enum ConfigFault {
     K1,
     /// A wrong or missing key, or a wrong type.
     K2,
-    /// A range, length, count or condition that isn't met.
+    /// A value is out of its range, a list has a wrong number of items, or another condition isn't met.
     K3,
     OutOfMemory,
 }

@@ -435,7 +435,8 @@ impl ConfigFlaw {
         }
     }
 
-    /// Returns the line and the column at which a text stops being a document, for a K1, or None for other flaws.
+    /// Returns the line and the column of a K1, both counted from 1: where the text stops being UTF-8, or where the
+    /// TOML reader found an error. Returns `None` for other flaws.
     pub fn position(&self) -> Option<(usize, usize)>
         ensures { result ≡ position_of self.now }
     {

@@ -23,8 +23,8 @@ fn is_head_end(bytes: &[u8]) -> bool
 /// Reads the bytes up to the first line `---` and returns them with that line, or all bytes if there is no such line.
 /// What follows the line stays unread. Reading also stops once there are too many bytes for a configuration.
 ///
-/// `left` is how many reads may still be made, of one byte each. The error is that none is left, that the input failed,
-/// or that memory ran out at a byte that was read.
+/// Each read is of one byte and subtracts 1 from `left`, the number of reads that may still be made. The error is that
+/// no read is left, that the input failed, or that there was no memory for a byte that was read.
 pub fn read_head<I: LineIn>(
     alloc: Global,
     input: &mut I,
@@ -55,8 +55,8 @@ pub fn read_head<I: LineIn>(
     }
 }
 
-/// Returns the configuration in the bytes that `read_head` returned: what comes before the line `---`. None if it has
-/// over 65,536 bytes.
+/// Returns the configuration in the bytes that `read_head` returned: what comes before the line `---`. `None` if the
+/// configuration has over 65,536 bytes.
 pub fn config_part(bytes: &[u8]) -> Option<&[u8]>
     ensures { option_map (λ part. part.now) result ≡ head_part bytes.now }
 {

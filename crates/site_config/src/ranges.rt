@@ -217,7 +217,7 @@ fn maybe_serve(
     }
 }
 
-/// Makes the settings from the keys of a document. The error is the first K3, or that memory ran out.
+/// Makes the settings from the keys of a document. The error is the first flaw that is a K3, or that memory ran out.
 #[tactic(auto, using(crate::proofs::Making::prices_made), unfolding(crate::specs::Ranges::told_of, crate::specs::Memory::TakesSettings))]
 fn make_settings(alloc: Global, raw: &Raw) -> Result<Settings, ConfigFlaw>
     ensures read { Finds told result (told_of (seen raw.now)) }

@@ -109,8 +109,8 @@ fn add_shared(
     Ok(doors)
 }
 
-/// Reads how many workers a shared door has, or `None` if there is no such door. The key `key` must be given exactly if
-/// there is one. The error is `Missing`, `Needless` or `WrongType`.
+/// Reads how many workers a shared door has, or `None` if there is no such door. The key `key` must be given if there
+/// is such a door, and must not be given otherwise. The error is `Missing`, `Needless` or `WrongType`.
 #[tactic(auto, unfolding(crate::specs::Typed::workers_at))]
 fn read_workers(table: &Table, keys: (Key, Key), key: Key) -> Result<Option<i64>, ConfigFlaw>
     ensures read { Finds (λ x. x) result (workers_at keys key (table_view table.now)) }
@@ -298,7 +298,7 @@ fn read_served(alloc: Global, value: &Value) -> Result<Served, ConfigFlaw>
     })
 }
 
-/// Reads the table `[serve]`, if there is one. The error is the first K2 in it, or that memory ran out.
+/// Reads the table `[serve]`, if there is one. The error is the first flaw in it that is a K2, or that memory ran out.
 #[tactic(auto, unfolding(crate::specs::Typed::served_at))]
 pub fn find_served(alloc: Global, table: &Table) -> Result<Option<Served>, ConfigFlaw>
     ensures read { Finds (option_map seen_serve) result (served_at (table_view table.now)) }

@@ -27,7 +27,7 @@ impl Text {
         Text { text }
     }
 
-    /// Copies a text. The error is that memory ran out, which only a text that isn't empty needs.
+    /// Copies a text. The error is that memory ran out. An empty text needs no memory.
     pub fn copied(alloc: Global, text: &str) -> Result<Text, AllocError>
         ensures same { IfOk result (λ copy. copy ≡ text.now) }
         ensures memory { OnErr result (0 < length text.now) }

@@ -16,7 +16,7 @@ use crate::values::{
 use std::alloc::Global;
 use toml::{Table, Value};
 
-/// Reads the numbers of two keys from a table.
+/// Reads the values of two keys from a table. Both must be numbers.
 #[tactic(auto, unfolding(crate::specs::Typed::pair_in, crate::specs::Memory::TakesPair))]
 fn read_pair(
     alloc: Global,
@@ -65,7 +65,7 @@ fn read_counter(alloc: Global, value: &Value, place: usize) -> Result<(i64, i64)
     )
 }
 
-/// Reads each item of a list as a point, and returns its two slots.
+/// Reads each item of a list as a point, and returns the two slots of each point.
 fn read_points(alloc: Global, values: &[Value]) -> Result<Vec<(i64, i64)>, ConfigFlaw>
     ensures read { Finds (λ v. v.items) result (each_in point_in 0 (items_view values.now)) }
     ensures memory { result ≡ Err ConfigFlaw.OutOfMemory → KeepsFirst point_in TakesPoint (items_view values.now) }
@@ -77,7 +77,7 @@ fn read_points(alloc: Global, values: &[Value]) -> Result<Vec<(i64, i64)>, Confi
     Ok(pairs)
 }
 
-/// Reads each item of a list as a counter, and returns its value and its bound.
+/// Reads each item of a list as a counter, and returns the value and the bound of each counter.
 fn read_counters(alloc: Global, values: &[Value]) -> Result<Vec<(i64, i64)>, ConfigFlaw>
     ensures read { Finds (λ v. v.items) result (each_in counter_in 0 (items_view values.now)) }
     ensures memory { result ≡ Err ConfigFlaw.OutOfMemory → KeepsFirst counter_in TakesCounter (items_view values.now) }
@@ -121,8 +121,7 @@ fn find_counters(alloc: Global, table: &Table) -> Result<Vec<(i64, i64)>, Config
     }
 }
 
-/// Reads the values of all keys of a document. The error is the first K2 (an unknown key, a missing key or a wrong
-/// type), or that memory ran out.
+/// Reads the values of all keys of a document. The error is the first flaw that is a K2, or that memory ran out.
 #[tactic(auto, unfolding(crate::specs::Typed::typed_of, crate::specs::Memory::TakesTyped))]
 pub fn read_typed(alloc: Global, table: &Table) -> Result<Raw, ConfigFlaw>
     ensures read { Finds seen result (typed_of (table_view table.now)) }

@@ -100,7 +100,7 @@ pub fn array_of(value: &Value, place: Place) -> Result<&Vec<Value>, ConfigFlaw>
         .ok_or(ConfigFlaw::WrongType(place, Type::Array))
 }
 
-/// Returns the number of a key. The error is `Missing` or `WrongType`.
+/// Returns the value of a key, which must be a number. The error is `Missing` or `WrongType`.
 pub fn read_integer(table: &Table, section: Section, key: Key) -> Result<i64, ConfigFlaw>
     ensures read { Finds (λ x. x) result (integer_at section key (table_view table.now)) }
     ensures memory { result ≢ Err ConfigFlaw.OutOfMemory }
@@ -184,7 +184,7 @@ fn is_dispenser(key: &str) -> bool
 }
 
 /// Checks that a table of this section may have each key of `table`. The error is `UnknownKey` with the first key that
-/// it may not have, or that memory ran out.
+/// such a table may not have, or that memory ran out.
 pub fn check_keys(alloc: Global, table: &Table, section: Section) -> Result<(), ConfigFlaw>
     ensures read { Finds (λ x. x) result (known_in section (table_view table.now)) }
     ensures memory { result ≡ Err ConfigFlaw.OutOfMemory → CopiesKey section (table_view table.now) }
@@ -215,7 +215,7 @@ pub fn read_integers(
     Ok(numbers)
 }
 
-/// Returns the array of a key. The error is `Missing` or `WrongType`.
+/// Returns the value of a key, which must be an array. The error is `Missing` or `WrongType`.
 pub fn find_array(table: &Table, section: Section, key: Key) -> Result<&Vec<Value>, ConfigFlaw>
     ensures read { Finds
         (λ v. items_view v.now.items) result (array_at section key (table_view table.now)) }

@@ -133,8 +133,8 @@ impl Config {
         })
     }
 
-    /// Returns the configuration of a site that begins with this opening, in place of any other. The error is why no
-    /// site with these points can begin with it, or, if one can, that memory ran out.
+    /// Returns this configuration with this opening, in place of any that it had. The error is why a site with this
+    /// many points can't begin with the opening, or, if it can, that memory ran out.
     pub fn opened(self, alloc: Global, opening: Opening) -> Result<Config, OpeningFault>
         ensures value { IfOk result (λ config. config ≡ record self { opening = Some opening }) }
         ensures fits { OnOk result (IsOpening (length self.points) opening) }

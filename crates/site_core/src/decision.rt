@@ -1,4 +1,5 @@
-//! The parts of a decision: the checks before a program is run, what is granted, and the counters that the run changed.
+//! The parts of a decision: the checks before a program is run, what is granted, and the declared counters before and
+//! after the run.
 
 ghost use Rattle.std.specs.Prelude.{◌≡◌, ◌<◌, ◌≤◌, IfOk, IsOk};
 ghost use Rattle.site_core.specs.Decide.{has_room, asked_at, price_at, granted_point, command_of, counts, count_of};
@@ -52,8 +53,9 @@ pub fn asked_at(point: &Point, question: Question) -> Result<Question, Reply>
     Ok(question)
 }
 
-/// Checks the question of a price change, and returns it. `busy` is the state of the first busy point. The error is the
-/// refusal for which no program is run: a price or product out of range (S25), else a busy point (S22).
+/// Checks the question of a price change, and returns it. `busy` is the state of the first busy point, if there is one.
+/// The error is the refusal for which no program is run: a price or product out of range (S25), else a busy point
+/// (S22).
 pub fn price_at(busy: Option<State>, question: Question) -> Result<Question, Reply>
     ensures question { result ≡ price_at busy question }
     ensures fits { IfOk result (λ q. (1 ≤ q.product) × (q.product ≤ PRODUCTS) × (q.asked ≤ GREATEST_PRICE)) }

@@ -1,5 +1,5 @@
-//! Decisions whose program is run outside the site: a draft is made while the site is locked, run while it isn't, and
-//! committed while it is locked again.
+//! Decisions whose program is run outside the site: a draft is made under the site's lock, run without it, and
+//! committed under it.
 
 ghost use Rattle.std.specs.Prelude.{◌≡◌, IfOk, IsOk, OnErr, None, length};
 
@@ -22,8 +22,8 @@ use std::marker::Model;
 use std::sync::Arc;
 use till_request::{Act, Request};
 
-/// All that the run for a request needs of a site, copied when the decision begins. In that state the site didn't
-/// refuse the request.
+/// All that the run for a request needs of a site, copied when the decision begins. A draft is made only if the site
+/// would then run a program for the request.
 #[derive(Drop)]
 pub struct Draft {
     till: u32,
@@ -179,10 +179,11 @@ impl Ready {
     ghost use Rattle.site_core.specs.Asked.{DiffersIfStale, basis_in};
     ghost use Rattle.site_core.specs.Outside.{IsRunOf};
 
-    /// Carries out what the program answered and returns its entry, with this number and pass, if nothing that the run
-    /// depends on has changed since. Else the error is the first change that was found, or, if nothing has changed, that
-    /// memory ran out; then the station is unchanged. Counters that the program doesn't declare keep their current values.
-    /// If the till asked to release fuel, it is granted at most the amount that is preset at the point now, if one is.
+    /// Carries out what the program answered and returns the decision's entry, with this number and pass, if nothing
+    /// that the run depends on has changed since the draft was made. Else the error is the first change that was found.
+    /// If nothing has changed, the error is that memory ran out. After an error the station is unchanged. Counters that
+    /// the program doesn't declare keep their current values. If the till asked to release fuel, it is granted at most
+    /// the amount that is preset at the point now, if one is.
     pub(crate) fn settle(
         &self,
         alloc: Global,

@@ -13,8 +13,8 @@ ghost use Rattle.site_core.specs.Audit.{OwnAudit};
 ghost use Rattle.site_core.specs.Days.{BoundsStay, DayGoesOn, EachEventGoesOn, HoldersStay};
 ghost use Rattle.site_core.specs.declared.why.Why.{Why};
 
-/// A law: if nothing that a draft's run depends on differs, there is no first difference. So a commit is done exactly
-/// if it isn't stale.
+/// A law: if nothing that a draft's run depends on differs, there is no first difference. So a commit returns `Stale`
+/// only if something has changed.
 pub fn fresh_differs_nowhere()
     ensures { (now : Basis) (draft : DraftValue) (why : Why) → IsFresh now draft → Differs now draft why → ⊥ }
 {}
@@ -36,19 +36,19 @@ pub fn audit_of_its_own_history()
 {}
 
 /// A law: closing a day changes nothing but the numbers of entries. The legal histories of the next day are those by
-/// which the day before could have gone on, and they lead to the same states. It holds while both days together have at
-/// most 1,048,576 entries and fewer than 4,096 versions.
+/// which the day before could have gone on, and they lead to the same states. The law holds while both days together
+/// have at most 1,048,576 entries and fewer than 4,096 versions.
 pub fn day_goes_on()
     ensures { DayGoesOn }
 {}
 
 /// A law: an event of the next day has the effect that it would have had if the day before had gone on, however many
-/// entries both days have. It holds while both have fewer than 4,096 versions together.
+/// entries the two days have. The law holds while they have fewer than 4,096 versions together.
 pub fn each_event_goes_on()
     ensures { EachEventGoesOn }
 {}
 
-/// A law: each counter that a site leaves for the next day has the bound that it began with.
+/// A law: the counters that a site leaves for the next day have the same bounds as those that the site began with.
 pub fn bounds_stay()
     ensures { BoundsStay }
 {}

@@ -167,9 +167,9 @@ impl Opening {
     }
 }
 
-/// Returns the first of the numbers that only grow that is too great for an opening, in the order of `OpeningFault`, or
-/// `None` if each can be in one. The numbers are those of the points' newest transactions, the total and the count of
-/// what was cleared, and the count of versions. Allocates no memory.
+/// Returns the first fault that these numbers would have in an opening, in the order of `OpeningFault`, or `None` if
+/// they have none. They are the numbers that only grow: those of the points' newest transactions, the total and the
+/// count of what was cleared, and the count of versions. Allocates no memory.
 pub(crate) fn first_grown(
     points: &[Point],
     cleared: u64,

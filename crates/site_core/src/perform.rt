@@ -28,8 +28,8 @@ use std::alloc::{AllocError, Global};
 use std::sync::Arc;
 use till_request::{Act, Bytes, Reply, Request};
 
-/// Carries out an event, and returns its entry, with this number. The error is that memory ran out; then nothing has
-/// changed, as all memory is allocated before the first change.
+/// Carries out an event, and returns its entry, with this number. The error is that memory ran out. Then the station
+/// and the slots are unchanged.
 pub fn perform(
     alloc: Global,
     config: &Config,
@@ -186,7 +186,7 @@ pub fn routed(config: &Config, station: &Station, till: u32, request: &Request) 
     }
 }
 
-/// Decides a question: checks it, runs the newest program in its slot, and carries out what that answers. Returns the
+/// Decides a question: checks it, runs the program in its slot, and carries out what the program answers. Returns the
 /// reply, and the run if there is one. The error is that memory ran out; then the station is unchanged.
 fn decide(
     alloc: Global,

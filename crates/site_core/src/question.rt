@@ -26,8 +26,8 @@ pub struct Question {
     pub slot: u32,
 }
 
-/// What a request leads to: a question to a program, a command to the point of this number, or the display of that
-/// point.
+/// What a request leads to: a question to a program, a command to the point of this number, or a reply that shows the
+/// point of this number.
 #[derive(Clone, Copy)]
 pub enum Asks {
     Decision(Question),

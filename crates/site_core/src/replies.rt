@@ -19,7 +19,7 @@ pub const BAD_AMOUNT: Reply = Reply::Refused(25, None);
 /// S26: two transactions of the point are unpaid, which is the most.
 pub const TRANSACTIONS_FULL: Reply = Reply::Refused(26, None);
 
-/// S27: another till holds the transaction, or this till would have to hold it and doesn't.
+/// S27: another till holds the transaction, or no till holds it and the request is to unlock or clear it.
 const NOT_YOUR_TRANSACTION: Reply = Reply::Refused(27, None);
 
 /// S28: there is no unpaid transaction of this number.

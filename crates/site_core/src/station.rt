@@ -376,7 +376,8 @@ impl Station {
         ]
     }
 
-    /// Returns the product of a question: the one whose price is asked, or else that of the point's lifted nozzle.
+    /// Returns the product of a question: for a price change the product whose price is to change, else the product of
+    /// the point's lifted nozzle, or 0 if none is lifted.
     fn product_of(&self, question: &Question) -> u32
         ensures { result ≡ product_of self.now question.now }
     {
@@ -469,8 +470,8 @@ impl Station {
         Reply::Granted(self.grant(till, question, r0), version)
     }
 
-    /// Grants what is asked, as far as the program's answer allows, and returns what was granted: cents, or thousandths
-    /// for a price.
+    /// Grants what is asked, as far as the program's answer and, for a release, the point's preset allow. Returns what
+    /// was granted: cents, or thousandths for a price.
     fn grant(&mut self, till: u32, question: &Question, r0: u64) -> u64
         requires bounded { HasRoom self.old }
         requires till { 0 < till }

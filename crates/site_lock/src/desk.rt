@@ -21,9 +21,9 @@ use std::alloc::Global;
 use std::sync::Wait;
 use till_request::{Act, Answer};
 
-/// A desk that calls a forecourt with one pass, and whose gate runs the programs that decide. A load's program is
-/// verified before the lock is taken; if it is refused, the answer is its V line, and there is no event. Once the
-/// journal has failed, each event is answered with `JournalFailed`, which ends the session without a line.
+/// A desk that calls a forecourt with one pass and one gate. A load's program is verified before the lock is taken. If
+/// the verifier refuses it, the answer names that refusal, such as V11, and there is no event. Once the journal has
+/// failed, each event is answered with `JournalFailed`, which ends the session without a line.
 #[derive(Drop)]
 pub struct PassDesk<'a, L: SiteLedger, R: Wait, G: Gate + Drop, J: Journal = NoJournal> {
     rt: &'a R,

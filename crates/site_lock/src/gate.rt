@@ -1,9 +1,9 @@
-//! The gate, which runs programs while nobody holds the lock.
+//! The gate, which runs programs without the lock.
 ghost use Rattle.std.specs.Prelude.{◌≡◌};
 
 use site_core::{Draft, Ready};
 
-/// A gate: it runs drafts while no lock is held. It counts its calls in 64 bits, and the count wraps.
+/// Runs drafts while its caller doesn't hold the lock. A gate counts its calls in 64 bits, and the count wraps.
 pub trait Gate {
     ghost use Rattle.std.specs.Prelude.{◌≡◌, ℕ};
     ghost use Rattle.till_request.specs.Count.{RoseBy};
@@ -12,7 +12,7 @@ pub trait Gate {
     /// The number of calls so far.
     ghost calls: { Self → ℕ };
 
-    /// States that a call made this run, and the state of the gate after it.
+    /// States that a call on a gate in the first state makes this run, and leaves the gate in the second state.
     ghost makes: { Self → ReadyValue → Self → Type 0 };
 
     /// Runs the draft of a till's request.

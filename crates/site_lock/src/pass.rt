@@ -10,8 +10,8 @@ use till_request::{Act, Reply};
 /// that the forecourt starts from.
 ///
 /// A forecourt lives and ends in one function that is generic over its ledger. The function is called with `Brand` as
-/// the ledger, and the proof of the call chooses name, parts and configuration. So a pass of another forecourt doesn't
-/// compile.
+/// the ledger, and the proof of the call chooses name, parts and configuration. So code that uses a pass of another
+/// forecourt doesn't compile.
 pub trait SiteLedger: Ledger {
     ghost use Rattle.std.specs.Prelude.{List, Option, ℕ};
     ghost use Rattle.decision_journal.specs.declared.entries.Entry.{Entry};

@@ -7,7 +7,8 @@ use std::alloc::{AllocError, Global};
 use std::sync::Arc;
 use till_request::Role;
 
-/// A door that is open: whose lines it takes, where its connections come in, and how many workers serve them.
+/// A door that is open. Here a door is a listener with its workers, not one connection: whose lines are taken, where
+/// connections come in, and how many workers serve them.
 #[derive(Drop)]
 pub struct OpenDoor {
     pub role: Role,

@@ -51,7 +51,8 @@ fn longer(pause: u64) -> u64
     }
 }
 
-/// Returns the failure to report to an operator, or `None` if the peer ended the session after a whole line.
+/// Returns the failure to report to an operator, or `None` if the session ended after a whole line, or before the peer
+/// sent anything.
 fn failure_of(outcome: &Result<Ended, SessionFault>) -> Option<SessionFailure>
     ensures { result ≡ told_of outcome.now }
 {
@@ -63,7 +64,8 @@ fn failure_of(outcome: &Result<Ended, SessionFault>) -> Option<SessionFailure>
 
 impl<'a, R: Clock, N: Notices> SocketDoors<'a, R, N> {
     /// Makes the doors of a listener, for the worker that has this pass and takes the lines of this role. No connection
-    /// has been asked for yet. A peer may send nothing for `idle_seconds`; 0 is no limit.
+    /// has been asked for yet. A peer may send nothing, or take no bytes of an answer, for `idle_seconds`; 0 is no
+    /// limit.
     pub fn new(
         rt: &'a R,
         listener: &'a Listener,
@@ -132,7 +134,8 @@ impl<'a, R: Clock, N: Notices> SocketDoors<'a, R, N> {
         thread::sleep(self.rt, Duration::from_millis(self.pause));
     }
 
-    /// Reports why a session failed to an operator, unless the peer ended it after a whole line.
+    /// Reports why a session failed to an operator. Reports nothing if the session ended after a whole line, or before
+    /// the peer sent anything.
     fn report(&self, outcome: &Result<Ended, SessionFault>)
         ensures { IfSome (told_of outcome.now) (λ failure. N.failure_told self.now.role self.now.pass failure) }
     {

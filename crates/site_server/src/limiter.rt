@@ -37,8 +37,8 @@ impl Limiter {
         }
     }
 
-    /// Returns how many lines were held back since the last one that was let through, at most 2^64 - 1. The result is
-    /// `None` if this line is held back itself.
+    /// Decides whether a line of this second is let through. Returns how many lines were held back since the last one
+    /// that was let through, at most 2^64 - 1, or `None` if this line is held back itself.
     pub fn admit(&mut self, second: u64) -> Option<u64>
         ensures admitted { result ≡ admitted self.old second }
         ensures after { self.new ≡ after_line self.old second }

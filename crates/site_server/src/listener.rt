@@ -17,7 +17,8 @@ pub enum Listener {
 }
 
 impl Listener {
-    /// Opens a port of 127.0.0.1 alone; 0 is a free one. A port above 65,535 is `InvalidInput`.
+    /// Opens a port of 127.0.0.1, to which only this machine can connect. For 0 the system chooses a free port. A port
+    /// above 65,535 gives the error `InvalidInput`.
     pub fn on_port<R: Net<Listener = TcpListener, Stream = TcpStream>>(
         rt: &R,
         port: u32,

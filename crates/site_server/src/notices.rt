@@ -31,7 +31,7 @@ impl fmt::Display for SessionFailure {
 }
 
 /// Receives reports from the workers of a site: on what went wrong, for an operator to read, and on connections, which
-/// may be counted. All workers share one receiver, and none waits until a report is read.
+/// may be counted. All workers share one receiver, and a report has no answer.
 pub trait Notices {
     ghost use Rattle.std.specs.Prelude.{ℕ};
     ghost use Rattle.till_request.specs.declared.act.Role.{Role};

@@ -59,8 +59,8 @@ pub enum ServeFault {
     OutOfMemory,
     /// The journal failed, so the act of the last entry was never answered.
     Journal,
-    /// The receipts of the workers aren't the site's history. A pass is missing (C1), an answer isn't in the history
-    /// (C2), or a pass is of another configuration (C3).
+    /// The close was refused, as the receipts of the workers differ from the site's history (C2). By the contract of
+    /// `Serving::run` this is never a missing pass (C1) or another configuration (C3).
     NotClosed(CloseRefusal),
 }
 
@@ -82,7 +82,7 @@ pub struct Unclosed<J: Journal = NoJournal> {
     pub back: Option<(Site, J)>,
 }
 
-/// The memory that serving needs, allocated before anything is served.
+/// What is allocated before anything is served.
 #[derive(Drop)]
 struct Prepared<L: SiteLedger> {
     builder: ForecourtBuilder<L>,
@@ -226,8 +226,8 @@ impl<J: Journal + Send> Serving<J> {
         self.run_on::<Brand, N, A, W, R>(rt, alloc, blank, outside)
     }
 
-    /// Serves the site like `run`, with a ledger made from `blank`. Once everything is prepared, this allocates no
-    /// memory.
+    /// Serves the site like `run`, with a ledger made from `blank`. Once everything is prepared, the fault can't be
+    /// `OutOfMemory` any more.
     fn run_on<
         L: SiteLedger + Send + Sync,
         N: Notices + Sync,

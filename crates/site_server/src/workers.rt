@@ -28,7 +28,7 @@ pub struct Workers<'a, L: SiteLedger, J: Journal, N: Notices, A: Release, R: Wai
     pub release: &'a A,
     /// The number of connections that each worker serves.
     pub connections: u32,
-    /// The most seconds for which a peer may be silent; 0 is no limit.
+    /// The most seconds that a peer may send nothing, or take no bytes of an answer; 0 is no limit.
     pub idle_seconds: u32,
 }
 
@@ -73,8 +73,8 @@ impl<L: SiteLedger, J: Journal, N: Notices, A: Release, R: Wait + Clock> Workers
         self.serve(pass, role, &mut doors)
     }
 
-    /// Serves the connections of a role with one pass. Rules run while nobody holds the site's lock. Returns the pass,
-    /// with the receipts that it gained, and the number of connections that ended without fault.
+    /// Serves the connections of a role with one pass. Rules run without the site's lock, except after two stale runs.
+    /// Returns the pass, with the receipts that it gained, and the number of connections that ended without fault.
     fn serve<S: Doors>(&self, pass: Pass<L>, role: Role, doors: &mut S) -> (Pass<L>, u64)
         ensures served { (moment : ℕ)
             × Serves (Visits S.opens S.fails S.told

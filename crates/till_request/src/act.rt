@@ -10,8 +10,8 @@ use fuelling_point::{DispenserEvent, Order};
 use std::alloc::{AllocError, Global};
 use std::marker::Model;
 
-/// A list of bytes, such as a program's. Contracts see it as a list of numbers. It is kept behind a pointer, so that an
-/// act, which seldom has one, is small.
+/// A list of bytes, such as a program's. Contracts see it as a list of numbers. The list is kept behind a pointer, so
+/// that an act, which seldom has such a list, is small.
 #[derive(Drop)]
 pub struct Bytes {
     items: Option<Box<Vec<u8>>>,
@@ -27,7 +27,7 @@ impl Model for Bytes {
 }
 
 impl Bytes {
-    /// Makes a `Bytes` of a vector's bytes. The error is that memory ran out, which an empty vector doesn't need.
+    /// Makes a `Bytes` of a vector's bytes. The error is that memory ran out. An empty vector needs no memory.
     pub fn new(alloc: Global, items: Vec<u8>) -> Result<Self, AllocError>
         ensures same { IfOk result (λ b. b ≡ items.items) }
         ensures memory { OnErr result (0 < length items.items) }
@@ -41,8 +41,8 @@ impl Bytes {
         }
     }
 
-    /// Makes a `Bytes` with a copy of a slice's bytes. The error is that memory ran out, which an empty slice doesn't
-    /// need.
+    /// Makes a `Bytes` with a copy of a slice's bytes. The error is that memory ran out. An empty slice needs no
+    /// memory.
     pub fn from_slice(alloc: Global, items: &[u8]) -> Result<Self, AllocError>
         ensures same { IfOk result (λ b. b ≡ items.now) }
         ensures memory { OnErr result (0 < length items.now) }
@@ -80,8 +80,8 @@ impl PartialEq for Bytes {
     }
 }
 
-/// A till's request. The first number is a point's, or for `Price` a product's. The second number of `Lock`, `Unlock`
-/// and `Clear` is that of one of the point's transactions.
+/// A till's request. The first number names a point, or for `Price` a product. The second number of `Lock`, `Unlock`
+/// and `Clear` names one of the point's transactions.
 #[derive(Clone, Copy, PartialEq)]
 pub enum Request {
     /// Allow a delivery of at most this amount, in cents.
@@ -153,7 +153,7 @@ pub enum Reply {
     Refused(u32, Option<u32>),
 }
 
-/// Who sends the lines. It decides which lines are accepted; any other line is a `BadLine`.
+/// Who sends the lines. The role decides which lines are accepted. Any other line is a `BadLine`.
 #[derive(Clone, Copy)]
 pub enum Role {
     /// The lines of any till.
@@ -170,7 +170,7 @@ pub enum Role {
     SomePoints(u32),
 }
 
-/// Why a line can't be read as an act. Each fault is given with its text.
+/// Why a line can't be read as an act. The comment of each fault begins with the fault's text.
 #[derive(Clone, Copy, PartialEq)]
 pub enum LineFault {
     /// `L1`: the line has more than 8,400 bytes before its LF, or before the end of the input.
@@ -197,8 +197,8 @@ pub enum Answer {
     OutOfMemory,
     /// The line can't be read as an act.
     Line(LineFault),
-    /// A program was refused. The numbers are the refusal's, such as 11 for `V11`, then that of the unit that it names,
-    /// and that of the register or argument that it names.
+    /// A program was refused. The first number is the refusal's, such as 11 for `V11`. The others are the numbers of
+    /// the unit, and of the register or argument, if the refusal names them.
     Program(u32, Option<u32>, Option<u32>),
     /// The journal failed, and the site accepts no further event. Sessions end without writing this answer.
     JournalFailed,

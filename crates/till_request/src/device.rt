@@ -35,9 +35,9 @@ pub trait LineIn {
         ensures asked_for { RoseBy (length buffer.new) (asked self.old) (asked self.new) };
 
     /// Moves bytes that the source has buffered to the end of `line`: only bytes before the next LF, and only until
-    /// `line` has 8,400. Each byte counts as a read of one byte and subtracts 1 from `left`. A source without a buffer
-    /// moves nothing. The error is that memory ran out, since the bytes to be moved have no place in the room of
-    /// `line`; nothing was moved then.
+    /// `line` has 8,400 bytes. Each byte counts as a read of one byte and subtracts 1 from `left`. A source without a
+    /// buffer moves nothing. The error is that memory ran out: the room of `line` is too small and can't grow. Nothing
+    /// was moved then.
     fn read_held(&mut self, line: &mut Vec<u8>, left: &mut u32) -> Result<(), AllocError>
         requires { IsLine line.old.items }
         ensures taken { OnOk result

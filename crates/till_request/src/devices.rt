@@ -31,8 +31,8 @@ pub struct MemoryIn {
 }
 
 impl MemoryIn {
-    /// Makes a source that returns `bytes`: at most `sizes[n]` of them at read n, and after that as many as the reader
-    /// asks for. If `good` is `Some(k)`, every read after the first k fails.
+    /// Makes a source that returns `bytes`: at most `sizes[n]` of them at read n, or as many as the read asks for if
+    /// `sizes` has no index n. If `good` is `Some(k)`, every read after the first k fails.
     pub fn new(bytes: Vec<u8>, sizes: Vec<usize>, good: Option<u64>) -> Self
         ensures bytes { result.bytes ≡ bytes }
         ensures start { result.at ≡ 0 }
@@ -164,8 +164,8 @@ impl<R: Read + Drop> LineIn for StreamIn<R> {
 /// The number of bytes that `Ahead` asks its source for at once.
 const AHEAD_BYTES: usize = 4096;
 
-/// A source that reads another one ahead, in blocks of 4,096 bytes. So a read of one byte, as lines are read, costs few
-/// instructions. It counts the reads that are made of it, not those that it makes of `input`.
+/// A source that reads ahead from another source, `input`, in blocks of 4,096 bytes. So a read of one byte, which is
+/// how lines are read, costs few instructions. Reads from this source are counted, and not reads from `input`.
 #[derive(Drop)]
 pub struct Ahead<I: LineIn> {
     pub input: I,
@@ -246,8 +246,8 @@ pub struct MemoryOut {
 }
 
 impl MemoryOut {
-    /// Makes a sink to which nothing was written yet: write n accepts at most `sizes[n]` bytes, and each later write
-    /// all of them. If `good` is `Some(k)`, every write after the first k fails.
+    /// Makes a sink to which nothing was written yet: write n accepts at most `sizes[n]` bytes, or all its bytes if
+    /// `sizes` has no index n. If `good` is `Some(k)`, every write after the first k fails.
     pub fn new(alloc: Global, sizes: Vec<usize>, good: Option<u64>) -> Self
         ensures bytes { result.bytes.items ≡ [] }
         ensures sizes { result.sizes ≡ sizes }

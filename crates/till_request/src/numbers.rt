@@ -33,7 +33,7 @@ fn value_of(word: &[u8]) -> Option<u64>
     Some(value)
 }
 
-/// Returns whether a word isn't empty and has no leading zero. The word `0` has none.
+/// Returns whether a word isn't empty and has no leading zero. The zero of the word `0` isn't a leading one.
 fn is_canonical(word: &[u8]) -> bool
     ensures { result ≡ has_no_leading_zero word.now }
 {

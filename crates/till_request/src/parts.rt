@@ -11,7 +11,8 @@ fn place_of(text: &[u8], separator: u8) -> Option<usize>
     text.iter().position(|b| *b == separator)
 }
 
-/// Returns the bytes before the first separator, and the bytes after it; the whole text and `None` if there is none.
+/// Returns the bytes before the first separator, and the bytes after it; the whole text and `None` if there is no
+/// separator.
 pub fn first_part(text: &[u8], separator: u8) -> (&[u8], Option<&[u8]>)
     ensures { MatchOption result.1 (slice_split (λ b. b == separator) text.now ≡ result.0.now ∷ [])
         (λ rest. (slice_split (λ b. b == separator) text.now
