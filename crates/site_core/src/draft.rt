@@ -17,13 +17,21 @@ use helpers::View;
 use interp::run;
 use program_slots::Slots;
 use reg_types::Program;
-use std::alloc::{AllocError, Global};
+use std::alloc::AllocError;
 use std::marker::Model;
 use std::sync::Arc;
 use till_request::{Act, Request};
 
+/// What a run starts from, except its program.
+#[derive(Clone, Copy)]
+struct Input {
+    context: Context,
+    view: View,
+    counters: Counters,
+}
+
 /// All that the run for a request needs of a site, copied when the decision begins. A draft is made only if the site
-/// would then run a program for the request.
+/// would then run a program for the request. The largest part is kept behind a pointer, as a draft is moved often.
 #[derive(Drop)]
 pub struct Draft {
     till: u32,
@@ -31,9 +39,7 @@ pub struct Draft {
     request: Request,
     version: u32,
     program: Arc<Program>,
-    context: Context,
-    view: View,
-    counters: Counters,
+    input: Box<Input>,
 }
 
 impl Model for Draft {
@@ -50,19 +56,19 @@ impl Model for Draft {
       moment = d.moment;
       request = d.request;
       version = record { number = d.version; program = arc_value d.program };
-      context = bytes_of d.context;
-      view = d.view;
-      counters = d.counters;
+      context = bytes_of d.input.value.context;
+      view = d.input.value.view;
+      counters = d.input.value.counters;
     } };
 
-    ghost invariant = { λ d. (layout_of d.context ≡ (arc_value d.program).layout) × WasAsked (record {
+    ghost invariant = { λ d. (layout_of d.input.value.context ≡ (arc_value d.program).layout) × WasAsked (record {
       till = d.till;
       moment = d.moment;
       request = d.request;
       version = record { number = d.version; program = arc_value d.program };
-      context = bytes_of d.context;
-      view = d.view;
-      counters = d.counters;
+      context = bytes_of d.input.value.context;
+      view = d.input.value.view;
+      counters = d.input.value.counters;
     }) };
 }
 
@@ -93,24 +99,31 @@ impl Draft {
         };
         let layout = program.layout();
         let program = Arc::try_clone(program)?;
-        Ok(Begin::Run(Draft {
-            till,
-            moment,
-            request: *request,
-            version,
-            program,
+        let input = Input {
             context: station.context(layout, till, moment, &question),
             view: *station.view(),
             counters: *station.counters(),
-        }))
+        };
+        match Box::new(station.alloc(), input) {
+            Ok(input) => Ok(Begin::Run(Draft {
+                till,
+                moment,
+                request: *request,
+                version,
+                program,
+                input,
+            })),
+            Err(_) => Err(AllocError),
+        }
     }
 
     /// Runs the draft's program. Allocates no memory.
     pub fn run(self) -> Ready
         ensures { result.draft ≡ self }
     {
-        let mut after = self.counters;
-        let r0 = run(&self.program, &self.context, &self.view, &mut after);
+        let input: &Input = &self.input;
+        let mut after = input.counters;
+        let r0 = run(&self.program, &input.context, &input.view, &mut after);
         Ready {
             draft: self,
             r0,
@@ -131,20 +144,21 @@ impl Draft {
         if let Err(now) = is_version(slots, question.slot, self.version, &self.program) {
             return Err(Why::Version(now));
         }
+        let input: &Input = &self.input;
         let layout = self.program.layout();
         let context = station.context(layout, self.till, self.moment, &question);
-        if let Some(at) = first_byte(context.bytes(), self.context.bytes()) {
+        if let Some(at) = first_byte(context.bytes(), input.context.bytes()) {
             return Err(Why::Context(at));
         }
         let view = station.view();
-        if let Some(place) = first_point(&view.points, &self.view.points) {
+        if let Some(place) = first_point(&view.points, &input.view.points) {
             return Err(Why::PointDiffers(place + 1));
         }
-        if let Some(place) = first_price(&view.prices, &self.view.prices) {
+        if let Some(place) = first_price(&view.prices, &input.view.prices) {
             return Err(Why::PriceDiffers(place + 1));
         }
         let counters = station.counters();
-        if let Some(c) = first_counter(self.program.declared(), counters, &self.counters) {
+        if let Some(c) = first_counter(self.program.declared(), counters, &input.counters) {
             return Err(Why::Counter(c, counters.get(c)));
         }
         Ok(question)
@@ -186,7 +200,6 @@ impl Ready {
     /// the amount that is preset at the point now, if one is.
     pub(crate) fn settle(
         &self,
-        alloc: Global,
         config: &Config,
         station: &mut Station,
         slots: &Slots,
@@ -213,13 +226,8 @@ impl Ready {
             Ok(question) => question,
             Err(why) => return Err(Unsettled::Stale(why)),
         };
-        let adopted = station.adopt(
-            alloc,
-            &draft.program,
-            &draft.context,
-            &draft.counters,
-            &self.after,
-        );
+        let input: &Input = &draft.input;
+        let adopted = station.adopt(&draft.program, &input.context, &input.counters, &self.after);
         let counts = match adopted {
             Ok(counts) => counts,
             Err(_) => return Err(Unsettled::OutOfMemory),
@@ -238,7 +246,7 @@ impl Ready {
                 slot: question.slot,
                 version: draft.version,
                 r0: self.r0,
-                context: draft.context,
+                context: input.context,
                 counts,
             }),
         })

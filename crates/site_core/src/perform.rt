@@ -53,7 +53,7 @@ pub fn perform(
     let Event { pass, moment, what } = event;
     match what {
         What::Till { till, request } => {
-            let (reply, run) = ask(alloc, config, station, slots, till, moment, request)?;
+            let (reply, run) = ask(config, station, slots, till, moment, request)?;
             Ok(Entry {
                 number,
                 pass,
@@ -121,7 +121,6 @@ fn load(slots: &mut Slots, slot: u32, program: Arc<Program>) -> Result<Reply, Al
 /// Carries out a till's request, and returns the reply, and the run if a program is run. The error is that memory ran
 /// out; then the station is unchanged.
 fn ask(
-    alloc: Global,
     config: &Config,
     station: &mut Station,
     slots: &Slots,
@@ -146,7 +145,7 @@ fn ask(
         return Ok((NO_SUCH_TILL, None));
     }
     match asks_of(config, &request) {
-        Asks::Decision(question) => decide(alloc, station, slots, till, moment, question),
+        Asks::Decision(question) => decide(station, slots, till, moment, question),
         Asks::Command(n, command) => Ok((station.command(till, n, command), None)),
         Asks::Show(n) => Ok((station.show(n), None)),
     }
@@ -189,7 +188,6 @@ pub fn routed(config: &Config, station: &Station, till: u32, request: &Request) 
 /// Decides a question: checks it, runs the program in its slot, and carries out what the program answers. Returns the
 /// reply, and the run if there is one. The error is that memory ran out; then the station is unchanged.
 fn decide(
-    alloc: Global,
     station: &mut Station,
     slots: &Slots,
     till: u32,
@@ -220,7 +218,7 @@ fn decide(
     };
     let layout = program.layout();
     let context = station.context(layout, till, moment, &question);
-    let (r0, counts) = station.run(alloc, program, &context)?;
+    let (r0, counts) = station.run(program, &context)?;
     let run = Run {
         slot: question.slot,
         version,

@@ -42,6 +42,7 @@ use till_request::Reply;
 /// cleared transactions.
 #[derive(Drop)]
 pub struct Station {
+    alloc: Global,
     points: Vec<Point>,
     /// What helpers can look up: the points, updated whenever a point changes, and the prices.
     view: View,
@@ -94,6 +95,7 @@ impl Station {
             prices: config.prices(),
         };
         Ok(Station {
+            alloc,
             points,
             view,
             counters: Counters::new(config.counters()),
@@ -114,12 +116,18 @@ impl Station {
             prices: opening.prices(),
         };
         Ok(Station {
+            alloc,
             points,
             view,
             counters: opening.counters,
             cleared: opening.cleared,
             clears: opening.clears,
         })
+    }
+
+    /// Returns where the station's memory comes from.
+    pub(crate) fn alloc(&self) -> Global {
+        self.alloc
     }
 
     /// Returns whether the site has a point of this number.
@@ -390,12 +398,7 @@ impl Station {
     /// Runs a program on the current state. Returns its answer, and the values of each declared counter before and
     /// after the run. The error is that memory for these values ran out; then the station is unchanged. For a program
     /// that declares no counter there is no error.
-    pub fn run(
-        &mut self,
-        alloc: Global,
-        program: &Program,
-        given: &Context,
-    ) -> Result<(u64, Counts), AllocError>
+    pub fn run(&mut self, program: &Program, given: &Context) -> Result<(u64, Counts), AllocError>
         requires { layout_of given.now ≡ program.now.layout }
         ensures ran { IfOk result (λ r. outcome program.now (bytes_of given.now) (view_of self.old) self.old.counters
             ≡ Ended r.0 self.new.counters) }
@@ -407,13 +410,13 @@ impl Station {
         let mask = program.declared();
         if mask == 0 {
             // No counter is declared, so nothing can fail after the run, and the run needs no copy of the counters.
-            let counts = note_counts(alloc, mask, &self.counters, &self.counters)?;
+            let counts = note_counts(self.alloc, mask, &self.counters, &self.counters)?;
             let r0 = run(program, given, &self.view, &mut self.counters);
             return Ok((r0, counts));
         }
         let before = self.counters;
         let r0 = run(program, given, &self.view, &mut self.counters);
-        match note_counts(alloc, mask, &before, &self.counters) {
+        match note_counts(self.alloc, mask, &before, &self.counters) {
             Ok(counts) => Ok((r0, counts)),
             Err(error) => {
                 self.counters = before;
@@ -427,7 +430,6 @@ impl Station {
     /// error is that memory ran out; then the station is unchanged.
     pub fn adopt(
         &mut self,
-        alloc: Global,
         program: &Program,
         given: &Context,
         before: &Counters,
@@ -446,7 +448,7 @@ impl Station {
         let own = self.counters;
         let current = &mut self.counters;
         rebase(program, given, &self.view, before, after, current);
-        match note_counts(alloc, program.declared(), &own, &self.counters) {
+        match note_counts(self.alloc, program.declared(), &own, &self.counters) {
             Ok(counts) => Ok(counts),
             Err(error) => {
                 self.counters = own;

@@ -19,23 +19,24 @@ returns-in-Some-first_counter c =
       moment = d.moment;
       request = d.request;
       version = record { number = d.version; program = arc_value d.program };
-      context = bytes_of d.context;
-      view = d.view;
-      counters = d.counters;
+      context = bytes_of d.input.value.context;
+      view = d.input.value.view;
+      counters = d.input.value.counters;
     } in
+    let input_is : c.deref-input.result.now ≡ d.input.value = c.deref-input.ensures in
     let layout_is : c.layout-layout.result ≡ draft.version.program.layout = c.layout-layout.ensures ∙ ap (λ (p : ProgramText). p.layout) c.deref-2.ensures in
     let given : c.context-context.result ≡ context draft.version.program.layout s d.till d.moment q =
     c.context-context.ensures.context ∙ ap (λ l. context l s d.till d.moment q) layout_is in
     let same : SameBasis c.args.config.now s c.args.slots.now draft q = record {
       routed_is = sym c.routed.ensures ∙ c.in-Some.is;
       version = c.in_default-is_version.ensures ∙ (λ i. Some (record { number = d.version; program = c.deref.ensures i }));
-      context_is = sym (ap bytes_of given) ∙ sym c.bytes.ensures.bytes ∙ c.in_default-first_byte.ensures ∙ c.bytes-2.ensures.bytes;
-      points = (λ i. (sym c.view-view.ensures i).points) ∙ c.in_default-first_point.ensures.first;
-      prices = (λ i. (sym c.view-view.ensures i).prices) ∙ c.in_default-first_price.ensures.first;
+      context_is = sym (ap bytes_of given) ∙ sym c.bytes.ensures.bytes ∙ c.in_default-first_byte.ensures ∙ c.bytes-2.ensures.bytes ∙ (λ i. bytes_of (input_is i).context);
+      points = (λ i. (sym c.view-view.ensures i).points) ∙ c.in_default-first_point.ensures.first ∙ (λ i. (input_is i).view.points);
+      prices = (λ i. (sym c.view-view.ensures i).prices) ∙ c.in_default-first_price.ensures.first ∙ (λ i. (input_is i).view.prices);
       was = c.self.invariant.1;
     } in
-    let differs : CounterDiffers (arc_value d.program).declared s.counters d.counters c.in-Some-first_counter.c =
-    rw (← c.deref-3.ensures, ← c.declared.ensures, ← c.counters-counters.ensures) c.in-Some-first_counter.ensures in
+    let differs : CounterDiffers (arc_value d.program).declared s.counters d.input.value.counters c.in-Some-first_counter.c =
+    rw (← c.deref-3.ensures, ← input_is, ← c.declared.ensures, ← c.counters-counters.ensures) c.in-Some-first_counter.ensures in
     rw (← c.self.view_is) (differs-counter c.args.config.now s c.args.slots.now draft q c.in-Some-first_counter.c c.get.result same differs
     (rw (← c.counters-counters.ensures) c.get.ensures.value))
 
@@ -49,21 +50,22 @@ returns c =
       moment = d.moment;
       request = d.request;
       version = record { number = d.version; program = arc_value d.program };
-      context = bytes_of d.context;
-      view = d.view;
-      counters = d.counters;
+      context = bytes_of d.input.value.context;
+      view = d.input.value.view;
+      counters = d.input.value.counters;
     } in
+    let input_is : c.deref-input.result.now ≡ d.input.value = c.deref-input.ensures in
     let layout_is : c.layout-layout.result ≡ draft.version.program.layout = c.layout-layout.ensures ∙ ap (λ (p : ProgramText). p.layout) c.deref-2.ensures in
     let given : c.context-context.result ≡ context draft.version.program.layout s d.till d.moment q =
     c.context-context.ensures.context ∙ ap (λ l. context l s d.till d.moment q) layout_is in
     let same : SameBasis c.args.config.now s c.args.slots.now draft q = record {
       routed_is = sym c.routed.ensures ∙ c.in-Some.is;
       version = c.in_default-is_version.ensures ∙ (λ i. Some (record { number = d.version; program = c.deref.ensures i }));
-      context_is = sym (ap bytes_of given) ∙ sym c.bytes.ensures.bytes ∙ c.in_default-first_byte.ensures ∙ c.bytes-2.ensures.bytes;
-      points = (λ i. (sym c.view-view.ensures i).points) ∙ c.in_default-first_point.ensures.first;
-      prices = (λ i. (sym c.view-view.ensures i).prices) ∙ c.in_default-first_price.ensures.first;
+      context_is = sym (ap bytes_of given) ∙ sym c.bytes.ensures.bytes ∙ c.in_default-first_byte.ensures ∙ c.bytes-2.ensures.bytes ∙ (λ i. bytes_of (input_is i).context);
+      points = (λ i. (sym c.view-view.ensures i).points) ∙ c.in_default-first_point.ensures.first ∙ (λ i. (input_is i).view.points);
+      prices = (λ i. (sym c.view-view.ensures i).prices) ∙ c.in_default-first_price.ensures.first ∙ (λ i. (input_is i).view.prices);
       was = c.self.invariant.1;
     } in
-    let agree : Agrees (arc_value d.program).declared d.counters s.counters =
-    rw (← c.deref-3.ensures, ← c.declared.ensures, ← c.counters-counters.ensures) c.in_default-first_counter.ensures in
+    let agree : Agrees (arc_value d.program).declared d.input.value.counters s.counters =
+    rw (← c.deref-3.ensures, ← input_is, ← c.declared.ensures, ← c.counters-counters.ensures) c.in_default-first_counter.ensures in
     rw (← c.self.view_is) (still-asked c.args.config.now s c.args.slots.now draft q same c.context-context.ensures.fits agree)

@@ -31,21 +31,23 @@ returns-clause-performed c =
       moment = d.moment;
       request = d.request;
       version = record { number = d.version; program = arc_value d.program };
-      context = bytes_of d.context;
-      view = d.view;
-      counters = d.counters;
+      context = bytes_of d.input.value.context;
+      view = d.input.value.view;
+      counters = d.input.value.counters;
     } in
     let still : StillAsked c.args.config.now s c.args.slots.now draft q = rw (c.draft.view_is) c.in-Ok.ensures in
     let layout : DraftValue → Layout = λ x. x.version.program.layout in
-    let given : context (layout draft) s d.till d.moment q ≡ d.context =
-    same-context (context (layout draft) s d.till d.moment q) d.context (context-layout (layout draft) s d.till d.moment q ∙ sym c.draft.invariant.0)
+    let given : context (layout draft) s d.till d.moment q ≡ d.input.value.context =
+    same-context (context (layout draft) s d.till d.moment q) d.input.value.context (context-layout (layout draft) s d.till d.moment q ∙ sym c.draft.invariant.0)
     still.context_is in
     let after : Counters = c.adopt-adopted.new.self.counters in
     let r0 = c.self.inside.r0 in
-    let outside : outcome c.deref.result.now (bytes_of d.context) (view_of s) d.counters ≡ Ended r0 c.self.inside.after =
-    (λ i. outcome (c.deref.ensures i) draft.context (still.view_is i) draft.counters) ∙ subst (λ (x : DraftValue). outcome x.version.program x.context x.view x.counters ≡ Ended r0 c.self.inside.after) (sym c.draft.view_is) c.self.invariant in
+    let input = c.deref-input.result.now in
+    let input_is : input ≡ d.input.value = c.deref-input.ensures in
+    let outside : outcome c.deref.result.now (bytes_of input.context) (view_of s) input.counters ≡ Ended r0 c.self.inside.after =
+    (λ i. outcome (c.deref.ensures i) (bytes_of (input_is i).context) (still.view_is i) (input_is i).counters) ∙ subst (λ (x : DraftValue). outcome x.version.program x.context x.view x.counters ≡ Ended r0 c.self.inside.after) (sym c.draft.view_is) c.self.invariant in
     let ran : outcome draft.version.program draft.context draft.view s.counters ≡ Ended r0 after =
-    (λ i. outcome (sym c.deref.ensures i) draft.context (sym still.view_is i) s.counters) ∙ c.in-Ok-adopted.ensures.ran r0 outside in
+    (λ i. outcome (sym c.deref.ensures i) (bytes_of (sym input_is i).context) (sym still.view_is i) s.counters) ∙ c.in-Ok-adopted.ensures.ran r0 outside in
     let counted : c.in-Ok-adopted.counts ≡ counts (arc_value d.program).declared s.counters after =
     c.in-Ok-adopted.ensures.noted ∙ ap (λ (t : ProgramText). counts t.declared s.counters after) c.deref.ensures in
     let told : settled (with_counters s after) d.till q d.version r0 ≡ (c.settle-reply.result, c.settle-reply.new.self) =
@@ -56,12 +58,12 @@ returns-clause-performed c =
       moment = d.moment;
       act = act.Till d.till d.request;
       reply = c.settle-reply.result;
-      run = Some (record { slot = q.slot; version = d.version; r0 = r0; context = d.context; counts = c.in-Ok-adopted.counts });
+      run = Some (record { slot = q.slot; version = d.version; r0 = r0; context = input.context; counts = c.in-Ok-adopted.counts });
     } in
     let verdict_is = verdict-is s d.till d.moment r0 q draft.version after c.settle-reply.result c.settle-reply.new.self told
     ∙ (λ i. record {
       reply = c.settle-reply.result;
-      run = Some (record { slot = q.slot; version = d.version; r0 = r0; context = given i; counts = sym counted i });
+      run = Some (record { slot = q.slot; version = d.version; r0 = r0; context = (given ∙ (λ j. (sym input_is j).context)) i; counts = sym counted i });
       after = c.settle-reply.new.self;
     }) in
     let Settled : DraftValue → Type 0 = λ x.
