@@ -76,6 +76,9 @@ impl Counters {
     pub fn adopt(&mut self, declared: u32, other: &Counters)
         ensures { (c : ℕ) → counter self.new c ≡ adopted declared other.now self.old c }
     {
+        if declared == 0 {
+            return;
+        }
         for c in 0..32 {
             if (declared >> c) % 2 == 1 {
                 self.cells[c] = other.cells[c];

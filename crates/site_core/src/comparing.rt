@@ -68,6 +68,9 @@ fn is_same_counter(declared: u32, a: &Counters, b: &Counters, c: u32) -> bool
 pub fn first_counter(declared: u32, a: &Counters, b: &Counters) -> Option<u32>
     ensures { MatchOption result (Agrees declared b.now a.now) (CounterDiffers declared a.now b.now) }
 {
+    if declared == 0 {
+        return None;
+    }
     // These reads give the prover that both have 32 counters.
     let _counters = (a.get(0), b.get(0));
     for c in 0..32 {

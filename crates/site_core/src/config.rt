@@ -1,10 +1,10 @@
 //! The configuration of a site.
 
-ghost use Rattle.std.specs.Prelude.{◌≡◌, ◌<◌, ◌↔◌, IfOk, IfErr, OnOk, IfSome, IsTrue, MatchOption, Some, None, is_some, length, option_map};
+ghost use Rattle.std.specs.Prelude.{◌≡◌, ◌<◌, ◌≤◌, ◌↔◌, All, IfOk, IfErr, OnOk, IfSome, IsTrue, MatchOption, Some, None, is_some, length, option_map};
 ghost use Rattle.std.specs.Arc.{arc_value};
 ghost use Rattle.site_core.specs.Opening.{IsOpening};
 ghost use Rattle.site_core.specs.Fitting.{Misfits};
-ghost use Rattle.site_core.specs.Limits.{ConfigValue, IsConfig};
+ghost use Rattle.site_core.specs.Limits.{ConfigValue, IsConfig, IsCounter};
 ghost use Rattle.std.specs.Bool.{OnTrue};
 ghost use Rattle.site_core.specs.Decide.{is_till, slots_of};
 
@@ -56,6 +56,22 @@ impl Model for Config {
     }) };
 }
 
+/// Returns whether these are the prices, points and counters of a configuration: each number is in its range, and there
+/// are 1 to 32 points.
+fn are_in_range(prices: &[u32; 8], points: &[(u32, u32)], counters: &[(u64, u64); 32]) -> bool
+    ensures { IsTrue result ↔ All (λ price. price ≤ 9999999) prices.now × (1 ≤ length points.now)
+        × (length points.now ≤ 32) × All (λ p. (p.0 ≤ 15) × (p.1 ≤ 15)) points.now × All IsCounter counters.now }
+{
+    (1..=32).contains(&points.len())
+        && prices.iter().all(|price| *price <= 9_999_999)
+        && points
+            .iter()
+            .all(|(release, preset)| *release <= 15 && *preset <= 15)
+        && counters
+            .iter()
+            .all(|(value, bound)| value <= bound && *bound <= MOST_COUNTER)
+}
+
 impl Config {
     /// Makes a configuration, or returns `None` if a value is out of its range: there are 1 to 64 tills and 1 to 32
     /// points, slots are 0 to 15, a price is at most 9,999,999 (0 for none), a counter's value is at most its bound,
@@ -86,22 +102,10 @@ impl Config {
         } in
             IsTrue (is_some result) ↔ IsConfig value }
     {
-        if tills < 1 || tills > 64 || price_slot > 15 || points.is_empty() || points.len() > 32 {
+        if tills < 1 || tills > 64 || price_slot > 15 {
             return None;
         }
-        if !prices.iter().all(|price| *price <= 9_999_999) {
-            return None;
-        }
-        if !points
-            .iter()
-            .all(|(release, preset)| *release <= 15 && *preset <= 15)
-        {
-            return None;
-        }
-        if !counters
-            .iter()
-            .all(|(value, bound)| value <= bound && *bound <= MOST_COUNTER)
-        {
+        if !are_in_range(&prices, points.as_slice(), &counters) {
             return None;
         }
         Some(Config {
