@@ -1,7 +1,7 @@
 //! The port of a served site on which a browser, Prometheus or a script looks at it: HTTP on 127.0.0.1.
 #![tactic(auto)]
 
-pub mod asked;
+mod asked;
 mod client;
 mod connections;
 mod journal_counts;
@@ -10,7 +10,6 @@ mod service;
 mod shown;
 mod timings;
 
-pub use asked::{Refusal, View};
 pub use connections::Connections;
 pub use journal_counts::JournalCounts;
 pub use port::PagePort;
