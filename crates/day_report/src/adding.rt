@@ -261,7 +261,7 @@ fn verdicts_of(
     })
 }
 
-/// What the sales of a history add up to, and the points after its last entry.
+/// What the sales of a history add up to, the points after the last entry, and what is unpaid there.
 #[derive(Drop)]
 struct Takings {
     sold: Sum,

@@ -1,4 +1,5 @@
-//! The days of a station as they are given.
+//! A station's days, as a caller gives them to be checked: one after another, each with its configuration, opening and
+//! journal.
 use site_core::Config;
 use std::fmt;
 use till_request::LineIn;

@@ -92,8 +92,8 @@ impl Progress {
         self.waiting.put(alloc, output, &answer)
     }
 
-    /// Ends a session that has given `lines` answers. If its last line has the fault `cut`, the fault is one more
-    /// answer, which is buffered or written.
+    /// Ends a session that has given `lines` answers. If its last line has the fault `cut`, the session answers that
+    /// line too, with the fault: the answer is buffered, or written at once if there is no memory to buffer it.
     fn end<O: LineOut>(
         &mut self,
         output: &mut O,

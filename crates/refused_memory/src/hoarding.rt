@@ -57,8 +57,8 @@ pub fn leave_few(alloc: Global) -> Option<Taken> {
     take_but(alloc, 1 << 26)
 }
 
-/// Returns the size of the free block for a try, in bytes. Tries are counted from 0: the first has 0 bytes, the last
-/// over 80,000.
+/// Returns how many bytes stay free in the try number `turn`, counted from 0: none in the first, over 80,000 in the
+/// last.
 pub fn room_of(turn: usize) -> usize {
     turn.wrapping_mul(turn).wrapping_mul(6)
 }

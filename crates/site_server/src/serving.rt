@@ -59,8 +59,9 @@ pub enum ServeFault {
     OutOfMemory,
     /// The journal failed, so the act of the last entry was never answered.
     Journal,
-    /// The close was refused, as the receipts of the workers differ from the site's history (C2). By the contract of
-    /// `Serving::run` this is never a missing pass (C1) or another configuration (C3).
+    /// The close was refused because the workers' receipts differ from the site's history (C2). By the contract of
+    /// `Serving::run` it is never refused for a missing pass (C1), or because the site's configuration isn't the one
+    /// that the forecourt was made for (C3).
     NotClosed(CloseRefusal),
 }
 

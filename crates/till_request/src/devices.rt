@@ -31,8 +31,8 @@ pub struct MemoryIn {
 }
 
 impl MemoryIn {
-    /// Makes a source that returns `bytes`: at most `sizes[n]` of them at read n, or as many as the read asks for if
-    /// `sizes` has no index n. If `good` is `Some(k)`, every read after the first k fails.
+    /// Makes a source that returns `bytes`: at most `sizes[n]` of them (0 counts as 1) at read n, or as many as the read
+    /// asks for if `sizes` has no index n. If `good` is `Some(k)`, every read after the first k fails.
     pub fn new(bytes: Vec<u8>, sizes: Vec<usize>, good: Option<u64>) -> Self
         ensures bytes { result.bytes ≡ bytes }
         ensures start { result.at ≡ 0 }
