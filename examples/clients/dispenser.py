@@ -65,7 +65,7 @@ def fuel(site, point, cents, price):
     for step in range(1, STEPS + 1):
         now = cents * step // STEPS
         if site.ask(f"disp {point} flow {now} {now * 1000 // price}") != ["done"]:
-            break  # the delivery is over: the till has stopped it
+            break  # this amount isn't counted, so the valve is shut
         amount = now
         order = site.ask(f"disp {point} order")
         if order == ["order", "stop"] or order == ["order", "suspend"] and not wait_for_resume(site, point):
@@ -84,6 +84,8 @@ def main():
     limit = wait_for_release(site, point)
     print(f"point {point}: authorised for {limit} cents")
     if site.ask(f"disp {point} started") == ["done"]:
+        # A till may suspend the delivery at any moment, and before the first flow no amount would be counted.
+        site.ask(f"disp {point} flow 0 0")
         print(f"point {point}: {fuel(site, point, min(limit, cents), price)} cents have flowed")
     time.sleep(HANGING_UP)
     print(f"point {point}: down {' '.join(site.ask(f'disp {point} down'))}")

@@ -4,7 +4,7 @@ for a release, reads the amount during the delivery, and settles the transaction
 
     till.py PORT|PATH TILL POINT CENTS [LAST]     a port of 127.0.0.1, or the path of a local socket; CENTS is the
                                                   amount that is asked for; LAST is the number of the last transaction
-                                                  of the point that this till knows, 0 at the start of a day
+                                                  of the point that this till knows, 0 before the point's first one
 """
 
 import socket
