@@ -1,6 +1,6 @@
 /*
- * No more than 300.00 flows at a time at points 1 to 8: a release gets what is left of it. What is authorised and
- * doesn't flow yet isn't counted, nor what has flowed and is unpaid.
+ * A release gets at most 300.00 less what has flowed so far in the deliveries at points 1 to 8. What may still flow
+ * isn't counted, nor what has flowed and is unpaid: points that are released together may pass 300.00.
  * Slot: releases. Mask: 0. Needs: nothing; for more points change POINTS.
  */
 #include "forecourt.h"

@@ -2,7 +2,7 @@
  * So many litres a day over the whole station: 2,000.00, filled up again with the first request of a day (of UTC). What
  * is asked counts, by the price of now, whether it is all fuelled or not.
  * Slot: releases. Mask: 6. Needs: a nozzle that is up; the moment, in seconds; counter 1, the centilitres that are
- * left, with bound 200,000 or more; counter 2, the day of the last filling, with bound 100,000 or more.
+ * left, with a bound of at least the quota; counter 2, the day of the last filling, with bound 100,000 or more.
  */
 #include "forecourt.h"
 

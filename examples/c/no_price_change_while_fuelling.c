@@ -1,6 +1,6 @@
 /*
  * No price change while a delivery is authorised or under way (the site refuses that by itself), nor
- * while a nozzle is up at point 1 or 2.
+ * while point 1 or 2 is open and has a nozzle up.
  * Slot: prices. Mask: 0. Needs: nothing; for more points change POINTS.
  */
 #include "forecourt.h"

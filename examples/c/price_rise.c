@@ -1,5 +1,5 @@
 /*
- * A price rises by at most 5 % at a time; it may fall as it likes. The first price of a product is free.
+ * A price rises by at most 5 % a line, rounded down; it may fall as it likes. The first price of a product is free.
  * Slot: prices. Mask: 0. Needs: nothing.
  */
 #include "forecourt.h"

@@ -84,7 +84,7 @@ def main():
     limit = wait_for_release(site, point)
     print(f"point {point}: authorised for {limit} cents")
     if site.ask(f"disp {point} started") == ["done"]:
-        # A till may suspend the delivery at any moment, and before the first flow no amount would be counted.
+        # A till may suspend the delivery at any moment. Before the first flow that would stop the counting.
         site.ask(f"disp {point} flow 0 0")
         print(f"point {point}: {fuel(site, point, min(limit, cents), price)} cents have flowed")
     time.sleep(HANGING_UP)
