@@ -187,7 +187,7 @@ def limit_while_busy(site, it):
 
 
 def litres_a_day(site, it):
-    if site.counters[2] != site.moment // DAY:
+    if site.counters[2] < site.moment // DAY:
         site.counters.update({1: 200000, 2: site.moment // DAY})
     return it.asked if it.price and site.take(1, it.asked * 1000 // it.price) else 0
 
