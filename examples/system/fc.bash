@@ -17,6 +17,14 @@ _fc_command() {
     esac
 }
 
+# Takes away the options that don't go with this one.
+_fc_besides() {
+    case $1 in
+        --journal | --opening) options=${options/--days/} options=${options/--new-day/} ;;
+        --days | --new-day) options=${options/--journal/} options=${options/--opening/} ;;
+    esac
+}
+
 _fc_files() {
     compopt -o filenames 2>/dev/null
     mapfile -t COMPREPLY < <(compgen -f -- "$1")
@@ -73,10 +81,14 @@ _fc() {
                 # All days of a folder are audited without a journal.
                 [ "$name ${COMP_WORDS[at]}" != 'audit --days' ] || takes=1
                 options=${options/${COMP_WORDS[at]}/}
+                _fc_besides "${COMP_WORDS[at]}"
                 at=$((at + 1))
                 [ "${COMP_WORDS[at]}" != = ] || at=$((at + 1))
                 ;;
-            -?*) options=${options/${COMP_WORDS[at]}/} ;;
+            -?*)
+                options=${options/${COMP_WORDS[at]}/}
+                _fc_besides "${COMP_WORDS[at]}"
+                ;;
             *) files=$((files + 1)) ;;
         esac
     done

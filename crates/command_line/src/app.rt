@@ -64,7 +64,7 @@ fn kind_arg<'a>(alloc: Global) -> Arg<'a>
     file_arg(alloc, "kind", "which rows: sales, decisions or events")
 }
 
-/// Makes an option `--NAME VALUE`.
+/// Makes an option `--NAME VALUE`. In the help text, its value is shown as `value`, for example `FILE`.
 fn option_arg<'a>(alloc: Global, name: &'a str, value: &'a str, help: &'a str) -> Arg<'a>
     ensures rule { rule_of result ≡ option_rule name.entry.now }
     ensures local { result.global ≡ false }
@@ -110,9 +110,7 @@ const CONFIG: &str = "the site's configuration, as TOML";
 
 const SCRIPT: &str = "requests, events and loads, one a line";
 
-const JOURNAL: &str = "what a play or a served site printed of its entries";
-
-const AUDITED: &str = "the journal of a play, or of a served site";
+const JOURNAL: &str = "the journal of a play, or of a served site";
 
 const PROGRAM: &str = "the program's bytes, as hexadecimal digits";
 
@@ -163,7 +161,7 @@ const WORDS: [Word; 9] = [
         example: "Examples: fc audit site.toml day.journal, fc audit --days days site.toml",
         arguments: &[
             Argument::File("config", CONFIG),
-            Argument::SpareFile("journal", AUDITED),
+            Argument::SpareFile("journal", JOURNAL),
             OPENING,
             Argument::Days("audit all days of this folder, in place of JOURNAL"),
         ],
@@ -174,7 +172,7 @@ const WORDS: [Word; 9] = [
         example: "Example: fc carry site.toml day.journal > day.opening",
         arguments: &[
             Argument::File("config", CONFIG),
-            Argument::File("journal", AUDITED),
+            Argument::File("journal", JOURNAL),
             OPENING,
         ],
     },
@@ -231,7 +229,8 @@ Without words it reads a configuration, a line ---, and a script from standard i
 const AFTER: &str = "Example: fc play site.toml day.script
 
 Faults: A assembler text, C closing a site, F an entry that is not legal, H hexadecimal, J journal text,
-K configuration, L line, N device, S refusal of the site, V program refused. docs/use/reference.md names each.
+K configuration, L line, N device, O days that don't follow one another, S refusal of the site, V program refused.
+docs/use/reference.md names each.
 Status: 0 done, 1 the input is refused, 2 the words are wrong, 3 a device failed or memory ran out.";
 
 /// Returns an argument in the form that `clap` takes.

@@ -28,7 +28,7 @@ pub enum Format {
 /// is given. A `folder` has the files of a station's days.
 #[derive(Drop)]
 pub enum Job {
-    /// No argument was given: play a configuration and then a script, both read from standard input.
+    /// No subcommand was given: read a configuration and a script from standard input, and answer the script's lines.
     NoWords,
     /// Print the units of an assembler text.
     Asm(String),
@@ -65,7 +65,7 @@ pub enum Job {
         config: String,
         journal: String,
     },
-    /// Audit a journal against a configuration, and print it as a page of pictures and tables.
+    /// Audit a journal against a configuration, and print a page of HTML that shows it.
     Report {
         opening: Option<String>,
         config: String,
@@ -85,7 +85,7 @@ pub enum Job {
     Show(String),
 }
 
-/// How a site is served, and what becomes of its journal.
+/// How a site is served, and whether its journal is printed or written to a file.
 #[derive(Drop)]
 pub enum ServeJob {
     /// Print the journal at the end.
@@ -106,7 +106,8 @@ pub enum ServeJob {
         journal: String,
     },
     /// Serve the newest day of a station, and keep its journal in the folder of the days. If `is_synced`, send an
-    /// answer only after its line is synced. If `is_new_day`, close the newest day first, and serve the next one.
+    /// answer only after its line in the journal is synced. If `is_new_day` and the newest day has an entry, close that
+    /// day first, and serve the next one.
     Days {
         folder: String,
         config: String,

@@ -15,7 +15,7 @@ use clap::ArgMatches;
 use clap::error::ErrorKind;
 use std::alloc::{AllocError, Global};
 
-/// Returns the name of a file that the argument `id` gives; `None` if the argument isn't given.
+/// Returns the name of the file or folder that the argument `id` gives; `None` if the argument isn't given.
 fn file_of(alloc: Global, matches: &ArgMatches, id: &str) -> Result<Option<String>, AllocError>
     ensures { IfOk result (λ s. first_of id.now (rows_of (found_of matches.now)) ≡ option_map string_bytes s) }
 {
@@ -28,7 +28,7 @@ fn file_of(alloc: Global, matches: &ArgMatches, id: &str) -> Result<Option<Strin
     }
 }
 
-/// Returns the mask that `--counters` gives, or `None` if it gives none.
+/// Returns the mask that `--counters` gives, or `None` if its value isn't a number below 2^32.
 fn mask_of(matches: &ArgMatches) -> Option<u32>
     ensures { ReadsMask (rows_of (found_of matches.now)) result }
 {
@@ -142,7 +142,7 @@ fn days_of(alloc: Global, matches: &ArgMatches) -> Result<Option<String>, AllocE
     file_of(alloc, matches, "days")
 }
 
-/// Returns the name of the file of a journal, if one is given.
+/// Returns the name of the file that JOURNAL or `--journal` gives; `None` if neither is given.
 fn journal_of(alloc: Global, matches: &ArgMatches) -> Result<Option<String>, AllocError>
     ensures { IfOk result (λ file. first_of (codes "journal") (rows_of (found_of matches.now)) ≡ named file) }
 {
@@ -175,7 +175,8 @@ fn audit_of(alloc: Global, matches: &ArgMatches) -> Result<Option<Job>, AllocErr
     Ok(audit_by(days, opening, journal, config))
 }
 
-/// Returns the audit that the values of `--days`, `--opening` and JOURNAL ask for, or `None` if they ask for none.
+/// Returns the job of `fc audit`, or `None` if `--days` is given with an opening or a journal, or if neither `--days`
+/// nor a journal is given.
 fn audit_by(
     days: Option<String>,
     opening: Option<String>,
@@ -394,7 +395,7 @@ fn has_days(matches: &ArgMatches) -> bool
     }
 }
 
-/// Returns what is wrong with the values of `audit`, if they ask for no job.
+/// Returns what is wrong with values of `audit` that ask for no job.
 fn unaudited_by(matches: &ArgMatches) -> &'static str
     ensures { result.now ≡ unaudited_by (rows_of (found_of matches.now)) }
 {
@@ -405,7 +406,7 @@ fn unaudited_by(matches: &ArgMatches) -> &'static str
     }
 }
 
-/// Returns what is wrong with the values of `serve`, if they ask for no job.
+/// Returns what is wrong with values of `serve` that ask for no job.
 fn unserved_by(matches: &ArgMatches) -> &'static str
     ensures { result.now ≡ unserved_by (rows_of (found_of matches.now)) }
 {
@@ -470,8 +471,8 @@ fn is_asked_text(kind: ErrorKind) -> bool
     matches!(kind, ErrorKind::DisplayHelp | ErrorKind::DisplayVersion)
 }
 
-/// Returns `Show` for an error of `clap` that is the help or the version. Otherwise the error is `Usage` with the text
-/// of the error, or that memory ran out.
+/// Returns `Show` with the text `made` if an error of `clap` of this kind is the help or the version. For any other
+/// kind, the error is `Usage` with that text. If memory ran out, in `clap` or for the text, it is `OutOfMemory`.
 fn told_of(kind: ErrorKind, made: Result<String, AllocError>) -> Result<Job, CommandFault>
     ensures none { IfOk result (λ job. asked job ≡ None) }
     ensures shown { OnOk result (IsShown kind) }
