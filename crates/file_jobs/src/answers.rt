@@ -99,7 +99,7 @@ impl Write for Outgoing<'_, '_> {
 pub struct Incoming<'a, 'b, 'c> {
     pub source: Source,
     pub answers: &'b Answers<'a>,
-    /// The progress line, if one is shown.
+    /// The progress line of the play, if it has one.
     pub progress: Option<&'c Progress<'a>>,
 }
 

@@ -138,7 +138,7 @@ fn put_synced(
     File::open(rt, folder)?.sync_all()
 }
 
-/// Returns the oldest and the newest day of a folder.
+/// Returns the oldest and the newest day of a folder, or `None` if it has no day.
 fn span_of(rt: &HostRuntime, folder: &str) -> io::Result<Option<Span>> {
     let mut span = None;
     for entry in read_dir(rt, folder)? {

@@ -1,5 +1,5 @@
 //! What the commands of `fc` do with files: print programs, play scripts, audit journals, print them as pages or rows,
-//! close a day into the opening of the next, and find the newest day of a folder.
+//! print the opening of the next day, open the journal of a served site, and audit and close the days of a folder.
 #![tactic(auto)]
 
 mod answers;
@@ -7,6 +7,7 @@ mod audited;
 pub mod audits;
 pub mod carry;
 pub mod chained;
+mod cut_line;
 pub mod export;
 pub mod faults;
 pub mod files;

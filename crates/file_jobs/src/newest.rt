@@ -1,5 +1,5 @@
 //! The newest day of a station: closing it, and going on with it.
-ghost use Rattle.std.specs.Prelude.{◌≡◌, ◌≢◌, ◌⊎◌, ◌+◌, Ok, IfOk, IfErr, IfSome, string_bytes};
+ghost use Rattle.std.specs.Prelude.{◌≡◌, ◌≢◌, ◌⊎◌, ◌+◌, Ok, [], IfOk, IfErr, IfSome, string_bytes};
 ghost use Rattle.file_jobs.specs.Statuses.{EndsWith, IsFailed, Fails, SaysOrFails, uncarried_status};
 ghost use Rattle.file_jobs.specs.Days.{path_of, going_on, BeginsDay};
 
@@ -116,7 +116,8 @@ fn tell_other(
     Ok(())
 }
 
-/// The day with which a station goes on: the day of this number, or the day after it.
+/// The day with which a station goes on: the day of this number (`With`), or the day after it, once the day of this
+/// number is closed (`Behind`). A day without an entry isn't closed: the station goes on with it.
 #[derive(Clone, Copy)]
 enum Going {
     With(u32),
@@ -264,9 +265,10 @@ fn close_day(
     put_close(rt, folder, number, &path, &closing, unkept)
 }
 
-/// Does what is left to do for the close of a day, unless the day has no entry: writes the text of its configuration,
-/// `unkept`, if there is one, then syncs the day's journal, whose path is `journal`, and then writes the opening of the
-/// next day. Returns the number of the day that is then the newest.
+/// Finishes the close of a day, unless the day has no entry: writes the text of its configuration, `unkept`, if there
+/// is one, then syncs the day's journal, whose path is `journal`, and then writes the opening of the next day. Returns
+/// the number of the day that is then the newest. If that fails, or the next day has begun already, prints why; the
+/// error has the exit status.
 fn put_close(
     rt: &HostRuntime,
     folder: Folder<'_>,
@@ -275,6 +277,8 @@ fn put_close(
     closing: &Closing,
     unkept: Option<&[u8]>,
 ) -> Result<u32, Stop>
+    ensures empty { closing.now.closed.site.history ≡ [] → result ≡ Ok number }
+    ensures closed { closing.now.closed.site.history ≢ [] → IfOk result (λ newest. newest ≡ number + 1) }
     ensures newest { IfOk result (λ newest. (newest ≡ number) ⊎ (newest ≡ number + 1)) }
     ensures refused { IfErr result (SaysOrFails 1) }
 {

@@ -104,7 +104,7 @@ pub fn refuse_opening(rt: &HostRuntime, word: &str, text: &[u8], flaw: OpeningFl
 }
 
 /// Returns the words and the number that are printed for this flaw of an opening. The words for a refused program are
-/// made elsewhere, and if memory ran out, there are neither words nor a number: both are empty texts.
+/// empty, since `explain_rule` prints others. If memory ran out, both texts are empty.
 fn opening_words(text: &[u8], flaw: OpeningFlaw) -> (&'static str, &'static str)
     ensures { (result.0.now, result.1.now) ≡ opening_words text.now flaw }
 {
@@ -176,8 +176,8 @@ fn line_of(text: &[u8], number: u32) -> &[u8]
     }
 }
 
-/// Returns the slot and the program of a line `version SLOT NUMBER MASK LOAD HEX`. Returns `None` if it is another
-/// line, or if memory ran out.
+/// Returns the slot and the program of a line `version SLOT NUMBER MASK LOAD HEX`: its second word and its last. The
+/// other words aren't checked. Returns `None` if one of these two can't be read, or if memory ran out.
 fn rule_in(alloc: Global, line: &[u8]) -> Option<(u32, Vec<u8>)> {
     let text = str::from_utf8(line).ok()?;
     let (_, digits) = text.rsplit_once(' ')?;
@@ -208,7 +208,8 @@ pub fn refuse_unfit(rt: &HostRuntime, word: &str, unfit: Unfit) -> Stop
     }
 }
 
-/// Prints why no site begins with an opening, or that memory ran out.
+/// Prints `words`, which say why no site can begin with an opening. If `fault` is that memory ran out, prints that
+/// instead. The result has the exit status.
 pub fn refuse_fault<D: Display>(
     rt: &HostRuntime,
     word: &str,

@@ -23,6 +23,8 @@ pub struct Progress<'a> {
     begun: Option<Instant>,
     bytes: Cell<u64>,
     lines: Cell<u64>,
+    /// Whether the line is on the terminal now.
+    is_there: Cell<bool>,
 }
 
 impl<'a> Progress<'a> {
@@ -40,6 +42,7 @@ impl<'a> Progress<'a> {
             },
             bytes: Cell::new(0),
             lines: Cell::new(0),
+            is_there: Cell::new(false),
         }
     }
 
@@ -70,34 +73,36 @@ impl<'a> Progress<'a> {
     /// Renews the progress line: the lines read, and for an input of known size also the percentage and the seconds
     /// left. An error of the terminal is ignored.
     fn say_how_far(&self, lines: u64) {
+        self.is_there.set(true);
         let _ = eprint!(self.rt; "{RENEW}fc: {lines} lines read");
         if let (Some(percent), Some(left)) = (self.percent(), self.seconds_left()) {
             let _ = eprint!(self.rt; ", {percent} %, {left} s left");
         }
     }
 
-    /// Shows that all lines are read, if the progress line was shown before.
+    /// Shows that all lines are read, if there are enough of them for a progress line.
     fn say_end(&self) {
         let lines = self.lines.get();
         if lines >= STEP {
+            self.is_there.set(true);
             let _ = eprint!(self.rt; "{RENEW}fc: {lines} lines read, the last of them");
         }
     }
 
-    /// Erases the progress line, if it is shown.
+    /// Erases the progress line, if it is on the terminal. The next lines that are read show it again.
     pub fn clear(&self) {
-        if self.is_shown && self.lines.get() >= STEP {
+        if self.is_there.replace(false) {
             let _ = eprint!(self.rt; "{RENEW}");
-            self.lines.set(0);
         }
     }
 
-    /// Returns how much of the input was read, in percent.
+    /// Returns how much of the input was read, in percent, or `None` if the input's size isn't known or is 0.
     fn percent(&self) -> Option<u64> {
         self.bytes.get().saturating_mul(100).checked_div(self.size?)
     }
 
-    /// Returns how many seconds the rest of the input takes, at the average speed so far.
+    /// Returns how many seconds the rest of the input takes, at the average speed so far. Returns `None` if the size or
+    /// the time isn't known, or if nothing was read.
     fn seconds_left(&self) -> Option<u64> {
         let elapsed = self.begun?.elapsed(self.rt).ok()?.as_secs();
         let left = self.size?.saturating_sub(self.bytes.get());
@@ -115,6 +120,7 @@ impl Drop for Progress<'_> {
             begun: _,
             bytes: _,
             lines: _,
+            is_there: _,
         } = self;
     }
 }

@@ -8,19 +8,19 @@ use std::alloc::AllocError;
 use std::cell::Cell;
 use till_request::Act;
 
-/// A printer of why a load is refused, with the number of the load's line, on standard error.
+/// A receiver that prints on standard error why a load is refused, with the number of the load's line.
 #[derive(Drop)]
 pub struct RefusedLoads<'a, 'b> {
     rt: &'a HostRuntime,
     name: &'a str,
     /// The number of lines of the input that have begun, including those before the script.
     lines: Cell<u64>,
-    /// The progress line, if one is shown. It is erased before a message.
+    /// The progress line of the play, if it has one. It is erased before a message.
     progress: Option<&'b Progress<'a>>,
 }
 
 impl<'a, 'b> RefusedLoads<'a, 'b> {
-    /// Makes the printer for the script with this name. `lines` lines come before the script in the same input.
+    /// Makes the receiver for the script with this name. `lines` lines come before the script in the same input.
     pub fn new(
         rt: &'a HostRuntime,
         name: &'a str,

@@ -72,7 +72,7 @@ pub fn day_of(rt: &HostRuntime, site: SiteFiles<'_>) -> Result<Day, Stop>
 }
 
 /// Returns the configuration with the site's opening, if the site has one, and the day's number, which is 1 without an
-/// opening. If the opening is refused, prints why; the error has the exit status.
+/// opening. If the opening can't be read or is refused, prints why; the error has the exit status.
 fn begun_by(rt: &HostRuntime, site: SiteFiles<'_>, config: Config) -> Result<Begun, Stop>
     ensures first { site.entry.opening ≡ None → result ≡ Ok (record { config = config; number = 1 }) }
     ensures opened { IsSome site.entry.opening → IfOk result (λ begun. BeginsDay config begun.number begun.config) }
