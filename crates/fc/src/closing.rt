@@ -22,7 +22,7 @@ fn refuse_close(rt: &HostRuntime, word: &str, why: CloseRefusal) -> u8 {
     }
 }
 
-/// Prints why a served site of a configuration wasn't closed, and returns the exit status.
+/// Prints why a served site wasn't closed, and returns the exit status. `word` names the configuration's file.
 pub fn tell_unclosed(rt: &HostRuntime, word: &str, why: ServeFault) -> u8 {
     match why {
         ServeFault::NotClosed(why) => refuse_close(rt, word, why),

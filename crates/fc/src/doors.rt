@@ -33,7 +33,7 @@ impl Display for Name {
     }
 }
 
-/// Writes the numbers of some points. Bit p of `points` stands for point p + 1.
+/// Writes the numbers of some points: if bit p of `points` is set, point p + 1 is one of them.
 fn write_points<W: fmt::Write>(f: &mut fmt::Formatter<W>, points: u32) -> fmt::Result {
     f.write_str("points")?;
     for place in 0..32u32 {
@@ -105,7 +105,8 @@ fn mode_of(role: Role) -> u32 {
     }
 }
 
-/// Prints why a socket can't be opened, with the configuration's file and the key that names the socket.
+/// Prints why a socket can't be opened, with the configuration's file and the key that names the socket. If memory ran
+/// out, prints nothing: the result has the error, which is printed later.
 fn refuse_socket(rt: &HostRuntime, word: &str, door: &Door, error: io::Error) -> Stop {
     if error.kind() == ErrorKind::OutOfMemory && error.raw_os_error().is_none() {
         return Stop::Failed(error);
@@ -128,7 +129,7 @@ pub fn refuse_port(rt: &HostRuntime, port: u32, error: io::Error) -> Stop {
     Stop::Said(FAILED)
 }
 
-/// Opens a port.
+/// Opens a port. If it can't be opened, prints why; the error has the exit status.
 fn open_port<H: Net<Listener = TcpListener, Stream = TcpStream>>(
     rt: &HostRuntime,
     host: &H,
@@ -156,7 +157,8 @@ impl<'a> Opened<'a> {
         self.add(door, Listener::Socket(listener))
     }
 
-    /// Opens a door. If it is a socket, adds its file to `files`.
+    /// Opens a door, and adds it to `doors`. If it is a socket, adds its file to `files`. If it can't be opened, prints
+    /// why.
     fn open<H: Files + Net<Listener = TcpListener, Stream = TcpStream>>(
         &mut self,
         rt: &'a HostRuntime,

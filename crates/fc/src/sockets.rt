@@ -44,7 +44,7 @@ fn find(rt: &HostRuntime, path: &str) -> io::Result<Found> {
     }
 }
 
-/// The file of a socket that was bound here. It is removed when this is dropped, unless another file is now at its
+/// The file of a socket that this process bound. It is removed when this is dropped, unless another file is now at its
 /// path.
 pub struct SocketFile<'a> {
     rt: &'a HostRuntime,
@@ -155,8 +155,8 @@ fn make_folder<H: Net>(rt: &HostRuntime, host: &H, folder: &str, socket: &str) -
     }
 }
 
-/// Gives a socket's file a second name: the path. If a socket at which nobody listens is at the path already, it is
-/// removed first. Anything else there is an error.
+/// Gives a socket's file, which has the name `socket`, the second name `path`. If a socket at which nobody listens has
+/// that name already, it is removed first. Anything else there is an error.
 fn put_at<H: Net>(rt: &HostRuntime, host: &H, socket: &str, path: &str) -> io::Result<()> {
     match fs::hard_link(rt, socket, path) {
         Err(error) if error.kind() == ErrorKind::AlreadyExists => {
@@ -168,7 +168,7 @@ fn put_at<H: Net>(rt: &HostRuntime, host: &H, socket: &str, path: &str) -> io::R
     }
 }
 
-/// Sets the mode of a bound socket's file, and moves the file to its path.
+/// Sets the mode of a bound socket's file, and moves the file from `socket` to `path`.
 fn move_to<'a, H: Net>(
     rt: &'a HostRuntime,
     host: &H,
@@ -192,7 +192,7 @@ fn move_to<'a, H: Net>(
     }
 }
 
-/// Binds a socket, and moves its file to its path. If the file can't be moved, it is removed.
+/// Binds a socket at `socket`, and moves its file to `path`. If the file can't be moved, it is removed.
 fn bind_and_move<'a, H: Files + Net>(
     rt: &'a HostRuntime,
     host: &H,
@@ -212,6 +212,7 @@ fn bind_and_move<'a, H: Files + Net>(
 }
 
 /// Makes the folder beside a path, binds a socket in it, moves the socket's file to the path, and removes the folder.
+/// Returns `None` if something that a killed process can't have left already has the folder's name.
 fn bind_beside<'a, H: Files + Net>(
     rt: &'a HostRuntime,
     host: &H,

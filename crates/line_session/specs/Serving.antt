@@ -16,13 +16,13 @@ use Rattle.line_session.specs.Session.{desk_says, desk_drops, desk_takes}
 abbrev pub Outcome : Type 0
 Outcome = Option (Result Ended SessionFault)
 
--- 1 for a session that ended without fault, else 0
+-- 1 for a session that ended without a SessionFault, else 0
 abbrev pub one_good : Outcome → ℕ
 one_good None = 0
 one_good (Some (Err fault)) = 0
 one_good (Some (Ok ended)) = 1
 
--- how many of these connections ended without fault
+-- how many of these connections ended without a SessionFault
 abbrev pub good : List Outcome → ℕ
 good [] = 0
 good (outcome ∷ outcomes) = one_good outcome + good outcomes
@@ -63,7 +63,7 @@ abbrev pub VisitsAll : {D S : Type 0} → (Outcome → D → S → D → S → T
 VisitsAll visits [] d s d' s' = (d' ≡ d) × (s' ≡ s)
 VisitsAll {D} {S} visits (outcome ∷ outcomes) d s d' s' = (m : D) × (t : S) × visits outcome d s m t × VisitsAll visits outcomes m t d' s'
 
--- a worker served `asked` connections, of which `clean` ended without fault
+-- a worker served `asked` connections, of which `clean` ended without a SessionFault
 pub record Serves {D S : Type 0} (visits : Outcome → D → S → D → S → Type 0) (asked clean : ℕ) (d : D) (s : S) (d' : D) (s' : S) : Type 0 where
   pub outcomes : List Outcome
   pub each : VisitsAll visits outcomes d s d' s'

@@ -36,8 +36,8 @@ impl AnswerBuffer {
         self.held.bytes.len() >= MOST_WAITING
     }
 
-    /// Writes the buffered answers, and empties the buffer. After an error, some of the answers' first bytes may have
-    /// been written.
+    /// Writes the buffered answers, and empties the buffer. The error is that a write failed: then some of the answers'
+    /// first bytes may have been written, and the buffer is empty too.
     pub fn flush<O: LineOut>(&mut self, output: &mut O) -> Result<(), SessionFault>
         ensures ok { OnOk result
             (Sends self.old.held.bytes.items [] (O.written output.old) (O.written output.new)) }
@@ -73,7 +73,7 @@ impl AnswerBuffer {
     }
 
     /// Appends an answer's line to the buffer. If there is no memory for the line, writes the buffered answers and then
-    /// the line.
+    /// the line. The error is that a write failed.
     pub fn put<O: LineOut>(
         &mut self,
         alloc: Global,

@@ -97,8 +97,8 @@ pub(crate) fn cut_of(found: Found) -> Option<LineFault>
     }
 }
 
-/// Ends a session that has given `lines` answers. If its last line has the fault `cut`, writes the fault as one more
-/// answer.
+/// Returns the `Ended` of a session that has given `lines` answers. If its last line has the fault `cut`, first writes
+/// the fault as one more answer. The error is that this write failed.
 fn end<O: LineOut>(
     alloc: Global,
     output: &mut O,

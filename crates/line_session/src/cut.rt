@@ -7,11 +7,11 @@ use crate::desk::{Clock, Desk};
 use crate::line_handler::LineHandler;
 
 /// States that the sizes of an input's reads change no answer. If in each state a handler has only one answer to a
-/// line, it gives the same answers to the same bytes from the same state, unless memory runs out.
+/// line, it gives the same answers to the same bytes from the same state, unless memory runs out or a session fails.
 ///
 /// The contract of `answer_lines` describes what it read and wrote by the bytes of the input alone, whatever the device
-/// is. So two calls with the same bytes end alike. A reader that lost bytes after a line's LF, or took the bytes of one
-/// read for a line, could not have this contract.
+/// is. So two calls with the same bytes end alike if both return `Ok`. A reader that lost bytes after a line's LF, or
+/// took the bytes of one read for a line, could not have this contract.
 pub fn law_of_the_cut<C, D, S: LineHandler<C, D>>()
     ensures { (handler : S) → IsDetermined (S.says handler) → CutsAlike (S.says handler) }
 {}

@@ -27,8 +27,8 @@ pub trait Doors {
         ensures ok { IfOk result (λ door. opens self.old door.0 door.1 self.new) }
         ensures err { OnErr result (fails self.old self.new) };
 
-    /// Returns whether the next line has already arrived whole, so that the answers to several lines may be written
-    /// together. The default returns false.
+    /// Returns whether the input has the whole next line in its buffer, so that the answers to several lines may be
+    /// written together. The default returns false.
     fn has_buffered_line(&self, _input: &Self::In) -> bool {
         false
     }

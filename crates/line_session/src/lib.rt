@@ -10,6 +10,7 @@ mod desk_handler;
 pub mod desk_session;
 mod doors;
 mod line_handler;
+mod machine_clock;
 pub mod pipelined;
 pub mod serving;
 
@@ -19,3 +20,4 @@ pub use desk::{Clock, Desk};
 pub use desk_handler::DeskHandler;
 pub use doors::Doors;
 pub use line_handler::{HandlerError, LineHandler};
+pub use machine_clock::MachineClock;

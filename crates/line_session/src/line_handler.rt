@@ -12,8 +12,8 @@ pub enum HandlerError {
     Journal,
 }
 
-/// A handler of lines. It answers each line with a text, and can use and change the clock and the desk, which answers
-/// acts.
+/// A handler of lines. It answers each line with a text, and can use and change a clock of type `C` and a desk of type
+/// `D`.
 pub trait LineHandler<C, D> {
     ghost use Rattle.std.specs.Prelude.{List, ℕ, OnOk, IfErr};
     ghost use Rattle.till_request.specs.Count.{RoseBy, one_if};
@@ -30,7 +30,7 @@ pub trait LineHandler<C, D> {
     /// States for which lines the handler may run out of memory before anything has changed.
     ghost takes: { Self → List ℕ → Type 0 };
 
-    /// Answers a line, which is given without its LF. After an error the handler isn't called again.
+    /// Writes the answer to a line, which is given without its LF. An error ends the session.
     fn handle_line<O: LineOut>(
         &self,
         alloc: Global,

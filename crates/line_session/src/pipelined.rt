@@ -44,7 +44,8 @@ impl Progress {
         }
     }
 
-    /// Writes the buffered answers, unless they have fewer than 16,384 bytes and the next line has already arrived.
+    /// Writes the buffered answers, unless they have fewer than 16,384 bytes and the input has the whole next line in
+    /// its buffer.
     fn flush_unless_more<S: Doors>(
         &mut self,
         doors: &S,
@@ -92,8 +93,9 @@ impl Progress {
         self.waiting.put(alloc, output, &answer)
     }
 
-    /// Ends a session that has given `lines` answers. If its last line has the fault `cut`, the session answers that
-    /// line too, with the fault: the answer is buffered, or written at once if there is no memory to buffer it.
+    /// Returns the `Ended` of a session that has given `lines` answers. If its last line has the fault `cut`, first
+    /// answers that line with the fault. The answer is buffered, or written at once if there is no memory to buffer it.
+    /// The error is that a write failed.
     fn end<O: LineOut>(
         &mut self,
         output: &mut O,
@@ -228,8 +230,8 @@ fn device_failed(fault: SessionFault) -> bool
     }
 }
 
-/// Answers the lines of a connection in order, as acts of a role, like `session`; but if the doors say that the next
-/// line has already arrived, several answers are written together.
+/// Answers the lines of a connection in order, as acts of a role, like `session`. But several answers are written
+/// together if the input has the next line in its buffer, as `doors` reports by `has_buffered_line`.
 ///
 /// After a failed read, answers that are still buffered are not written.
 pub fn pipelined_session<S: Doors, C: Clock, D: Desk>(

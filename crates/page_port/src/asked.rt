@@ -75,7 +75,7 @@ fn is_port(rest: &[u8]) -> bool
     }
 }
 
-/// Returns whether a host has this name, in upper or lower case, and any port.
+/// Returns whether a host has this name, in upper or lower case, with any port or none.
 fn is_named(host: &[u8], name: &[u8]) -> bool
     ensures { result ≡ is_named host.now name.now }
 {
@@ -86,14 +86,15 @@ fn is_named(host: &[u8], name: &[u8]) -> bool
     front.eq_ignore_ascii_case(name) && is_port(rest)
 }
 
-/// Returns whether a host is this machine by one of its own names, with any port.
+/// Returns whether a host is this machine by one of its own names, with any port or none.
 fn is_here(host: &[u8]) -> bool
     ensures { result ≡ is_here host.now }
 {
     is_named(host, b"localhost") || is_named(host, b"127.0.0.1") || is_named(host, b"[::1]")
 }
 
-/// Returns the view of the lines after the entry whose number these digits spell.
+/// Returns the view of the journal's lines after the entry whose number `digits` spells. The error is `NoNumber` if it
+/// spells no number below 2^32.
 fn lines_after(digits: &[u8]) -> Result<View, Refusal>
     ensures { result ≡ lines_after (number 32 digits.now) }
 {
@@ -142,7 +143,7 @@ fn view_at(path: &[u8], query: Option<&[u8]>) -> Result<View, Refusal>
     Err(Refusal::NoSuchPath)
 }
 
-/// Returns whether a method only asks for something.
+/// Returns whether a method is GET or HEAD.
 fn is_read(method: &[u8]) -> bool
     ensures { result ≡ is_read method.now }
 {

@@ -22,10 +22,10 @@ const LIMITS: Config = Config {
     read_size: 4096,
 };
 
-/// How a turn of a client went.
+/// The result of a client's turn.
 #[derive(Clone, Copy)]
 pub enum Turn {
-    /// Bytes were read or written.
+    /// Bytes were read or written, or the input ended.
     Moved,
     /// The peer has to send or to take something first.
     Waits,
@@ -81,7 +81,7 @@ impl Client {
         Ok(())
     }
 
-    /// Reads from the connection, or writes to it.
+    /// Writes to the connection if something is to be sent, and reads from it otherwise. Returns the number of bytes.
     fn carry(&mut self) -> io::Result<usize> {
         if self.connection.wants_write() {
             self.connection.write_to(&mut self.stream)

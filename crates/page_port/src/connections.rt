@@ -8,6 +8,7 @@ use till_request::Role;
 #[derive(Drop)]
 struct Counted {
     workers: u32,
+    /// The number of workers that serve no further connection.
     left: AtomicU32,
     opened: AtomicU64,
     closed: AtomicU64,

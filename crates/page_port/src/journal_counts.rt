@@ -4,7 +4,8 @@ use live_page::JournalFile;
 use std::sync::atomic::{AtomicBool, AtomicU64, Ordering};
 use std::time::Duration;
 
-/// Counts the bytes of the file in which a journal is kept, and its syncs, and records whether one of them failed.
+/// Counts the bytes of the file in which a journal is kept, and its syncs, and records whether a write or a sync
+/// failed.
 #[derive(Drop)]
 pub struct JournalCounts {
     bytes: AtomicU64,
@@ -14,8 +15,8 @@ pub struct JournalCounts {
 }
 
 impl JournalCounts {
-    /// Makes the counts of a file of so many bytes. `is_synced` says whether answers wait for its syncs, which are then
-    /// counted too.
+    /// Makes the counts of a file with this many bytes. `is_synced` says whether answers wait for its syncs, which are
+    /// then counted too.
     pub fn new(bytes: u64, is_synced: bool) -> JournalCounts {
         JournalCounts {
             bytes: AtomicU64::new(bytes),
@@ -28,12 +29,12 @@ impl JournalCounts {
         }
     }
 
-    /// Counts so many bytes that were appended.
+    /// Adds the number of bytes that were appended to the file.
     pub fn appended(&self, bytes: usize) {
         self.bytes.fetch_add(bytes as u64, Ordering::SeqCst);
     }
 
-    /// Counts a sync that took so long, if answers wait for syncs.
+    /// Counts a sync, and adds the time `taken`, if answers wait for syncs.
     pub fn synced(&self, taken: Duration) {
         if let Some(syncs) = &self.syncs {
             syncs.add(taken);

@@ -7,19 +7,17 @@ use crate::timings::Timings;
 use http_server::Service;
 use live_page::JournalFile;
 use site_lock::{Forecourt, Journal, SiteLedger};
-use site_server::Watcher;
 use std::alloc::Global;
-use std::fs;
 use std::hash::RandomState;
 use std::io::{self, ErrorKind};
 use std::net::{Net, Shutdown, SocketAddr, TcpListener, TcpStream};
 use std::os::fd::OwnedFd;
 use std::sync::Wait;
 use std::sync::atomic::{AtomicBool, Ordering};
-use std::thread::{self, Threads};
 use std::time::{Clock, Duration};
+use std::{fs, thread};
 
-/// How many clients there are at once; others wait in the system's queue.
+/// The most clients at once. Further connections wait in the system's queue.
 const MOST_CLIENTS: usize = 32;
 
 /// How many milliseconds to wait when no client can go on.
@@ -46,11 +44,13 @@ pub struct PagePort<'a> {
     keys: RandomState,
     pub(crate) connections: Connections,
     pub(crate) journal: Option<&'a JournalCounts>,
+    /// The waits for the site's lock.
     pub(crate) waits: Timings,
     is_leaving: AtomicBool,
 }
 
-/// Opens a port of 127.0.0.1. Gives its listener, and a second handle of the same socket, by which it can be shut down.
+/// Opens a port of 127.0.0.1. Returns its listener, and a second handle of the same socket, by which it can be shut
+/// down.
 fn listen<H: Net<Listener = TcpListener, Stream = TcpStream>>(
     host: &H,
     port: u32,
@@ -65,8 +65,8 @@ fn listen<H: Net<Listener = TcpListener, Stream = TcpStream>>(
     }
 }
 
-/// Gives each client a turn, and closes the connections that are over. Returns whether a client moved bytes or was
-/// over.
+/// Gives each client a turn, except for one that takes the place of a client that is over. Closes the connections of
+/// the clients that are over. Returns whether the result of a turn was `Moved` or `Over`.
 fn take_turns<S: Service, R: Clock>(rt: &R, clients: &mut Vec<Client>, service: &mut S) -> bool {
     let mut went_on = false;
     for place in 0..clients.len() {
@@ -90,9 +90,9 @@ fn take_turns<S: Service, R: Clock>(rt: &R, clients: &mut Vec<Client>, service: 
 }
 
 impl<'a> PagePort<'a> {
-    /// Opens a port of 127.0.0.1, on which a site with so many tills and these workers is to be looked at. `journal`
-    /// has the counts of the file in which its journal is kept, if it is kept in one. A port above 65,535 is
-    /// `InvalidInput`. `host` is the same runtime as `rt`.
+    /// Opens a port of 127.0.0.1 on which a site can be looked at. The site has `tills` tills, and `connections` counts
+    /// its workers and their connections. `journal` has the counts of the file in which its journal is kept, if it is
+    /// kept in one. A port above 65,535 gives the error `InvalidInput`. `host` is the same runtime as `rt`.
     pub fn open<H: Net<Listener = TcpListener, Stream = TcpStream>>(
         rt: &'a HostRuntime,
         host: &H,
@@ -144,7 +144,7 @@ impl<'a> PagePort<'a> {
         }
     }
 
-    /// Returns how many bytes of memory the process uses, or `None` if the system doesn't say.
+    /// Returns the resident memory of the process in bytes, or `None` if the system doesn't say.
     pub(crate) fn memory(&self) -> Option<u64> {
         let Ok(text) = fs::read_to_string(self.rt, "/proc/self/statm") else {
             return None;
@@ -153,7 +153,8 @@ impl<'a> PagePort<'a> {
         pages.parse::<u64>().ok()?.checked_mul(MEMORY_PAGE)
     }
 
-    /// Accepts the next connection. Waits for one only if there is no client.
+    /// Accepts the next connection, and adds its client to `clients`. Waits for a connection only if there is no
+    /// client; otherwise the error is `WouldBlock` if no connection has come.
     fn accept<R: Clock>(&self, rt: &R, clients: &mut Vec<Client>) -> io::Result<()> {
         self.listener.set_nonblocking(!clients.is_empty())?;
         let (stream, _) = self.listener.accept()?;
@@ -161,8 +162,8 @@ impl<'a> PagePort<'a> {
         Ok(clients.push(client)?)
     }
 
-    /// Waits after a connection couldn't be accepted. Prints the error for an operator, unless the attempt before
-    /// failed too.
+    /// Waits after a connection couldn't be accepted. First prints the error for an operator, unless `has_failed` says
+    /// that the connection before couldn't be accepted either.
     fn pause(&self, has_failed: bool, error: &io::Error) {
         if !has_failed {
             let _ = eprintln!(self.rt; "fc: no connection for the page: {error}");
@@ -170,8 +171,9 @@ impl<'a> PagePort<'a> {
         thread::sleep(self.rt, Duration::from_millis(PAUSE_MILLISECONDS));
     }
 
-    /// Accepts the next connection, if there is one, and there is room for it. Returns whether it did. `has_failed`
-    /// says whether the last one couldn't be accepted.
+    /// Accepts the next connection, if there is one and fewer than 32 clients. Returns whether it did. If there is no
+    /// client, waits for a connection. `has_failed` says whether the last connection couldn't be accepted, and is
+    /// updated.
     fn accept_next<R: Clock>(
         &self,
         rt: &R,
@@ -199,10 +201,9 @@ impl<'a> PagePort<'a> {
     fn is_leaving(&self) -> bool {
         self.is_leaving.load(Ordering::SeqCst)
     }
-}
 
-impl Watcher for PagePort<'_> {
-    fn watch<L: SiteLedger + Send + Sync, J: Journal + Send, R: Threads + Wait + Clock + Sync>(
+    /// Answers requests with what the site is at that moment, until `leave` is called.
+    pub fn watch<L: SiteLedger, J: Journal, R: Wait + Clock>(
         &self,
         rt: &R,
         forecourt: &Forecourt<L, J>,
@@ -228,8 +229,8 @@ impl Watcher for PagePort<'_> {
         }
     }
 
-    // If the thread waits for a connection, the system tells it that the socket is shut down.
-    fn leave(&self) {
+    /// Asks `watch` to return soon. If it waits for a connection, it stops waiting, since the socket is shut down.
+    pub fn leave(&self) {
         self.is_leaving.store(true, Ordering::SeqCst);
         let _ = self.handle.shutdown(Shutdown::Both);
     }

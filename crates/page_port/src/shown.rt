@@ -10,7 +10,7 @@ use http::{HeaderValue, StatusCode, header};
 use http_server::Response;
 use std::alloc::AllocError;
 
-/// What the text of an answer is.
+/// The kind of text that an answer has.
 #[derive(Clone, Copy)]
 pub enum Kind {
     Html,
@@ -19,7 +19,7 @@ pub enum Kind {
 }
 
 impl Kind {
-    /// Returns the type of the text, as a field of the answer names it.
+    /// Returns the value of the field `content-type` for a text of this kind.
     fn content_type(self) -> HeaderValue
         ensures { result.bytes ≡ type_of self }
     {
@@ -31,7 +31,7 @@ impl Kind {
     }
 }
 
-/// What is shown to somebody who looks.
+/// An answer to a request, before it is put into a response.
 #[derive(Drop)]
 pub struct Shown {
     pub status: StatusCode,
@@ -40,7 +40,7 @@ pub struct Shown {
 }
 
 impl Shown {
-    /// Makes an answer with a text that is known beforehand.
+    /// Makes an answer of the kind `Plain` with this text.
     pub fn fixed(status: StatusCode, text: &'static str) -> Shown
         ensures status { result.status ≡ status }
         ensures kind { result.kind ≡ Plain }
@@ -53,7 +53,8 @@ impl Shown {
         }
     }
 
-    /// Fills a response. Each connection ends after one answer, so that it keeps nobody else waiting.
+    /// Puts the answer into a blank response. Each connection ends after one answer, so that it keeps nobody else
+    /// waiting.
     pub fn put(self, response: &mut Response) -> Result<(), AllocError>
         requires { IsBlank response.old }
         ensures { OnOk result (Puts self response.new) }
@@ -65,7 +66,7 @@ impl Shown {
     }
 }
 
-/// Adds the fields of each answer to a response that has none yet.
+/// Adds the header fields that every answer has to a response that has none yet.
 fn add_fields(kind: Kind, response: &mut Response) -> Result<(), AllocError>
     requires { fields_of response.old ≡ [] }
     ensures fields { OnOk result (fields_of response.new ≡ fields kind) }
@@ -85,7 +86,7 @@ fn add_fields(kind: Kind, response: &mut Response) -> Result<(), AllocError>
     response.add_header(header::CONNECTION, HeaderValue::from_static("close"))
 }
 
-/// Adds the field that names the methods, if the method was the cause of a refusal.
+/// Adds the field `allow`, which names GET and HEAD, if the refusal is `OtherMethod`.
 fn add_allowed(refusal: Refusal, response: &mut Response) -> Result<(), AllocError>
     requires { fields_of response.old ≡ fields Plain }
     ensures fields { OnOk result (fields_of response.new ≡ fields_refusing refusal) }

@@ -11,7 +11,7 @@ pub struct Timings {
 }
 
 impl Timings {
-    /// Makes the counts of what was never done.
+    /// Makes the counts of something that wasn't done yet.
     pub fn new() -> Timings {
         Timings {
             count: AtomicU64::new(0),
@@ -19,7 +19,7 @@ impl Timings {
         }
     }
 
-    /// Counts that it was done once more, and took so long.
+    /// Counts that it was done once more, and adds the time `taken`.
     pub fn add(&self, taken: Duration) {
         let nanoseconds = u64::try_from(taken.as_nanos()).unwrap_or(u64::MAX);
         self.nanoseconds.fetch_add(nanoseconds, Ordering::SeqCst);

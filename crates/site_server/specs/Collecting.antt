@@ -29,12 +29,12 @@ collected [] = []
 collected (None ∷ tasks) = collected tasks
 collected (Some d ∷ tasks) = d.0 ∷ collected tasks
 
--- the number of connections that ended without fault in a task
+-- the number of connections that ended without a SessionFault in a task
 abbrev pub clean_at : Option (PassView × ℕ) → ℕ
 clean_at None = 0
 clean_at (Some d) = d.1
 
--- the number of connections that ended without fault in all tasks
+-- the number of connections that ended without a SessionFault in all tasks
 abbrev pub clean_in : List (Option (PassView × ℕ)) → ℕ
 clean_in [] = 0
 clean_in (task ∷ tasks) = clean_at task + clean_in tasks

@@ -15,7 +15,7 @@ use Rattle.site_server.specs.declared.serving.ServeFault.{ServeFault}
 use Rattle.site_server.specs.declared.serving.ServeFault.TheVariants.{OutOfMemory, Journal, NotClosed}
 
 -- What the worker with pass k + 1 returns after it served its connections in the role at place k. It is that pass, and
--- the number of these connections that ended without fault.
+-- the number of these connections that ended without a SessionFault.
 abbrev pub HandedBack : Plan → ℕ → PassView × ℕ → Type 0
 HandedBack plan k done =
     (done.0.id ≡ k + 1) × (role : Role) × (slice_get plan.roles k ≡ Some role)
@@ -25,12 +25,12 @@ HandedBack plan k done =
 abbrev pub HandsBack : Plan → List (PassView × ℕ) → Type 0
 HandsBack plan done = (k : ℕ) (d : PassView × ℕ) → k < length done → HandedBack plan k (slice_index_or done k d)
 
--- the number of connections that ended without fault, at all workers
+-- the number of connections that ended without a SessionFault, at all workers
 abbrev pub all_clean : List (PassView × ℕ) → ℕ
 all_clean [] = 0
 all_clean (d ∷ done) = d.1 + all_clean done
 
--- Each pass served its connections in its role. All of them together had `clean` connections that ended without fault.
+-- Each pass served its connections in its role. All of them together had `clean` connections that ended without a SessionFault.
 pub record HaveWorked (plan : Plan) (passes : List PassView) (clean : ℕ) : Type 0 where
   pub done : List (PassView × ℕ)
   pub passes_are : passes ≡ map (λ (d : PassView × ℕ). d.0) done

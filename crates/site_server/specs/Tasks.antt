@@ -45,7 +45,7 @@ TalkedAll config may_fail role [] s s' = s' ≡ s
 TalkedAll config may_fail role (outcome ∷ outcomes) s s' =
     (m : ℕ × PassView) × Talked config may_fail role outcome s m × TalkedAll config may_fail role outcomes m s'
 
--- The pass served `connections` connections in this role, and `clean` of them ended without fault.
+-- The pass served `connections` connections in this role, and `clean` of them ended without a SessionFault.
 pub record Worked (config : ConfigValue) (may_fail : Type 0) (role : Role) (connections clean : ℕ) (before now : PassView) : Type 0 where
   pub moment : ℕ
   pub outcomes : List Outcome

@@ -71,8 +71,8 @@ fn workers_of(alloc: Global, doors: Vec<OpenDoor>) -> Result<Vec<Worker>, AllocE
 
 impl Crew {
     /// Makes the workers of these doors, in their order. Each door gets as many workers as it asks for, each with its
-    /// role and a share of its listener. The result is `None` if they aren't 1 to 96 in all. The error is that memory
-    /// ran out for 1 to 96 workers.
+    /// role and a share of its listener. Returns `None` if the doors ask for no worker, or for more than 96 in all. The
+    /// error is that memory ran out.
     pub fn new(alloc: Global, doors: Vec<OpenDoor>) -> Result<Option<Crew>, AllocError>
         ensures there { IfOk result (λ made. IsSome made ↔ IsCrew (length (all_posts doors.items))) }
         ensures memory { OnErr result (IsCrew (length (all_posts doors.items))) }

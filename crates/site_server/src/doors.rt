@@ -15,9 +15,10 @@ use till_request::{DeviceFault, Role};
 
 type Connection<'a, N> = (Ahead<StreamIn<Hearing<'a, N>>>, StreamOut<Stream>);
 
-/// The connections of a listener, which other workers may share.
+/// The connections of a listener, for one worker. Other workers may use the same listener.
 ///
-/// Input is read ahead, in blocks of 4,096 bytes. Answers are sent at once (a port has `TCP_NODELAY`).
+/// Input is read ahead, in blocks of 4,096 bytes. What is written is sent at once: connections at a port have
+/// `TCP_NODELAY`.
 ///
 /// If a connection can't be opened, for example because no file descriptor is free, the worker waits before it tries
 /// again. It waits 10 milliseconds at first, then twice as long each time, and at most 1 second. Only the first failure
@@ -35,6 +36,7 @@ pub struct SocketDoors<'a, R: Clock, N: Notices> {
     pass: u32,
     idle_seconds: u32,
     asked: u64,
+    /// The last wait in milliseconds, or 0 if there was none since a connection was opened.
     pause: u64,
 }
 
@@ -118,7 +120,8 @@ impl<'a, R: Clock, N: Notices> SocketDoors<'a, R, N> {
         Ok((input, output))
     }
 
-    /// Reports a failure to an operator, if it is the first since a connection was opened, and waits.
+    /// Waits after a connection couldn't be opened, for as long as `longer` returns. Before that, reports the error to
+    /// an operator, if no other attempt failed since a connection was opened.
     fn hold(&mut self, error: &io::Error)
         ensures asked { self.new.asked ≡ self.old.asked }
         ensures pause { self.new.pause ≡ longer_pause self.old.pause }
@@ -134,7 +137,7 @@ impl<'a, R: Clock, N: Notices> SocketDoors<'a, R, N> {
         thread::sleep(self.rt, Duration::from_millis(self.pause));
     }
 
-    /// Reports why a session failed to an operator. Reports nothing if the session ended after a whole line, or before
+    /// Reports to an operator why a session failed. Reports nothing if the session ended after a whole line, or before
     /// the peer sent anything.
     fn report(&self, outcome: &Result<Ended, SessionFault>)
         ensures { IfSome (told_of outcome.now) (λ failure. N.failure_told self.now.role self.now.pass failure) }

@@ -2,7 +2,6 @@
 //! journal for all of them.
 #![tactic(auto)]
 
-mod clock;
 mod crew;
 mod doors;
 mod limiter;
@@ -15,7 +14,6 @@ mod tasks;
 mod watcher;
 mod workers;
 
-pub use clock::MachineClock;
 pub use crew::{Crew, OpenDoor};
 pub use doors::SocketDoors;
 pub use group_sync::{AtOnce, Claim, CountedOut, Durable, GroupSync, MemoryDisk, Release, Shared};

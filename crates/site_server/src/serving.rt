@@ -49,11 +49,11 @@ pub struct Served<J: Journal = NoJournal> {
     pub site: Site,
     /// The journal that was kept.
     pub journal: J,
-    /// The number of connections that ended without fault.
+    /// The number of connections whose sessions ended without a `SessionFault`.
     pub clean: u64,
 }
 
-/// Why a site that was served couldn't be closed.
+/// Why serving a site ended without a closed site.
 #[derive(Clone, Copy)]
 pub enum ServeFault {
     OutOfMemory,
@@ -119,7 +119,8 @@ fn prepare<L: SiteLedger>(
     })
 }
 
-/// Returns why a site wasn't closed: that its journal failed, or else the refusal to close it.
+/// Returns why a site wasn't closed: that its journal failed, if `has_stopped` is true, or else `why`, the refusal to
+/// close it.
 fn why_not_closed(why: CloseRefusal, has_stopped: bool) -> ServeFault
     ensures { result ≡ fault_of_close why has_stopped }
 {
@@ -130,7 +131,8 @@ fn why_not_closed(why: CloseRefusal, has_stopped: bool) -> ServeFault
     }
 }
 
-/// Closes the site of a forecourt. The close is refused unless the site's history is made up of the passes' receipts.
+/// Closes the site of a forecourt. The close is refused unless the site's history is the one that the forecourt started
+/// with, followed by exactly the entries that the passes have receipts of.
 fn close<L: SiteLedger, J: Journal, R: Wait>(
     rt: &R,
     forecourt: Forecourt<L, J>,
@@ -159,15 +161,16 @@ fn prove_few(connections: u32)
     ensures { connections < 2 ^ 32 }
 {}
 
-/// What all workers gave back: their passes, and the number of connections that ended without fault.
+/// What all workers gave back: their passes, and the number of connections whose sessions ended without a
+/// `SessionFault`.
 #[derive(Drop)]
 struct Returned<L: SiteLedger> {
     passes: Vec<Pass<L>>,
     clean: u64,
 }
 
-/// Runs the tasks of all workers at once, moves their passes into `passes`, which has room for them, and tells the
-/// watcher that all of them ended.
+/// Runs the tasks of all workers at once, and moves their passes into `passes`, which has room for them. Then asks the
+/// watcher to stop looking at the site.
 fn work_all<
     L: SiteLedger + Send + Sync,
     J: Journal + Send,

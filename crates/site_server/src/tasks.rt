@@ -9,7 +9,7 @@ use site_lock::{Pass, SiteLedger};
 use std::alloc::{AllocError, Global};
 
 /// A worker's task. It starts with the pass and the worker in `waiting`. At its end `done` has the pass, and the number
-/// of connections that ended without fault.
+/// of connections whose sessions ended without a `SessionFault`.
 #[derive(Drop)]
 pub struct WorkerTask<L: SiteLedger> {
     pub waiting: Option<(Pass<L>, Worker)>,
@@ -36,7 +36,7 @@ pub(crate) fn tasks_of<L: SiteLedger>(
 }
 
 /// Moves the pass of a finished task into `passes`, which has room for it. Returns the number of the task's connections
-/// that ended without fault.
+/// whose sessions ended without a `SessionFault`.
 fn collect_pass<L: SiteLedger>(task: &mut WorkerTask<L>, passes: &mut Vec<Pass<L>>) -> u64
     requires { vec_len passes.old + 1 ≤ vec_capacity passes.old }
     ensures items { passes.new.items ≡ passes.old.items ++ collected (task.old.done ∷ []) }
@@ -53,8 +53,8 @@ fn collect_pass<L: SiteLedger>(task: &mut WorkerTask<L>, passes: &mut Vec<Pass<L
     }
 }
 
-/// Moves the passes of finished tasks into `passes`, which has room for them. Returns the number of connections that
-/// ended without fault.
+/// Moves the passes of finished tasks into `passes`, which has room for them. Returns the number of connections whose
+/// sessions ended without a `SessionFault`.
 pub fn collect_passes<L: SiteLedger>(tasks: &mut [WorkerTask<L>], passes: &mut Vec<Pass<L>>) -> u64
     requires room { vec_len passes.old + length tasks.old ≤ vec_capacity passes.old }
     requires few { clean_in (map (λ p. p.done) tasks.old) < 2 ^ 64 }

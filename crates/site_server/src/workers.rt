@@ -4,13 +4,12 @@ ghost use Rattle.line_session.specs.Serving.{Serves, SitsAtDesk, Visits};
 ghost use Rattle.site_server.specs.Collecting.{RunsWorker};
 ghost use Rattle.site_server.specs.Tasks.{Worked, pass_answers, tells};
 
-use crate::clock::MachineClock;
 use crate::doors::SocketDoors;
 use crate::notices::Notices;
 use crate::tasks::WorkerTask;
 use group_sync::{HeldDoors, Release};
-use line_session::Doors;
 use line_session::serving::worker;
+use line_session::{Doors, MachineClock};
 use site_lock::{Forecourt, Journal, Pass, PassDesk, SiteLedger, Straight};
 use std::alloc::Global;
 use std::sync::Wait;
@@ -40,8 +39,9 @@ impl<L: SiteLedger, J: Journal, N: Notices, A: Release, R: Wait + Clock> Workers
     A,
     R,
 > {
-    /// Serves connections with the pass and at the listener of a worker's task, and puts the pass back into the task.
-    /// The workers of a door share its listener, which is closed when the last of them ends.
+    /// Runs a worker's task: serves connections of the worker's listener with the pass in `waiting`, and puts the pass
+    /// into `done`. Does nothing if `waiting` is `None`. The workers of a door share its listener, which is closed when
+    /// the last of them ends.
     pub fn work(&self, task: &mut WorkerTask<L>)
         ensures { RunsWorker L.config J.may_fail self.now.connections task.old.waiting task.new.done }
     {
@@ -61,7 +61,7 @@ impl<L: SiteLedger, J: Journal, N: Notices, A: Release, R: Wait + Clock> Workers
         self.notices.left(role, number);
     }
 
-    /// Serves the connections of a role with one pass. Each answer waits until `release` allows it to be sent.
+    /// Serves connections like `serve`, and returns the same. Each answer waits until `release` allows it to be sent.
     fn serve_held<S: Doors + Drop>(&self, pass: Pass<L>, role: Role, doors: S) -> (Pass<L>, u64)
         ensures worked { Worked L.config J.may_fail role self.now.connections result.1 pass result.0 }
         ensures id { result.0.id ≡ pass.id }
@@ -74,7 +74,8 @@ impl<L: SiteLedger, J: Journal, N: Notices, A: Release, R: Wait + Clock> Workers
     }
 
     /// Serves the connections of a role with one pass. Rules run without the site's lock, except after two stale runs.
-    /// Returns the pass, with the receipts that it gained, and the number of connections that ended without fault.
+    /// Returns the pass, with the receipts that it gained, and the number of connections whose sessions ended without a
+    /// `SessionFault`.
     fn serve<S: Doors>(&self, pass: Pass<L>, role: Role, doors: &mut S) -> (Pass<L>, u64)
         ensures served { (moment : ℕ)
             × Serves (Visits S.opens S.fails S.told

@@ -1,16 +1,17 @@
 //! The machine's clock, which gives the sessions their moments.
 ghost use Rattle.std.specs.Prelude.{◌≡◌};
 
-use line_session::Clock;
+use crate::desk::Clock;
 use std::time;
 use std::time::{SystemTime, UNIX_EPOCH};
 
-/// Gives whole seconds since the start of 1970. If the machine's clock can't be read, or is before 1970, gives the last
-/// moment again, or 0 if there is none yet.
+/// A clock that gives the machine's time in whole seconds since the start of 1970. If this time can't be read, or is
+/// before 1970, the clock gives its last moment again, or 0 if there is none yet.
 #[derive(Drop)]
 pub struct MachineClock<'a, R: time::Clock> {
     rt: &'a R,
-    last: u64,
+    /// The moment that was given last, or 0 if there is none yet.
+    pub last: u64,
 }
 
 impl<'a, R: time::Clock> MachineClock<'a, R> {
