@@ -8,8 +8,8 @@ usage: tools/build.py SOURCES NAME FOLDER    SOURCES: has crates.txt and crates/
 Each crate is proved by the toolchain's `rattle build`, over what the crates below it state: --statements leaves out
 their proofs, which nobody above reads. As many crates are proved at the same time as there are processors, or as memory
 allows; FC_JOBS sets another number. Of the crates that can begin, the one with the longest chain up to the program
-comes first. Where fewer can begin, each gets several processes. What the toolchain prints goes to standard output, with
-a line 'build: NAME proved' at the end of each crate.
+comes first. It gets two processes if no chain that is left is much longer. Where fewer can begin, each gets several.
+What the toolchain prints goes to standard output, with a line 'build: NAME proved' at the end of each crate.
 The exit status is 0 if all was proved and the program was built.
 """
 import os
@@ -21,6 +21,7 @@ import time
 from concurrent.futures import FIRST_COMPLETED, ThreadPoolExecutor, wait
 
 MOST_JOBS = 4  # processes that one crate's proof can use well
+LINES_LIKE = {"interp": 2200, "site_lock": 4000}  # for proofs that take much longer than others of so many lines
 MEMORY = 4_500_000_000  # bytes for each crate that is proved at the same time
 TARGET = "x86_64-unknown-linux-gnu"
 C_LIBRARIES = ("libos_c.a", "liblibc_c.a")  # what the kit's libraries of the system are linked with
@@ -51,6 +52,7 @@ class Crate:
             for one in names:
                 with open(os.path.join(path, one), "rb") as file:
                     self.lines += file.read().count(b"\n")
+        self.lines = LINES_LIKE.get(name, self.lines)
 
 
 def crates_of(sources, top):
@@ -140,9 +142,13 @@ class Build:
                 ready = [it for it in left if done.issuperset(it.deps)]
                 # A crate counts once, however many processes it gets: while it is loaded, it has only one.
                 idle = most - len(running)
+                longest = max([self.crates[name].chain for name in running.values()], default=0)
                 while ready and idle > 0:
                     jobs = max(1, min(MOST_JOBS, idle // len(ready)))
                     crate = ready.pop(0)
+                    if crate.chain >= 0.95 * longest and most > 2:
+                        jobs = max(jobs, 2)
+                    longest = max(longest, crate.chain)
                     left.remove(crate)
                     running[pool.submit(self.prove, crate.name, jobs)] = crate.name
                     idle -= 1
