@@ -22,16 +22,17 @@ use std::marker::Model;
 use std::sync::Arc;
 use till_request::{Act, Request};
 
-/// What a run starts from, except its program.
+/// What a run reads, except counters.
 #[derive(Clone, Copy)]
 struct Input {
     context: Context,
     view: View,
-    counters: Counters,
 }
 
 /// All that the run for a request needs of a site, copied when the decision begins. A draft is made only if the site
-/// would then run a program for the request. The largest part is kept behind a pointer, as a draft is moved often.
+/// would then run a program for the request. The largest parts are kept behind pointers, as a draft is moved often.
+/// Each of these parts has less than a kilobyte: the C library keeps freed memory of that size for the thread that
+/// freed it, so a thread that makes a draft under the site's lock needn't wait for another thread.
 #[derive(Drop)]
 pub struct Draft {
     till: u32,
@@ -40,6 +41,7 @@ pub struct Draft {
     version: u32,
     program: Arc<Program>,
     input: Box<Input>,
+    counters: Box<Counters>,
 }
 
 impl Model for Draft {
@@ -58,7 +60,7 @@ impl Model for Draft {
       version = record { number = d.version; program = arc_value d.program };
       context = bytes_of d.input.value.context;
       view = d.input.value.view;
-      counters = d.input.value.counters;
+      counters = d.counters.value;
     } };
 
     ghost invariant = { λ d. (layout_of d.input.value.context ≡ (arc_value d.program).layout) × WasAsked (record {
@@ -68,7 +70,7 @@ impl Model for Draft {
       version = record { number = d.version; program = arc_value d.program };
       context = bytes_of d.input.value.context;
       view = d.input.value.view;
-      counters = d.input.value.counters;
+      counters = d.counters.value;
     }) };
 }
 
@@ -102,16 +104,19 @@ impl Draft {
         let input = Input {
             context: station.context(layout, till, moment, &question),
             view: *station.view(),
-            counters: *station.counters(),
         };
-        match Box::new(station.alloc(), input) {
-            Ok(input) => Ok(Begin::Run(Draft {
+        let Ok(input) = Box::new(station.alloc(), input) else {
+            return Err(AllocError);
+        };
+        match Box::new(station.alloc(), *station.counters()) {
+            Ok(counters) => Ok(Begin::Run(Draft {
                 till,
                 moment,
                 request: *request,
                 version,
                 program,
                 input,
+                counters,
             })),
             Err(_) => Err(AllocError),
         }
@@ -122,7 +127,8 @@ impl Draft {
         ensures { result.draft ≡ self }
     {
         let input: &Input = &self.input;
-        let mut after = input.counters;
+        let counters: &Counters = &self.counters;
+        let mut after = *counters;
         let r0 = run(&self.program, &input.context, &input.view, &mut after);
         Ready {
             draft: self,
@@ -157,8 +163,9 @@ impl Draft {
         if let Some(place) = first_price(&view.prices, &input.view.prices) {
             return Err(Why::PriceDiffers(place + 1));
         }
+        let drafted: &Counters = &self.counters;
         let counters = station.counters();
-        if let Some(c) = first_counter(self.program.declared(), counters, &input.counters) {
+        if let Some(c) = first_counter(self.program.declared(), counters, drafted) {
             return Err(Why::Counter(c, counters.get(c)));
         }
         Ok(question)
@@ -194,10 +201,12 @@ impl Ready {
     ghost use Rattle.site_core.specs.Outside.{IsRunOf};
 
     /// Carries out what the program answered and returns the decision's entry, with this number and pass, if nothing
-    /// that the run depends on has changed since the draft was made. Else the error is the first change that was found.
-    /// If nothing has changed, the error is that memory ran out. After an error the station is unchanged. Counters that
-    /// the program doesn't declare keep their current values. If the till asked to release fuel, it is granted at most
-    /// the amount that is preset at the point now, if one is.
+    /// that the run depends on has changed since the draft was made. Counters that the program doesn't declare keep
+    /// their current values. If the till asked to release fuel, it is granted at most the amount that is preset at the
+    /// point now, if one is.
+    ///
+    /// The error is `Stale` with the first change that was found, or, if nothing has changed, `OutOfMemory`. After an
+    /// error the station is unchanged.
     pub(crate) fn settle(
         &self,
         config: &Config,
@@ -227,7 +236,8 @@ impl Ready {
             Err(why) => return Err(Unsettled::Stale(why)),
         };
         let input: &Input = &draft.input;
-        let adopted = station.adopt(&draft.program, &input.context, &input.counters, &self.after);
+        let counters: &Counters = &draft.counters;
+        let adopted = station.adopt(&draft.program, &input.context, counters, &self.after);
         let counts = match adopted {
             Ok(counts) => counts,
             Err(_) => return Err(Unsettled::OutOfMemory),

@@ -21,7 +21,7 @@ returns-in-Some-first_counter c =
       version = record { number = d.version; program = arc_value d.program };
       context = bytes_of d.input.value.context;
       view = d.input.value.view;
-      counters = d.input.value.counters;
+      counters = d.counters.value;
     } in
     let input_is : c.deref-input.result.now ≡ d.input.value = c.deref-input.ensures in
     let layout_is : c.layout-layout.result ≡ draft.version.program.layout = c.layout-layout.ensures ∙ ap (λ (p : ProgramText). p.layout) c.deref-2.ensures in
@@ -35,8 +35,8 @@ returns-in-Some-first_counter c =
       prices = (λ i. (sym c.view-view.ensures i).prices) ∙ c.in_default-first_price.ensures.first ∙ (λ i. (input_is i).view.prices);
       was = c.self.invariant.1;
     } in
-    let differs : CounterDiffers (arc_value d.program).declared s.counters d.input.value.counters c.in-Some-first_counter.c =
-    rw (← c.deref-3.ensures, ← input_is, ← c.declared.ensures, ← c.counters-counters.ensures) c.in-Some-first_counter.ensures in
+    let differs : CounterDiffers (arc_value d.program).declared s.counters d.counters.value c.in-Some-first_counter.c =
+    rw (← c.deref-3.ensures, ← c.deref-drafted.ensures, ← c.declared.ensures, ← c.counters-counters.ensures) c.in-Some-first_counter.ensures in
     rw (← c.self.view_is) (differs-counter c.args.config.now s c.args.slots.now draft q c.in-Some-first_counter.c c.get.result same differs
     (rw (← c.counters-counters.ensures) c.get.ensures.value))
 
@@ -52,7 +52,7 @@ returns c =
       version = record { number = d.version; program = arc_value d.program };
       context = bytes_of d.input.value.context;
       view = d.input.value.view;
-      counters = d.input.value.counters;
+      counters = d.counters.value;
     } in
     let input_is : c.deref-input.result.now ≡ d.input.value = c.deref-input.ensures in
     let layout_is : c.layout-layout.result ≡ draft.version.program.layout = c.layout-layout.ensures ∙ ap (λ (p : ProgramText). p.layout) c.deref-2.ensures in
@@ -66,6 +66,6 @@ returns c =
       prices = (λ i. (sym c.view-view.ensures i).prices) ∙ c.in_default-first_price.ensures.first ∙ (λ i. (input_is i).view.prices);
       was = c.self.invariant.1;
     } in
-    let agree : Agrees (arc_value d.program).declared d.input.value.counters s.counters =
-    rw (← c.deref-3.ensures, ← input_is, ← c.declared.ensures, ← c.counters-counters.ensures) c.in_default-first_counter.ensures in
+    let agree : Agrees (arc_value d.program).declared d.counters.value s.counters =
+    rw (← c.deref-3.ensures, ← c.deref-drafted.ensures, ← c.declared.ensures, ← c.counters-counters.ensures) c.in_default-first_counter.ensures in
     rw (← c.self.view_is) (still-asked c.args.config.now s c.args.slots.now draft q same c.context-context.ensures.fits agree)

@@ -33,7 +33,7 @@ returns-clause-performed c =
       version = record { number = d.version; program = arc_value d.program };
       context = bytes_of d.input.value.context;
       view = d.input.value.view;
-      counters = d.input.value.counters;
+      counters = d.counters.value;
     } in
     let still : StillAsked c.args.config.now s c.args.slots.now draft q = rw (c.draft.view_is) c.in-Ok.ensures in
     let layout : DraftValue → Layout = λ x. x.version.program.layout in
@@ -44,8 +44,9 @@ returns-clause-performed c =
     let r0 = c.self.inside.r0 in
     let input = c.deref-input.result.now in
     let input_is : input ≡ d.input.value = c.deref-input.ensures in
-    let outside : outcome c.deref.result.now (bytes_of input.context) (view_of s) input.counters ≡ Ended r0 c.self.inside.after =
-    (λ i. outcome (c.deref.ensures i) (bytes_of (input_is i).context) (still.view_is i) (input_is i).counters) ∙ subst (λ (x : DraftValue). outcome x.version.program x.context x.view x.counters ≡ Ended r0 c.self.inside.after) (sym c.draft.view_is) c.self.invariant in
+    let counters_are : c.deref-counters.result.now ≡ d.counters.value = c.deref-counters.ensures in
+    let outside : outcome c.deref.result.now (bytes_of input.context) (view_of s) c.deref-counters.result.now ≡ Ended r0 c.self.inside.after =
+    (λ i. outcome (c.deref.ensures i) (bytes_of (input_is i).context) (still.view_is i) (counters_are i)) ∙ subst (λ (x : DraftValue). outcome x.version.program x.context x.view x.counters ≡ Ended r0 c.self.inside.after) (sym c.draft.view_is) c.self.invariant in
     let ran : outcome draft.version.program draft.context draft.view s.counters ≡ Ended r0 after =
     (λ i. outcome (sym c.deref.ensures i) (bytes_of (sym input_is i).context) (sym still.view_is i) s.counters) ∙ c.in-Ok-adopted.ensures.ran r0 outside in
     let counted : c.in-Ok-adopted.counts ≡ counts (arc_value d.program).declared s.counters after =
