@@ -67,7 +67,7 @@ struct Row {
 }
 
 const ROWS: [Row; 8] = [
-    // The run doesn't depend on what these events change, so the decision is entered.
+    // Showing a point changes nothing that the run depends on, so the decision is entered.
     Row {
         before: OPENED,
         asked: RELEASE,

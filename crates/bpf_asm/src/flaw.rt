@@ -54,7 +54,7 @@ impl fmt::Display for AsmFlaw<'_> {
     }
 }
 
-/// The most bytes of a line that a message shows.
+/// The most bytes of a line or a label that a message shows.
 const MOST_SHOWN: usize = 80;
 
 /// A line or a label, of which the first 80 bytes are written, and ` ..` if there are more.
@@ -76,14 +76,14 @@ impl fmt::Display for Beginning<'_> {
     }
 }
 
-/// Returns the first 80 bytes of a line, or all of them if it has fewer.
+/// Returns the first 80 bytes of a line or a label, or all of them if it has fewer.
 fn first_bytes(line: &[u8]) -> &[u8]
     ensures { result.now ≡ take 80 line.now }
 {
     &line[..MOST_SHOWN.min(line.len())]
 }
 
-/// Returns what is written after the first 80 bytes of a line: ` ..` if it has more.
+/// Returns what is written after the first 80 bytes of a line or a label: ` ..` if it has more, else nothing.
 fn ending(line: &[u8]) -> &'static str
     ensures { result.now ≡ ending line.now }
 {
@@ -161,7 +161,7 @@ fn out_of_range<'a>(alloc: Global, text: &'a [u8], number: u64) -> Result<AsmFla
 }
 
 /// Returns the flaw for a fault of a text, with the line or the label that its message shows. The error is that memory
-/// ran out: in this call, or because the fault is `OutOfMemory`. A wrong length and a byte order mark take no memory.
+/// ran out in this call, or that the fault is `OutOfMemory`. A wrong length and a byte order mark take no memory.
 pub fn explain<'a>(
     alloc: Global,
     text: &'a [u8],

@@ -22,15 +22,15 @@ pub struct Fields {
     pub imm: Value,
 }
 
-/// The target of a jump: a label, which is the line's last token, or a distance in units.
+/// The target of a jump: a label, which is the line's last token, or a distance, in units from the unit after the jump.
 #[derive(Clone, Copy)]
 pub enum Target {
     Label,
     Distance(Value),
 }
 
-/// A parsed instruction: a wide load with its register and number, a jump with its target, or any other with its
-/// fields.
+/// A parsed instruction: a wide load with its register and number, a jump with its fields and target, or any other with
+/// its fields. The number of a wide load is `None` if it is above 2^64 - 1. A jump's fields don't have its distance.
 #[derive(Clone, Copy)]
 pub enum Statement {
     Plain(Form, Fields),
@@ -38,8 +38,8 @@ pub enum Statement {
     Jump(Form, Fields, Target),
 }
 
-/// A parsed line, without its comment: empty, the definition of a label, whose name is the first token, or an
-/// instruction.
+/// A parsed line, without its comment: an empty line, the definition of a label, or an instruction. The label's name is
+/// the line's first token.
 #[derive(Clone, Copy)]
 pub enum Line {
     Empty,
@@ -114,8 +114,8 @@ fn is_word(token: Token) -> bool
     )
 }
 
-// Returns the instruction `dst OPERATOR= operand`, if the tokens are the operand and nothing more: a register or a
-// number.
+// Parses the tokens after `dst OPERATOR=`, or after `dst =` for MOV: a register of the same width or a number, and
+// nothing more. Returns the instruction. `offset` is its offset field, as in `Token::Assign`.
 fn operand(
     operator: Operator,
     offset: u64,
@@ -221,6 +221,7 @@ fn load(dst: u8, tokens: &[Token]) -> Option<Statement>
     }
 }
 
+// Returns the number of bits of a sign extension; `None` if no instruction of this width extends this size.
 fn extension(width: Width, size: Size) -> Option<u64>
     ensures { result ≡ spec.extension width size }
 {
@@ -276,8 +277,8 @@ fn is_full(width: Width) -> bool
     matches!(width, Width::Bits64)
 }
 
-// Parses the tokens after `r1 = -`: for NEG, the same register again. This function and the next three parse one form
-// each: NEG, a sign extension, END and a wide load. These forms exist only with `=`.
+// Parses the tokens after `r1 = -` as NEG: the token must be the same register again. This function and the next three
+// each parse one form that exists only with `=`: NEG, a sign extension, END and a wide load.
 fn negated(width: Width, dst: u8, tokens: &[Token]) -> Option<Statement>
     ensures { result ≡ spec.only_assigned width dst (Token.Minus ∷ tokens.now) }
 {
@@ -337,7 +338,8 @@ fn wide(n: Option<u64>, width: Width, dst: u8, tokens: &[Token]) -> Option<State
     }
 }
 
-// Parses the tokens after `r1 =`, if the form exists only with `=`: NEG, a sign extension, END, a wide load or a load.
+// Parses the tokens after `r1 =` as a form that exists only with `=`: NEG, a sign extension, END, a wide load or a
+// load.
 fn only_assigned(width: Width, dst: u8, tokens: &[Token]) -> Option<Statement>
     ensures { result ≡ spec.only_assigned width dst tokens.now }
 {
@@ -362,8 +364,8 @@ fn assigned(width: Width, dst: u8, tokens: &[Token]) -> Option<Statement>
     }
 }
 
-// Parses the tokens of a store after its address: `=` and a register or a number. The store's size, base and offset are
-// given.
+// Parses the tokens of a store after its address: `=` and a register or a number. The address is the register `base`
+// plus `offset`.
 fn stored(size: Size, base: u8, offset: Value, tokens: &[Token]) -> Option<Statement>
     ensures { result ≡ spec.stored size base offset tokens.now }
 {
@@ -408,7 +410,8 @@ fn jump_to(form: Form, fields: Fields, tokens: &[Token]) -> Option<Statement>
     Some(Statement::Jump(form, fields, target))
 }
 
-// Returns the instruction for the tokens after `if r1 CMP r2`.
+// Returns the instruction for the tokens after `if r1 CMP r2`. `width` and `dst` are those of `r1`, and `other` and
+// `src` are the width and the number of `r2`.
 fn register_branch(
     condition: Condition,
     width: Width,

@@ -1,5 +1,5 @@
-// Labels, and the units that they name. A row is a parsed line with a label. For a line that defines a label it is this
-// label. For an instruction it is the last word, which in a jump to a label names the target.
+// Labels, and the units that they name. A label names the next unit after it. Units count from 0. A row is a parsed
+// line with a label, as `line::row_of` returns it.
 
 ghost use Rattle.std.specs.Prelude.{◌≡◌, ◌≤◌, ◌++◌, [], ℕ, List, map, IfOk, OnOk, Some, is_some};
 ghost use Rattle.bpf_asm.specs.Program as spec;
@@ -35,7 +35,7 @@ pub fn units_in(rows: &[(Line, &[u8])]) -> u64
     units
 }
 
-// Adds to `labels` the label that a row defines, if it defines one, with the unit that the label names, which is `at`.
+// If a row defines a label, adds to `labels` this label and `at`, the unit that it names.
 fn define<'a>(
     labels: &mut Vec<(&'a [u8], u64)>,
     says: Line,
@@ -103,7 +103,7 @@ fn goes_to_label(statement: Statement) -> bool
     matches!(statement, Statement::Jump(_, _, Target::Label))
 }
 
-// Returns whether a row defines a label of `seen` again, or jumps to a label that no row defines.
+// Returns whether a row defines a label that is in `seen`, or jumps to a label that isn't in `labels`.
 fn is_wrong(labels: &[(&[u8], u64)], seen: &[&[u8]], says: Line, name: &[u8]) -> bool
     ensures { result ≡ spec.is_wrong (map (λ d. spec.definition d.0.now d.1) labels.now)
         (map (λ t. t.now) seen.now) says name.now }
@@ -115,6 +115,7 @@ fn is_wrong(labels: &[(&[u8], u64)], seen: &[&[u8]], says: Line, name: &[u8]) ->
     }
 }
 
+// If a row defines a label, adds this label to `seen`.
 fn note<'a>(seen: &mut Vec<&'a [u8]>, says: Line, name: &'a [u8]) -> Result<(), AllocError>
     ensures { OnOk result (map (λ t. t.now) seen.new.items
         ≡ spec.with_name says name.now (map (λ t. t.now) seen.old.items)) }

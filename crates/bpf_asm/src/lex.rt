@@ -136,6 +136,7 @@ fn lookup(mut table: &[(&[u8], Token)], text: &[u8], other: Token) -> Token
     other
 }
 
+// Returns the register of this width whose number, 0 to 10, follows the first byte of `text`; `Name` if none does.
 fn numbered(width: Width, text: &[u8]) -> Token
     ensures { result ≡ spec.numbered width text.now }
 {
@@ -168,7 +169,8 @@ fn register_or_name(text: &[u8]) -> Token
     }
 }
 
-/// Returns the number of bytes of a line before its comment, or of the whole line if it has no comment.
+/// Returns the number of bytes of a line before its comment, which begins with `//`, or of the whole line if it has no
+/// comment.
 pub fn code_len(line: &[u8]) -> usize
     ensures value { result ≡ spec.code_len line.now }
     ensures within { result ≤ length line.now }
@@ -180,7 +182,8 @@ pub fn code_len(line: &[u8]) -> usize
     at
 }
 
-/// Returns the texts of a line's tokens; `None` if the line has a part that is neither a token nor blank.
+/// Returns the texts of the tokens of a line without its comment; `None` if a part of the line is neither a token nor
+/// blank.
 pub fn split<'a>(alloc: Global, text: &'a [u8]) -> Result<Option<Vec<&'a [u8]>>, AllocError>
     ensures { IfOk result (λ found. option_map (λ v. map (λ t. t.now) v.items) found ≡ spec.split text.now) }
 {

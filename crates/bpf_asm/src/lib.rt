@@ -17,8 +17,8 @@ use grammar::Line;
 use std::alloc::{AllocError, Global};
 use std::fmt::Write;
 
-/// Why a text can't be assembled. The number is that of a line, counted from 1. `flaw::explain` returns what a message
-/// about the fault shows.
+/// Why a text can't be assembled. The number is that of the wrong line, counted from 1. `flaw::explain` returns the
+/// `AsmFlaw` that writes the message about a fault.
 #[derive(Clone, Copy)]
 pub enum AsmFault {
     /// A1: the line can't be parsed.
@@ -45,6 +45,7 @@ mod units;
 pub use flaw::AsmFlaw;
 pub use program_file::{MOST_BYTES, ProgramFileFault};
 
+/// Returns the upper 32 bits of a wide load's number, given the units after its first unit; 0 for other instructions.
 fn high(units: &[Unit]) -> i32
     ensures { result ≡ high_of units.now }
 {
@@ -70,8 +71,8 @@ pub fn disassemble(alloc: Global, code: &Code) -> Result<String, AllocError>
     Ok(out)
 }
 
-/// Returns the line, with its LF, of the instruction that begins at a unit, as `disassemble` writes it. Returns `None`
-/// if no instruction begins there, for which no memory is taken.
+/// Returns the line of the instruction that begins at unit `unit`, as `disassemble` writes it, with its LF. Units count
+/// from 0. Returns `None`, and takes no memory, if no instruction begins there.
 pub fn instruction_line(alloc: Global, code: &Code, unit: u32) -> Result<Option<String>, AllocError>
     ensures line { IfOk result (λ found. option_map string_bytes found ≡ line_of_unit code.now unit) }
     ensures none { line_of_unit code.now unit ≡ None → IsOk result }
@@ -98,8 +99,8 @@ fn front_line(alloc: Global, units: &[Unit]) -> Result<Option<String>, AllocErro
     }
 }
 
-/// Returns the text of a program, like `disassemble`, but each line begins with the number of its instruction's first
-/// unit and `: `.
+/// Returns the text of a program, like `disassemble`, but each line begins with the number of the instruction's first
+/// unit, counted from 0, and `: `.
 pub fn disassemble_numbered(alloc: Global, code: &Code) -> Result<String, AllocError>
     ensures { IfOk result (λ text. string_bytes text ≡ numbered_from 0 code.now) }
 {
@@ -116,7 +117,8 @@ pub fn disassemble_numbered(alloc: Global, code: &Code) -> Result<String, AllocE
     Ok(out)
 }
 
-/// Appends the number of a unit, `: `, and the line of the instruction that begins there.
+/// Appends the number of a unit, `: `, and the line of the instruction that begins there. `high` is the upper 32 bits
+/// of a wide load's number.
 fn write_numbered(out: &mut String, number: u64, inst: Inst, high: i32) -> Result<(), AllocError>
     ensures { OnOk result (string_bytes out.new ≡ string_bytes out.old ++ decimal number ++ codes ": "
         ++ instruction_text (form_of inst.opcode) inst high) }
@@ -131,8 +133,9 @@ fn is_length(count: u64) -> bool
     1 <= count && count <= 512
 }
 
-// Returns the program of parsed lines whose numbers are in range. The error is that it doesn't have 1 to 512 units,
-// else the first wrong label, or that memory ran out. No memory is taken before the units are counted.
+// Returns the program that the parsed lines spell, each given with its label. All their numbers must be in range. The
+// error is that the program doesn't have 1 to 512 units, else the first wrong label, or that memory ran out. No memory
+// is taken before the units are counted.
 fn assemble_rows(alloc: Global, rows: &[(Line, &[u8])]) -> Result<Code, AsmFault>
     requires fits { spec.AreRight (map (λ p. spec.row p.0 p.1.now) rows.now) }
     requires sound { AreSound (map (λ p. spec.row p.0 p.1.now) rows.now) }

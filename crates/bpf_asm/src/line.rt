@@ -59,7 +59,8 @@ fn label_of<'a>(line: Line, words: &[&'a [u8]]) -> &'a [u8]
     }
 }
 
-// Parses the tokens of a line, and returns it with its label; `None` if they can't be parsed.
+// Parses the tokens of a line, and returns the parsed line with its label; `None` if they can't be parsed. `words` are
+// the texts of the tokens.
 fn row_with<'a>(tokens: &[Token], words: &[&'a [u8]]) -> Option<(Line, &'a [u8])>
     ensures { option_map (λ p. spec.row p.0 p.1.now) result
         ≡ spec.row_with (line_said tokens.now) (map (λ t. t.now) words.now) }
@@ -68,7 +69,8 @@ fn row_with<'a>(tokens: &[Token], words: &[&'a [u8]]) -> Option<(Line, &'a [u8])
     Some((says, label_of(says, words)))
 }
 
-// Parses the words of a line, and returns it with its label; `None` if they can't be parsed.
+// Parses a line, given the texts of its tokens, and returns the parsed line with its label; `None` if it can't be
+// parsed.
 fn row_by<'a>(alloc: Global, words: &[&'a [u8]]) -> Result<Option<(Line, &'a [u8])>, AllocError>
     ensures { IfOk result (λ found. option_map (λ p. spec.row p.0 p.1.now) found
         ≡ spec.row_by (Some (map (λ t. t.now) words.now))) }
@@ -77,9 +79,9 @@ fn row_by<'a>(alloc: Global, words: &[&'a [u8]]) -> Result<Option<(Line, &'a [u8
     Ok(row_with(tokens.as_slice(), words))
 }
 
-/// Parses a line, and returns it with its label. For a line that defines a label it is this label. For an instruction
-/// it is the last word, which in a jump to a label names the target. Returns `None` if the line can't be parsed. A line
-/// with a byte that isn't ASCII takes no memory.
+/// Parses a line, and returns the parsed line with a label. For a line that defines a label, it is this label. For an
+/// instruction, it is the text of the last token, which in a jump to a label is the target. For an empty line, it is
+/// empty. Returns `None` if the line can't be parsed. A line with a byte that isn't ASCII takes no memory.
 pub fn row_of<'a>(alloc: Global, line: &'a [u8]) -> Result<Option<(Line, &'a [u8])>, AllocError>
     ensures found { IfOk result (λ found. option_map (λ p. spec.row p.0 p.1.now) found ≡ spec.row_of line.now) }
     ensures other { list_all (λ b. nat_lt b 128) line.now ≡ false → IsOk result }

@@ -64,7 +64,8 @@ fn without_blanks(alloc: Global, text: &[u8]) -> Result<Vec<u8>, AllocError>
         .collect(alloc)
 }
 
-/// Returns the bytes that hexadecimal digits spell. An odd number of digits takes no memory.
+/// Returns the bytes that hexadecimal digits spell. The error is that a byte isn't a hexadecimal digit, that the number
+/// of digits is odd, or that memory ran out. An odd number of digits takes no memory.
 fn bytes_of(alloc: Global, digits: &[u8]) -> Result<Vec<u8>, ProgramFileFault>
     ensures given { Gives (λ bytes. bytes.items) result (bytes_or_fault (decode_of digits.now)) }
     ensures odd { length digits.now % 2 ≡ 1 → result ≡ Err ProgramFileFault.BadDigits }

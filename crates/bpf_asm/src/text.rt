@@ -45,7 +45,7 @@ fn write_register(
     }
 }
 
-// Appends a blank, a number, and the end of the line.
+// Appends a space, a number, and the end of the line.
 fn end_with_number(out: &mut String, n: i32) -> Result<(), AllocError>
     ensures { OnOk result (string_bytes out.new ≡ string_bytes out.old ++ line_text (number n [])) }
 {
@@ -53,7 +53,7 @@ fn end_with_number(out: &mut String, n: i32) -> Result<(), AllocError>
     out.push_str("\n")
 }
 
-// Appends a blank, the name of a register, and the end of the line.
+// Appends a space, the name of a register, and the end of the line.
 fn end_with_register(out: &mut String, width: Width, register: u8) -> Result<(), AllocError>
     ensures { OnOk result (string_bytes out.new ≡ string_bytes out.old
         ++ line_text (After (register_text width register) ∷ [])) }
@@ -159,8 +159,8 @@ fn write_operand(
     }
 }
 
-// Appends what follows the `=` of END, as in ` le16 r1`, and the end of the line. This function and the next four each
-// append what follows the symbol of an operator.
+// Appends what follows the `=` of END, as in ` le16 r1`, and the end of the line. The next five functions also
+// append what follows the symbol of an operator, and the end of the line.
 fn write_swapped(
     out: &mut String,
     width: Width,
@@ -344,7 +344,8 @@ fn write_register_store(out: &mut String, size: Size, inst: Inst) -> Result<(), 
     end_with_register(out, Width::Bits64, inst.src)
 }
 
-// Appends a jump and the end of the line. `word` is `goto` or `gotol`, maybe with a blank before it.
+// Appends `word`, the distance `to` with its sign, and the end of the line. `word` is `goto` or `gotol`, and can begin
+// with a space. `to` is in units, from the unit after the jump.
 fn write_goto(out: &mut String, word: &str, to: i32) -> Result<(), AllocError>
     ensures { OnOk result (string_bytes out.new ≡ string_bytes out.old
         ++ line_text (Next word.now ∷ distance to [])) }
@@ -404,7 +405,8 @@ fn write_call(out: &mut String, inst: Inst) -> Result<(), AllocError>
     end_with_number(out, inst.imm)
 }
 
-/// Appends the line of an instruction. `high` is the upper half of a wide load's number.
+/// Appends the line of an instruction, or nothing if no form has its opcode. `high` is the upper 32 bits of a wide
+/// load's number, and isn't used for other instructions.
 pub fn write_instruction(out: &mut String, inst: Inst, high: i32) -> Result<(), AllocError>
     ensures { OnOk result (string_bytes out.new ≡ string_bytes out.old
         ++ instruction_text (form_of inst.opcode) inst high) }

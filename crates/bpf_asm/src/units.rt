@@ -258,7 +258,8 @@ fn push_wide(units: &mut Vec<Unit>, dst: u8, n: u64) -> Result<(), AllocError>
     Ok(units.push(Unit::Second(high_half(n)))?)
 }
 
-// Appends the units of a parsed line. The first of them is unit `at` of the program.
+// Appends the units of a parsed line. The first of them is unit `at` of the program. `name` is the line's label, which
+// is used only for a jump to a label.
 fn push_units(
     units: &mut Vec<Unit>,
     labels: &[(&[u8], u64)],
@@ -293,8 +294,8 @@ fn push_units(
     }
 }
 
-/// Returns the units of all rows, in order. A row is a parsed line with the label that it defines, or that it jumps to.
-/// The error is that memory ran out.
+/// Returns the units of all rows, in order. `rows` is as `line::rows_of` returns it, and `labels` as `label::labels_of`
+/// returns it for these rows. The error is that memory ran out.
 pub fn units_of(
     alloc: Global,
     labels: &[(&[u8], u64)],

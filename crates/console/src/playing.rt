@@ -1,4 +1,4 @@
-//! The calls that play a script.
+//! The functions that play a script.
 ghost use Rattle.std.specs.Prelude.{◌≡◌, ◌≢◌, ◌≤◌, ◌-◌, ℕ, IfOk, IfErr, OnErr, Err};
 ghost use Rattle.till_request.specs.Count.{RoseBy, one_if};
 ghost use Rattle.line_session.specs.Answering.{SpendsReads, is_read, is_write, session_reads};
@@ -49,8 +49,8 @@ pub fn play_within<I: LineIn, O: LineOut, N: PlayNotices>(
     answer_lines_within(alloc, input, output, &player, &mut moment, &mut site, left)
 }
 
-/// Answers a script line by line, from a new site of this configuration. The first moment is 0, and at most 67,108,864
-/// reads of one byte are made.
+/// Answers a script line by line, on a new site of this configuration. The moment is 0 until a line sets it. At most
+/// 67,108,864 reads of one byte are made.
 ///
 /// After an error, some of the first bytes of the answers may have been written.
 pub fn play<I: LineIn, O: LineOut>(

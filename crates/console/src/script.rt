@@ -38,7 +38,7 @@ fn read_act(alloc: Global, words: &[&[u8]]) -> Result<ScriptLine, LineFault>
     Ok(ScriptLine::Act(parse_words(alloc, Role::All, words)?))
 }
 
-/// Parses a line of one word.
+/// Parses a line of one word. `words` has only this word.
 fn read_alone(alloc: Global, word: &[u8], words: &[&[u8]]) -> Result<ScriptLine, LineFault>
     ensures given { Gives result (line_alone word.now (map (λ w. w.now) words.now)) }
     ensures memory { result ≡ Err LineFault.OutOfMemory → IsLoad Role.All (map (λ w. w.now) words.now) }
@@ -50,7 +50,7 @@ fn read_alone(alloc: Global, word: &[u8], words: &[&[u8]]) -> Result<ScriptLine,
     }
 }
 
-/// Parses a line of two words.
+/// Parses a line of two words. `words` has both.
 fn read_with_value(
     alloc: Global,
     word: &[u8],
@@ -83,8 +83,8 @@ fn read_words(alloc: Global, words: &[&[u8]]) -> Result<ScriptLine, LineFault>
     }
 }
 
-/// Parses a line of a script, without its LF. The error is L2 if the words have none of the known forms, or L3 if a
-/// value can't be read. It may also be that there was no memory for the bytes of a load.
+/// Parses a line of a script, which is given without its LF. The error is `BadLine` if the words have none of the known
+/// forms, `BadNumber` if a value can't be read, or `OutOfMemory` if there was no memory for the bytes of a load.
 pub fn parse_script_line(alloc: Global, line: &[u8]) -> Result<ScriptLine, LineFault>
     ensures given { Gives result (line_of line.now) }
     ensures memory { result ≡ Err LineFault.OutOfMemory → IsLoad Role.All (words_of line.now) }

@@ -77,7 +77,7 @@ fn amount_asked(till: u32, verb: Word, n: u32, amount: u64) -> ActCells
     }
 }
 
-/// Returns the cells of a till's request for a price.
+/// Returns the cells of a till's request to change the price of a product.
 fn price_asked(till: u32, product: u32, price: u64) -> ActCells
     ensures { result ≡ request_cells till (Request.Price product price) }
 {

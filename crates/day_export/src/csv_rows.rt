@@ -41,7 +41,7 @@ fn push_cell(row: &mut ByteRecord, cell: Cell) -> Result<(), AllocError>
     }
 }
 
-/// Makes a record of cells. The error is that memory ran out.
+/// Replaces the fields of a record with the texts of these cells. The error is that memory ran out.
 fn fill_record(row: &mut ByteRecord, cells: &[Cell]) -> Result<(), AllocError>
     ensures { OnOk result (fields_of row.new ≡ map cell_text cells.now) }
 {
@@ -52,7 +52,7 @@ fn fill_record(row: &mut ByteRecord, cells: &[Cell]) -> Result<(), AllocError>
     Ok(())
 }
 
-/// Makes a record of the names of the columns. The error is that memory ran out.
+/// Replaces the fields of a record with the names of the columns. The error is that memory ran out.
 fn fill_header(row: &mut ByteRecord, rows: Rows) -> Result<(), AllocError>
     ensures { OnOk result (fields_of row.new ≡ columns rows) }
 {

@@ -20,7 +20,7 @@ pub(crate) struct JsonRows<W: Write + Drop> {
     pub(crate) out: W,
 }
 
-/// Returns the JSON value of a cell. The error is that memory ran out, which it can only for a word.
+/// Returns the JSON value of a cell. The error is that memory ran out, which can happen only for a word.
 #[tactic(auto, unfolding(crate::specs::Text::cell_data))]
 fn cell_value(alloc: Global, cell: Cell) -> Result<Value, AllocError>
     ensures value { IfOk result (λ value. view value ≡ cell_data cell) }

@@ -17,7 +17,7 @@ pub fn law_of_contexts()
 
 /// A law: in a legal history the points and the prices that the rows are made of are the site's. Each row of a sale has
 /// a number under `ended`, `product` and `price`, unless its transaction was unpaid when the day began: then these
-/// cells are empty.
+/// cells are empty, if the points of the day's opening have values that points can have.
 pub fn law_of_sites()
     ensures { RowsTellEachSite }
 {}

@@ -59,7 +59,7 @@ fn set_price(prices: &mut [u64], product: u32, price: u64)
     }
 }
 
-/// Changes the price of a product if an act with this reply is a price change that was granted.
+/// If the act asks to change a price and the reply grants it, sets the price of the product to the granted one.
 fn change_price(prices: &mut [u64], act: &Act, reply: Reply)
     ensures { prices.new ≡ prices_after prices.old act.now reply }
 {
@@ -235,8 +235,8 @@ impl Standing {
         })
     }
 
-    /// Changes the state in the way that an entry changed it. The error is that memory ran out, which it can't if the
-    /// entry makes no sale and ends no delivery.
+    /// Changes the state in the way that an entry changed it. The error is that memory ran out, which can't happen if
+    /// the entry makes no sale and ends no delivery.
     #[tactic(auto, unfolding(crate::specs::Standing::stand_after))]
     pub(crate) fn follow(&mut self, alloc: Global, entry: &Entry) -> Result<(), AllocError>
         requires { All (λ (p : PointState). p.last < u32.MAX) self.old.points.items }

@@ -12,7 +12,8 @@ pub(crate) const LEFT: usize = 90;
 
 pub(crate) const WIDTH: usize = 900;
 
-/// Adds the axis below a drawing, with labels at its ends and at each quarter.
+/// Adds the axis below a drawing, with labels at its ends and at each quarter. The axis is `top` below the picture's
+/// top.
 pub(crate) fn add_axis(sheet: &mut Sheet, axis: Axis, top: usize) {
     sheet.fill(
         "<path class=\"axis\" d=\"M{} {}h{}\"/>\n",
@@ -23,7 +24,8 @@ pub(crate) fn add_axis(sheet: &mut Sheet, axis: Axis, top: usize) {
     }
 }
 
-/// Adds the label on an axis at `quarters` quarters of its length from the start.
+/// Adds the label on an axis at `quarters` quarters of its length from the start. The label's baseline is `foot` below
+/// the picture's top.
 fn add_place(sheet: &mut Sheet, axis: Axis, quarters: usize, foot: usize) {
     let x = quarters.min(4) * (WIDTH / 4) + LEFT;
     let anchor = match quarters {
@@ -95,7 +97,8 @@ fn is_at(bands: &Bands, place: usize, state: State, step: usize) -> bool {
     step < bands.steps && bands.states.get(at) == Some(&state)
 }
 
-/// Adds a line at height `y` from step `from` to step `to` of the axis, between which the point is in one state.
+/// Adds a level line at `y` for the steps `from..to`, in all of which the point is in one state. Lengths along the axis
+/// are in 2,000ths of the drawing's width: `add_point` scales them.
 fn add_stretch(sheet: &mut Sheet, bands: &Bands, from: usize, to: usize, y: usize) {
     let left = scaled(from as u128, bands.steps as u128, 2000);
     let width = scaled(to as u128, bands.steps as u128, 2000).saturating_sub(left);

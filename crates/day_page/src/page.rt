@@ -41,7 +41,7 @@ struct Day {
     carried: Option<CarriedIn>,
     /// The value and the bound of each counter after the last entry.
     counters: [(u64, u64); 32],
-    /// The prices of the eight products before the first entry, in thousandths.
+    /// The prices of products 1 to 8 before the first entry, in thousandths of the currency per litre, 0 for none.
     opening: [u32; 8],
     axis: Axis,
     bands: Bands,
@@ -145,7 +145,7 @@ fn add_figures(sheet: &mut Sheet, totals: &Totals) {
     sheet.add("</ul>\n");
 }
 
-/// Adds one of the main totals: its name and its value.
+/// Adds an item to a list of figures: the figure's name and its value.
 pub fn add_figure(sheet: &mut Sheet, name: &'static str, value: Text) {
     sheet.fill(
         "<li><span>{}</span> <b>{}</b></li>\n",

@@ -14,7 +14,7 @@ const APART: usize = WIDTH / PLACES;
 /// The height of the drawing, in units of the picture.
 const HIGH: usize = 160;
 
-/// The least and the greatest price that the drawing shows, in thousandths.
+/// The least and the greatest price that the drawing shows, in thousandths of the currency per litre.
 #[derive(Clone, Copy)]
 struct Range {
     least: u64,
@@ -54,7 +54,8 @@ fn range_of(opening: &[u32; 8], changes: &[PriceChange]) -> Range {
     range
 }
 
-/// Adds the picture of the prices: a line for each product that has a price.
+/// Adds the picture of the prices: a line for each product that has a price. `opening` has the prices before the first
+/// entry.
 pub(crate) fn add_lines(
     sheet: &mut Sheet,
     opening: &[u32; 8],
@@ -97,7 +98,8 @@ fn x_of(change: &PriceChange, axis: Axis) -> usize {
     LEFT + place * APART
 }
 
-/// Adds a step of a product's line: at this depth, from `x` to `next`. The first step also begins the line's path.
+/// Adds a level part of a product's line: at this depth, from `x` to `next`. If `is_begun`, the line first rises or
+/// falls to this depth; else its path begins at `x`.
 fn add_step(sheet: &mut Sheet, product: u32, is_begun: bool, x: usize, depth: usize, next: usize) {
     if is_begun {
         sheet.fill("V{}H{}", &[number(depth), number(next)]);

@@ -6,8 +6,8 @@ pub const HEAD: &str = "<!DOCTYPE html>
 <meta name=\"viewport\" content=\"width=device-width, initial-scale=1\">
 ";
 
-/// The style sheet of a page, and the start of its body. The colours also differ in lightness, for people who can't
-/// tell red from green.
+/// The style sheet of a page, and the start of its body. Most of its colours can be told apart by people who can't tell
+/// red from green.
 pub const STYLE: &str = "<style>\
 :root{--back:#fff;--text:#1d2733;--soft:#5b6875;--line:#d5dce3;--panel:#f5f7f9;\
 --sold:#0072b2;--granted:#0072b2;--denied:#e69f00;\

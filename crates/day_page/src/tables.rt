@@ -143,8 +143,9 @@ pub(crate) fn outcome_of(outcomes: &Outcomes, place: usize) -> (u64, u64) {
     )
 }
 
-/// Adds the row of the version at a place, with how many requests it granted and denied. `rule` has its slot and its
-/// number. `entry` names the entry that loaded it or says that it was carried in, and `loaded` says when it was loaded.
+/// Adds the row of the version at a place, with how many requests it granted and denied. `rule` has the version's slot
+/// and number. `entry` is the number of the entry that loaded the version, or says that it was carried in. `loaded` is
+/// the last moment before that entry, or empty.
 fn add_version(
     sheet: &mut Sheet,
     totals: &Totals,
@@ -241,7 +242,8 @@ pub(crate) fn add_versions_by_till(sheet: &mut Sheet, totals: &Totals) {
     add_remark(sheet, remark, rows.saturating_sub(ROWS));
 }
 
-/// Adds a note on how many rows are left out, if any are.
+/// Adds the note `remark` on the `left` rows that are left out, if there are any. The first `{}` in it is replaced by
+/// `ROWS`, the second by `left`.
 fn add_remark(sheet: &mut Sheet, remark: &str, left: usize) {
     if left > 0 {
         sheet.fill(remark, &[number(ROWS), Text::Thousands(left as u128)]);

@@ -70,7 +70,7 @@ pub(crate) fn date_of(moment: u64) -> Date {
     }
 }
 
-/// Returns `value` scaled so that `most` becomes `length`. The result is at most `length`.
+/// Returns `value` scaled so that `most` becomes `length`. The result is at most `length`, and 0 if `most` is 0.
 pub(crate) fn scaled(value: u128, most: u128, length: usize) -> usize
     ensures { result ≤ length }
 {

@@ -53,7 +53,7 @@ pub struct Totals {
     /// The rules that were carried in from the day before, in the order of their slots.
     pub carried: Vec<CarriedRule>,
     pub loads: Vec<Load>,
-    /// The numbers of the versions: those that were carried in, and then those of the loads.
+    /// The numbers of the versions: those of `carried`, and then those of `loads`.
     pub versions: Vec<u32>,
     pub prices: Vec<PriceChange>,
     /// The transactions that are unpaid after the last entry, point by point.
@@ -299,7 +299,7 @@ fn takings_of(alloc: Global, config: &Config, entries: &[Entry]) -> Result<Takin
     })
 }
 
-/// The versions of a day: the rules that were carried in, the loads, and the numbers of both.
+/// The versions of a day: the rules that were carried in, the loads, and the version numbers of both.
 #[derive(Drop)]
 struct Versions {
     carried: Vec<CarriedRule>,
@@ -307,8 +307,8 @@ struct Versions {
     numbers: Vec<u32>,
 }
 
-/// Returns the numbers of the versions: those that were carried in, and then those of the loads. The error is that
-/// memory ran out.
+/// Returns the numbers of the versions: those of `carried`, and then those of `loads`. The error is that memory ran
+/// out.
 fn numbers_of(
     alloc: Global,
     carried: &[CarriedRule],
@@ -340,7 +340,7 @@ fn versions_in(alloc: Global, config: &Config, entries: &[Entry]) -> Result<Vers
     })
 }
 
-/// How often rules granted and denied what tills asked. `verdicts` divides this by version.
+/// How often rules granted and denied what tills asked. `verdicts` counts this for each version.
 #[derive(Drop)]
 struct Decided {
     granted: usize,

@@ -121,7 +121,8 @@ pub(crate) fn count_outcome(decisions: &[Decision], granted: bool) -> usize
     count
 }
 
-/// How often each version granted and denied in one part of the decisions. A version has the same place in both lists.
+/// How often each version granted and denied in one part of the decisions. Both lists have the order of
+/// `Totals::versions`.
 #[derive(Drop)]
 pub struct Outcomes {
     pub granted: Vec<u64>,

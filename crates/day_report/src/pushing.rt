@@ -1,4 +1,4 @@
-//! The call that adds an optional item to a list.
+//! The function that adds an optional item to a list.
 ghost use Rattle.std.specs.Prelude.{◌≡◌, ◌++◌, IsOk, None, OnOk, option_to_list};
 
 use std::alloc::AllocError;

@@ -109,8 +109,8 @@ fn follow_sales(
     Ok(sales)
 }
 
-/// Returns the sales in the history of a site of this configuration, and the points after it. The error is that memory
-/// ran out.
+/// Returns the sales in the history of a site of this configuration, and the points after the last entry. The error is
+/// that memory ran out.
 pub fn find_sales(alloc: Global, config: &Config, entries: &[Entry]) -> Result<Sold, AllocError>
     requires { length entries.now ≤ ENTRIES }
     ensures sales { IfOk result (λ sold. sold.sales.items ≡ sales_of config.now entries.now) }

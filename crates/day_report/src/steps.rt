@@ -33,7 +33,7 @@ pub enum Axis {
     Time(u64, u64),
 }
 
-/// Returns `first`, or `moment` if `first` is 0, which stands for no moment.
+/// Returns `first`, or `moment` if `first` is 0, which means that there is no first moment yet.
 fn first_or(first: u64, moment: u64) -> u64
     ensures { result ≡ first_or first moment }
 {

@@ -14,7 +14,7 @@ use std::fmt::{self, Display};
 pub enum Unfit {
     /// The opening and the configuration don't fit each other.
     Misfit(Misfit),
-    /// No site with this number of points can begin with the opening, or memory ran out.
+    /// No site with the configuration's number of points can begin with the opening, or memory ran out.
     Fault(OpeningFault),
 }
 

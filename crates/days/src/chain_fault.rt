@@ -27,7 +27,7 @@ pub enum Unfollowed {
 pub enum Unbegun {
     /// The day has no opening, and isn't day 1.
     NoOpening,
-    /// The day is day 1, and has an opening.
+    /// The day is day 1, and an opening is given for it, or its configuration has an opening.
     HasOpening,
     /// The bytes that are given as the opening, and why they aren't the text of an opening.
     Flawed(Vec<u8>, OpeningFlaw),
@@ -37,12 +37,12 @@ pub enum Unbegun {
     Unfit(Unfit),
 }
 
-/// Why a day's journal leads to no site.
+/// Why a day can't be closed.
 #[derive(Drop)]
 pub enum Unclosed<J> {
-    /// The device of the journal, and why its bytes aren't the text of a journal, or couldn't be read.
+    /// The device of the journal, and why no journal could be read from it.
     Text(J, JournalFault),
-    /// The configuration that the day's site begins with, and why it can't have the entries of the journal.
+    /// The configuration that the day's site begins with, and why this site can't have the entries of the journal.
     History(Config, AuditFault),
     /// Memory ran out before anything of the journal was read. The value is the device of the journal, if the day has
     /// one.
@@ -62,7 +62,7 @@ pub enum Cause<J> {
     Unfollowed(Unfollowed),
     /// No site of the day's configuration begins the day.
     Unbegun(Unbegun),
-    /// The day's journal leads to no site.
+    /// The day can't be closed.
     Unclosed(Unclosed<J>),
 }
 

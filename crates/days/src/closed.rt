@@ -20,8 +20,9 @@ pub struct Closed {
 
 impl Closed {
     /// Returns the opening that this day leaves for the next day. `day` is the number of this day. The error is that
-    /// `day` is the greatest number that a day can have, that one of the numbers that only grow is too great for an
-    /// opening, or that memory ran out.
+    /// `day` is the greatest number that a day can have, that memory ran out, or that one of these numbers is too great
+    /// for an opening: that of a point's newest transaction, the cleared total, the count of cleared transactions, or
+    /// the count of versions.
     pub fn opening(&self, day: u32) -> Result<OpeningFile, Uncarried>
         ensures left { IfOk result (λ file. file ≡ left_by day self.now.site) }
         ensures carries { OnOk result (IsOpening (length self.now.site.config.points) (carried self.now.site)) }

@@ -34,7 +34,7 @@ pub enum OpeningFlaw {
 pub enum Uncarried {
     /// The number of the day is the greatest one.
     LastDay,
-    /// No site with this number of points can begin with what the site leaves, or memory ran out.
+    /// One of the site's numbers is too great for an opening, or memory ran out.
     Fault(OpeningFault),
 }
 

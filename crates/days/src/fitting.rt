@@ -15,8 +15,9 @@ use std::fmt::{self, Display};
 pub enum Misfit {
     /// How many points the opening has, and how many the configuration.
     Points(usize, usize),
-    /// A till that the configuration hasn't holds an unpaid transaction: the place of the first point with such a
-    /// transaction, counted from 0, its first such transaction, and how many tills the configuration has.
+    /// A till whose number is over the configuration's number of tills holds an unpaid transaction. The values are the
+    /// place of the first point with such a transaction, counted from 0, the point's first such transaction, and how
+    /// many tills the configuration has.
     Till(usize, Transaction, u32),
     /// The first counter whose value is over its bound: its number, its value in the opening, and its smaller bound in
     /// the configuration.
@@ -150,8 +151,9 @@ fn held(place: Option<Transaction>, tills: u32) -> Option<Transaction>
     }
 }
 
-/// Returns the counters with their values, and with these bounds in place of their own. The error is the first counter
-/// whose value is over its new bound: its number, its value and its new bound.
+/// Returns the counters with their values, but with new bounds: the second number of each pair in `bounds`. The first
+/// numbers there aren't used. The error is the first counter whose value is over its new bound: its number, its value
+/// and its new bound.
 fn rebounded(counters: &Counters, bounds: &[(u64, u64); 32]) -> Result<Counters, (u32, u64, u64)>
     ensures bounds { IfOk result (AreBounded counters.now bounds.now) }
     ensures within { OnOk result (AreWithin counters.now bounds.now) }

@@ -4,7 +4,8 @@ use bpf_model::context::Layout;
 use fuelling_point::{Snapshot, Transaction};
 use till_request::Bytes;
 
-/// A line of an opening's text. Amounts are in cents, volumes in centilitres, prices in thousandths.
+/// A line of an opening's text. Amounts are in cents, volumes in centilitres, prices in thousandths of the currency per
+/// litre.
 #[derive(Drop)]
 pub enum Line {
     /// The number of the day that begins with the opening.
@@ -25,9 +26,9 @@ pub enum Line {
     Price(u32, u32),
     /// A counter, its value and its bound.
     Counter(u32, u64, u64),
-    /// A point and all that it keeps but its unpaid transactions.
+    /// A point's number, counted from 1, and all that the point keeps but its unpaid transactions.
     Point(u64, Snapshot),
-    /// A point and one of its unpaid transactions.
+    /// A point's number, counted from 1, and one of the point's unpaid transactions.
     Unpaid(u64, Transaction),
     /// The number of entries of the day before, and the SHA-256 of its journal's bytes.
     Journal(u32, [u8; 32]),

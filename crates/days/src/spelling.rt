@@ -104,7 +104,7 @@ fn put_versions(text: &mut String, count: u32) -> Result<(), AllocError>
     put_number(text, u64::from(count))
 }
 
-/// Appends the words of a version's line up to its program's bytes. The error is that memory ran out.
+/// Appends the words of a version's line that come before its program's bytes. The error is that memory ran out.
 fn put_version(
     text: &mut String,
     slot: u64,

@@ -26,8 +26,8 @@ const MOST: u32 = 4_290_000_000;
 /// The greatest total of cleared amounts in cents, and the greatest number of cleared transactions.
 const MOST_CLEARED: u64 = 1_000_000_000_000_000_000;
 
-/// A line's place is a number that says where in an opening the line can come. The first three lines have the places 0
-/// to 2. This is the place of the line of slot 0, and the lines of slots 1 to 15 have the places after it.
+/// The place of the line of slot 0. A line's place is a number that says where in an opening the line can come. The
+/// first three lines have the places 0 to 2, and the lines of slots 1 to 15 have the places after this one.
 const SLOTS_AT: u32 = 3;
 
 /// The place of the line of product 1.
@@ -36,7 +36,7 @@ const PRODUCTS_AT: u32 = 19;
 /// The place of the line of counter 0.
 const COUNTERS_AT: u32 = 27;
 
-/// The place of all lines of points.
+/// The place of the lines of all points and of their unpaid transactions.
 const POINTS_AT: u32 = 59;
 
 /// The place of the last line.
@@ -45,7 +45,7 @@ const END_AT: u32 = 60;
 /// Why a line isn't taken.
 #[derive(Clone, Copy)]
 pub(crate) enum StepFault {
-    /// The line can't come next, or one of its values isn't allowed there.
+    /// The bytes that were read spell no line, the line can't come next, or one of its values isn't allowed there.
     Misplaced,
     /// The verifier refuses the line's program.
     Refused(Refusal),
@@ -330,8 +330,8 @@ fn has_none(unpaid: &[Option<Transaction>; 2]) -> bool
     matches!(unpaid, [None, None])
 }
 
-/// Returns the version of this number with the program of these bytes. The error is that the verifier refuses it, or
-/// that memory ran out.
+/// Returns the version of this number with the program of these bytes. The error is that the verifier refuses the
+/// program, or that memory ran out.
 fn verified(
     alloc: Global,
     number: u32,

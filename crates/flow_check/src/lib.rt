@@ -123,8 +123,8 @@ fn first_jump_fault(units: &[Unit]) -> Option<(u32, JumpFault)>
     None
 }
 
-// Returns the target of the jump at unit `pc`; `None` if no jump begins there, or if it goes outside the units 0 to
-// 512.
+// Returns the number of the unit to which the jump at unit `pc` goes; `None` if no jump begins at `pc`, or if this
+// number is below 0 or above 512.
 fn target_in(units: &[Unit], pc: u32) -> Option<u32>
     requires { length units.now ≤ UNITS }
     ensures { result ≡ target units.now pc }

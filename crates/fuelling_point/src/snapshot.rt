@@ -22,7 +22,7 @@ pub struct Snapshot {
     pub volume: u64,
     /// The pending order.
     pub order: Option<Order>,
-    /// Whether the dispenser has taken the order to deliver.
+    /// Whether the dispenser has taken the order `Authorise` of the current delivery.
     pub taken: bool,
     pub last: u32,
     /// The unpaid transactions, the older one first.

@@ -109,7 +109,8 @@ fn put_point(point: Option<PointView>, at: u64, stack: &mut [u8; 512]) -> u64
     u64::from(point.is_some())
 }
 
-// Changes the counters and the stack as a helper does, and returns its answer.
+// Calls `helper`, with the values of R1 and R2 as `a` and `b`, and returns its answer. Changes the counters and the
+// stack's bytes as the helper does.
 fn answer(
     helper: Helper,
     a: u64,

@@ -45,7 +45,8 @@ impl fmt::Display for RefusedProgram {
     }
 }
 
-/// The number of the unit at fault, if there is one, as the beginning of a text.
+/// The number of the unit at fault, if there is one. `Display` writes it as the beginning of a message, such as
+/// `unit 7: `, or writes nothing if there is none.
 #[derive(Clone, Copy)]
 struct UnitAtFault(Option<u32>);
 
@@ -62,7 +63,8 @@ impl fmt::Display for UnitAtFault {
     }
 }
 
-/// The line of the instruction at fault, if there is one, without its LF.
+/// The line of the instruction at fault, if there is one. `Display` writes it without its LF and with `: ` after it, or
+/// writes nothing if there is none.
 #[derive(Clone, Copy)]
 struct LineAtFault<'a>(&'a Option<String>);
 
@@ -261,8 +263,8 @@ pub fn refused_program(
     }
 }
 
-/// Returns why an assembler text is refused: its fault, and its flaw, which has the line or label at fault. Returns
-/// `None` if the text assembles. The error is that memory ran out.
+/// Returns why an assembler text is refused: its fault, and its flaw, which has the line or the label at fault, if the
+/// message shows one. Returns `None` if the text assembles. The error is that memory ran out.
 pub fn asm_flaw(alloc: Global, text: &[u8]) -> Result<Option<(AsmFault, AsmFlaw<'_>)>, AllocError>
     ensures { IfOk result
         (λ found. MatchOption found (IsSpelling text.now)

@@ -57,7 +57,7 @@ pub fn metrics(alloc: Global, station: &Station<'_>) -> Result<String, AllocErro
     sheet.finish()
 }
 
-/// Adds a sample: a form with a place for a label and one for a value.
+/// Adds a sample: the line `form`, in which `label` replaces the first `{}`, and `value` the second.
 fn add_sample(sheet: &mut Sheet, form: &str, label: Text, value: u64) {
     sheet.fill(form, &[label, Text::Number(value)]);
 }

@@ -28,7 +28,7 @@ macro_rules! section {
 /// The closing tags of a section and its table.
 const END: &str = "</tbody></table></div></section>\n";
 
-/// What follows the first lines of the page: that it is loaded again after 5 seconds, and its title.
+/// The tags that follow `HEAD`: they make a browser load the page again after 5 seconds, and name its title.
 const TITLE: &str = "<meta http-equiv=\"refresh\" content=\"5\">\n<title>The station now</title>\n";
 
 /// Returns the page of HTML that shows a station at one moment. It has no script and refers to no other file, and a

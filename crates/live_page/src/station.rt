@@ -7,7 +7,7 @@ use till_request::Role;
 /// What is shown of a station at one moment.
 #[derive(Clone, Copy)]
 pub struct Station<'a> {
-    /// How many tills may ask, 1 to 64.
+    /// The number of tills, 1 to 64.
     pub tills: u32,
     /// The number of entries.
     pub entries: u32,
@@ -19,7 +19,7 @@ pub struct Station<'a> {
     pub journal: Option<JournalFile>,
     /// How often looks waited for the site's lock, and how long in all.
     pub waits: Times,
-    /// What the entries came to.
+    /// How often each refusal was the reply, and what each version of a rule decided, in all entries of the history.
     pub tally: &'a Tally,
     /// The last entries, at most 20 of them, the oldest first.
     pub last: &'a [Entry],
@@ -27,7 +27,7 @@ pub struct Station<'a> {
     pub peers: &'a [Peers],
     /// The moment, in seconds since the start of 1970.
     pub moment: u64,
-    /// The bytes of memory that the process uses, if they are known.
+    /// The resident memory of the process in bytes, if it is known.
     pub memory: Option<u64>,
 }
 

@@ -6,7 +6,8 @@ use decision_journal::Entry;
 use fuelling_point::{DispenserEvent, Order};
 use till_request::{Act, Reply, Request, Role};
 
-/// A form with at most two places, and the texts for them. A text that has no place is `NONE`.
+/// A form, which is words with at most two places `{}`, and the texts for these places. A text that has no place is
+/// `NONE`.
 #[derive(Clone, Copy)]
 struct Phrase(&'static str, Text, Text);
 
@@ -129,7 +130,7 @@ pub(crate) fn order_name(order: Option<Order>) -> &'static str {
     }
 }
 
-/// Returns the name of the state with this number.
+/// Returns the name of the state with this number, 1 to 9, or `unknown` for a greater number.
 fn state_numbered(number: u32) -> &'static str {
     match STATES.get((number as usize).saturating_sub(1)) {
         None => "unknown",
@@ -137,7 +138,7 @@ fn state_numbered(number: u32) -> &'static str {
     }
 }
 
-/// Returns whether an act asks for a price.
+/// Returns whether an act is a till's request to set a price.
 fn asks_price(act: &Act) -> bool {
     matches!(
         act,
@@ -148,7 +149,8 @@ fn asks_price(act: &Act) -> bool {
     )
 }
 
-/// Returns the words for a grant of this value: a price in thousandths, or else an amount in cents.
+/// Returns the words for a grant by this version. `value` is a price in thousandths if `is_price` is true, or else an
+/// amount in cents.
 fn grant_words(is_price: bool, value: u64, version: u32) -> Phrase {
     let granted = if is_price {
         Text::Thousandths(value)
@@ -158,7 +160,8 @@ fn grant_words(is_price: bool, value: u64, version: u32) -> Phrase {
     Phrase("granted {} by version {}", granted, digits(version))
 }
 
-/// Returns the words for a refusal. `value` is a state, a slot or a version.
+/// Returns the words for a refusal. `value` is what it names: a state for S22, a slot for S23, a version for S24. It is
+/// `None` if the refusal names nothing.
 fn refusal_words(number: u32, value: Option<u32>) -> Phrase {
     let refusal = Text::Refusal(number);
     let Some(value) = value else {

@@ -59,7 +59,7 @@ fn is_granted(answered: Result<Answered, CallFault>, number: u32) -> bool {
 }
 
 /// A gate that waits before it runs a draft: it sets `held` to the number of its calls, and waits until `let_go` is the
-/// same number.
+/// same number. `in_time` becomes false if that takes too long.
 #[derive(Drop)]
 struct Holding<'a> {
     held: &'a AtomicU64,
@@ -150,6 +150,7 @@ fn beside<L: SiteLedger + Send + Sync, R: Threads + Wait + Sync>(
 }
 
 /// Loads the program and opens the points of a forecourt, and then makes the calls of both tills with its two passes.
+/// Returns whether all calls of the tills had the expected results, or `None` if the preparation failed.
 fn are_granted<L: SiteLedger + Send + Sync, R: Threads + Wait + Sync>(
     rt: &R,
     alloc: Global,
@@ -187,8 +188,8 @@ fn closed_again<L: SiteLedger, R: Wait>(
     closed(rt, kept.forecourt.reopen(), passes)
 }
 
-/// Closes a forecourt without its last pass, which is refused, and then with all passes. Returns the refusal, and how
-/// many entries the site has.
+/// Tries to close a forecourt without its last pass, and then closes it with all passes. Returns why the first close
+/// was refused, and how many entries the site has. Returns `None` if the first close wasn't refused, or the second was.
 fn closed_in_the_end<L: SiteLedger, R: Wait>(
     rt: &R,
     forecourt: Forecourt<L>,
@@ -201,8 +202,8 @@ fn closed_in_the_end<L: SiteLedger, R: Wait>(
     }
 }
 
-/// Makes the calls of both tills at a new forecourt, and closes it. Returns whether both got their releases, and the
-/// results of the closes.
+/// Makes the calls of both tills at a new forecourt, and closes it. Returns whether both got their releases, why the
+/// first close was refused, and how many entries the site has.
 fn both<L: SiteLedger + Send + Sync, R: Threads + Wait + Sync>(
     rt: &R,
     alloc: Global,

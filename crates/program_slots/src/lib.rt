@@ -29,7 +29,7 @@ pub const SLOTS: u32 = 16;
 /// Why a program wasn't installed in a slot.
 #[derive(Clone, Copy)]
 pub enum SlotFault {
-    /// S32: the slots are 0 to 15.
+    /// S32: there is no such slot; the slots are 0 to 15.
     NoSuchSlot,
     /// S30: 4,096 versions were installed already.
     VersionsFull,
@@ -40,8 +40,10 @@ pub enum SlotFault {
 /// The 16 slots, the versions that they began with, and the programs of all versions that were installed since.
 #[derive(Drop)]
 pub struct Slots {
+    /// How many versions were made before these slots began.
     before: u32,
     opened: Vec<Option<Version>>,
+    /// For each slot, the number of the version that was installed there last.
     installed: [Option<u32>; 16],
     programs: Vec<Arc<Program>>,
 }
@@ -66,9 +68,9 @@ impl Slots {
         Self::opened(alloc, 0, Vec::new(alloc))
     }
 
-    /// Makes 16 slots. Slot k begins with the version at place k of `opened`, or empty if that place has no version.
-    /// `before`, at most 4,290,000,000, is how many versions were made before these slots began. The versions in
-    /// `opened` have numbers from 1 to `before`. Allocates no memory.
+    /// Makes 16 slots. Slot k begins with the version `opened[k]`, or empty if `opened` has no version there. `before`,
+    /// at most 4,290,000,000, is how many versions were made before these slots began. The versions in `opened` have
+    /// numbers from 1 to `before`. Allocates no memory.
     pub fn opened(alloc: Global, before: u32, opened: Vec<Option<Version>>) -> Self
         requires few { before ≤ 4290000000 }
         requires rules { All (IsRule before) opened.items }
@@ -149,8 +151,8 @@ impl Slots {
         self.before + self.programs.len() as u32
     }
 
-    /// Returns the version in each of slots 0 to 15, as a list that slots can begin with. Copies no program. The error
-    /// is that memory ran out.
+    /// Returns a list of the versions in slots 0 to 15, with `None` for an empty slot. `Slots::opened` can make new
+    /// slots of it. Copies no program. The error is that memory ran out.
     pub fn rules(&self, alloc: Global) -> Result<Vec<Option<Version>>, AllocError>
         ensures each { IfOk result
             (λ rules. rules.items ≡ map (λ slot. version_in self.now slot) (range_with_len 0 16)) }

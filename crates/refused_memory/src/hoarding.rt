@@ -51,7 +51,7 @@ pub fn take_but(alloc: Global, size: usize) -> Option<Taken> {
     Some(Taken { blocks, held })
 }
 
-/// Allocates all memory except 64 MB, which are enough for what a test makes. With so little left, the later calls of
+/// Allocates all memory except 64 MiB, which are enough for what a test makes. With only that left, the later calls of
 /// `take_but` take a hundredth of the time.
 pub fn leave_few(alloc: Global) -> Option<Taken> {
     take_but(alloc, 1 << 26)

@@ -22,8 +22,7 @@ pub fn spill_of(value: RegType) -> u16
     }
 }
 
-/// Returns the type of the pointer that a number in `Fact::spills` stands for; `Unset` for 0, which stands for no
-/// pointer.
+/// Returns the type of the pointer for which `Fact::spills` has the number `spill`; `Unset` for 0 (no pointer).
 pub fn spilled_type(spill: u16) -> RegType
     ensures { result ≡ spilled_by spill }
 {
@@ -43,7 +42,7 @@ fn common_spill(a: u16, b: u16) -> u16
     if a == b { a } else { 0 }
 }
 
-/// Joins spills: a spill that is the same in both is kept, and all others become 0 (no pointer).
+/// Joins `others` into `spills`: a number that is the same in both is kept, and each other one becomes 0 (no pointer).
 pub fn join_spills(spills: &mut [u16; 64], others: &[u16; 64])
     ensures { spills.new ≡ joined spills.old others.now }
 {
@@ -52,7 +51,8 @@ pub fn join_spills(spills: &mut [u16; 64], others: &[u16; 64])
     }
 }
 
-/// Writes `spill` for each aligned place of eight bytes that has at least one of the `len` bytes from `at` on.
+/// Writes `spill` for each aligned place of eight bytes that has at least one of the `len` bytes from `at` on. `len` is
+/// at least 1.
 pub fn put_spill(spills: &mut [u16; 64], spill: u16, at: u32, len: u32)
     requires { at + len ≤ STACK_BYTES }
     ensures { spills.new ≡ respilled spill at len 0 spills.old }

@@ -33,8 +33,8 @@ pub struct LoadOptions {
 }
 
 /// The abstract state before an instruction: the types of registers 0 to 10, which bytes of the stack are set, and the
-/// pointers spilled there. `spills` has a number for each of the 64 aligned places of eight bytes, the lowest first. 0
-/// stands for no pointer, 1 to 81 stand for `Ctx(0)` to `Ctx(80)`, and 82 to 594 for `Stk(-512)` to `Stk(0)`.
+/// pointers spilled there. `spills` has a number for each of the 64 aligned places of eight bytes, the lowest first: 0
+/// for no pointer, 1 to 81 for `Ctx(0)` to `Ctx(80)`, and 82 to 594 for `Stk(-512)` to `Stk(0)`.
 #[derive(Clone, Copy)]
 pub struct Fact {
     pub types: [RegType; 11],
@@ -57,8 +57,8 @@ pub struct CarriedFact {
     pub fact: Fact,
 }
 
-/// What an instruction writes to the stack: `len` bytes from place `at` on. `kept` is the type of a pointer that is
-/// spilled there, or `Unset` if the bytes become those of a number.
+/// What an instruction writes to the stack: `len` bytes from byte `at` on, counted from the stack's lowest byte. `kept`
+/// is the type of a pointer that is spilled there, or `Unset` if the bytes become those of a number.
 #[derive(Clone, Copy)]
 pub struct StackWrite {
     pub at: u32,
@@ -173,7 +173,7 @@ impl Fact {
         }
     }
 
-    /// Joins two facts: sets both to what holds in either case.
+    /// Joins two facts: sets both to what is true whichever of the two holds.
     pub fn join(&mut self, other: &mut Fact)
         ensures joined { IsSame self.new (join_fact self.old other.old) }
         ensures both { other.new ≡ self.new }
@@ -199,7 +199,8 @@ impl Fact {
         }
     }
 
-    // Applies a write of at least one byte: the bytes of a number become set, and those of a pointer become a spill.
+    // Applies a write of at least one byte. The bytes of a number become set, and are no longer part of a spill. Those
+    // of a pointer become a spill, and are no longer set.
     fn write(&mut self, mark: StackWrite)
         requires { mark.at + mark.len ≤ STACK_BYTES }
         ensures types { self.new.types ≡ self.old.types }

@@ -10,7 +10,7 @@ use crate::flaw::ConfigFlaw;
 use std::alloc::Global;
 use toml::Table;
 
-/// Returns the position after a byte that is at the position `at`.
+/// Returns the line and the column after a byte that is at the line and the column `at`.
 fn past(at: (usize, usize), byte: u8) -> (usize, usize)
     requires { (at.0 < usize.MAX) × (at.1 < usize.MAX) }
     ensures { result ≡ past at byte }

@@ -37,8 +37,8 @@ fn beside(place: Place, key: Key) -> Place
     }
 }
 
-/// Returns the place of an item of the list at `list`. The item's place there is counted from 0. If `list` isn't the
-/// place of a key, returns `list` itself.
+/// Returns the place of an item in a list. `list` is the place of the key whose value the list is, and `place` counts
+/// the items before this one. If `list` isn't the place of a key, returns `list` itself.
 fn item_of(list: Place, place: usize) -> Place
     ensures { result ≡ item_of list place }
 {
@@ -84,7 +84,8 @@ fn check_address(place: Place, address: &RawAddress) -> Result<(), ConfigFlaw>
     Ok(())
 }
 
-/// Adds a point to points that are given as bits: point p is bit p - 1. The error is `OutOfRange` or `PointTwice`.
+/// Adds the point `value`, which is the item at `place` of the list at `list`, to the points in `bits`, and returns all
+/// of them as bits: point p is bit p - 1. The site has `points` points. The error is `OutOfRange` or `PointTwice`.
 #[tactic(auto, unfolding(crate::specs::Doors::with_point))]
 fn add_point(
     list: Place,
@@ -121,7 +122,8 @@ fn add_points(list: Place, points: u32, values: &[i64]) -> Result<u32, ConfigFla
     Ok(bits)
 }
 
-/// Returns the points in a list as bits: point p is bit p - 1. The error is `WrongCount`, `OutOfRange` or `PointTwice`.
+/// Returns the points in `values`, the list at `list`, as bits: point p is bit p - 1. The site has `points` points. The
+/// error is `WrongCount`, `OutOfRange` or `PointTwice`.
 #[tactic(auto, unfolding(crate::specs::Doors::bits_of))]
 fn make_bits(list: Place, points: u32, values: &[i64]) -> Result<u32, ConfigFlaw>
     requires { points ≤ POINTS }
@@ -163,7 +165,7 @@ fn make_role(tills: u32, points: u32, place: Place, role: &RawRole) -> Result<Ro
     }
 }
 
-/// Checks that the address and the role of a door are in their ranges.
+/// Checks the address and the role of a door. The error is one that `check_address` or `make_role` returns.
 #[tactic(auto, unfolding(crate::specs::Doors::door_fits, crate::specs::Doors::address_fits))]
 fn check_door(tills: u32, points: u32, door: &RawDoor) -> Result<(), ConfigFlaw>
     requires { points ≤ POINTS }

@@ -251,7 +251,8 @@ pub enum ConfigFlaw {
     WrongType(Place, Type),
     /// K2: two keys are given, and only one of them is allowed.
     BothThere(Place, Place),
-    /// K2: a number of workers is given, but neither of the keys that name the address of their door.
+    /// K2: a number of workers is given, but neither the port nor the socket of their door. The places are those of
+    /// these three keys, in this order.
     Needless(Place, Place, Place),
     /// K3: a value, and the least and the most that it may be.
     OutOfRange(Place, i64, u64, u64),
@@ -321,7 +322,8 @@ impl fmt::Display for Over {
     }
 }
 
-/// What is wrong with the doors of `[serve]`: their keys, their addresses and whose lines they take.
+/// A flaw of the doors of `[serve]`: of their keys, addresses or workers, or of whose lines they take. For any other
+/// flaw nothing is written.
 #[derive(Clone, Copy)]
 struct OfDoors<'a>(&'a ConfigFlaw);
 

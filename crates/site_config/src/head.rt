@@ -55,8 +55,8 @@ pub fn read_head<I: LineIn>(
     }
 }
 
-/// Returns the configuration in the bytes that `read_head` returned: what comes before the line `---`. `None` if the
-/// configuration has over 65,536 bytes.
+/// Returns the configuration in the bytes that `read_head` returned: what comes before the line `---`, or all bytes if
+/// there is no such line. Returns `None` if the configuration has over 65,536 bytes.
 pub fn config_part(bytes: &[u8]) -> Option<&[u8]>
     ensures { option_map (λ part. part.now) result ≡ head_part bytes.now }
 {

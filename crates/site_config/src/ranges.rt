@@ -31,7 +31,7 @@ use toml::Table;
 /// The greatest value and the greatest bound of a counter: the greatest number that a document can contain.
 const MOST_COUNTER: u64 = 9_223_372_036_854_775_807;
 
-/// The greatest price of a litre, in thousandths.
+/// The greatest price of a litre, in thousandths of the currency.
 const MOST_PRICE: u32 = 9_999_999;
 
 /// Returns the number if it is not below 0. The error is `OutOfRange`.
@@ -79,7 +79,7 @@ fn make_counter(place: usize, pair: (i64, i64)) -> Result<(u64, u64), ConfigFlaw
     Ok((value, bound))
 }
 
-/// Returns the price of a product, if it is in its range.
+/// Returns `value` as the price of the product at `place`, counted from 0. The error is `OutOfRange`.
 fn make_price(place: usize, value: i64) -> Result<u32, ConfigFlaw>
     ensures read { Finds (λ x. x) result (price_of place value) }
     ensures range { IfOk result (λ price. price ≤ MOST_PRICE) }
@@ -251,9 +251,9 @@ fn settings_in(alloc: Global, document: &Table) -> Result<Settings, ConfigFlaw>
     make_settings(alloc, &raw)
 }
 
-/// Reads the settings from a text. The error is that memory ran out, or the first flaw in the text: a flaw of the
-/// document (K1) comes before one of a key or a type (K2), and these come before one of a range, a count or a
-/// condition (K3).
+/// Reads the settings from a text. The error is that memory ran out, or the first flaw in the order of the checks: a
+/// flaw of the document (K1) comes before one of a key or a type (K2), and these come before one of a range, a count or
+/// a condition (K3).
 #[tactic(auto, unfolding(crate::specs::Ranges::config_of))]
 pub fn read_settings(alloc: Global, bytes: &[u8]) -> Result<Settings, ConfigFlaw>
     ensures found { Gives told (numbered result) (config_of bytes.now) }

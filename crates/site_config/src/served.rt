@@ -42,8 +42,8 @@ fn read_text(alloc: Global, value: &Value, place: Place) -> Result<Text, ConfigF
     Ok(room_for!(Text::copied(alloc, text)))
 }
 
-/// Reads a door whose port is the value of one key, or whose socket is the value of another one. Exactly one of these
-/// keys must be given. The error is `Missing`, `BothThere` or `WrongType`, or that memory ran out.
+/// Reads a door whose port is the value of the key `keys.0`, or whose socket is the value of the key `keys.1`. Exactly
+/// one of these keys must be given. The error is `Missing`, `BothThere` or `WrongType`, or that memory ran out.
 #[tactic(auto, unfolding(crate::specs::Typed::door_at, crate::specs::Memory::TakesDoor))]
 fn read_door(
     alloc: Global,

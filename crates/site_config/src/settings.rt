@@ -22,12 +22,14 @@ pub struct Door {
     pub workers: u32,
 }
 
-/// Where and how to serve the site: its doors, how many connections each worker serves, after how many seconds without
-/// a byte a connection ends (0 for never), and the port of the page on which the site is shown while it is served, if
-/// it has one: 1 to 65,535. The doors are in the order in which workers get their passes: the tills' shared one, those
-/// of one till each, the dispensers' shared one, those of some points each, the owner's. All doors have different
-/// addresses, and none has the page's port. Each till has at most one door of its own. Tills have 1 to 64 workers in
-/// all, dispensers 1 to 31, and the owner has one.
+/// Where and how to serve the site. Each worker serves `connections` connections, one after another. A connection ends
+/// after `idle_seconds` seconds without a byte, or never for that reason if `idle_seconds` is 0. `page_port`, 1 to
+/// 65,535, is the port of the page on which the site is shown while it is served, or `None` if there is no page.
+///
+/// The doors are in the order in which workers get their passes: the tills' shared one, those of one till each, the
+/// dispensers' shared one, those of some points each, the owner's. All doors have different addresses, and none has the
+/// page's port. Each till has at most one door of its own. Tills have 1 to 64 workers in all, dispensers 1 to 31, and
+/// the owner has one.
 #[derive(Drop)]
 pub struct Serve {
     pub doors: Vec<Door>,

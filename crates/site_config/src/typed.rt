@@ -16,7 +16,8 @@ use crate::values::{
 use std::alloc::Global;
 use toml::{Table, Value};
 
-/// Reads the values of two keys from a table. Both must be numbers.
+/// Reads the numbers of two keys from `value`, a table at `place` that may have only keys of `section`. The error is
+/// `WrongType`, `UnknownKey` or `Missing`, or that memory ran out.
 #[tactic(auto, unfolding(crate::specs::Typed::pair_in, crate::specs::Memory::TakesPair))]
 fn read_pair(
     alloc: Global,
@@ -65,7 +66,7 @@ fn read_counter(alloc: Global, value: &Value, place: usize) -> Result<(i64, i64)
     )
 }
 
-/// Reads each item of a list as a point, and returns the two slots of each point.
+/// Reads each item of a list as a point, and returns the two slots of each point: `release`, then `preset`.
 fn read_points(alloc: Global, values: &[Value]) -> Result<Vec<(i64, i64)>, ConfigFlaw>
     ensures read { Finds (λ v. v.items) result (each_in point_in 0 (items_view values.now)) }
     ensures memory { result ≡ Err ConfigFlaw.OutOfMemory → KeepsFirst point_in TakesPoint (items_view values.now) }

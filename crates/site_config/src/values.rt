@@ -50,7 +50,8 @@ fn find_unknown(table: &Table, section: Section) -> Option<&String>
     table.keys().find(|key| !is_known(section, key.as_str()))
 }
 
-/// Returns the first key of a table, in the table's order, that a table of this section may not have.
+/// Returns the first key of `table`, in the order of the keys' bytes, that a table of this section may not have, or
+/// `None` if there is no such key.
 fn unknown_key(table: &Table, section: Section) -> Option<&str>
     ensures { option_map (λ key. key.now) result ≡ other_key (is_key_of section) (table_view table.now) }
 {

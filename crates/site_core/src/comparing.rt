@@ -17,6 +17,7 @@ use program_slots::Slots;
 use reg_types::Program;
 use std::sync::Arc;
 
+/// Returns the place, counted from 0, of the first byte that differs; `None` if no byte does.
 pub fn first_byte(a: &[u8], b: &[u8]) -> Option<u32>
     requires many { length a.now ≡ length b.now }
     requires small { length a.now < 2 ^ 32 }
@@ -30,6 +31,7 @@ pub fn first_byte(a: &[u8], b: &[u8]) -> Option<u32>
     None
 }
 
+/// Returns the place, counted from 0, of the first point that differs; `None` if no point does.
 pub fn first_point(a: &[PointView; 32], b: &[PointView; 32]) -> Option<u32>
     ensures within { IfSome result (λ place. place < POINTS) }
     ensures first { MatchOption result (a.now ≡ b.now) (FirstDiffers a.now b.now) }
@@ -42,6 +44,7 @@ pub fn first_point(a: &[PointView; 32], b: &[PointView; 32]) -> Option<u32>
     None
 }
 
+/// Returns the place, counted from 0, of the first price that differs; `None` if no price does.
 pub fn first_price(a: &[u32; 8], b: &[u32; 8]) -> Option<u32>
     ensures within { IfSome result (λ place. place < 8) }
     ensures first { MatchOption result (a.now ≡ b.now) (FirstDiffers a.now b.now) }
@@ -65,6 +68,7 @@ fn is_same_counter(declared: u32, a: &Counters, b: &Counters, c: u32) -> bool
     a.get(c) == b.get(c) && a.bound(c) == b.bound(c)
 }
 
+/// Returns the number of the first declared counter whose value or bound differs; `None` if there is none.
 pub fn first_counter(declared: u32, a: &Counters, b: &Counters) -> Option<u32>
     ensures { MatchOption result (Agrees declared b.now a.now) (CounterDiffers declared a.now b.now) }
 {

@@ -19,7 +19,7 @@ const MOST_COUNTER: u64 = 9_223_372_036_854_775_807;
 /// The configuration that a site is started from: how many tills there are, the slot of price changes, the prices of
 /// products 1 to 8 in thousandths, for each point the slots of its releases and of its presets, and the values and
 /// bounds of the counters. Every value is in its range. If there is an opening, the site begins with the opening's
-/// prices, counters and points instead.
+/// prices and counters instead, and with the points, totals and versions of the opening.
 #[derive(Drop)]
 pub struct Config {
     tills: u32,
@@ -56,7 +56,7 @@ impl Model for Config {
     }) };
 }
 
-/// Returns whether these are the prices, points and counters of a configuration: each number is in its range, and there
+/// Returns whether a configuration can have these prices, points and counters: each number is in its range, and there
 /// are 1 to 32 points.
 fn are_in_range(prices: &[u32; 8], points: &[(u32, u32)], counters: &[(u64, u64); 32]) -> bool
     ensures { IsTrue result ↔ All (λ price. price ≤ 9999999) prices.now × (1 ≤ length points.now)
@@ -225,14 +225,16 @@ impl Config {
         self.counters
     }
 
-    /// Returns the slot that decides a point's releases, or 0 if there is no such point.
+    /// Returns the slot that decides the releases of point `n`, or 0 if `n` is over the number of points. For `n` = 0
+    /// returns that of point 1.
     pub(crate) fn release_slot(&self, n: u32) -> u32
         ensures { result ≡ (slots_of self.now n).0 }
     {
         self.slots_of(n).0
     }
 
-    /// Returns the slot that decides a point's presets, or 0 if there is no such point.
+    /// Returns the slot that decides the presets of point `n`, or 0 if `n` is over the number of points. For `n` = 0
+    /// returns that of point 1.
     pub(crate) fn preset_slot(&self, n: u32) -> u32
         ensures { result ≡ (slots_of self.now n).1 }
     {

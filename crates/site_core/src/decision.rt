@@ -33,9 +33,9 @@ fn has_room(kind: Kind, point: &Point) -> bool
     }
 }
 
-/// Checks the question of a release or a preset at its point, and returns it. The error is the refusal for which no
-/// program is run: an amount out of range (S25), else a wrong state (S22), else two unpaid transactions at a release
-/// (S26).
+/// Checks the question of a release or a preset at its point, and returns it. The error is the reply that refuses the
+/// question before a program is run: S25 for an amount out of range, else S22 for a wrong state, else S26 for a release
+/// at a point with two unpaid transactions.
 pub fn asked_at(point: &Point, question: Question) -> Result<Question, Reply>
     ensures question { result ≡ asked_at point.now question }
     ensures same { IfOk result (λ q. q ≡ question) }
@@ -54,8 +54,8 @@ pub fn asked_at(point: &Point, question: Question) -> Result<Question, Reply>
 }
 
 /// Checks the question of a price change, and returns it. `busy` is the state of the first busy point, if there is one.
-/// The error is the refusal for which no program is run: a price or product out of range (S25), else a busy point
-/// (S22).
+/// The error is the reply that refuses the question before a program is run: S25 for a price or a product out of range,
+/// else S22 for a busy point.
 pub fn price_at(busy: Option<State>, question: Question) -> Result<Question, Reply>
     ensures question { result ≡ price_at busy question }
     ensures fits { IfOk result (λ q. (1 ≤ q.product) × (q.product ≤ PRODUCTS) × (q.asked ≤ GREATEST_PRICE)) }

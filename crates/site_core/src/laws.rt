@@ -24,7 +24,7 @@ pub fn one_difference_is_first()
     ensures { (now : Basis) (draft : DraftValue) (a b : Why) → Differs now draft a → Differs now draft b → a ≡ b }
 {}
 
-/// A law: the reply is a grant or S24 (a denial by the program) exactly if the step runs a program.
+/// A law: the reply to an act is a grant or S24 (a denial by a program) exactly if a program is run for the act.
 pub fn programs_alone_decide()
     ensures { (config : ConfigValue) (past : List Entry) (s : SiteState) (moment : ℕ) (act : Act) →
         is_decided (effect config past s moment act).reply ≡ is_some (effect config past s moment act).run }

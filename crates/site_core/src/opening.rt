@@ -136,7 +136,7 @@ impl Opening {
         None
     }
 
-    // By this call the prover knows that there are eight prices.
+    // A call of this function gives the prover that there are eight prices.
     pub(crate) fn prices(&self) -> [u32; 8]
         ensures { result ≡ self.now.prices }
     {

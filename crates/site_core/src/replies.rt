@@ -1,4 +1,4 @@
-//! The refusals of a site, and its replies to what a point returns for a command or an event.
+//! The refusals of a site, and the replies that it makes from what a point returns for a command or an event.
 
 ghost use Rattle.std.specs.Prelude.{◌≡◌};
 ghost use Rattle.site_core.specs.Decide.{wrong_state, no_program, denied};
@@ -34,7 +34,7 @@ pub const NO_SUCH_SLOT: Reply = Reply::Refused(32, None);
 /// S33: no order is pending.
 const NO_ORDER: Reply = Reply::Refused(33, None);
 
-/// S34: the dispenser's event isn't possible in this state.
+/// S34: the dispenser's event, or a number in it, doesn't fit the point as it is now.
 const UNEXPECTED: Reply = Reply::Refused(34, None);
 
 /// S22: the request isn't possible in this state of the point.

@@ -104,7 +104,7 @@ impl Station {
         })
     }
 
-    /// Makes the state that an opening has. The error is that memory ran out.
+    /// Makes the state of a new site that begins with this opening. The error is that memory ran out.
     fn opened(alloc: Global, opening: &Opening) -> Result<Station, AllocError>
         requires { length opening.now.points ≤ POINTS }
         ensures { IfOk result (λ s. s ≡ opened_state opening.now) }
@@ -125,7 +125,7 @@ impl Station {
         })
     }
 
-    /// Returns where the station's memory comes from.
+    /// Returns the station's allocator.
     pub(crate) fn alloc(&self) -> Global {
         self.alloc
     }
@@ -209,7 +209,8 @@ impl Station {
         self.points.get(n as usize - 1)
     }
 
-    /// Checks a question in the current state, and returns it. The error is the refusal for which no program is run.
+    /// Checks a question in the current state, and returns it. The error is the reply that refuses the question before
+    /// a program is run.
     pub fn admitted(&self, question: Question) -> Result<Question, Reply>
         ensures question { result ≡ admitted self.now question }
         ensures asked { IfOk result (λ q. WellAsked self.now q) }
@@ -220,8 +221,8 @@ impl Station {
         }
     }
 
-    /// Checks the question of a release or a preset in the current state, and returns it. The error is the refusal for
-    /// which no program is run.
+    /// Checks the question of a release or a preset in the current state, and returns it. The error is the reply that
+    /// refuses the question before a program is run.
     fn asked_at_point(&self, question: Question) -> Result<Question, Reply>
         ensures question { result ≡ asked_at_point self.now question }
         ensures asked { IfOk result (λ q. WellAsked self.now q) }
@@ -232,7 +233,8 @@ impl Station {
         }
     }
 
-    /// Returns the question, even if the current state refuses it; `None` if there is no such point.
+    /// Returns the question, even if the current state refuses it; `None` if it is about a point that the site doesn't
+    /// have.
     #[tactic(auto, unfolding(crate::specs::Draft::at_point))]
     pub fn routed(&self, question: Question) -> Option<Question>
         ensures { result ≡ routed_to self.now (Asks.Decision question) }
@@ -425,8 +427,9 @@ impl Station {
         }
     }
 
-    /// Sets the declared counters to those after a run that was made outside the site, and returns their values before
-    /// and after. The run must have been made on the current values of these counters and on the current view. The
+    /// Sets the declared counters to their values in `after`, and returns their values before and after the change.
+    /// `before` and `after` are the counters before and after a run that was made outside the site, on the context
+    /// `given`. The run must have been made on the current values of the declared counters and on the current view. The
     /// error is that memory ran out; then the station is unchanged.
     pub fn adopt(
         &mut self,
@@ -472,8 +475,9 @@ impl Station {
         Reply::Granted(self.grant(till, question, r0), version)
     }
 
-    /// Grants what is asked, as far as the program's answer and, for a release, the point's preset allow. Returns what
-    /// was granted: cents, or thousandths for a price.
+    /// Grants what is asked: gives the point its command, or sets the price. Of an amount it grants at most `r0`, the
+    /// program's answer, and for a release also at most the point's preset, if the point has one. A price is granted as
+    /// it is asked. Returns what was granted: cents, or thousandths for a price.
     fn grant(&mut self, till: u32, question: &Question, r0: u64) -> u64
         requires bounded { HasRoom self.old }
         requires till { 0 < till }

@@ -4,8 +4,8 @@
 /// the order in which the differences are looked for.
 #[derive(Clone, Copy, PartialEq)]
 pub enum Why {
-    /// The slot has another version now, whose number is given. `None` if the slot has no version, or if there is no
-    /// such till or point.
+    /// The slot has another version now, whose number is given. `None` if the slot has no version, or if the site
+    /// doesn't have the draft's till or point.
     Version(Option<u32>),
     /// The context differs; the number is that of the first byte that differs: 0 to 63, or 0 to 79 in the second
     /// layout.

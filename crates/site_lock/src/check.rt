@@ -146,10 +146,10 @@ fn uncovered_since<L: SiteLedger>(
     uncovered(behind(base, history), passes)
 }
 
-/// Compares a history with the receipts of the passes. Returns `None` if they agree, or a fault: the numbers of a pass
-/// and of an entry. Then either the first wrong receipt of the pass has this number: there is no such entry, the entry
-/// has another pass, moment, act or reply, or the receipt's number isn't above that of the receipt before. Or the entry
-/// of this number is one of this pass, and the pass has no receipt of it.
+/// Compares a history with the receipts of the passes. Returns `None` if they agree, or else the number of a pass and
+/// the number of an entry. There are two cases. Either the first wrong receipt of the pass has that entry number: the
+/// history has no such entry, the entry has another pass, moment, act or reply, or the number isn't above that of the
+/// receipt before. Or the entry of that number is one of this pass, and the pass has no receipt of it.
 pub fn fault<L: SiteLedger>(history: &[Entry], passes: &[Pass<L>]) -> Option<(u32, u32)>
     ensures none { IfNone result (IsMerge history.now passes.now) }
     ensures some { IfSome result (λ x. IsFault history.now passes.now x.0 x.1) }

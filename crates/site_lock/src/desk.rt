@@ -1,4 +1,4 @@
-//! The desk of a forecourt and a pass.
+//! A desk that calls a forecourt with a pass.
 ghost use Rattle.std.specs.Prelude.{◌≡◌, ℕ};
 ghost use Rattle.till_request.specs.declared.act.Act.{Act};
 ghost use Rattle.reg_types.specs.Shown.{IsRefusal};

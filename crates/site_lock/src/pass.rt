@@ -9,9 +9,9 @@ use till_request::{Act, Reply};
 /// The ledger of a forecourt's answered calls: one part for each pass, the configuration of the site, and the history
 /// that the forecourt starts from.
 ///
-/// A forecourt lives and ends in one function that is generic over its ledger. The function is called with `Brand` as
-/// the ledger, and the proof of the call chooses name, parts and configuration. So code that uses a pass of another
-/// forecourt doesn't compile.
+/// A forecourt is made, used and closed in one function that is generic over its ledger. The function is called with
+/// `Brand` as the ledger, and the proof of the call chooses name, parts and configuration. So code that uses a pass of
+/// another forecourt doesn't compile.
 pub trait SiteLedger: Ledger {
     ghost use Rattle.std.specs.Prelude.{List, Option, ℕ};
     ghost use Rattle.decision_journal.specs.declared.entries.Entry.{Entry};

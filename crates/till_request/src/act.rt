@@ -1,4 +1,4 @@
-//! What a line asks for or reports (requests, acts), and what it is answered (replies, answers).
+//! What lines ask for or report (acts), who sends the lines (roles), and the answers to them.
 
 ghost use Rattle.std.specs.Prelude.{◌≡◌, ◌==◌, ◌↔◌, ◌<◌, IsTrue, IfOk, OnErr, length};
 ghost use Rattle.std.proofs.Common.{rules};
@@ -41,8 +41,7 @@ impl Bytes {
         }
     }
 
-    /// Makes a `Bytes` with a copy of a slice's bytes. The error is that memory ran out. An empty slice needs no
-    /// memory.
+    /// Makes a `Bytes` of a copy of a slice. The error is that memory ran out. An empty slice needs no memory.
     pub fn from_slice(alloc: Global, items: &[u8]) -> Result<Self, AllocError>
         ensures same { IfOk result (λ b. b ≡ items.now) }
         ensures memory { OnErr result (0 < length items.now) }
@@ -137,8 +136,9 @@ pub enum Reply {
     Version(u32),
     /// The order that was pending at the dispenser's point.
     Order(Order),
-    /// A point as it is: its state 1 to 9, the lifted nozzle or 0, how many transactions are unpaid, its amount, limit
-    /// and preset in cents, and its volume in centilitres.
+    /// A point as it is: its state 1 to 9, the lifted nozzle or 0, and how many transactions are unpaid. `amount` in
+    /// cents and `volume` in centilitres are those of the delivery so far. `limit` is the amount that was granted to
+    /// the delivery, and `preset` bounds the next release, both in cents. Each is 0 if there is none.
     Point {
         state: u32,
         nozzle: u32,
@@ -200,6 +200,6 @@ pub enum Answer {
     /// A program was refused. The first number is the refusal's, such as 11 for `V11`. The others are the numbers of
     /// the unit, and of the register or argument, if the refusal names them.
     Program(u32, Option<u32>, Option<u32>),
-    /// The journal failed, and the site accepts no further event. Sessions end without writing this answer.
+    /// The journal failed, and the site accepts no further act. Sessions end without writing this answer.
     JournalFailed,
 }

@@ -34,10 +34,10 @@ pub trait LineIn {
         ensures failed { RoseBy (one_if (is_err result)) (failures self.old) (failures self.new) }
         ensures asked_for { RoseBy (length buffer.new) (asked self.old) (asked self.new) };
 
-    /// Moves bytes that the source has buffered to the end of `line`: only bytes before the next LF, and only until
-    /// `line` has 8,400 bytes. Each byte counts as a read of one byte and subtracts 1 from `left`. A source without a
-    /// buffer moves nothing. The error is that memory ran out: the room of `line` is too small and can't grow. Nothing
-    /// was moved then.
+    /// Moves at most `left` bytes that the source has buffered to the end of `line`: only bytes before the next LF, and
+    /// only until `line` has 8,400 bytes. Each byte counts as a read of one byte and subtracts 1 from `left`. A source
+    /// without a buffer moves nothing. The error is that memory ran out: the room of `line` is too small and can't
+    /// grow. Nothing was moved then.
     fn read_held(&mut self, line: &mut Vec<u8>, left: &mut u32) -> Result<(), AllocError>
         requires { IsLine line.old.items }
         ensures taken { OnOk result

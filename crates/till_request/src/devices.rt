@@ -31,8 +31,8 @@ pub struct MemoryIn {
 }
 
 impl MemoryIn {
-    /// Makes a source that returns `bytes`: at most `sizes[n]` of them (0 counts as 1) at read n, or as many as the read
-    /// asks for if `sizes` has no index n. If `good` is `Some(k)`, every read after the first k fails.
+    /// Makes a source that returns `bytes`: at most `sizes[n]` of them (0 counts as 1) at read n, or as many as the
+    /// read asks for if `sizes` has no index n. If `good` is `Some(k)`, every read after the first k fails.
     pub fn new(bytes: Vec<u8>, sizes: Vec<usize>, good: Option<u64>) -> Self
         ensures bytes { result.bytes ≡ bytes }
         ensures start { result.at ≡ 0 }
@@ -191,8 +191,7 @@ impl<I: LineIn + Drop> Ahead<I> {
         }
     }
 
-    /// Returns whether a line feed was read ahead. If so, the line that ends there can be read without a read of
-    /// `input`.
+    /// Returns whether an LF was read ahead. If so, the line that ends there can be read without a read of `input`.
     pub fn holds_line(&self) -> bool
         ensures there { result ≡ true → (count : ℕ) × EndsBehind count self.now.block }
         ensures none { result ≡ false → HasNoLf self.now.block }
@@ -246,8 +245,8 @@ pub struct MemoryOut {
 }
 
 impl MemoryOut {
-    /// Makes a sink to which nothing was written yet: write n accepts at most `sizes[n]` bytes, or all its bytes if
-    /// `sizes` has no index n. If `good` is `Some(k)`, every write after the first k fails.
+    /// Makes a sink to which nothing was written yet: write n accepts at most `sizes[n]` bytes (0 counts as 1), or all
+    /// its bytes if `sizes` has no index n. If `good` is `Some(k)`, every write after the first k fails.
     pub fn new(alloc: Global, sizes: Vec<usize>, good: Option<u64>) -> Self
         ensures bytes { result.bytes.items ≡ [] }
         ensures sizes { result.sizes ≡ sizes }

@@ -36,7 +36,7 @@ pub enum TransactionVerb {
     Clear,
 }
 
-/// The verb of a dispenser's line that has no value after it, as in `disp P down`.
+/// The verb of a dispenser's line, if no value comes after the verb, as in `disp P down`.
 #[derive(Clone, Copy)]
 pub enum ReportVerb {
     Down,
@@ -67,7 +67,9 @@ pub enum Form {
     Point(PointVerb),
     Transaction(TransactionVerb),
     Report(ReportVerb),
+    /// `disp P up N`: nozzle N was lifted.
     Up,
+    /// `disp P flow A V`: A cents and V centilitres were delivered so far.
     Flow,
     /// `load SLOT MASK HEX`, or `load2 SLOT MASK HEX` for a program whose context has 80 bytes.
     Load(Layout),
@@ -226,8 +228,7 @@ fn five_fit(first: Keyword, third: Keyword, words: &[&[u8]]) -> bool
     }
 }
 
-/// Returns whether the words are those of a line that loads a program for this layout of its context: `load` or
-/// `load2`, and three values.
+/// Returns whether the words are `load` for `Layout::One` or `load2` for `Layout::Two`, and then three values.
 #[inline(always)]
 fn load_fits(layout: Layout, words: &[&[u8]]) -> bool
     ensures { result ≡ fits (template (forms.Load layout)) (map (λ w. w.now) words.now) }
@@ -256,7 +257,7 @@ fn has_form(form: Form, words: &[&[u8]]) -> bool
     }
 }
 
-/// Returns whether the role may send lines of this form, and the words have it.
+/// Returns whether the role may send lines of this form and the words have this form.
 #[inline(always)]
 fn is_suited(role: Role, words: &[&[u8]], form: Form) -> bool
     ensures { result ≡ suits role (map (λ w. w.now) words.now) form }

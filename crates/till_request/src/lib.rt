@@ -1,5 +1,5 @@
-//! What tills, dispensers and the owner ask, as lines from any reader, and what they are answered, as lines to any
-//! writer.
+//! Reads the lines of tills, dispensers and the owner from any `LineIn`, and parses them as acts. Writes the answers to
+//! any `LineOut`.
 #![tactic(auto)]
 
 mod act;

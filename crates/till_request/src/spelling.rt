@@ -18,7 +18,8 @@ use fuelling_point::DispenserEvent;
 use std::alloc::{AllocError, Global};
 use std::fmt;
 
-/// States that the line of each act is read as that same act, if a load has at least one byte. Does nothing.
+/// States that the line of each act is read as that same act, for the role `All`. A load must have at least one byte.
+/// The line may have more than 8,400 bytes, which `parse_line` refuses. Does nothing.
 pub fn spelling_is_read()
     ensures { ReadsBack }
 {}
@@ -117,7 +118,7 @@ pub fn put_dispenser_line(text: &mut ShortText, point: u32, event: DispenserEven
     }
 }
 
-/// Returns the first word of a line that loads a program whose contexts have this layout.
+/// Returns the first word of a line that loads a program for this layout of the context: `load` or `load2`.
 pub fn load_word(layout: Layout) -> &'static str
     ensures { result.now ≡ load_by layout }
 {
