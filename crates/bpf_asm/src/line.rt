@@ -171,8 +171,9 @@ pub fn cut<'a>(alloc: Global, text: &'a [u8]) -> Result<Vec<&'a [u8]>, AllocErro
     Ok(lines)
 }
 
-/// Parses line `number`, and returns it with its label. The error is that it can't be parsed (A1), that a number in it
-/// is out of range (A3), or that memory ran out. A line with a byte that isn't ASCII takes no memory.
+/// Parses line `number`, and returns the parsed line with the label that `row_of` returns. The error is that the line
+/// can't be parsed (A1), that a number in it is out of range (A3), or that memory ran out. A line with a byte that
+/// isn't ASCII can't be parsed, and takes no memory.
 fn row_at<'a>(alloc: Global, number: u64, line: &'a [u8]) -> Result<(Line, &'a [u8]), AsmFault>
     ensures ok { IfOk result (λ p. spec.row_of line.now ≡ Some (spec.row p.0 p.1.now)) }
     ensures none { IfOk result (λ p. spec.row_fault number (spec.row_of line.now) ≡ None) }
@@ -192,8 +193,8 @@ fn row_at<'a>(alloc: Global, number: u64, line: &'a [u8]) -> Result<(Line, &'a [
     }
 }
 
-/// Parses all lines, and returns each with its label. The error is the fault of the first line that can't be parsed
-/// (A1) or has a number out of range (A3). It can also be that memory ran out.
+/// Parses all lines, and returns each with the label that `row_of` returns. The error is the fault of the first line
+/// that can't be parsed (A1) or has a number out of range (A3). It can also be that memory ran out.
 pub fn rows_of<'a>(alloc: Global, lines: &[&'a [u8]]) -> Result<Vec<(Line, &'a [u8])>, AsmFault>
     ensures ok { IfOk result
         (λ v. map (λ p. spec.row p.0 p.1.now) v.items ≡ spec.rows_of (map (λ t. t.now) lines.now)) }

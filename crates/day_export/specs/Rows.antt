@@ -19,19 +19,19 @@ use Rattle.day_export.specs.Standing.{Stand, ended_as, number_cleared, stand_aft
 -- ---- sales
 
 -- the cell of a number that a delivery has; it is empty if the delivery isn't known
-abbrev pub told_of : Option Ended → (Ended → ℕ) → Cell
-told_of None field = cell.Nothing
-told_of (Some e) field = cell.Number (field e)
+abbrev pub ended_cell : Option Ended → (Ended → ℕ) → Cell
+ended_cell None field = cell.Nothing
+ended_cell (Some e) field = cell.Number (field e)
 
 -- the row of a sale, with the number of its transaction and with its delivery, if that is known
 abbrev pub sale_cells : Sale → ℕ → Option Ended → List Cell
 sale_cells sale transaction ended =
-    told_of ended (λ e. e.number)
+    ended_cell ended (λ e. e.number)
     ∷ cell.Number sale.number
     ∷ cell.Number sale.point
     ∷ cell.Number transaction
-    ∷ told_of ended (λ e. e.product)
-    ∷ told_of ended (λ e. e.price)
+    ∷ ended_cell ended (λ e. e.product)
+    ∷ ended_cell ended (λ e. e.price)
     ∷ cell.Number sale.volume
     ∷ cell.Number sale.amount
     ∷ cell.Number sale.till

@@ -1,7 +1,7 @@
 //! The rows of a day.
 
 ghost use Rattle.std.specs.Prelude.{◌≡◌, Some};
-ghost use Rattle.day_export.specs.Rows.{answer_cell, decision_cells, decision_row, event_row, sale_cells, sale_row, told_of};
+ghost use Rattle.day_export.specs.Rows.{answer_cell, decision_cells, decision_row, event_row, sale_cells, sale_row, ended_cell};
 ghost use Rattle.day_export.specs.Standing.{stand_of};
 
 use crate::acts::act_cells;

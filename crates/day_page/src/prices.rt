@@ -130,7 +130,8 @@ fn add_line(
     let mut is_begun = false;
     for change in changes {
         if change.product == product {
-            let next = x_of(change, axis);
+            // Where the clock was set back, the line doesn't go back.
+            let next = x_of(change, axis).max(x);
             if next != x && price > 0 {
                 add_step(sheet, product, is_begun, x, range.depth(price), next);
                 is_begun = true;

@@ -64,7 +64,7 @@ fn take_line(
         Err(StepFault::Misplaced) => return Err(OpeningFlaw::BadLine(number)),
         Err(StepFault::Refused(_)) => unreachable!(),
     };
-    match reading.take(alloc, &line) {
+    match reading.take(&line) {
         Ok(()) => Ok(()),
         Err(StepFault::Misplaced) => Err(OpeningFlaw::BadLine(number)),
         Err(StepFault::Refused(refusal)) => Err(OpeningFlaw::BadProgram(number, refusal)),

@@ -55,6 +55,7 @@ pub(crate) enum StepFault {
 /// What has been read of an opening.
 #[derive(Drop)]
 pub(crate) struct Reading {
+    alloc: Global,
     /// The least place that the next line can have.
     next: u32,
     day: u32,
@@ -114,6 +115,7 @@ impl Reading {
     {
         let rules = empty_slots(alloc)?;
         Ok(Reading {
+            alloc,
             next: 0,
             day: 0,
             points: Vec::new(alloc),
@@ -193,7 +195,6 @@ impl Reading {
 
     fn take_version(
         &mut self,
-        alloc: Global,
         slot: u64,
         number: u32,
         mask: u32,
@@ -208,7 +209,7 @@ impl Reading {
         if number < 1 || number > self.versions || !is_new_number(&self.rules, number) {
             return Err(StepFault::Misplaced);
         }
-        let version = verified(alloc, number, mask, layout, bytes)?;
+        let version = verified(self.alloc, number, mask, layout, bytes)?;
         self.rules[slot as usize] = Some(version);
         self.next = SLOTS_AT + slot as u32 + 1;
         Ok(())
@@ -300,7 +301,7 @@ impl Reading {
     ///
     /// The error is `Misplaced` if the line can't come next, or if one of its values isn't allowed there. Otherwise it
     /// is `Refused` if the verifier refuses the line's program. It can also be that memory ran out.
-    pub(crate) fn take(&mut self, alloc: Global, line: &Line) -> Result<(), StepFault>
+    pub(crate) fn take(&mut self, line: &Line) -> Result<(), StepFault>
         ensures { Steps self.old line.now result self.new }
     {
         match line {
@@ -313,7 +314,7 @@ impl Reading {
                 mask,
                 layout,
                 bytes,
-            } => self.take_version(alloc, *slot, *number, *mask, *layout, bytes.as_slice()),
+            } => self.take_version(*slot, *number, *mask, *layout, bytes.as_slice()),
             Line::Price(product, price) => self.take_price(*product, *price),
             Line::Counter(counter, value, bound) => self.take_counter(*counter, *value, *bound),
             Line::Point(number, values) => self.take_point(*number, values),

@@ -68,12 +68,12 @@ once_said (stop.Said status) = stop.Said status
 once_said (stop.Failed error) = stop.Said 3
 
 -- whether a fault of an opening is that memory ran out
-abbrev pub is_want : OpeningFault → Bool
-is_want fault.OutOfMemory = true
-is_want _ = false
+abbrev pub is_out_of_memory : OpeningFault → Bool
+is_out_of_memory fault.OutOfMemory = true
+is_out_of_memory _ = false
 
 abbrev pub opening_status : OpeningFault → ℕ
-opening_status fault = if is_want fault then 3 else 1
+opening_status fault = if is_out_of_memory fault then 3 else 1
 
 -- the status for an opening that doesn't fit its configuration
 abbrev pub unfit_status : Unfit → ℕ

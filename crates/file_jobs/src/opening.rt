@@ -2,7 +2,7 @@
 ghost use Rattle.std.specs.Prelude.{◌≡◌, ◌≤◌, IfOk, IfErr, vec_len};
 ghost use Rattle.days.specs.File.{IsOpeningFile};
 ghost use Rattle.days.specs.Fitting.{BeginsWith};
-ghost use Rattle.file_jobs.specs.Statuses.{Says, SaysOrFails, RefusesOpening, is_want, opening_status, unfit_status};
+ghost use Rattle.file_jobs.specs.Statuses.{Says, SaysOrFails, RefusesOpening, is_out_of_memory, opening_status, unfit_status};
 ghost use Rattle.file_jobs.specs.Codes.{bad_line, opening_words};
 ghost use Rattle.file_jobs.specs.Lines.{line_of};
 ghost use Rattle.file_jobs.specs.Days.{BeginsDay};
@@ -218,15 +218,15 @@ pub fn refuse_fault<D: Display>(
 ) -> Stop
     ensures { result ≡ Stop.Said (opening_status fault) }
 {
-    if is_want(fault) {
+    if is_out_of_memory(fault) {
         return Stop::Said(out_of_memory(rt));
     }
     refuse_words(rt, word, words)
 }
 
 /// Returns whether a fault of an opening is that memory ran out.
-fn is_want(fault: OpeningFault) -> bool
-    ensures { result ≡ is_want fault }
+fn is_out_of_memory(fault: OpeningFault) -> bool
+    ensures { result ≡ is_out_of_memory fault }
 {
     match fault {
         OpeningFault::OutOfMemory => true,

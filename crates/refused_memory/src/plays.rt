@@ -33,11 +33,11 @@ const DELIVERY: &str =
         disp 1 started\ndisp 1 flow 2500 1390\ndisp 1 down\ntill 1 lock 1 1\ntill 2 lock 1 1\ntill 2 clear 1 1\n\
         till 1 clear 1 1\ntill 1 clear 1 1\ntill 1 show 1\n";
 
-/// How a play ended, and what it wrote. `is_want` says that it ended with `OutOfMemory`.
+/// How a play ended, and what it wrote. `is_out_of_memory` says that it ended with `OutOfMemory`.
 #[derive(Drop)]
 struct Outcome {
     text: Vec<u8>,
-    is_want: bool,
+    is_out_of_memory: bool,
     is_done: bool,
 }
 
@@ -46,7 +46,7 @@ fn outcome_of(alloc: Global, config: Config, mut input: Narrow, mut output: Memo
     drop(input);
     Outcome {
         text: output.bytes,
-        is_want: matches!(ended, Err(SessionFault::OutOfMemory)),
+        is_out_of_memory: matches!(ended, Err(SessionFault::OutOfMemory)),
         is_done: ended.is_ok(),
     }
 }
@@ -93,7 +93,7 @@ enum Became {
 /// Returns what happened to line number `line`, or `None` if the play wrote something wrong.
 fn what_became(found: &Outcome, wanted: &Wanted, line: usize) -> Option<Became> {
     let text = found.text.as_slice();
-    if found.is_want {
+    if found.is_out_of_memory {
         return (text == first_lines(&wanted.whole, line)).then_some(Became::Ended);
     }
     if !found.is_done {

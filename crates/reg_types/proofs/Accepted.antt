@@ -127,56 +127,56 @@ none_left : (a b : Option TypeFault) → or_else a b ≡ None → (a ≡ None) �
 none_left None b e = (refl, e)
 none_left (Some f) b e = absurd (cc)
 
-module _ (us : List ProgramUnit) (terms : LoadOptions) where
-  pub no_flaw_below : (n k : ℕ) → first_flaw_below us terms n ≡ None → k < n → flaw_under us terms k (inferred us terms k) ≡ None
+module _ (us : List ProgramUnit) (options : LoadOptions) where
+  pub no_flaw_below : (n k : ℕ) → first_flaw_below us options n ≡ None → k < n → flaw_under us options k (inferred us options k) ≡ None
   unfolding first_flaw_below
   no_flaw_below zero k e l = absurd (omega arith)
   no_flaw_below (suc n) k e l =
-      let both = none_left (first_flaw_below us terms n) (flaw_under us terms n (inferred us terms n)) e in
+      let both = none_left (first_flaw_below us options n) (flaw_under us options n (inferred us options n)) e in
       elim (cases_eq k n) [
-        | inl same ↦ ap (λ q. flaw_under us terms q (inferred us terms q)) same ∙ both.1
+        | inl same ↦ ap (λ q. flaw_under us options q (inferred us options q)) same ∙ both.1
         | inr other ↦ no_flaw_below n k both.0 (omega arith)
       ]
 
-  pub flaw_stays : (m n : ℕ) (fault : TypeFault) → first_flaw_below us terms m ≡ Some fault → m ≤ n → first_flaw_below us terms n ≡ Some fault
+  pub flaw_stays : (m n : ℕ) (fault : TypeFault) → first_flaw_below us options m ≡ Some fault → m ≤ n → first_flaw_below us options n ≡ Some fault
   unfolding first_flaw_below
   flaw_stays zero n fault e l = absurd (cc)
   flaw_stays (suc m) zero fault e l = absurd (omega arith)
   flaw_stays (suc m) (suc n) fault e l =
       elim (cases_eq m n) [
-        | inl same ↦ subst (λ k. first_flaw_below us terms (suc k) ≡ Some fault) same e
-        | inr other ↦ ap (λ o. or_else o (flaw_under us terms n (inferred us terms n))) (flaw_stays (suc m) n fault e (omega arith))
+        | inl same ↦ subst (λ k. first_flaw_below us options (suc k) ≡ Some fault) same e
+        | inr other ↦ ap (λ o. or_else o (flaw_under us options n (inferred us options n))) (flaw_stays (suc m) n fault e (omega arith))
       ]
 
   -- ---- the recursion
 
-  from_wider : (pc : ℕ) (fact : Fact) (o : Option (Inst × Form)) (q : ℕ) (old : Option Fact) → IsWider old (passed_from us terms pc fact o q old)
+  from_wider : (pc : ℕ) (fact : Fact) (o : Option (Inst × Form)) (q : ℕ) (old : Option Fact) → IsWider old (passed_from us options pc fact o q old)
   from_wider pc fact None q old = IsWider-refl old
-  from_wider pc fact (Some x) q old = by_wider q fact (ruled us terms pc fact x) (leads pc x.0 x.1) old
+  from_wider pc fact (Some x) q old = by_wider q fact (ruled us options pc fact x) (leads pc x.0 x.1) old
 
-  passed_wider : (pc : ℕ) (here : Option Fact) (q : ℕ) (old : Option Fact) → IsWider old (passed us terms pc here q old)
+  passed_wider : (pc : ℕ) (here : Option Fact) (q : ℕ) (old : Option Fact) → IsWider old (passed us options pc here q old)
   passed_wider pc None q old = IsWider-refl old
   passed_wider pc (Some fact) q old = from_wider pc fact (instruction_at us pc) q old
 
-  known_wider : (n m q : ℕ) → n ≤ m → IsWider (known us terms n q) (known us terms m q)
+  known_wider : (n m q : ℕ) → n ≤ m → IsWider (known us options n q) (known us options m q)
   unfolding known
-  known_wider zero zero q l = IsWider-refl (known us terms 0 q)
+  known_wider zero zero q l = IsWider-refl (known us options 0 q)
   known_wider (suc n) zero q l = absurd (omega arith)
   known_wider n (suc m) q l =
       elim (cases_eq n (suc m)) [
-        | inl same ↦ subst (λ k. IsWider (known us terms n q) (known us terms k q)) same (IsWider-refl (known us terms n q))
-        | inr other ↦ IsWider-trans (known us terms n q) (known us terms m q) (known us terms (suc m) q) (known_wider n m q (omega arith))
-            (passed_wider m (known us terms m m) q (known us terms m q))
+        | inl same ↦ subst (λ k. IsWider (known us options n q) (known us options k q)) same (IsWider-refl (known us options n q))
+        | inr other ↦ IsWider-trans (known us options n q) (known us options m q) (known us options (suc m) q) (known_wider n m q (omega arith))
+            (passed_wider m (known us options m m) q (known us options m q))
       ]
 
   module _ (sound : IsSound us) where
-    ahead_of : (pc : ℕ) (fact : Fact) (x : Inst × Form) (e : Effect) → instruction_at us pc ≡ Some x → ruled us terms pc fact x ≡ Ok e
+    ahead_of : (pc : ℕ) (fact : Fact) (x : Inst × Form) (e : Effect) → instruction_at us pc ≡ Some x → ruled us options pc fact x ≡ Ok e
         → (tos : List ℕ) × (leads pc x.0 x.1 ≡ Some tos) × AllByRecursion (IsAhead us pc) tos
     ahead_of pc fact x e at j =
         let is = instruction_is (slice_get us pc) x at in
-        leads_ahead sound.bytes us sound.reads pc x.0 is.0 sound.forward x.1 is.1 (judged_is (length us) pc terms fact x.0 (upper_of us pc) x.1 e j).0
+        leads_ahead sound.bytes us sound.reads pc x.0 is.0 sound.forward x.1 is.1 (judged_is (length us) pc options fact x.0 (upper_of us pc) x.1 e j).0
 
-    behind_by : (pc q : ℕ) (fact : Fact) (x : Inst × Form) (r : Result Effect Flaw) → q ≤ pc → instruction_at us pc ≡ Some x → ruled us terms pc fact x ≡ r
+    behind_by : (pc q : ℕ) (fact : Fact) (x : Inst × Form) (r : Result Effect Flaw) → q ≤ pc → instruction_at us pc ≡ Some x → ruled us options pc fact x ≡ r
         → (old : Option Fact) → passed_by q fact r (leads pc x.0 x.1) old ≡ old
     behind_by pc q fact x (Err flaw) l at j old = refl
     behind_by pc q fact x (Ok e) l at j old =
@@ -184,11 +184,11 @@ module _ (us : List ProgramUnit) (terms : LoadOptions) where
         ap (λ o. passed_by q fact (Ok e) o old) a.1 ∙ behind us pc q (fact_after fact e) l a.0 a.2 old
 
     behind_from : (pc q : ℕ) (fact : Fact) (o : Option (Inst × Form)) → q ≤ pc → instruction_at us pc ≡ o → (old : Option Fact)
-        → passed_from us terms pc fact o q old ≡ old
+        → passed_from us options pc fact o q old ≡ old
     behind_from pc q fact None l at old = refl
-    behind_from pc q fact (Some x) l at old = behind_by pc q fact x (ruled us terms pc fact x) l at refl old
+    behind_from pc q fact (Some x) l at old = behind_by pc q fact x (ruled us options pc fact x) l at refl old
 
-    pub passed_behind : (pc q : ℕ) (here : Option Fact) → q ≤ pc → (old : Option Fact) → passed us terms pc here q old ≡ old
+    pub passed_behind : (pc q : ℕ) (here : Option Fact) → q ≤ pc → (old : Option Fact) → passed us options pc here q old ≡ old
     passed_behind pc q None l old = refl
     passed_behind pc q (Some fact) l old = behind_from pc q fact (instruction_at us pc) l refl old
 
@@ -196,37 +196,37 @@ module _ (us : List ProgramUnit) (terms : LoadOptions) where
 
     -- if the instruction of unit pc is accepted, the fact after it is joined into what is known of each unit that it
     -- leads to
-    past_is : (pc q : ℕ) (fact : Fact) (x : Inst × Form) (e : Effect) (tos : List ℕ) → inferred us terms pc ≡ Some fact → instruction_at us pc ≡ Some x
-        → ruled us terms pc fact x ≡ Ok e → leads pc x.0 x.1 ≡ Some tos
-        → known us terms (suc pc) q ≡ arrived_all q (fact_after fact e) tos (known us terms pc q)
+    past_is : (pc q : ℕ) (fact : Fact) (x : Inst × Form) (e : Effect) (tos : List ℕ) → inferred us options pc ≡ Some fact → instruction_at us pc ≡ Some x
+        → ruled us options pc fact x ≡ Ok e → leads pc x.0 x.1 ≡ Some tos
+        → known us options (suc pc) q ≡ arrived_all q (fact_after fact e) tos (known us options pc q)
     unfolding known
     past_is pc q fact x e tos h at j to =
-        ap (λ o. passed us terms pc o q (known us terms pc q)) h
-        ∙ ap (λ o. passed_from us terms pc fact o q (known us terms pc q)) at
-        ∙ ap (λ r. passed_by q fact r (leads pc x.0 x.1) (known us terms pc q)) j
-        ∙ ap (λ o. passed_by q fact (Ok e) o (known us terms pc q)) to
+        ap (λ o. passed us options pc o q (known us options pc q)) h
+        ∙ ap (λ o. passed_from us options pc fact o q (known us options pc q)) at
+        ∙ ap (λ r. passed_by q fact r (leads pc x.0 x.1) (known us options pc q)) j
+        ∙ ap (λ o. passed_by q fact (Ok e) o (known us options pc q)) to
 
-    enters_from : (fact : Fact) (to : ℕ) → IsWider (Some fact) (inferred us terms to) → Enters (inferred us terms) fact to
+    enters_from : (fact : Fact) (to : ℕ) → IsWider (Some fact) (inferred us options to) → Enters (inferred us options) fact to
     enters_from fact to w = record { wider = w.0; is = w.1; below = w.2 }
 
     all_enter : (pc : ℕ) (after : Fact) (known_past : ℕ → Option Fact) (tos : List ℕ) → AllByRecursion (IsAhead us pc) tos
-        → ((q : ℕ) → known us terms (suc pc) q ≡ known_past q) → AllByRecursion (λ to. IsWider (Some after) (known_past to)) tos
-        → AllByRecursion (Enters (inferred us terms) after) tos
+        → ((q : ℕ) → known us options (suc pc) q ≡ known_past q) → AllByRecursion (λ to. IsWider (Some after) (known_past to)) tos
+        → AllByRecursion (Enters (inferred us options) after) tos
     all_enter pc after known_past [] ahead same come = tt
     all_enter pc after known_past (to ∷ tos) ahead same come = (
       let further = ahead.0.ahead in
           enters_from after to
-          (IsWider-trans (Some after) (known us terms (suc pc) to) (inferred us terms to) (subst (IsWider (Some after)) (sym (same to)) come.0)
+          (IsWider-trans (Some after) (known us options (suc pc) to) (inferred us options to) (subst (IsWider (Some after)) (sym (same to)) come.0)
           (known_wider (suc pc) to to (omega (arith, further)))),
       all_enter pc after known_past tos ahead.1 same come.1,
     )
 
-    typed_at : (pc : ℕ) (i : Inst) (fact : Fact) (form : Form) (e : Effect) → inferred us terms pc ≡ Some fact → slice_get us pc ≡ Some (First i)
-        → form_of i.opcode ≡ Some form → ruled us terms pc fact (i, form) ≡ Ok e → IsTyped us terms (inferred us terms) pc i fact
+    typed_at : (pc : ℕ) (i : Inst) (fact : Fact) (form : Form) (e : Effect) → inferred us options pc ≡ Some fact → slice_get us pc ≡ Some (First i)
+        → form_of i.opcode ≡ Some form → ruled us options pc fact (i, form) ≡ Ok e → IsTyped us options (inferred us options) pc i fact
     typed_at pc i fact form e h at is j =
         let x = instruction_from us pc i form at is in
         let a = ahead_of pc fact (i, form) e x j in
-        let old : ℕ → Option Fact = known us terms pc in
+        let old : ℕ → Option Fact = known us options pc in
         record {
           form = form;
           form_is = is;
@@ -241,21 +241,21 @@ module _ (us : List ProgramUnit) (terms : LoadOptions) where
               (λ q. past_is pc q fact (i, form) e a.0 h x j a.1) (all_come (fact_after fact e) a.0 old);
         }
 
-    typed_flawless : (pc : ℕ) (i : Inst) (fact : Fact) → slice_get us pc ≡ Some (First i) → inferred us terms pc ≡ Some fact
-        → flaw_under us terms pc (inferred us terms pc) ≡ None → IsTyped us terms (inferred us terms) pc i fact
+    typed_flawless : (pc : ℕ) (i : Inst) (fact : Fact) → slice_get us pc ≡ Some (First i) → inferred us options pc ≡ Some fact
+        → flaw_under us options pc (inferred us options pc) ≡ None → IsTyped us options (inferred us options) pc i fact
     typed_flawless pc i fact at h none =
         let f = some_is (form_of i.opcode) (there sound.bytes us pc i sound.reads at).form in
         let x = instruction_from us pc i f.0 at f.1 in
-        let under : flaw_under us terms pc (Some fact) ≡ None = ap (flaw_under us terms pc) (sym h) ∙ none in
-        let of : flaw_of us terms pc fact (Some (i, f.0)) ≡ None = ap (flaw_of us terms pc fact) (sym x) ∙ under in
-        let ok = flawless_is pc (ruled us terms pc fact (i, f.0)) of in
+        let under : flaw_under us options pc (Some fact) ≡ None = ap (flaw_under us options pc) (sym h) ∙ none in
+        let of : flaw_of us options pc fact (Some (i, f.0)) ≡ None = ap (flaw_of us options pc fact) (sym x) ∙ under in
+        let ok = flawless_is pc (ruled us options pc fact (i, f.0)) of in
         typed_at pc i fact f.0 ok.0 h at f.1 ok.1
 
-    entered : known us terms 0 0 ≡ Some entry_fact
+    entered : known us options 0 0 ≡ Some entry_fact
     unfolding known
     entered = refl
 
-    pub accepted_covers : first_flaw us terms ≡ None → Covers us terms (inferred us terms)
+    pub accepted_covers : first_flaw us options ≡ None → Covers us options (inferred us options)
     accepted_covers none =
         let first = first_there sound.bytes us sound.reads in
         record {
@@ -269,11 +269,11 @@ module _ (us : List ProgramUnit) (terms : LoadOptions) where
               (no_flaw_below (length us) pc none (there sound.bytes us pc i sound.reads at).inside);
         }
 
-pub covered_by : (bytes : List ℕ) (terms : LoadOptions) (us : List ProgramUnit) → units bytes ≡ Some us → GoesForward us → first_flaw us terms ≡ None
-    → IsCovered bytes terms us
-covered_by bytes terms us reads forward none =
-    record { reads = reads; facts = inferred us terms; covers = accepted_covers us terms (record { bytes = bytes; reads = reads; forward = forward }) none }
+pub covered_by : (bytes : List ℕ) (options : LoadOptions) (us : List ProgramUnit) → units bytes ≡ Some us → GoesForward us → first_flaw us options ≡ None
+    → IsCovered bytes options us
+covered_by bytes options us reads forward none =
+    record { reads = reads; facts = inferred us options; covers = accepted_covers us options (record { bytes = bytes; reads = reads; forward = forward }) none }
 
-pub good_by : (bytes : List ℕ) (terms : LoadOptions) (us : List ProgramUnit) → units bytes ≡ Some us → GoesForward us → first_flaw us terms ≡ None
-    → IsGood (loaded_on bytes terms)
-good_by bytes terms us reads forward none = good bytes us terms (covered_by bytes terms us reads forward none)
+pub good_by : (bytes : List ℕ) (options : LoadOptions) (us : List ProgramUnit) → units bytes ≡ Some us → GoesForward us → first_flaw us options ≡ None
+    → IsGood (loaded_on bytes options)
+good_by bytes options us reads forward none = good bytes us options (covered_by bytes options us reads forward none)

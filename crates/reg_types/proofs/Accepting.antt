@@ -144,51 +144,51 @@ exit_ok : (types : List RegType) → ArePlain types → Accepted (exited types (
 exit_ok types p = (unmarked types, ap (λ b. cond b (ok_of (unmarked types)) (Err (NotANumber 0))) p.number, p)
 
 -- an instruction of a plain form is accepted if R1 points to the context and R0 holds a number
-plain_effect : (terms : LoadOptions) (fact : Fact) (i : Inst) (upper : ℤ) (form : Form) → ArePlain fact.types → IsPlainForm terms.layout i form
-    → Accepted (effect terms fact i upper form)
-plain_effect terms fact i upper Ja p f = (unmarked fact.types, refl, p)
-plain_effect terms fact i upper Ja32 p f = (unmarked fact.types, refl, p)
-plain_effect terms fact i upper Exit p f = exit_ok fact.types p
-plain_effect terms fact i upper Wide p f =
+plain_effect : (options : LoadOptions) (fact : Fact) (i : Inst) (upper : ℤ) (form : Form) → ArePlain fact.types → IsPlainForm options.layout i form
+    → Accepted (effect options fact i upper form)
+plain_effect options fact i upper Ja p f = (unmarked fact.types, refl, p)
+plain_effect options fact i upper Ja32 p f = (unmarked fact.types, refl, p)
+plain_effect options fact i upper Exit p f = exit_ok fact.types p
+plain_effect options fact i upper Wide p f =
     let o : Typed = Ok (Const (cast_unsigned w32 upper * 2 ^ 32 + cast_unsigned w32 i.imm)) in
     set_dst fact.types i.dst o f p.long p.base refl
-plain_effect terms fact i upper (Branch c w Immediate) p f =
+plain_effect options fact i upper (Branch c w Immediate) p f =
     compare_ok fact.types i.dst i.src (immediate w i.imm) (type_at fact.types i.dst) (ap (λ d. is_numeric (type_at fact.types d)) f ∙ p.number) p
-plain_effect terms fact i upper (Arithmetic SwapBytes w s) p f =
+plain_effect options fact i upper (Arithmetic SwapBytes w s) p f =
     let h = ap (λ d. is_numeric (type_at fact.types d)) f ∙ p.number in
     set_dst fact.types i.dst (one_number i.dst (type_at fact.types i.dst)) f p.long p.base
     (gives (one_number i.dst (type_at fact.types i.dst)) (one_ok i.dst (type_at fact.types i.dst) h))
-plain_effect terms fact i upper (Arithmetic op w Immediate) p f =
+plain_effect options fact i upper (Arithmetic op w Immediate) p f =
     let h = ap (λ d. is_numeric (type_at fact.types d)) f ∙ p.number in
-    set_dst fact.types i.dst (alu_type terms.layout op w Immediate i (type_at fact.types i.dst) (Const (immediate w i.imm))) f p.long p.base
-    (numbers_ok terms.layout op w i (type_at fact.types i.dst) (immediate w i.imm) h)
-plain_effect terms fact i upper (Load size) p f = loaded_first terms.layout fact i size f p.long p.base
-plain_effect terms fact i upper (LoadSigned size) p f = load_first terms.layout fact i size f p.long p.base
-plain_effect terms fact i upper (Arithmetic op w Register) p f = absurd f
-plain_effect terms fact i upper (Branch c w Register) p f = absurd f
-plain_effect terms fact i upper (StoreImmediate size) p f = absurd f
-plain_effect terms fact i upper (StoreRegister size) p f = absurd f
-plain_effect terms fact i upper Call p f = absurd f
+    set_dst fact.types i.dst (alu_type options.layout op w Immediate i (type_at fact.types i.dst) (Const (immediate w i.imm))) f p.long p.base
+    (numbers_ok options.layout op w i (type_at fact.types i.dst) (immediate w i.imm) h)
+plain_effect options fact i upper (Load size) p f = loaded_first options.layout fact i size f p.long p.base
+plain_effect options fact i upper (LoadSigned size) p f = load_first options.layout fact i size f p.long p.base
+plain_effect options fact i upper (Arithmetic op w Register) p f = absurd f
+plain_effect options fact i upper (Branch c w Register) p f = absurd f
+plain_effect options fact i upper (StoreImmediate size) p f = absurd f
+plain_effect options fact i upper (StoreRegister size) p f = absurd f
+plain_effect options fact i upper Call p f = absurd f
 
 -- the first instruction of a plain program is accepted: R1 points to the context, and the instruction sets R0
-first_effect : (terms : LoadOptions) (fact : Fact) (i : Inst) (upper : ℤ) (form : Form) → 2 ≤ length fact.types → type_at fact.types 1 ≡ Ctx 0
-    → IsPlainForm terms.layout i form → SetsFirst form → Accepted (effect terms fact i upper form)
-first_effect terms fact i upper Wide l b f s =
+first_effect : (options : LoadOptions) (fact : Fact) (i : Inst) (upper : ℤ) (form : Form) → 2 ≤ length fact.types → type_at fact.types 1 ≡ Ctx 0
+    → IsPlainForm options.layout i form → SetsFirst form → Accepted (effect options fact i upper form)
+first_effect options fact i upper Wide l b f s =
     let o : Typed = Ok (Const (cast_unsigned w32 upper * 2 ^ 32 + cast_unsigned w32 i.imm)) in set_dst fact.types i.dst o f l b refl
-first_effect terms fact i upper (Load size) l b f s = loaded_first terms.layout fact i size f l b
-first_effect terms fact i upper (LoadSigned size) l b f s = load_first terms.layout fact i size f l b
-first_effect terms fact i upper (Arithmetic Mov w Immediate) l b f s =
-    set_dst fact.types i.dst (alu_type terms.layout Mov w Immediate i (type_at fact.types i.dst) (Const (immediate w i.imm))) f l b
+first_effect options fact i upper (Load size) l b f s = loaded_first options.layout fact i size f l b
+first_effect options fact i upper (LoadSigned size) l b f s = load_first options.layout fact i size f l b
+first_effect options fact i upper (Arithmetic Mov w Immediate) l b f s =
+    set_dst fact.types i.dst (alu_type options.layout Mov w Immediate i (type_at fact.types i.dst) (Const (immediate w i.imm))) f l b
     (plain_move (is_plain i.offset) (low w (immediate w i.imm)))
-first_effect terms fact i upper (Arithmetic Mov w Register) l b f s = absurd s
-first_effect terms fact i upper (Arithmetic op w source) l b f s = absurd s
-first_effect terms fact i upper Ja l b f s = absurd s
-first_effect terms fact i upper Ja32 l b f s = absurd s
-first_effect terms fact i upper Exit l b f s = absurd s
-first_effect terms fact i upper (Branch c w source) l b f s = absurd s
-first_effect terms fact i upper (StoreImmediate size) l b f s = absurd s
-first_effect terms fact i upper (StoreRegister size) l b f s = absurd s
-first_effect terms fact i upper Call l b f s = absurd s
+first_effect options fact i upper (Arithmetic Mov w Register) l b f s = absurd s
+first_effect options fact i upper (Arithmetic op w source) l b f s = absurd s
+first_effect options fact i upper Ja l b f s = absurd s
+first_effect options fact i upper Ja32 l b f s = absurd s
+first_effect options fact i upper Exit l b f s = absurd s
+first_effect options fact i upper (Branch c w source) l b f s = absurd s
+first_effect options fact i upper (StoreImmediate size) l b f s = absurd s
+first_effect options fact i upper (StoreRegister size) l b f s = absurd s
+first_effect options fact i upper Call l b f s = absurd s
 
 -- the join of two types of numbers is the type of a number
 join_numeric : (a b : RegType) → is_numeric a ≡ true → is_numeric b ≡ true → is_numeric (join_type a b) ≡ true
@@ -223,7 +223,7 @@ is_exit : Form → Bool
 is_exit Exit = true
 is_exit form = false
 
-module _ (bytes : List ℕ) (us : List ProgramUnit) (terms : LoadOptions) (reads : units bytes ≡ Some us) (plain : ArePlainUnits terms.layout us) (pc : ℕ) (i : Inst)
+module _ (bytes : List ℕ) (us : List ProgramUnit) (options : LoadOptions) (reads : units bytes ≡ Some us) (plain : ArePlainUnits options.layout us) (pc : ℕ) (i : Inst)
     (at : slice_get us pc ≡ Some (First i)) where
   -- an instruction in the last unit of a plain program is an exit
   exits_last : (form : Form) → form_of i.opcode ≡ Some form → length us ≤ pc + 1 → Exit ≡ form
@@ -267,24 +267,24 @@ module _ (bytes : List ℕ) (us : List ProgramUnit) (terms : LoadOptions) (reads
   stays_on (Branch c w s) is = no_exit (Branch c w s) is (λ e. cc)
   stays_on Call is = no_exit Call is (λ e. cc)
 
-  accepted : (fact : Fact) (upper : ℤ) (form : Form) → form_of i.opcode ≡ Some form → Accepted (effect terms fact i upper form)
-      → Accepted (judged (length us) pc terms fact i upper form)
+  accepted : (fact : Fact) (upper : ℤ) (form : Form) → form_of i.opcode ≡ Some form → Accepted (effect options fact i upper form)
+      → Accepted (judged (length us) pc options fact i upper form)
   accepted fact upper form is x =
-      (x.0, ap (λ b. cond b (Err FallsOff) (effect terms fact i upper form)) (stays_on form is) ∙ x.1, x.2)
+      (x.0, ap (λ b. cond b (Err FallsOff) (effect options fact i upper form)) (stays_on form is) ∙ x.1, x.2)
 
   plain_here : (fact : Fact) (upper : ℤ) (form : Form) → form_of i.opcode ≡ Some form → PlainTypesAt pc fact.types
-      → Accepted (judged (length us) pc terms fact i upper form)
+      → Accepted (judged (length us) pc options fact i upper form)
   plain_here fact upper form is (inr p) =
-      accepted fact upper form is (plain_effect terms fact i upper form p (plain.each pc i form at is))
+      accepted fact upper form is (plain_effect options fact i upper form p (plain.each pc i form at is))
   plain_here fact upper form is (inl z) =
       let two : 2 ≤ length fact.types = let e = ap (λ l. length l) z.1 in omega (arith, e) in
       let base : type_at fact.types 1 ≡ Ctx 0 = ap (λ l. type_at l 1) z.1 in
       let sets = plain.sets i form (subst (λ k. slice_get us k ≡ Some (First i)) z.0 at) is in
-      accepted fact upper form is (first_effect terms fact i upper form two base (plain.each pc i form at is) sets)
+      accepted fact upper form is (first_effect options fact i upper form two base (plain.each pc i form at is) sets)
 
-pub plain_accepts : (bytes : List ℕ) (us : List ProgramUnit) (terms : LoadOptions) → units bytes ≡ Some us → ArePlainUnits terms.layout us → AcceptsAll us terms
-plain_accepts bytes us terms reads plain =
-    record { each = λ pc i fact at types upper form is. plain_here bytes us terms reads plain pc i at fact upper form is types }
+pub plain_accepts : (bytes : List ℕ) (us : List ProgramUnit) (options : LoadOptions) → units bytes ≡ Some us → ArePlainUnits options.layout us → AcceptsAll us options
+plain_accepts bytes us options reads plain =
+    record { each = λ pc i fact at types upper form is. plain_here bytes us options reads plain pc i at fact upper form is types }
 
 -- ---- what is known of a plain program
 
@@ -330,46 +330,46 @@ known_option : (q : ℕ) (o : Option Fact) → PlainOption o → PlainKnown q o
 known_option q None p = tt
 known_option q (Some fact) p = inr p
 
-module _ (us : List ProgramUnit) (terms : LoadOptions) (all : AcceptsAll us terms) where
-  ruled_plain : (pc : ℕ) (fact : Fact) (x : Inst × Form) → PlainTypesAt pc fact.types → instruction_at us pc ≡ Some x → Accepted (ruled us terms pc fact x)
+module _ (us : List ProgramUnit) (options : LoadOptions) (all : AcceptsAll us options) where
+  ruled_plain : (pc : ℕ) (fact : Fact) (x : Inst × Form) → PlainTypesAt pc fact.types → instruction_at us pc ≡ Some x → Accepted (ruled us options pc fact x)
   ruled_plain pc fact x p at =
       let is = instruction_is (slice_get us pc) x at in
       all.each pc x.0 fact is.0 p (upper_of us pc) x.1 is.1
 
   passed_plain : (pc q : ℕ) (fact : Fact) (o : Option (Inst × Form)) (old : Option Fact) → PlainTypesAt pc fact.types → instruction_at us pc ≡ o
-      → PlainOption old → PlainOption (passed_from us terms pc fact o q old)
+      → PlainOption old → PlainOption (passed_from us options pc fact o q old)
   passed_plain pc q fact None old p at before = before
   passed_plain pc q fact (Some x) old p at before =
       let r = ruled_plain pc fact x p at in
       subst (λ e. PlainOption (passed_by q fact e (leads pc x.0 x.1) old)) (sym r.1) (plain_by q fact r.0 (leads pc x.0 x.1) old r.2 before)
 
-  plain_past : (pc q : ℕ) (here old : Option Fact) → PlainKnown pc here → PlainOption old → PlainOption (passed us terms pc here q old)
+  plain_past : (pc q : ℕ) (here old : Option Fact) → PlainKnown pc here → PlainOption old → PlainOption (passed us options pc here q old)
   plain_past pc q None old p before = before
   plain_past pc q (Some fact) old p before = passed_plain pc q fact (instruction_at us pc) old p refl before
 
-  plain_start : (q : ℕ) → PlainKnown q (known us terms 0 q)
+  plain_start : (q : ℕ) → PlainKnown q (known us options 0 q)
   unfolding known
   plain_start q = cond_both (q == 0) (Some entry_fact) None (PlainKnown q) (λ e. inl (eqb-true q 0 e, refl)) (λ e. tt)
 
-  plain_known : (n q : ℕ) → n ≤ q → PlainKnown q (known us terms n q)
+  plain_known : (n q : ℕ) → n ≤ q → PlainKnown q (known us options n q)
   unfolding known
   plain_known zero q l = plain_start q
   plain_known (suc n) q l =
-      known_option q (known us terms (suc n) q)
-      (plain_past n q (known us terms n n) (known us terms n q) (plain_known n n (omega arith))
-      (plain_option n q (known us terms n q) (omega arith) (plain_known n q (omega arith))))
+      known_option q (known us options (suc n) q)
+      (plain_past n q (known us options n n) (known us options n q) (plain_known n n (omega arith))
+      (plain_option n q (known us options n q) (omega arith) (plain_known n q (omega arith))))
 
-  no_flaw_of : (pc : ℕ) (fact : Fact) (o : Option (Inst × Form)) → PlainTypesAt pc fact.types → instruction_at us pc ≡ o → flaw_of us terms pc fact o ≡ None
+  no_flaw_of : (pc : ℕ) (fact : Fact) (o : Option (Inst × Form)) → PlainTypesAt pc fact.types → instruction_at us pc ≡ o → flaw_of us options pc fact o ≡ None
   no_flaw_of pc fact None p at = refl
   no_flaw_of pc fact (Some x) p at = ap (flaw_in pc) (ruled_plain pc fact x p at).1
 
-  no_flaw_under : (pc : ℕ) (o : Option Fact) → PlainKnown pc o → flaw_under us terms pc o ≡ None
+  no_flaw_under : (pc : ℕ) (o : Option Fact) → PlainKnown pc o → flaw_under us options pc o ≡ None
   no_flaw_under pc None p = refl
   no_flaw_under pc (Some fact) p = no_flaw_of pc fact (instruction_at us pc) p refl
 
-  pub plain_flawless : (n : ℕ) → first_flaw_below us terms n ≡ None
+  pub plain_flawless : (n : ℕ) → first_flaw_below us options n ≡ None
   unfolding first_flaw_below
   plain_flawless zero = refl
   plain_flawless (suc n) =
-      ap (λ o. or_else o (flaw_under us terms n (inferred us terms n))) (plain_flawless n)
-      ∙ no_flaw_under n (inferred us terms n) (plain_known n n (omega arith))
+      ap (λ o. or_else o (flaw_under us options n (inferred us options n))) (plain_flawless n)
+      ∙ no_flaw_under n (inferred us options n) (plain_known n n (omega arith))

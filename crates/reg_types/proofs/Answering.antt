@@ -39,13 +39,13 @@ one_of_two : (a b : Option TypeFault) (fault : TypeFault) → or_else a b ≡ So
 one_of_two None b fault e = inr e
 one_of_two (Some f) b fault e = inl e
 
-flaw_at : (us : List ProgramUnit) (terms : LoadOptions) (n : ℕ) (fault : TypeFault) → first_flaw_below us terms n ≡ Some fault
-    → (k : ℕ) × (flaw_under us terms k (inferred us terms k) ≡ Some fault)
+flaw_at : (us : List ProgramUnit) (options : LoadOptions) (n : ℕ) (fault : TypeFault) → first_flaw_below us options n ≡ Some fault
+    → (k : ℕ) × (flaw_under us options k (inferred us options k) ≡ Some fault)
 unfolding first_flaw_below
-flaw_at us terms zero fault e = absurd (cc)
-flaw_at us terms (suc n) fault e =
-    elim (one_of_two (first_flaw_below us terms n) (flaw_under us terms n (inferred us terms n)) fault e) [
-      | inl below ↦ flaw_at us terms n fault below
+flaw_at us options zero fault e = absurd (cc)
+flaw_at us options (suc n) fault e =
+    elim (one_of_two (first_flaw_below us options n) (flaw_under us options n (inferred us options n)) fault e) [
+      | inl below ↦ flaw_at us options n fault below
       | inr here ↦ (n, here)
     ]
 
@@ -59,13 +59,13 @@ decoded_by us true None below e = refl
 decoded_by us true (Some x) below e = absurd (cc)
 decoded_by us false o below e = absurd (cc)
 
-module _ (bytes : List ℕ) (us : List ProgramUnit) (terms : LoadOptions) (reads : units bytes ≡ Some us) (flows : flow_fault us ≡ None) where
-  shown_of : (pc : ℕ) (fact : Fact) (o : Option (Inst × Form)) (fault : TypeFault) → instruction_at us pc ≡ o → flaw_of us terms pc fact o ≡ Some fault
+module _ (bytes : List ℕ) (us : List ProgramUnit) (options : LoadOptions) (reads : units bytes ≡ Some us) (flows : flow_fault us ≡ None) where
+  shown_of : (pc : ℕ) (fact : Fact) (o : Option (Inst × Form)) (fault : TypeFault) → instruction_at us pc ≡ o → flaw_of us options pc fact o ≡ Some fault
       → IsTypeShown bytes fault
   shown_of pc fact None fault at e = absurd (cc)
   shown_of pc fact (Some x) fault at e =
       let is = instruction_is (slice_get us pc) x at in
-      let f = flaw_from pc (ruled us terms pc fact x) fault e in
+      let f = flaw_from pc (ruled us options pc fact x) fault e in
       record {
         code = us;
         reads = reads;
@@ -76,61 +76,61 @@ module _ (bytes : List ℕ) (us : List ProgramUnit) (terms : LoadOptions) (reads
         form = x.1;
         form_is = is.1;
         flaw = f.0;
-        shows = judged_shows (length us) pc terms fact x.0 (upper_of us pc) x.1 f.0 f.1;
+        shows = judged_shows (length us) pc options fact x.0 (upper_of us pc) x.1 f.0 f.1;
         fault_is = f.2;
       }
 
-  shown_under : (pc : ℕ) (o : Option Fact) (fault : TypeFault) → flaw_under us terms pc o ≡ Some fault → IsTypeShown bytes fault
+  shown_under : (pc : ℕ) (o : Option Fact) (fault : TypeFault) → flaw_under us options pc o ≡ Some fault → IsTypeShown bytes fault
   shown_under pc None fault e = absurd (cc)
   shown_under pc (Some fact) fault e = shown_of pc fact (instruction_at us pc) fault refl e
 
-  type_shown : (fault : TypeFault) → first_flaw us terms ≡ Some fault → IsTypeShown bytes fault
-  type_shown fault e = let k = flaw_at us terms (length us) fault e in shown_under k.0 (inferred us terms k.0) fault k.1
+  type_shown : (fault : TypeFault) → first_flaw us options ≡ Some fault → IsTypeShown bytes fault
+  type_shown fault e = let k = flaw_at us options (length us) fault e in shown_under k.0 (inferred us options k.0) fault k.1
 
   -- ---- which refusal is returned
 
   decoded : decode_refusal bytes ≡ None
   decoded = decoded_by us (has_right_length bytes) (fault_below bytes (length bytes / 8)) (units_below bytes (length bytes / 8)) reads
 
-  flawed_is : (o : Option TypeFault) → first_flaw us terms ≡ o → refusal_of (loaded_on bytes terms) ≡ type_refusal o
+  flawed_is : (o : Option TypeFault) → first_flaw us options ≡ o → refusal_of (loaded_on bytes options) ≡ type_refusal o
   unfolding refusal_of
   flawed_is o e =
-      ap (λ r. or_refused r (code_refusal terms (units bytes))) decoded
-      ∙ ap (code_refusal terms) reads
-      ∙ ap (λ f. or_refused (flow_refusal f) (type_refusal (first_flaw us terms))) flows
+      ap (λ r. or_refused r (code_refusal options (units bytes))) decoded
+      ∙ ap (code_refusal options) reads
+      ∙ ap (λ f. or_refused (flow_refusal f) (type_refusal (first_flaw us options))) flows
       ∙ ap type_refusal e
 
-  pub accepted : first_flaw us terms ≡ None → refusal_of (loaded_on bytes terms) ≡ None
+  pub accepted : first_flaw us options ≡ None → refusal_of (loaded_on bytes options) ≡ None
   accepted e = flawed_is None e
 
-  pub pass_shown : (refusal : Refusal) → IsPassRefused us terms refusal → IsRefused (loaded_on bytes terms) refusal
+  pub pass_shown : (refusal : Refusal) → IsPassRefused us options refusal → IsRefused (loaded_on bytes options) refusal
   pass_shown (Decode fault) h = absurd h
   pass_shown (Flow fault) h = absurd h
   pass_shown (TypeRefusal fault) h = type_shown fault h
   pass_shown OutOfMemory h = tt
 
-  pub pass_exact : (refusal : Refusal) → IsPassRefused us terms refusal → IsRefusal (refusal_of (loaded_on bytes terms)) refusal
+  pub pass_exact : (refusal : Refusal) → IsPassRefused us options refusal → IsRefusal (refusal_of (loaded_on bytes options)) refusal
   pass_exact (Decode fault) h = absurd h
   pass_exact (Flow fault) h = absurd h
   pass_exact (TypeRefusal fault) h = flawed_is (Some fault) h
   pass_exact OutOfMemory h = tt
 
-pub pass_alone : (us : List ProgramUnit) (terms : LoadOptions) (refusal : Refusal) → IsPassRefused us terms refusal → IsToldAlone refusal
-pass_alone us terms (Decode fault) h = absurd h
-pass_alone us terms (Flow fault) h = absurd h
-pass_alone us terms (TypeRefusal fault) h = (λ e. absurd (cc), λ e. absurd (cc))
-pass_alone us terms OutOfMemory h = (λ e. absurd (cc), λ e. absurd (cc))
+pub pass_alone : (us : List ProgramUnit) (options : LoadOptions) (refusal : Refusal) → IsPassRefused us options refusal → IsToldAlone refusal
+pass_alone us options (Decode fault) h = absurd h
+pass_alone us options (Flow fault) h = absurd h
+pass_alone us options (TypeRefusal fault) h = (λ e. absurd (cc), λ e. absurd (cc))
+pass_alone us options OutOfMemory h = (λ e. absurd (cc), λ e. absurd (cc))
 
-module _ (bytes : List ℕ) (terms : LoadOptions) where
-  first_refused : (refusal : Refusal) → decode_refusal bytes ≡ Some refusal → refusal_of (loaded_on bytes terms) ≡ Some refusal
+module _ (bytes : List ℕ) (options : LoadOptions) where
+  first_refused : (refusal : Refusal) → decode_refusal bytes ≡ Some refusal → refusal_of (loaded_on bytes options) ≡ Some refusal
   unfolding refusal_of
-  first_refused refusal e = ap (λ o. or_refused o (code_refusal terms (units bytes))) e
+  first_refused refusal e = ap (λ o. or_refused o (code_refusal options (units bytes))) e
 
   unit_refused : (o : Option (ℕ × UnitFault)) → has_right_length bytes ≡ true → fault_below bytes (length bytes / 8) ≡ o → decode_refusal bytes ≡ unit_refusal o
   unit_refused o right e =
       ap (λ t. cond t (unit_refusal (fault_below bytes (length bytes / 8))) (Some (Decode Length))) right ∙ ap unit_refusal e
 
-  pub decode_exact : (fault : DecodeFault) → IsRefusedFor bytes fault → IsRefusal (refusal_of (loaded_on bytes terms)) (decode_told fault)
+  pub decode_exact : (fault : DecodeFault) → IsRefusedFor bytes fault → IsRefusal (refusal_of (loaded_on bytes options)) (decode_told fault)
   decode_exact Length h = first_refused (Decode Length) (ap (λ t. cond t (unit_refusal (fault_below bytes (length bytes / 8))) (Some (Decode Length))) h)
   decode_exact (BadOpcode pc) h = first_refused (Decode (BadOpcode pc)) (unit_refused _ h.right_length h.first)
   decode_exact (BadField pc) h = first_refused (Decode (BadField pc)) (unit_refused _ h.right_length h.first)
@@ -138,7 +138,7 @@ module _ (bytes : List ℕ) (terms : LoadOptions) where
   decode_exact (HalfWide pc) h = first_refused (Decode (HalfWide pc)) (unit_refused _ h.right_length h.first)
   decode_exact NoMemoryToDecode h = tt
 
-  pub decode_shown : (fault : DecodeFault) → IsRefusedFor bytes fault → IsRefused (loaded_on bytes terms) (decode_told fault)
+  pub decode_shown : (fault : DecodeFault) → IsRefusedFor bytes fault → IsRefused (loaded_on bytes options) (decode_told fault)
   decode_shown Length h = h
   decode_shown (BadOpcode pc) h = h
   decode_shown (BadField pc) h = h
@@ -147,16 +147,16 @@ module _ (bytes : List ℕ) (terms : LoadOptions) where
   decode_shown NoMemoryToDecode h = tt
 
   flow_is : (us : List ProgramUnit) (x : ℕ × JumpFault) → units bytes ≡ Some us → flow_fault us ≡ Some x
-      → refusal_of (loaded_on bytes terms) ≡ flow_refusal (Some x)
+      → refusal_of (loaded_on bytes options) ≡ flow_refusal (Some x)
   unfolding refusal_of
   flow_is us x reads e =
-      ap (λ r. or_refused r (code_refusal terms (units bytes)))
+      ap (λ r. or_refused r (code_refusal options (units bytes)))
       (decoded_by us (has_right_length bytes) (fault_below bytes (length bytes / 8)) (units_below bytes (length bytes / 8)) reads)
-      ∙ ap (code_refusal terms) reads
-      ∙ ap (λ f. or_refused (flow_refusal f) (type_refusal (first_flaw us terms))) e
+      ∙ ap (code_refusal options) reads
+      ∙ ap (λ f. or_refused (flow_refusal f) (type_refusal (first_flaw us options))) e
 
   pub flow_exact : (us : List ProgramUnit) (fault : FlowFault) → units bytes ≡ Some us → IsFlowShown us fault
-      → refusal_of (loaded_on bytes terms) ≡ Some (Flow fault)
+      → refusal_of (loaded_on bytes options) ≡ Some (Flow fault)
   flow_exact us (BackwardJump pc) reads h = flow_is us _ reads h
   flow_exact us (JumpOut pc) reads h = flow_is us _ reads h
   flow_exact us (JumpIntoWide pc) reads h = flow_is us _ reads h
@@ -164,14 +164,14 @@ module _ (bytes : List ℕ) (terms : LoadOptions) where
 
   -- ---- plain programs are refused only if memory runs out
 
-  plain_accepted : IsPlain (loaded_on bytes terms) → refusal_of (loaded_on bytes terms) ≡ None
+  plain_accepted : IsPlain (loaded_on bytes options) → refusal_of (loaded_on bytes options) ≡ None
   plain_accepted p =
-      accepted bytes p.code terms p.reads p.flows (plain_flawless p.code terms (plain_accepts bytes p.code terms p.reads p.plain) (length p.code))
+      accepted bytes p.code options p.reads p.flows (plain_flawless p.code options (plain_accepts bytes p.code options p.reads p.plain) (length p.code))
 
-  other_refusal : (refusal : Refusal) → refusal_of (loaded_on bytes terms) ≡ Some refusal → IsPlain (loaded_on bytes terms) → refusal ≡ OutOfMemory
+  other_refusal : (refusal : Refusal) → refusal_of (loaded_on bytes options) ≡ Some refusal → IsPlain (loaded_on bytes options) → refusal ≡ OutOfMemory
   other_refusal refusal e p = let never : None ≡ Some refusal = sym (plain_accepted p) ∙ e in absurd (cc)
 
-  pub exact_plain : (refusal : Refusal) → IsRefusal (refusal_of (loaded_on bytes terms)) refusal → IsPlain (loaded_on bytes terms) → refusal ≡ OutOfMemory
+  pub exact_plain : (refusal : Refusal) → IsRefusal (refusal_of (loaded_on bytes options)) refusal → IsPlain (loaded_on bytes options) → refusal ≡ OutOfMemory
   exact_plain (Decode fault) h p = other_refusal (Decode fault) h p
   exact_plain (Flow fault) h p = other_refusal (Flow fault) h p
   exact_plain (TypeRefusal fault) h p = other_refusal (TypeRefusal fault) h p

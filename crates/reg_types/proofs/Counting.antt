@@ -132,7 +132,7 @@ goes_is : (o : Option ℕ) (q : ℕ) → goes o q ≡ true → o ≡ Some q
 goes_is None q e = absurd (cc)
 goes_is (Some to) q e = ap Some (sym (eqb-true q to e))
 
-module _ (us : List ProgramUnit) (terms : LoadOptions) where
+module _ (us : List ProgramUnit) (options : LoadOptions) where
   target_more : (n q : ℕ) → is_target us n q ≡ true → is_target us (suc n) q ≡ true
   unfolding is_target
   target_more n q e = or_left (is_target us n q) (goes (target us n) q) e
@@ -142,13 +142,13 @@ module _ (us : List ProgramUnit) (terms : LoadOptions) where
   target_here n q e = or_right (is_target us n q) (goes (target us n) q) e
 
   -- a unit for which a fact is stored is the first one, or the target of a jump
-  entered_target : (n q : ℕ) → is_entered us terms n q ≡ true → (q ≡ 0) ⊎ (is_target us n q ≡ true)
+  entered_target : (n q : ℕ) → is_entered us options n q ≡ true → (q ≡ 0) ⊎ (is_target us n q ≡ true)
   unfolding is_entered
   entered_target zero q e = inl (eqb-true q 0 e)
   entered_target (suc n) q e =
-      elim (either_true (is_entered us terms n q) (is_some (inferred us terms n) && goes (target us n) q) e) [
+      elim (either_true (is_entered us options n q) (is_some (inferred us options n) && goes (target us n) q) e) [
         | inl before ↦ elim (entered_target n q before) [ inl first ↦ inl first | inr t ↦ inr (target_more n q t) ]
-        | inr now ↦ inr (target_here n q (right_true (is_some (inferred us terms n)) (goes (target us n) q) now))
+        | inr now ↦ inr (target_here n q (right_true (is_some (inferred us options n)) (goes (target us n) q) now))
       ]
 
   found : (o : Option ℤ) (go : ℤ → Option ℕ) (q : ℕ) → and_then o go ≡ Some q → (z : ℤ) × (o ≡ Some z) × (go z ≡ Some q)
@@ -170,32 +170,32 @@ module _ (us : List ProgramUnit) (terms : LoadOptions) where
             omega (arith, l, is)
       ]
 
-module _ (bytes : List ℕ) (us : List ProgramUnit) (terms : LoadOptions) (facts : List StoredFact) (is : IsAccepted bytes terms us facts) where
+module _ (bytes : List ℕ) (us : List ProgramUnit) (options : LoadOptions) (facts : List StoredFact) (is : IsAccepted bytes options us facts) where
   inside : (q : ℕ) → is_some (stored facts q) ≡ true → q < length us
   inside q e =
-      elim (entered_target us terms (length us) q (sym (is.inferred_are.kept q) ∙ e)) [
+      elim (entered_target us options (length us) q (sym (is.inferred_are.kept q) ∙ e)) [
         | inl first ↦ (let n = count_of_units bytes us is.reads in let l = n.0 in omega (arith, first, l))
-        | inr t ↦ target_inside us terms is.forward (length us) q t
+        | inr t ↦ target_inside us options is.forward (length us) q t
       ]
 
-  pub facts_are : length facts ≡ facts_in us terms
+  pub facts_are : length facts ≡ facts_in us options
   facts_are =
       count_of_stored (length us) facts is.distinct inside
-      ∙ count_same (length us) (λ q. is_some (stored facts q)) (is_entered us terms (length us)) (λ q l. is.inferred_are.kept q)
+      ∙ count_same (length us) (λ q. is_some (stored facts q)) (is_entered us options (length us)) (λ q l. is.inferred_are.kept q)
 
   pub facts_few : length facts ≤ 1 + targets_in us
   facts_few = let e = facts_are in let l =
-      one_less (length us) (is_entered us terms (length us)) (is_target us (length us)) (entered_target us terms (length us)) in omega (arith, e, l)
+      one_less (length us) (is_entered us options (length us)) (is_target us (length us)) (entered_target us options (length us)) in omega (arith, e, l)
 
   pub facts_small : length facts ≤ 512
-  facts_small = let e = facts_are in let l = count_at_most (length us) (is_entered us terms (length us)) in let n =
+  facts_small = let e = facts_are in let l = count_at_most (length us) (is_entered us options (length us)) in let n =
       (count_of_units bytes us is.reads).1 in omega (arith, e, l, n)
 
   same_units : (other : List ProgramUnit) → units bytes ≡ Some other → us ≡ other
   same_units other reads = let e : Some us ≡ Some other = sym is.reads ∙ reads in cc
 
-  pub counts : IsFactCount (loaded_on bytes terms) (length facts)
-  counts other reads = facts_are ∙ ap (λ u. facts_in u terms) (same_units other reads)
+  pub counts : IsFactCount (loaded_on bytes options) (length facts)
+  counts other reads = facts_are ∙ ap (λ u. facts_in u options) (same_units other reads)
 
   pub few : IsFew bytes (length facts)
   few other reads = subst (λ u. length facts ≤ 1 + targets_in u) (same_units other reads) facts_few

@@ -246,26 +246,26 @@ load_same layout a b h (Const c) i size = refl
 load_same layout a b h (Ctx k) i size = refl
 load_same layout a b h (Stk k) i size = number_same a b h size (shifted (lowest k) i.offset (512 - size))
 
-set_same : (terms : LoadOptions) (types : List RegType) (a b : List Bool) (spills : List ℕ) → ((p : ℕ) → Has a p ↔ Has b p) → (i : Inst) (upper : ℤ) (form : Form)
-    → effect terms (record { types = types; stack = a; spills = spills }) i upper form ≡ effect terms (record {
+set_same : (options : LoadOptions) (types : List RegType) (a b : List Bool) (spills : List ℕ) → ((p : ℕ) → Has a p ↔ Has b p) → (i : Inst) (upper : ℤ) (form : Form)
+    → effect options (record { types = types; stack = a; spills = spills }) i upper form ≡ effect options (record {
       types = types;
       stack = b;
       spills = spills;
     }) i upper form
-set_same terms types a b spills h i upper (Load size) = ap (λ r. set_type types i.dst (kept_or (kept_type spills (type_at types i.src) i (bytes_in size)) r))
-    (load_same terms.layout a b h (type_at types i.src) i (bytes_in size))
-set_same terms types a b spills h i upper (LoadSigned size) = ap (set_type types i.dst) (load_same terms.layout a b h (type_at types i.src) i (bytes_in size))
-set_same terms types a b spills h i upper form = refl
+set_same options types a b spills h i upper (Load size) = ap (λ r. set_type types i.dst (kept_or (kept_type spills (type_at types i.src) i (bytes_in size)) r))
+    (load_same options.layout a b h (type_at types i.src) i (bytes_in size))
+set_same options types a b spills h i upper (LoadSigned size) = ap (set_type types i.dst) (load_same options.layout a b h (type_at types i.src) i (bytes_in size))
+set_same options types a b spills h i upper form = refl
 
-effect_same : (terms : LoadOptions) (a b : Fact) → IsSame a b → (i : Inst) (upper : ℤ) (form : Form) → effect terms a i upper form ≡ effect terms b i upper form
-effect_same terms a b f i upper form =
-    set_same terms a.types a.stack b.stack a.spills f.places i upper form
-    ∙ ap (λ types. effect terms (record { types = types; stack = b.stack; spills = a.spills }) i upper form) f.types
-    ∙ ap (λ spills. effect terms (record { types = b.types; stack = b.stack; spills = spills }) i upper form) f.spills
+effect_same : (options : LoadOptions) (a b : Fact) → IsSame a b → (i : Inst) (upper : ℤ) (form : Form) → effect options a i upper form ≡ effect options b i upper form
+effect_same options a b f i upper form =
+    set_same options a.types a.stack b.stack a.spills f.places i upper form
+    ∙ ap (λ types. effect options (record { types = types; stack = b.stack; spills = a.spills }) i upper form) f.types
+    ∙ ap (λ spills. effect options (record { types = b.types; stack = b.stack; spills = spills }) i upper form) f.spills
 
-pub judged_same : (count pc : ℕ) (terms : LoadOptions) (a b : Fact) → IsSame a b → (i : Inst) (upper : ℤ) (form : Form)
-    → judged count pc terms a i upper form ≡ judged count pc terms b i upper form
-judged_same count pc terms a b f i upper form = ap (λ r. cond (falls_off count pc form) (Err FallsOff) r) (effect_same terms a b f i upper form)
+pub judged_same : (count pc : ℕ) (options : LoadOptions) (a b : Fact) → IsSame a b → (i : Inst) (upper : ℤ) (form : Form)
+    → judged count pc options a i upper form ≡ judged count pc options b i upper form
+judged_same count pc options a b f i upper form = ap (λ r. cond (falls_off count pc form) (Err FallsOff) r) (effect_same options a b f i upper form)
 
 -- ---- passing one unit
 
@@ -275,28 +275,28 @@ passed_by_same q a b (Err flaw) tos x y f g = g
 passed_by_same q a b (Ok e) None x y f g = g
 passed_by_same q a b (Ok e) (Some tos) x y f g = arrived_all_same q tos x y (fact_after a e) (fact_after b e) g (after_same a b e f)
 
-module _ (us : List ProgramUnit) (terms : LoadOptions) (pc : ℕ) where
-  ruled_same : (a b : Fact) → IsSame a b → (x : Inst × Form) → ruled us terms pc a x ≡ ruled us terms pc b x
-  ruled_same a b f x = judged_same (length us) pc terms a b f x.0 (upper_of us pc) x.1
+module _ (us : List ProgramUnit) (options : LoadOptions) (pc : ℕ) where
+  ruled_same : (a b : Fact) → IsSame a b → (x : Inst × Form) → ruled us options pc a x ≡ ruled us options pc b x
+  ruled_same a b f x = judged_same (length us) pc options a b f x.0 (upper_of us pc) x.1
 
   passed_from_same : (a b : Fact) (o : Option (Inst × Form)) (q : ℕ) (x y : Option Fact) → IsSame a b → AreSame x y
-      → AreSame (passed_from us terms pc a o q x) (passed_from us terms pc b o q y)
+      → AreSame (passed_from us options pc a o q x) (passed_from us options pc b o q y)
   passed_from_same a b None q x y f g = g
   passed_from_same a b (Some i) q x y f g =
-      subst (λ r. AreSame (passed_by q a (ruled us terms pc a i) (leads pc i.0 i.1) x) (passed_by q b r (leads pc i.0 i.1) y)) (ruled_same a b f i)
-      (passed_by_same q a b (ruled us terms pc a i) (leads pc i.0 i.1) x y f g)
+      subst (λ r. AreSame (passed_by q a (ruled us options pc a i) (leads pc i.0 i.1) x) (passed_by q b r (leads pc i.0 i.1) y)) (ruled_same a b f i)
+      (passed_by_same q a b (ruled us options pc a i) (leads pc i.0 i.1) x y f g)
 
-  pub passed_same : (a b : Option Fact) (q : ℕ) (x y : Option Fact) → AreSame a b → AreSame x y → AreSame (passed us terms pc a q x) (passed us terms pc b q y)
+  pub passed_same : (a b : Option Fact) (q : ℕ) (x y : Option Fact) → AreSame a b → AreSame x y → AreSame (passed us options pc a q x) (passed us options pc b q y)
   passed_same None None q x y f g = g
   passed_same None (Some b) q x y f g = absurd f
   passed_same (Some a) None q x y f g = absurd f
   passed_same (Some a) (Some b) q x y f g = passed_from_same a b (instruction_at us pc) q x y f g
 
-  flaw_of_same : (a b : Fact) (o : Option (Inst × Form)) → IsSame a b → flaw_of us terms pc a o ≡ flaw_of us terms pc b o
+  flaw_of_same : (a b : Fact) (o : Option (Inst × Form)) → IsSame a b → flaw_of us options pc a o ≡ flaw_of us options pc b o
   flaw_of_same a b None f = refl
   flaw_of_same a b (Some i) f = ap (flaw_in pc) (ruled_same a b f i)
 
-  pub flaw_same : (a b : Option Fact) → AreSame a b → flaw_under us terms pc a ≡ flaw_under us terms pc b
+  pub flaw_same : (a b : Option Fact) → AreSame a b → flaw_under us options pc a ≡ flaw_under us options pc b
   flaw_same None None f = refl
   flaw_same None (Some b) f = absurd f
   flaw_same (Some a) None f = absurd f

@@ -284,40 +284,40 @@ call_shows count pc i types PointerArithmetic h = absurd h
 
 -- ---- one instruction
 
-effect_shows : (count pc : ℕ) (terms : LoadOptions) (fact : Fact) (i : Inst) (upper : ℤ) (form : Form) (flaw : Flaw) → effect terms fact i upper form ≡ wrong flaw
+effect_shows : (count pc : ℕ) (options : LoadOptions) (fact : Fact) (i : Inst) (upper : ℤ) (form : Form) (flaw : Flaw) → effect options fact i upper form ≡ wrong flaw
     → MayHave count pc i form flaw
-effect_shows count pc terms fact i upper (Arithmetic op w s) flaw e =
+effect_shows count pc options fact i upper (Arithmetic op w s) flaw e =
     set_shown (MayHave count pc i (Arithmetic op w s)) flaw (i.dst == 10) fact.types i.dst
-    (alu_type terms.layout op w s i (type_at fact.types i.dst) (operand_type s w i fact.types)) (ten i.dst)
-    (λ f h. alu_shows count pc i fact.types f terms.layout op w s (type_at fact.types i.dst) h) e
-effect_shows count pc terms fact i upper Wide flaw e =
+    (alu_type options.layout op w s i (type_at fact.types i.dst) (operand_type s w i fact.types)) (ten i.dst)
+    (λ f h. alu_shows count pc i fact.types f options.layout op w s (type_at fact.types i.dst) h) e
+effect_shows count pc options fact i upper Wide flaw e =
     set_shown (MayHave count pc i Wide) flaw (i.dst == 10) fact.types i.dst (Ok (Const _)) (ten i.dst) (λ f h. no_flaw (MayHave count pc i Wide) f _ h) e
-effect_shows count pc terms fact i upper (Load size) flaw e =
+effect_shows count pc options fact i upper (Load size) flaw e =
     set_shown (MayHave count pc i (Load size)) flaw (i.dst == 10) fact.types i.dst
-    (loaded_type terms.layout fact.stack fact.spills (type_at fact.types i.src) i (bytes_in size)) (ten i.dst)
-    (λ f h. loaded_shown (MayHave count pc i (Load size)) f terms.layout fact.stack fact.spills (type_at fact.types i.src) i (bytes_in size)
+    (loaded_type options.layout fact.stack fact.spills (type_at fact.types i.src) i (bytes_in size)) (ten i.dst)
+    (λ f h. loaded_shown (MayHave count pc i (Load size)) f options.layout fact.stack fact.spills (type_at fact.types i.src) i (bytes_in size)
     (inl tt) (inl (inl tt)) tt h) e
-effect_shows count pc terms fact i upper (LoadSigned size) flaw e =
+effect_shows count pc options fact i upper (LoadSigned size) flaw e =
     set_shown (MayHave count pc i (LoadSigned size)) flaw (i.dst == 10) fact.types i.dst
-    (load_type terms.layout fact.stack (type_at fact.types i.src) i (bytes_in size)) (ten i.dst)
-    (λ f h. load_shown (MayHave count pc i (LoadSigned size)) f terms.layout fact.stack (type_at fact.types i.src) i (bytes_in size)
+    (load_type options.layout fact.stack (type_at fact.types i.src) i (bytes_in size)) (ten i.dst)
+    (λ f h. load_shown (MayHave count pc i (LoadSigned size)) f options.layout fact.stack (type_at fact.types i.src) i (bytes_in size)
     (inl tt) (inl (inl tt)) tt h) e
-effect_shows count pc terms fact i upper (StoreImmediate size) flaw e =
+effect_shows count pc options fact i upper (StoreImmediate size) flaw e =
     store_shown (MayHave count pc i (StoreImmediate size)) flaw fact.types (type_at fact.types i.dst) i (bytes_in size) (inr tt) (inl (inr tt)) tt e
-effect_shows count pc terms fact i upper (StoreRegister size) flaw e =
+effect_shows count pc options fact i upper (StoreRegister size) flaw e =
     let stored = store_type fact.types (type_at fact.types i.dst) i (bytes_in size) in
     unset_shown (MayHave count pc i (StoreRegister size)) flaw (is_unset (type_at fact.types i.src)) i.src (keeps_pointer (type_at fact.types i.src) stored)
     refl
     (λ g. pointer_shown (MayHave count pc i (StoreRegister size)) flaw (type_at fact.types i.src) stored tt
     (λ h. store_shown (MayHave count pc i (StoreRegister size)) flaw fact.types (type_at fact.types i.dst) i (bytes_in size) (inr tt) (inl (inr tt)) tt h) g) e
-effect_shows count pc terms fact i upper Ja flaw e = no_effect (MayHave count pc i Ja) flaw _ e
-effect_shows count pc terms fact i upper Ja32 flaw e = no_effect (MayHave count pc i Ja32) flaw _ e
-effect_shows count pc terms fact i upper (Branch c w s) flaw e =
+effect_shows count pc options fact i upper Ja flaw e = no_effect (MayHave count pc i Ja) flaw _ e
+effect_shows count pc options fact i upper Ja32 flaw e = no_effect (MayHave count pc i Ja32) flaw _ e
+effect_shows count pc options fact i upper (Branch c w s) flaw e =
     compared_shown (MayHave count pc i (Branch c w s)) flaw i.dst i.src (is_numeric (type_at fact.types i.dst)) (is_numeric (operand_type s w i fact.types))
     (unmarked fact.types) (first_by s i) (second_counted s w i fact.types) e
-effect_shows count pc terms fact i upper Exit flaw e =
+effect_shows count pc options fact i upper Exit flaw e =
     exited_shown (MayHave count pc i Exit) flaw (is_numeric (type_at fact.types 0)) (unmarked fact.types) refl e
-effect_shows count pc terms fact i upper Call flaw e = call_shows count pc i fact.types flaw (calls count pc i fact.types flaw (helper_of i.imm) terms.mask e)
+effect_shows count pc options fact i upper Call flaw e = call_shows count pc i fact.types flaw (calls count pc i fact.types flaw (helper_of i.imm) options.mask e)
 
 falls_shows : (count pc : ℕ) (form : Form) → falls_off count pc form ≡ true → FallsOffEnd count pc form
 falls_shows count pc Exit e = absurd (cc)
@@ -332,8 +332,8 @@ judged_shown P true r flaw p q e = is_wrong P FallsOff flaw e (p refl)
 judged_shown P false r flaw p q e = q e
 
 -- a flaw that the typing rules find in an instruction is one that this instruction can have
-pub judged_shows : (count pc : ℕ) (terms : LoadOptions) (fact : Fact) (i : Inst) (upper : ℤ) (form : Form) (flaw : Flaw)
-    → judged count pc terms fact i upper form ≡ wrong flaw → MayHave count pc i form flaw
-judged_shows count pc terms fact i upper form flaw e =
-    judged_shown (MayHave count pc i form) (falls_off count pc form) (effect terms fact i upper form) flaw (falls_shows count pc form)
-    (effect_shows count pc terms fact i upper form flaw) e
+pub judged_shows : (count pc : ℕ) (options : LoadOptions) (fact : Fact) (i : Inst) (upper : ℤ) (form : Form) (flaw : Flaw)
+    → judged count pc options fact i upper form ≡ wrong flaw → MayHave count pc i form flaw
+judged_shows count pc options fact i upper form flaw e =
+    judged_shown (MayHave count pc i form) (falls_off count pc form) (effect options fact i upper form) flaw (falls_shows count pc form)
+    (effect_shows count pc options fact i upper form flaw) e

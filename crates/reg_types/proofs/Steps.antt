@@ -202,7 +202,7 @@ called_fits types values n (suc (suc (suc (suc (suc (suc r)))))) h =
     subst (λ t. FitsType t (register (drop 6 values) r)) (sym (get_or-drop 6 types r Anything))
     (subst (FitsType (type_at types (6 + r))) (sym (get_or-drop 6 values r Unset)) (h (6 + r)))
 
-module _ (terms : LoadOptions) (fact after : Fact) (s : State) (fits : Fits fact s) where
+module _ (options : LoadOptions) (fact after : Fact) (s : State) (fits : Fits fact s) where
   -- the types after an instruction are those of its effect
   after_types : (e x : Effect) → IsAfter fact e after → x ≡ e → after.types ≡ x.types
   after_types e x h same = h.types ∙ ap (λ y. y.types) (sym same)
@@ -252,24 +252,24 @@ module _ (terms : LoadOptions) (fact after : Fact) (s : State) (fits : Fits fact
       }
 
   sets_follow : (e : Effect) (dst : ℕ) (r : Result RegType Flaw) (o : Option Value) → IsAfter fact e after → dst ≤ 10 → set_type fact.types dst r ≡ ok_of e
-      → ((t : RegType) → r ≡ typed_as t → Gives o t) → Follows terms.mask after ((s.pc + 1) ∷ []) s (where_some o (λ v. sets s dst v))
+      → ((t : RegType) → r ≡ typed_as t → Gives o t) → Follows options.mask after ((s.pc + 1) ∷ []) s (where_some o (λ v. sets s dst v))
   sets_follow e dst r None is small h g = let x = set_is fact.types dst r e h in absurd (g x.0 x.1)
   sets_follow e dst r (Some v) is small h g =
       let x = set_is fact.types dst r e h in
       let fit = fits_written e dst x.0 v (s.pc + 1) is x.3 small (g x.0 x.1) in
-      subst (λ b. Follows terms.mask after ((s.pc + 1) ∷ []) s (cond b Stuck (Goes (record s { pc = s.pc + 1; registers = slice_set s.registers dst v }))))
+      subst (λ b. Follows options.mask after ((s.pc + 1) ∷ []) s (cond b Stuck (Goes (record s { pc = s.pc + 1; registers = slice_set s.registers dst v }))))
       (sym x.2)
-      (inl refl, fit, Changes-refl terms.mask s.counters)
+      (inl refl, fit, Changes-refl options.mask s.counters)
 
   wide_follows : (e : Effect) (dst n : ℕ) → IsAfter fact e after → dst ≤ 10 → set_type fact.types dst (Ok (Const n)) ≡ ok_of e
-      → Follows terms.mask after ((s.pc + 2) ∷ []) s
+      → Follows options.mask after ((s.pc + 2) ∷ []) s
       (cond (dst == 10) Stuck (Goes (record s { pc = s.pc + 2; registers = slice_set s.registers dst (Number n) })))
   wide_follows e dst n is small h =
       let x = write_test (dst == 10) (put_type fact.types dst (Ok (Const n))) e h in
       let fit = fits_written e dst (Const n) (Number n) (s.pc + 2) is (same_effect x.1) small refl in
-      subst (λ b. Follows terms.mask after ((s.pc + 2) ∷ []) s
+      subst (λ b. Follows options.mask after ((s.pc + 2) ∷ []) s
       (cond b Stuck (Goes (record s { pc = s.pc + 2; registers = slice_set s.registers dst (Number n) })))) (sym x.0)
-      (inl refl, fit, Changes-refl terms.mask s.counters)
+      (inl refl, fit, Changes-refl options.mask s.counters)
 
   operand_fits : (source : Source) (w : Width) (i : Inst) → FitsType (operand_type source w i fact.types) (operand source w i s.registers)
   operand_fits Immediate w i = refl
@@ -286,11 +286,11 @@ module _ (terms : LoadOptions) (fact after : Fact) (s : State) (fits : Fits fact
   stack_is size None t e = absurd (cc)
   stack_is size (Some at) t e = let x = set_test (all_in fact.stack at size) t e in (at, refl, x.0, x.1)
 
-  load_gives : (context : List ℕ) → length context ≡ context_len terms.layout → (a : RegType) (v : Value) (i : Inst) (size : ℕ) (t : RegType) → FitsType a v
-      → load_type terms.layout fact.stack a i size ≡ typed_as t → (n : ℕ) × (at : Place) × (mem (length context) v i.offset size ≡ Some at)
+  load_gives : (context : List ℕ) → length context ≡ context_len options.layout → (a : RegType) (v : Value) (i : Inst) (size : ℕ) (t : RegType) → FitsType a v
+      → load_type options.layout fact.stack a i size ≡ typed_as t → (n : ℕ) × (at : Place) × (mem (length context) v i.offset size ≡ Some at)
       × (read at size context s.stack ≡ Some n) × (Num ≡ t)
   load_gives context long (Ctx k) (Context n) i size t h e =
-      let x = context_is (shifted k i.offset (context_len terms.layout - size)) t e in
+      let x = context_is (shifted k i.offset (context_len options.layout - size)) t e in
       let here = ap (λ m. map_option InContext (shifted m i.offset (length context - size))) h in
       let room = ap (λ l. map_option InContext (shifted k i.offset (l - size))) long in
       (_, InContext x.0, here ∙ room ∙ ap (map_option InContext) x.1, refl, x.2)
@@ -312,17 +312,17 @@ module _ (terms : LoadOptions) (fact after : Fact) (s : State) (fits : Fits fact
   same_type : (x y : RegType) → typed_as x ≡ typed_as y → x ≡ y
   same_type x y e = cc
 
-  loads_follow : (context : List ℕ) → length context ≡ context_len terms.layout → (f : ℕ → ℕ) (i : Inst) (size : ℕ) (e : Effect) → IsAfter fact e after
-      → i.dst ≤ 10 → set_type fact.types i.dst (load_type terms.layout fact.stack (type_at fact.types i.src) i size) ≡ ok_of e
-      → Follows terms.mask after ((s.pc + 1) ∷ []) s (where_some (mem (length context) (register s.registers i.src) i.offset size)
+  loads_follow : (context : List ℕ) → length context ≡ context_len options.layout → (f : ℕ → ℕ) (i : Inst) (size : ℕ) (e : Effect) → IsAfter fact e after
+      → i.dst ≤ 10 → set_type fact.types i.dst (load_type options.layout fact.stack (type_at fact.types i.src) i size) ≡ ok_of e
+      → Follows options.mask after ((s.pc + 1) ∷ []) s (where_some (mem (length context) (register s.registers i.src) i.offset size)
       (λ at. where_some (read at size context s.stack) (λ n. sets s i.dst (Number (f n)))))
   loads_follow context long f i size e is small h =
-      let r = load_type terms.layout fact.stack (type_at fact.types i.src) i size in
+      let r = load_type options.layout fact.stack (type_at fact.types i.src) i size in
       let x = set_is fact.types i.dst r e h in
       let g = load_gives context long (type_at fact.types i.src) (register s.registers i.src) i size x.0 (fits.registers i.src) x.1 in
-      subst (λ o. Follows terms.mask after ((s.pc + 1) ∷ []) s (where_some o
+      subst (λ o. Follows options.mask after ((s.pc + 1) ∷ []) s (where_some o
       (λ at. where_some (read at size context s.stack) (λ n. sets s i.dst (Number (f n)))))) (sym g.2)
-      (subst (λ o. Follows terms.mask after ((s.pc + 1) ∷ []) s (where_some o (λ n. sets s i.dst (Number (f n))))) (sym g.3)
+      (subst (λ o. Follows options.mask after ((s.pc + 1) ∷ []) s (where_some o (λ n. sets s i.dst (Number (f n))))) (sym g.3)
       (sets_follow e i.dst r (Some (Number (f g.0))) is small h (λ t k. subst (λ u. FitsType u (Number (f g.0))) (g.4 ∙ same_type x.0 t (sym x.1 ∙ k)) tt)))
 
   -- if a fact has a spill for an aligned place, then the stack keeps a pointer of that type there
@@ -367,29 +367,29 @@ module _ (terms : LoadOptions) (fact after : Fact) (s : State) (fits : Fits fact
   kept_gives context (Stk k) (Number n) i size h u = absurd h
   kept_gives context (Stk k) (Context n) i size h u = absurd h
 
-  loaded_follow : (context : List ℕ) → length context ≡ context_len terms.layout → (i : Inst) (size : ℕ) (e : Effect) → IsAfter fact e after → i.dst ≤ 10
-      → set_type fact.types i.dst (loaded_type terms.layout fact.stack fact.spills (type_at fact.types i.src) i size) ≡ ok_of e
-      → Follows terms.mask after ((s.pc + 1) ∷ []) s (where_some (mem (length context) (register s.registers i.src) i.offset size)
+  loaded_follow : (context : List ℕ) → length context ≡ context_len options.layout → (i : Inst) (size : ℕ) (e : Effect) → IsAfter fact e after → i.dst ≤ 10
+      → set_type fact.types i.dst (loaded_type options.layout fact.stack fact.spills (type_at fact.types i.src) i size) ≡ ok_of e
+      → Follows options.mask after ((s.pc + 1) ∷ []) s (where_some (mem (length context) (register s.registers i.src) i.offset size)
       (λ at. where_some (loaded at size context s.stack) (λ v. sets s i.dst v)))
   loaded_follow context long i size e is small h =
       let base = type_at fact.types i.src in
       let value = register s.registers i.src in
       let kept = kept_type fact.spills base i size in
-      let r = loaded_type terms.layout fact.stack fact.spills base i size in
+      let r = loaded_type options.layout fact.stack fact.spills base i size in
       let x = set_is fact.types i.dst r e h in
-      elim (kept_cases kept (is_unset kept) (load_type terms.layout fact.stack base i size) x.0 refl x.1) [
+      elim (kept_cases kept (is_unset kept) (load_type options.layout fact.stack base i size) x.0 refl x.1) [
         | inl number ↦
             let g = load_gives context long base value i size x.0 (fits.registers i.src) number.1 in
             let got : loaded g.1 size context s.stack ≡ Some (Number g.0) = ap (λ o. number_or o (kept_in g.1 size s.stack)) g.3 in
-            subst (λ o. Follows terms.mask after ((s.pc + 1) ∷ []) s (where_some o (λ at. where_some (loaded at size context s.stack) (λ v. sets s i.dst v))))
+            subst (λ o. Follows options.mask after ((s.pc + 1) ∷ []) s (where_some o (λ at. where_some (loaded at size context s.stack) (λ v. sets s i.dst v))))
             (sym g.2)
-            (subst (λ o. Follows terms.mask after ((s.pc + 1) ∷ []) s (where_some o (λ v. sets s i.dst v))) (sym got)
+            (subst (λ o. Follows options.mask after ((s.pc + 1) ∷ []) s (where_some o (λ v. sets s i.dst v))) (sym got)
             (sets_follow e i.dst r (Some (Number g.0)) is small h (λ t k. subst (λ u. FitsType u (Number g.0)) (g.4 ∙ same_type x.0 t (sym x.1 ∙ k)) tt)))
         | inr pointer ↦
             let g = kept_gives context base value i size (fits.registers i.src) pointer.0 in
-            subst (λ o. Follows terms.mask after ((s.pc + 1) ∷ []) s (where_some o (λ at. where_some (loaded at size context s.stack) (λ v. sets s i.dst v))))
+            subst (λ o. Follows options.mask after ((s.pc + 1) ∷ []) s (where_some o (λ at. where_some (loaded at size context s.stack) (λ v. sets s i.dst v))))
             (sym g.2)
-            (subst (λ o. Follows terms.mask after ((s.pc + 1) ∷ []) s (where_some o (λ v. sets s i.dst v))) (sym g.3)
+            (subst (λ o. Follows options.mask after ((s.pc + 1) ∷ []) s (where_some o (λ v. sets s i.dst v))) (sym g.3)
             (sets_follow e i.dst r (Some g.1) is small h (λ t k. subst (λ u. FitsType u g.1) (same_type kept t (pointer.1 ∙ sym x.1 ∙ k)) g.4)))
       ]
 
@@ -447,7 +447,7 @@ module _ (terms : LoadOptions) (fact after : Fact) (s : State) (fits : Fits fact
   -- a store of a pointer to an aligned place of eight bytes keeps the pointer, and the state after it fits the fact after it
   keeps_follow : (i : Inst) (size : ℕ) (x e : Effect) (t : RegType) (v : Value) → IsAfter fact e after → size ≤ 8
       → store_type fact.types (type_at fact.types i.dst) i size ≡ ok_of x → is_aligned x.len x.at ≡ true → record x { kept = t } ≡ e → is_pointer t ≡ true
-      → FitsType t v → Follows terms.mask after ((s.pc + 1) ∷ []) s (stores_value s i size v)
+      → FitsType t v → Follows options.mask after ((s.pc + 1) ∷ []) s (stores_value s i size v)
   keeps_follow i size x e t v is small h whole same pointer f =
       let y = store_is fact.types (type_at fact.types i.dst) (register s.registers i.dst) i size x (fits.registers i.dst) h in
       let inside : y.0 + size ≤ 512 = store_inside (register s.registers i.dst) i size y.0 small y.1 in
@@ -456,21 +456,21 @@ module _ (terms : LoadOptions) (fact after : Fact) (s : State) (fits : Fits fact
       let effect_is : kept_by y.0 t ≡ e = ap (λ n. keeping t (marked_by fact.types y.0 n)) (sym parts.0) ∙ ap (keeping t) y.2 ∙ same in
       let place : aligned_place size (stack_at (register s.registers i.dst) i.offset size) ≡ Some y.0 =
       ap (aligned_place size) y.1 ∙ ap (λ b. cond b (Some y.0) None) aligned_here in
-      subst (Follows terms.mask after ((s.pc + 1) ∷ []) s) (sym (stored_pointer i size v (pointer_of t v f pointer)))
-      (subst (λ o. Follows terms.mask after ((s.pc + 1) ∷ []) s (where_some o
+      subst (Follows options.mask after ((s.pc + 1) ∷ []) s) (sym (stored_pointer i size v (pointer_of t v f pointer)))
+      (subst (λ o. Follows options.mask after ((s.pc + 1) ∷ []) s (where_some o
       (λ at. Goes (record s { pc = s.pc + 1; stack = pieces_written s.stack at v 0 8 })))) (sym place)
-      (inl refl, fits_kept e y.0 t v (s.pc + 1) is effect_is parts.1 (omega (arith, inside, parts.0)) pointer f, Changes-refl terms.mask s.counters))
+      (inl refl, fits_kept e y.0 t v (s.pc + 1) is effect_is parts.1 (omega (arith, inside, parts.0)) pointer f, Changes-refl options.mask s.counters))
 
   stores_follow : (i : Inst) (size n : ℕ) (e : Effect) → IsAfter fact e after → size ≤ 8 → store_type fact.types (type_at fact.types i.dst) i size ≡ ok_of e
-      → Follows terms.mask after ((s.pc + 1) ∷ []) s (stores s i size n)
+      → Follows options.mask after ((s.pc + 1) ∷ []) s (stores s i size n)
   stores_follow i size n e is small h =
       let x = store_is fact.types (type_at fact.types i.dst) (register s.registers i.dst) i size e (fits.registers i.dst) h in
       let long = length-little 0 size n in
       let inside : x.0 + size ≤ 512 = store_inside (register s.registers i.dst) i size x.0 small x.1 in
       let same : marked_by fact.types x.0 (length (little_bytes size n)) ≡ e = ap (λ l. marked_by fact.types x.0 l) long ∙ x.2 in
-      subst (λ o. Follows terms.mask after ((s.pc + 1) ∷ []) s (where_some o
+      subst (λ o. Follows options.mask after ((s.pc + 1) ∷ []) s (where_some o
       (λ at. Goes (record s { pc = s.pc + 1; stack = written s.stack at (little_bytes size n) })))) (sym x.1)
-      (inl refl, fits_stored e x.0 (little_bytes size n) (s.pc + 1) is same (omega (arith, long, inside)), Changes-refl terms.mask s.counters)
+      (inl refl, fits_stored e x.0 (little_bytes size n) (s.pc + 1) is same (omega (arith, long, inside)), Changes-refl options.mask s.counters)
 
   -- ---- jumps
 
@@ -479,20 +479,20 @@ module _ (terms : LoadOptions) (fact after : Fact) (s : State) (fits : Fits fact
   cons_is (Some to) rest tos e = (to, refl, cc)
 
   jumps_follow : (e : Effect) (z : ℤ) (rest tos : List ℕ) → IsAfter fact e after → unmarked fact.types ≡ e
-      → option_cons (shifted (s.pc + 1) z 512) rest ≡ Some tos → Follows terms.mask after tos s (jumps s z)
+      → option_cons (shifted (s.pc + 1) z 512) rest ≡ Some tos → Follows options.mask after tos s (jumps s z)
   jumps_follow e z rest tos is same h =
       let x = cons_is (shifted (s.pc + 1) z 512) rest tos h in
-      subst (λ o. Follows terms.mask after tos s (where_some o (λ to. Goes (record s { pc = to })))) (sym x.1)
-      (subst (IsIn x.0) x.2 (inl refl), fits_moved e x.0 is same, Changes-refl terms.mask s.counters)
+      subst (λ o. Follows options.mask after tos s (where_some o (λ to. Goes (record s { pc = to })))) (sym x.1)
+      (subst (IsIn x.0) x.2 (inl refl), fits_moved e x.0 is same, Changes-refl options.mask s.counters)
 
   falls_through : (e : Effect) (z : ℤ) (tos : List ℕ) → IsAfter fact e after → unmarked fact.types ≡ e
-      → option_cons (shifted (s.pc + 1) z 512) ((s.pc + 1) ∷ []) ≡ Some tos → Follows terms.mask after tos s (Goes (record s { pc = s.pc + 1 }))
+      → option_cons (shifted (s.pc + 1) z 512) ((s.pc + 1) ∷ []) ≡ Some tos → Follows options.mask after tos s (Goes (record s { pc = s.pc + 1 }))
   falls_through e z tos is same h =
       let x = cons_is (shifted (s.pc + 1) z 512) ((s.pc + 1) ∷ []) tos h in
-      (subst (IsIn (s.pc + 1)) x.2 (inr (inl refl)), fits_moved e (s.pc + 1) is same, Changes-refl terms.mask s.counters)
+      (subst (IsIn (s.pc + 1)) x.2 (inr (inl refl)), fits_moved e (s.pc + 1) is same, Changes-refl options.mask s.counters)
 
   branches_follow : (b : Bool) (e : Effect) (z : ℤ) (tos : List ℕ) → IsAfter fact e after → unmarked fact.types ≡ e
-      → option_cons (shifted (s.pc + 1) z 512) ((s.pc + 1) ∷ []) ≡ Some tos → Follows terms.mask after tos s (branches s b z)
+      → option_cons (shifted (s.pc + 1) z 512) ((s.pc + 1) ∷ []) ≡ Some tos → Follows options.mask after tos s (branches s b z)
   branches_follow true e z tos is same h = jumps_follow e z ((s.pc + 1) ∷ []) tos is same h
   branches_follow false e z tos is same h = falls_through e z tos is same h
 
@@ -530,37 +530,37 @@ module _ (terms : LoadOptions) (fact after : Fact) (s : State) (fits : Fits fact
       }
 
   -- a well typed instruction leads to one of its units, in a state that fits the fact after it, or it ends the run
-  pub step_follows : (context : List ℕ) → length context ≡ context_len terms.layout
+  pub step_follows : (context : List ℕ) → length context ≡ context_len options.layout
       → (view : View) (i : Inst) (upper : ℤ) (form : Form) (e : Effect) (tos : List ℕ) → i.dst ≤ 10 → IsAfter fact e after
-      → effect terms fact i upper form ≡ ok_of e → leads s.pc i form ≡ Some tos → Follows terms.mask after tos s (act terms.mask context view s i upper form)
+      → effect options fact i upper form ≡ ok_of e → leads s.pc i form ≡ Some tos → Follows options.mask after tos s (act options.mask context view s i upper form)
   step_follows context long view i upper (Arithmetic op w source) e tos small is h l =
-      subst (λ ts. Follows terms.mask after ts s (act terms.mask context view s i upper (Arithmetic op w source))) (some_list _ tos l)
-      (sets_follow e i.dst (alu_type terms.layout op w source i (type_at fact.types i.dst) (operand_type source w i fact.types))
+      subst (λ ts. Follows options.mask after ts s (act options.mask context view s i upper (Arithmetic op w source))) (some_list _ tos l)
+      (sets_follow e i.dst (alu_type options.layout op w source i (type_at fact.types i.dst) (operand_type source w i fact.types))
       (alu_value (length context) op w source i (register s.registers i.dst) (operand source w i s.registers)) is small h
-      (λ t g. arithmetic terms.layout (length context) long op w source i s.registers (type_at fact.types i.dst) (operand_type source w i fact.types)
+      (λ t g. arithmetic options.layout (length context) long op w source i s.registers (type_at fact.types i.dst) (operand_type source w i fact.types)
       (register s.registers i.dst) t (fits.registers i.dst) (operand_fits source w i) g))
   step_follows context long view i upper Wide e tos small is h l =
-      subst (λ ts. Follows terms.mask after ts s (act terms.mask context view s i upper Wide)) (some_list _ tos l)
+      subst (λ ts. Follows options.mask after ts s (act options.mask context view s i upper Wide)) (some_list _ tos l)
       (wide_follows e i.dst (cast_unsigned w32 upper * 2 ^ 32 + cast_unsigned w32 i.imm) is small h)
   step_follows context long view i upper (Load size) e tos small is h l =
-      subst (λ ts. Follows terms.mask after ts s (act terms.mask context view s i upper (Load size))) (some_list _ tos l)
+      subst (λ ts. Follows options.mask after ts s (act options.mask context view s i upper (Load size))) (some_list _ tos l)
       (loaded_follow context long i (bytes_in size) e is small h)
   step_follows context long view i upper (LoadSigned size) e tos small is h l =
-      subst (λ ts. Follows terms.mask after ts s (act terms.mask context view s i upper (LoadSigned size))) (some_list _ tos l)
+      subst (λ ts. Follows options.mask after ts s (act options.mask context view s i upper (LoadSigned size))) (some_list _ tos l)
       (loads_follow context long (λ n. cast_unsigned w64 (extended (8 * bytes_in size) n)) i (bytes_in size) e is small h)
   step_follows context long view i upper (StoreImmediate size) e tos small is h l =
-      subst (λ ts. Follows terms.mask after ts s (act terms.mask context view s i upper (StoreImmediate size))) (some_list _ tos l)
+      subst (λ ts. Follows options.mask after ts s (act options.mask context view s i upper (StoreImmediate size))) (some_list _ tos l)
       (stores_follow i (bytes_in size) (cast_unsigned w64 i.imm) e is (size_small size) h)
   step_follows context long view i upper (StoreRegister size) e tos small is h l =
       let stored = store_type fact.types (type_at fact.types i.dst) i (bytes_in size) in
       let value = type_at fact.types i.src in
       let u = unset_test (is_unset value) (NotANumber i.src) (keeps_pointer value stored) e h in
       let p = pointer_is value stored e u.1 in
-      subst (λ ts. Follows terms.mask after ts s (act terms.mask context view s i upper (StoreRegister size))) (some_list _ tos l)
+      subst (λ ts. Follows options.mask after ts s (act options.mask context view s i upper (StoreRegister size))) (some_list _ tos l)
       (elim p.2 [
         | inl plain ↦
             let n = numeric value (register s.registers i.src) (fits.registers i.src) (neither value u.0 plain.0) in
-            subst (λ v. Follows terms.mask after ((s.pc + 1) ∷ []) s (stores_value s i (bytes_in size) v)) (sym n.1)
+            subst (λ v. Follows options.mask after ((s.pc + 1) ∷ []) s (stores_value s i (bytes_in size) v)) (sym n.1)
             (stores_follow i (bytes_in size) n.0 e is (size_small size) (p.1 ∙ ap ok_of plain.1))
         | inr pointer ↦ keeps_follow i (bytes_in size) p.0 e value (register s.registers i.src) is (size_small size) p.1 pointer.1 pointer.2
             pointer.0 (fits.registers i.src)
@@ -573,17 +573,17 @@ module _ (terms : LoadOptions) (fact after : Fact) (s : State) (fits : Fits fact
       let x = compare_test (is_numeric a) (is_numeric b) (NotANumber i.dst) (NotANumber i.src) (unmarked fact.types) e h in
       let m = numeric a (register s.registers i.dst) (fits.registers i.dst) x.0 in
       let n = numeric b (operand source w i s.registers) (operand_fits source w i) x.1 in
-      subst (λ v. Follows terms.mask after tos s (where_some (number v)
+      subst (λ v. Follows options.mask after tos s (where_some (number v)
       (λ a. where_some (number (operand source w i s.registers)) (λ b. branches s (holds c w a b) i.offset)))) (sym m.1)
-      (subst (λ v. Follows terms.mask after tos s (where_some (number v) (λ b. branches s (holds c w m.0 b) i.offset))) (sym n.1)
+      (subst (λ v. Follows options.mask after tos s (where_some (number v) (λ b. branches s (holds c w m.0 b) i.offset))) (sym n.1)
       (branches_follow (holds c w m.0 n.0) e i.offset tos is x.2 l))
   step_follows context long view i upper Exit e tos small is h l =
       let t = exit_test (is_numeric (type_at fact.types 0)) (NotANumber 0) (unmarked fact.types) e h in
       let n = numeric (type_at fact.types 0) (register s.registers 0) (fits.registers 0) t in
-      subst (λ v. Follows terms.mask after tos s (where_some (number v) (λ r. Exits r s.counters))) (sym n.1) refl
+      subst (λ v. Follows options.mask after tos s (where_some (number v) (λ r. Exits r s.counters))) (sym n.1) refl
   step_follows context long view i upper Call e tos small is h l =
-      let x = called terms.mask fact.types view (register s.registers 1) (register s.registers 2) s.counters s.stack (type_at fact.types 1)
+      let x = called options.mask fact.types view (register s.registers 1) (register s.registers 2) s.counters s.stack (type_at fact.types 1)
       (type_at fact.types 2) (fits.registers 1) (fits.registers 2) (helper_of i.imm) e refl refl h in
-      subst (λ ts. Follows terms.mask after ts s (act terms.mask context view s i upper Call)) (some_list _ tos l)
-      (subst (λ o. Follows terms.mask after ((s.pc + 1) ∷ []) s (where_some o (λ a. call_state s a))) (sym x.there)
+      subst (λ ts. Follows options.mask after ts s (act options.mask context view s i upper Call)) (some_list _ tos l)
+      (subst (λ o. Follows options.mask after ((s.pc + 1) ∷ []) s (where_some o (λ a. call_state s a))) (sym x.there)
       (inl refl, call_fits e is x.reply x.at x.bytes x.marks x.stack_is x.inside, x.changes))

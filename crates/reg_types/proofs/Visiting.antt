@@ -101,41 +101,41 @@ entry_by : (t : Bool) (f : Fact) → IsSame f entry_fact → AreSame (cond t (So
 entry_by true f h = h
 entry_by false f h = tt
 
-module _ (us : List ProgramUnit) (terms : LoadOptions) (pc : ℕ) (i : Inst) (fact : Fact) (form : Form) (upper : ℤ) (sound : IsSound us)
+module _ (us : List ProgramUnit) (options : LoadOptions) (pc : ℕ) (i : Inst) (fact : Fact) (form : Form) (upper : ℤ) (sound : IsSound us)
     (at : slice_get us pc ≡ Some (First i)) (is : form_of i.opcode ≡ Some form) where
-  ahead_of : (e : Effect) → ok_of e ≡ judged (length us) pc terms fact i upper form → (tos : List ℕ) × (leads pc i form ≡ Some tos)
+  ahead_of : (e : Effect) → ok_of e ≡ judged (length us) pc options fact i upper form → (tos : List ℕ) × (leads pc i form ≡ Some tos)
       × AllByRecursion (IsAhead us pc) tos
-  ahead_of e j = leads_ahead sound.bytes us sound.reads pc i at sound.forward form is (judged_is (length us) pc terms fact i upper form e (sym j)).0
+  ahead_of e j = leads_ahead sound.bytes us sound.reads pc i at sound.forward form is (judged_is (length us) pc options fact i upper form e (sym j)).0
 
   -- an accepted instruction has defined successors: `leads` isn't None
-  pub leads_somewhere : (e : Effect) → ok_of e ≡ judged (length us) pc terms fact i upper form → None ≡ leads pc i form → ⊥
+  pub leads_somewhere : (e : Effect) → ok_of e ≡ judged (length us) pc options fact i upper form → None ≡ leads pc i form → ⊥
   leads_somewhere e j none = let a = ahead_of e j in never_none (leads pc i form) a.0 none a.1
 
-  pub next_ahead : (e : Effect) (next : Successors) → ok_of e ≡ judged (length us) pc terms fact i upper form → some_of (list_of next) ≡ leads pc i form
+  pub next_ahead : (e : Effect) (next : Successors) → ok_of e ≡ judged (length us) pc options fact i upper form → some_of (list_of next) ≡ leads pc i form
       → AllByRecursion (IsAhead us pc) (list_of next)
   next_ahead e next j to = let a = ahead_of e j in subst (AllByRecursion (IsAhead us pc)) (same_tos (leads pc i form) (list_of next) a.0 to a.1) a.2
 
-  passed_is : (e : Effect) (next : Successors) → upper ≡ upper_of us pc → ok_of e ≡ judged (length us) pc terms fact i upper form
+  passed_is : (e : Effect) (next : Successors) → upper ≡ upper_of us pc → ok_of e ≡ judged (length us) pc options fact i upper form
       → some_of (list_of next) ≡ leads pc i form → (q : ℕ) (old : Option Fact)
-      → passed us terms pc (Some fact) q old ≡ arrived_all q (fact_after fact e) (list_of next) old
+      → passed us options pc (Some fact) q old ≡ arrived_all q (fact_after fact e) (list_of next) old
   passed_is e next up j to q old =
-      ap (λ o. passed_from us terms pc fact o q old) (instruction_from us pc i form at is)
-      ∙ ap (λ r. passed_by q fact r (leads pc i form) old) (sym (j ∙ ap (λ u. judged (length us) pc terms fact i u form) up))
+      ap (λ o. passed_from us options pc fact o q old) (instruction_from us pc i form at is)
+      ∙ ap (λ r. passed_by q fact r (leads pc i form) old) (sym (j ∙ ap (λ u. judged (length us) pc options fact i u form) up))
       ∙ ap (λ o. passed_by q fact (Ok e) o old) (sym to)
 
   -- joining the fact after an accepted instruction into each unit that it leads to is what `passed` defines
-  passed_to : (e : Effect) (after : Fact) (next : Successors) → upper ≡ upper_of us pc → ok_of e ≡ judged (length us) pc terms fact i upper form
+  passed_to : (e : Effect) (after : Fact) (next : Successors) → upper ≡ upper_of us pc → ok_of e ≡ judged (length us) pc options fact i upper form
       → IsAfter fact e after → some_of (list_of next) ≡ leads pc i form → (q : ℕ) (old new : Option Fact) → AreSame new (arrived_all q after (list_of next) old)
-      → AreSame new (passed us terms pc (Some fact) q old)
+      → AreSame new (passed us options pc (Some fact) q old)
   passed_to e after next up j after_is to q old new same =
       subst (AreSame new) (sym (passed_is e next up j to q old))
       (AreSame-trans new (arrived_all q after (list_of next) old) (arrived_all q (fact_after fact e) (list_of next) old) same
       (arrived_all_same q (list_of next) old old after (fact_after fact e) (AreSame-refl old) (same_after fact e after after_is)))
 
-  flaw_is : (r : Result Effect Flaw) → upper ≡ upper_of us pc → r ≡ judged (length us) pc terms fact i upper form
-      → flaw_under us terms pc (Some fact) ≡ flaw_in pc r
+  flaw_is : (r : Result Effect Flaw) → upper ≡ upper_of us pc → r ≡ judged (length us) pc options fact i upper form
+      → flaw_under us options pc (Some fact) ≡ flaw_in pc r
   flaw_is r up j =
-      ap (flaw_of us terms pc fact) (instruction_from us pc i form at is) ∙ ap (flaw_in pc) (sym (j ∙ ap (λ u. judged (length us) pc terms fact i u form) up))
+      ap (flaw_of us options pc fact) (instruction_from us pc i form at is) ∙ ap (flaw_in pc) (sym (j ∙ ap (λ u. judged (length us) pc options fact i u form) up))
 
   jumps_ahead : (next : Successors) → AllByRecursion (IsAhead us pc) (list_of next) → AllByRecursion (IsAhead us pc) (jumps_of next)
   jumps_ahead End h = tt
@@ -169,19 +169,19 @@ module _ (us : List ProgramUnit) (terms : LoadOptions) (pc : ℕ) (i : Inst) (fa
   small_jump (Jump to) h = let l = h.0.inside in let n = (count_of_units sound.bytes us sound.reads).1 in omega (arith, l, n)
   small_jump (Either to next) h = let l = h.0.inside in let n = (count_of_units sound.bytes us sound.reads).1 in omega (arith, l, n)
 
-  pub jump_small : (e : Effect) (next : Successors) → ok_of e ≡ judged (length us) pc terms fact i upper form → some_of (list_of next) ≡ leads pc i form
+  pub jump_small : (e : Effect) (next : Successors) → ok_of e ≡ judged (length us) pc options fact i upper form → some_of (list_of next) ≡ leads pc i form
       → IfSome (jump_of next) (λ to. to ≤ 512)
   jump_small e next j to = small_jump next (jumps_ahead next (next_ahead e next j to))
 
   -- an instruction is visited if it is accepted, the fact after it is joined into its jump's target, and carried to the
   -- next instruction
   pub visited : (e : Effect) (after : Fact) (next : Successors) (carried : Option StoredFact) (old new : Facts) → upper ≡ upper_of us pc
-      → ok_of e ≡ judged (length us) pc terms fact i upper form → IsAfter fact e after → some_of (list_of next) ≡ leads pc i form → IsNext pc form next
+      → ok_of e ≡ judged (length us) pc options fact i upper form → IsAfter fact e after → some_of (list_of next) ≡ leads pc i form → IsNext pc form next
       → jump_of next ≡ target_by pc form i → carried ≡ carried_of after next → ((q : ℕ) → AreSame (new q) (arrived_all q after (jumps_of next) (old q)))
-      → IsVisited us terms pc fact carried old new
+      → IsVisited us options pc fact carried old new
   visited e after next carried old new up j after_is to n jump is_carried same =
       let ahead = next_ahead e next j to in
-      subst (λ c. IsVisited us terms pc fact c old new) (sym is_carried) (record {
+      subst (λ c. IsVisited us options pc fact c old new) (sym is_carried) (record {
         flawless = flaw_is (Ok e) up j;
         ahead = λ q l. passed_to e after next up j after_is to q (old q) (seen (carried_of after next) new q) (seen_led q after next (old q) (new q) (same q));
         behind = λ q l. subst (AreSame (new q)) (behind us pc q after l (jumps_of next) (jumps_ahead next ahead) (old q)) (same q);
@@ -192,13 +192,13 @@ module _ (us : List ProgramUnit) (terms : LoadOptions) (pc : ℕ) (i : Inst) (fa
             ∙ ap (λ o. is_some (old q) || goes o q) (jump ∙ sym target_is);
       })
 
-  pub refused_here : (flaw : Flaw) → upper ≡ upper_of us pc → err_of flaw ≡ judged (length us) pc terms fact i upper form
-      → flaw_under us terms pc (Some fact) ≡ Some (located pc flaw)
+  pub refused_here : (flaw : Flaw) → upper ≡ upper_of us pc → err_of flaw ≡ judged (length us) pc options fact i upper form
+      → flaw_under us options pc (Some fact) ≡ Some (located pc flaw)
   refused_here flaw up j = flaw_is (Err flaw) up j
 
   -- memory ran out as the fact after an accepted jump was stored for its target
-  pub ran_out : (e : Effect) (next : Successors) → upper ≡ upper_of us pc → ok_of e ≡ judged (length us) pc terms fact i upper form
-      → jump_of next ≡ target_by pc form i → (jump_of next ≡ None → ⊥) → IsUnitRefused us terms pc (Some fact) OutOfMemory
+  pub ran_out : (e : Effect) (next : Successors) → upper ≡ upper_of us pc → ok_of e ≡ judged (length us) pc options fact i upper form
+      → jump_of next ≡ target_by pc form i → (jump_of next ≡ None → ⊥) → IsUnitRefused us options pc (Some fact) OutOfMemory
   ran_out e next up j jump some = (flaw_is (Ok e) up j, λ none. some (jump ∙ sym target_is ∙ none))
 
 -- ---- one unit
@@ -228,16 +228,16 @@ pub at_first : (us : List ProgramUnit) (pc : ℕ) (i : Inst) (c : Option StoredF
 at_first us pc i None first c = tt
 at_first us pc i (Some s) first c = elim c.1 [ inl e ↦ e | inr w ↦ absurd (no_two i w.1.0 (slice_get us pc) first w.1.1) ]
 
-module _ (us : List ProgramUnit) (terms : LoadOptions) (pc : ℕ) (carried : Option StoredFact) (old : Facts) where
+module _ (us : List ProgramUnit) (options : LoadOptions) (pc : ℕ) (carried : Option StoredFact) (old : Facts) where
   pub passes : (fact : Fact) (next : Option StoredFact) (settled new : Facts) → IsCarriedAt pc carried → IsSettled pc carried (Some fact) old settled
-      → IsVisited us terms pc fact next settled new → IsPassed us terms pc carried next old new
+      → IsVisited us options pc fact next settled new → IsPassed us options pc carried next old new
   passes fact next settled new at s v =
       record {
-        flawless = sym (flaw_same us terms pc (Some fact) (seen carried old pc) s.is) ∙ v.flawless;
+        flawless = sym (flaw_same us options pc (Some fact) (seen carried old pc) s.is) ∙ v.flawless;
         ahead = λ q l. let other : q ≢ pc = omega (arith, l) in
-            AreSame-trans (seen next new q) (passed us terms pc (Some fact) q (settled q)) (passed us terms pc (seen carried old pc) q (seen carried old q))
+            AreSame-trans (seen next new q) (passed us options pc (Some fact) q (settled q)) (passed us options pc (seen carried old pc) q (seen carried old q))
             (v.ahead q l)
-            (passed_same us terms pc (Some fact) (seen carried old pc) q (settled q) (seen carried old q) s.is
+            (passed_same us options pc (Some fact) (seen carried old pc) q (settled q) (seen carried old q) s.is
             (subst (AreSame (settled q)) (sym (brought_elsewhere q pc carried at other (old q))) (s.others q other)));
         behind = λ q l. AreSame-trans (new q) (settled q) (old q) (v.behind q (omega (arith, l))) (s.others q (omega (arith, l)));
         here = stored_trans (new pc) (settled pc) (Some fact) (seen carried old pc) (v.behind pc (omega arith)) s.here s.is;
@@ -249,29 +249,29 @@ module _ (us : List ProgramUnit) (terms : LoadOptions) (pc : ℕ) (carried : Opt
       }
 
   pub passes_if : (r : Result Unit Refusal) (fact : Fact) (next : Option StoredFact) (settled new : Facts) → IsCarriedAt pc carried
-      → IsSettled pc carried (Some fact) old settled → OnOk r (IsVisited us terms pc fact next settled new) → OnOk r (IsPassed us terms pc carried next old new)
+      → IsSettled pc carried (Some fact) old settled → OnOk r (IsVisited us options pc fact next settled new) → OnOk r (IsPassed us options pc carried next old new)
   passes_if (Ok done) fact next settled new at s v = passes fact next settled new at s v
   passes_if (Err refusal) fact next settled new at s v = tt
 
-  refused_as : (refusal : Refusal) (fact : Fact) → AreSame (Some fact) (seen carried old pc) → IsUnitRefused us terms pc (Some fact) refusal
-      → IsUnitRefused us terms pc (seen carried old pc) refusal
+  refused_as : (refusal : Refusal) (fact : Fact) → AreSame (Some fact) (seen carried old pc) → IsUnitRefused us options pc (Some fact) refusal
+      → IsUnitRefused us options pc (seen carried old pc) refusal
   refused_as (Decode fault) fact same h = h
   refused_as (FlowRefusal fault) fact same h = h
-  refused_as (TypeRefusal fault) fact same h = sym (flaw_same us terms pc (Some fact) (seen carried old pc) same) ∙ h
-  refused_as OutOfMemory fact same h = (sym (flaw_same us terms pc (Some fact) (seen carried old pc) same) ∙ h.0, h.1)
+  refused_as (TypeRefusal fault) fact same h = sym (flaw_same us options pc (Some fact) (seen carried old pc) same) ∙ h
+  refused_as OutOfMemory fact same h = (sym (flaw_same us options pc (Some fact) (seen carried old pc) same) ∙ h.0, h.1)
 
   pub refused_if : (r : Result Unit Refusal) (fact : Fact) → AreSame (Some fact) (seen carried old pc)
-      → IfErr r (λ refusal. IsUnitRefused us terms pc (Some fact) refusal) → IfErr r (λ refusal. IsUnitRefused us terms pc (seen carried old pc) refusal)
+      → IfErr r (λ refusal. IsUnitRefused us options pc (Some fact) refusal) → IfErr r (λ refusal. IsUnitRefused us options pc (seen carried old pc) refusal)
   refused_if (Ok next) fact same h = tt
   refused_if (Err refusal) fact same h = refused_as refusal fact same h
 
-  pub unreached : (new : Facts) → IsCarriedAt pc carried → IsSettled pc carried None old new → IsPassed us terms pc carried None old new
+  pub unreached : (new : Facts) → IsCarriedAt pc carried → IsSettled pc carried None old new → IsPassed us options pc carried None old new
   unreached new at s =
       let none = same_none (seen carried old pc) s.is in
       record {
-        flawless = ap (flaw_under us terms pc) none;
+        flawless = ap (flaw_under us options pc) none;
         ahead = λ q l. let other : q ≢ pc = omega (arith, l) in
-            subst (λ o. AreSame (new q) (passed us terms pc o q (seen carried old q))) (sym none)
+            subst (λ o. AreSame (new q) (passed us options pc o q (seen carried old q))) (sym none)
             (subst (AreSame (new q)) (sym (brought_elsewhere q pc carried at other (old q))) (s.others q other));
         behind = λ q l. s.others q (omega (arith, l));
         here = stored_trans (new pc) (new pc) None (seen carried old pc) (AreSame-refl (new pc)) s.here s.is;
@@ -283,13 +283,13 @@ module _ (us : List ProgramUnit) (terms : LoadOptions) (pc : ℕ) (carried : Opt
     nothing_there : instruction_at us pc ≡ None
     nothing_there = ap instruction_of second
 
-    no_flaw : (o : Option Fact) → flaw_under us terms pc o ≡ None
+    no_flaw : (o : Option Fact) → flaw_under us options pc o ≡ None
     no_flaw None = refl
-    no_flaw (Some fact) = ap (flaw_of us terms pc fact) nothing_there
+    no_flaw (Some fact) = ap (flaw_of us options pc fact) nothing_there
 
-    no_edge : (o : Option Fact) (q : ℕ) (x : Option Fact) → passed us terms pc o q x ≡ x
+    no_edge : (o : Option Fact) (q : ℕ) (x : Option Fact) → passed us options pc o q x ≡ x
     no_edge None q x = refl
-    no_edge (Some fact) q x = ap (λ i. passed_from us terms pc fact i q x) nothing_there
+    no_edge (Some fact) q x = ap (λ i. passed_from us options pc fact i q x) nothing_there
 
     no_jump : target us pc ≡ None
     no_jump = ap (λ o. and_then (and_then o distance_of) (λ z. shifted (pc + 1) z 512)) second
@@ -302,12 +302,12 @@ module _ (us : List ProgramUnit) (terms : LoadOptions) (pc : ℕ) (carried : Opt
     ]
 
     -- at the second unit of a wide load the pass changes nothing
-    pub stays : IsCarriedTo us pc carried → IsPassed us terms pc carried carried old old
+    pub stays : IsCarriedTo us pc carried → IsPassed us options pc carried carried old old
     stays c =
         let f = further carried c in
         record {
           flawless = no_flaw (seen carried old pc);
-          ahead = λ q l. same_by (seen carried old q) (passed us terms pc (seen carried old pc) q (seen carried old q))
+          ahead = λ q l. same_by (seen carried old q) (passed us options pc (seen carried old pc) q (seen carried old q))
               (sym (no_edge (seen carried old pc) q (seen carried old q)));
           behind = λ q l. AreSame-refl (old q);
           here = subst (AreStored (old pc)) (sym (f.1 (old pc))) (AreStored-refl (old pc));
@@ -352,81 +352,81 @@ settled_as pc fact old e =
 
 -- ---- the pass
 
-pub start_same : (us : List ProgramUnit) (terms : LoadOptions) (f : Fact) → IsEntry f → (q : ℕ)
-    → AreSame (stored (record { at = 0; fact = f } ∷ []) q) (known us terms 0 q)
+pub start_same : (us : List ProgramUnit) (options : LoadOptions) (f : Fact) → IsEntry f → (q : ℕ)
+    → AreSame (stored (record { at = 0; fact = f } ∷ []) q) (known us options 0 q)
 unfolding known
-start_same us terms f entry q = entry_by (q == 0) f (same_entry f entry)
+start_same us options f entry q = entry_by (q == 0) f (same_entry f entry)
 
 -- The invariant of the pass before unit pc. No unit below pc has a flaw, and a fact that is stored for one says the
 -- same as the inferred fact. For each unit from pc on, the stored and the carried fact say what the edges from the
 -- units below pc bring to it.
-pub record IsReached (us : List ProgramUnit) (terms : LoadOptions) (carried : Option StoredFact) (facts : Facts) (pc : ℕ) : Type 0 where
-  pub behind : (q : ℕ) → q < pc → AreStored (facts q) (inferred us terms q)
-  pub ahead : (q : ℕ) → pc ≤ q → AreSame (seen carried facts q) (known us terms pc q)
-  pub flawless : first_flaw_below us terms pc ≡ None
+pub record IsReached (us : List ProgramUnit) (options : LoadOptions) (carried : Option StoredFact) (facts : Facts) (pc : ℕ) : Type 0 where
+  pub behind : (q : ℕ) → q < pc → AreStored (facts q) (inferred us options q)
+  pub ahead : (q : ℕ) → pc ≤ q → AreSame (seen carried facts q) (known us options pc q)
+  pub flawless : first_flaw_below us options pc ≡ None
   pub goes_on : IsCarriedTo us pc carried
-  pub kept : (q : ℕ) → is_some (facts q) ≡ is_entered us terms pc q
+  pub kept : (q : ℕ) → is_some (facts q) ≡ is_entered us options pc q
 
 first_if : (t : Bool) → is_some (cond t (Some entry_fact) None) ≡ t
 first_if true = refl
 first_if false = refl
 
-module _ (us : List ProgramUnit) (terms : LoadOptions) where
-  no_flaw_yet : first_flaw_below us terms 0 ≡ None
+module _ (us : List ProgramUnit) (options : LoadOptions) where
+  no_flaw_yet : first_flaw_below us options 0 ≡ None
   unfolding first_flaw_below
   no_flaw_yet = refl
 
-  known_first : (q : ℕ) → is_some (known us terms 0 q) ≡ is_entered us terms 0 q
+  known_first : (q : ℕ) → is_some (known us options 0 q) ≡ is_entered us options 0 q
   unfolding known is_entered
   known_first q = first_if (q == 0)
 
-  pub reached_none : (facts : Facts) → ((q : ℕ) → AreSame (facts q) (known us terms 0 q)) → IsReached us terms None facts 0
+  pub reached_none : (facts : Facts) → ((q : ℕ) → AreSame (facts q) (known us options 0 q)) → IsReached us options None facts 0
   reached_none facts same =
       record {
         behind = λ q l. absurd (omega arith);
         ahead = λ q l. same q;
         flawless = no_flaw_yet;
         goes_on = tt;
-        kept = λ q. same_some (facts q) (known us terms 0 q) (same q) ∙ known_first q;
+        kept = λ q. same_some (facts q) (known us options 0 q) (same q) ∙ known_first q;
       }
 
-  entered_more : (pc q : ℕ) (o : Option Fact) → is_some o ≡ is_some (inferred us terms pc) → (is_entered us terms pc q || (is_some o && goes (target us pc) q))
-      ≡ is_entered us terms (suc pc) q
+  entered_more : (pc q : ℕ) (o : Option Fact) → is_some o ≡ is_some (inferred us options pc) → (is_entered us options pc q || (is_some o && goes (target us pc) q))
+      ≡ is_entered us options (suc pc) q
   unfolding is_entered
-  entered_more pc q o e = ap (λ b. is_entered us terms pc q || (b && goes (target us pc) q)) e
+  entered_more pc q o e = ap (λ b. is_entered us options pc q || (b && goes (target us pc) q)) e
 
-  flaw_here : (carried : Option StoredFact) (facts : Facts) (pc : ℕ) → IsReached us terms carried facts pc → flaw_under us terms pc (seen carried facts pc)
-      ≡ flaw_under us terms pc (inferred us terms pc)
-  flaw_here carried facts pc r = flaw_same us terms pc (seen carried facts pc) (inferred us terms pc) (r.ahead pc (omega arith))
+  flaw_here : (carried : Option StoredFact) (facts : Facts) (pc : ℕ) → IsReached us options carried facts pc → flaw_under us options pc (seen carried facts pc)
+      ≡ flaw_under us options pc (inferred us options pc)
+  flaw_here carried facts pc r = flaw_same us options pc (seen carried facts pc) (inferred us options pc) (r.ahead pc (omega arith))
 
-  still_none : (pc : ℕ) → first_flaw_below us terms pc ≡ None → flaw_under us terms pc (inferred us terms pc) ≡ None → first_flaw_below us terms (suc pc) ≡ None
+  still_none : (pc : ℕ) → first_flaw_below us options pc ≡ None → flaw_under us options pc (inferred us options pc) ≡ None → first_flaw_below us options (suc pc) ≡ None
   unfolding first_flaw_below
-  still_none pc none here = ap (λ o. or_else o (flaw_under us terms pc (inferred us terms pc))) none ∙ here
+  still_none pc none here = ap (λ o. or_else o (flaw_under us options pc (inferred us options pc))) none ∙ here
 
-  first_here : (pc : ℕ) (fault : TypeFault) → first_flaw_below us terms pc ≡ None → flaw_under us terms pc (inferred us terms pc) ≡ Some fault
-      → first_flaw_below us terms (suc pc) ≡ Some fault
+  first_here : (pc : ℕ) (fault : TypeFault) → first_flaw_below us options pc ≡ None → flaw_under us options pc (inferred us options pc) ≡ Some fault
+      → first_flaw_below us options (suc pc) ≡ Some fault
   unfolding first_flaw_below
-  first_here pc fault none here = ap (λ o. or_else o (flaw_under us terms pc (inferred us terms pc))) none ∙ here
+  first_here pc fault none here = ap (λ o. or_else o (flaw_under us options pc (inferred us options pc))) none ∙ here
 
-  known_more : (pc q : ℕ) (carried next : Option StoredFact) (old new : Facts) → IsReached us terms carried old pc → pc ≤ q
-      → AreSame (seen next new q) (passed us terms pc (seen carried old pc) q (seen carried old q)) → AreSame (seen next new q) (known us terms (suc pc) q)
+  known_more : (pc q : ℕ) (carried next : Option StoredFact) (old new : Facts) → IsReached us options carried old pc → pc ≤ q
+      → AreSame (seen next new q) (passed us options pc (seen carried old pc) q (seen carried old q)) → AreSame (seen next new q) (known us options (suc pc) q)
   unfolding known
   known_more pc q carried next old new r l same =
-      AreSame-trans (seen next new q) (passed us terms pc (seen carried old pc) q (seen carried old q)) (known us terms (suc pc) q) same
-      (passed_same us terms pc (seen carried old pc) (known us terms pc pc) q (seen carried old q) (known us terms pc q)
+      AreSame-trans (seen next new q) (passed us options pc (seen carried old pc) q (seen carried old q)) (known us options (suc pc) q) same
+      (passed_same us options pc (seen carried old pc) (known us options pc pc) q (seen carried old q) (known us options pc q)
       (r.ahead pc (omega arith)) (r.ahead q l))
 
-  reached_suc : (carried next : Option StoredFact) (old new : Facts) (pc : ℕ) → IsReached us terms carried old pc → IsPassed us terms pc carried next old new
-      → IsReached us terms next new (suc pc)
+  reached_suc : (carried next : Option StoredFact) (old new : Facts) (pc : ℕ) → IsReached us options carried old pc → IsPassed us options pc carried next old new
+      → IsReached us options next new (suc pc)
   reached_suc carried next old new pc r p =
       record {
         behind =
             λ q l. elim (cases_eq q pc) [
               | inl same ↦ subst
-                  (λ k. AreStored (new k) (inferred us terms k)) (sym same)
-                  (stored_trans (new pc) (new pc) (seen carried old pc) (inferred us terms pc) (AreSame-refl (new pc)) p.here (r.ahead pc (omega arith)))
-              | inr other ↦ stored_trans (new q) (old q) (inferred us terms q) (inferred us terms q) (p.behind q (omega arith)) (r.behind q (omega arith))
-                  (AreSame-refl (inferred us terms q))
+                  (λ k. AreStored (new k) (inferred us options k)) (sym same)
+                  (stored_trans (new pc) (new pc) (seen carried old pc) (inferred us options pc) (AreSame-refl (new pc)) p.here (r.ahead pc (omega arith)))
+              | inr other ↦ stored_trans (new q) (old q) (inferred us options q) (inferred us options q) (p.behind q (omega arith)) (r.behind q (omega arith))
+                  (AreSame-refl (inferred us options q))
             ];
         ahead = λ q l. known_more pc q carried next old new r (omega arith) (p.ahead q (omega arith));
         flawless = still_none pc r.flawless (sym (flaw_here carried old pc r) ∙ p.flawless);
@@ -434,28 +434,28 @@ module _ (us : List ProgramUnit) (terms : LoadOptions) where
         kept =
             λ q. p.kept q
             ∙ ap (λ b. b || (is_some (seen carried old pc) && goes (target us pc) q)) (r.kept q)
-            ∙ entered_more pc q (seen carried old pc) (same_some (seen carried old pc) (inferred us terms pc) (r.ahead pc (omega arith)));
+            ∙ entered_more pc q (seen carried old pc) (same_some (seen carried old pc) (inferred us options pc) (r.ahead pc (omega arith)));
       }
 
-  pub reached_more : (carried next : Option StoredFact) (old new : Facts) (pc : ℕ) → IsReached us terms carried old pc → IsPassed us terms pc carried next old new
-      → IsReached us terms next new (pc + 1)
-  reached_more carried next old new pc r p = subst (IsReached us terms next new) (sym (add-one pc)) (reached_suc carried next old new pc r p)
+  pub reached_more : (carried next : Option StoredFact) (old new : Facts) (pc : ℕ) → IsReached us options carried old pc → IsPassed us options pc carried next old new
+      → IsReached us options next new (pc + 1)
+  reached_more carried next old new pc r p = subst (IsReached us options next new) (sym (add-one pc)) (reached_suc carried next old new pc r p)
 
-  pub flaw_found : (carried : Option StoredFact) (facts : Facts) (pc : ℕ) (fault : TypeFault) → pc < length us → IsReached us terms carried facts pc
-      → flaw_under us terms pc (seen carried facts pc) ≡ Some fault → first_flaw us terms ≡ Some fault
+  pub flaw_found : (carried : Option StoredFact) (facts : Facts) (pc : ℕ) (fault : TypeFault) → pc < length us → IsReached us options carried facts pc
+      → flaw_under us options pc (seen carried facts pc) ≡ Some fault → first_flaw us options ≡ Some fault
   flaw_found carried facts pc fault l r here =
-      flaw_stays us terms (suc pc) (length us) fault (first_here pc fault r.flawless (sym (flaw_here carried facts pc r) ∙ here)) (omega arith)
+      flaw_stays us options (suc pc) (length us) fault (first_here pc fault r.flawless (sym (flaw_here carried facts pc r) ∙ here)) (omega arith)
 
-  pub refused_at : (carried : Option StoredFact) (facts : Facts) (pc : ℕ) (refusal : Refusal) → pc < length us → IsReached us terms carried facts pc
-      → IsUnitRefused us terms pc (seen carried facts pc) refusal → IsPassRefused us terms refusal
+  pub refused_at : (carried : Option StoredFact) (facts : Facts) (pc : ℕ) (refusal : Refusal) → pc < length us → IsReached us options carried facts pc
+      → IsUnitRefused us options pc (seen carried facts pc) refusal → IsPassRefused us options refusal
   refused_at carried facts pc (Decode fault) l r h = h
   refused_at carried facts pc (FlowRefusal fault) l r h = h
   refused_at carried facts pc (TypeRefusal fault) l r h = flaw_found carried facts pc fault l r h
   refused_at carried facts pc OutOfMemory l r h = tt
 
-  pub reached_all : (carried : Option StoredFact) (facts : Facts) (pc : ℕ) → length us ≡ pc → IsReached us terms carried facts pc → AreInferred us terms facts
+  pub reached_all : (carried : Option StoredFact) (facts : Facts) (pc : ℕ) → length us ≡ pc → IsReached us options carried facts pc → AreInferred us options facts
   reached_all carried facts pc l r =
-      record { each = λ q inside. r.behind q (omega (arith, inside, l)); kept = λ q. r.kept q ∙ ap (λ n. is_entered us terms n q) (sym l) }
+      record { each = λ q inside. r.behind q (omega (arith, inside, l)); kept = λ q. r.kept q ∙ ap (λ n. is_entered us options n q) (sym l) }
 
-  pub flawless_all : (carried : Option StoredFact) (facts : Facts) (pc : ℕ) → length us ≡ pc → IsReached us terms carried facts pc → first_flaw us terms ≡ None
-  flawless_all carried facts pc l r = ap (first_flaw_below us terms) l ∙ r.flawless
+  pub flawless_all : (carried : Option StoredFact) (facts : Facts) (pc : ℕ) → length us ≡ pc → IsReached us options carried facts pc → first_flaw us options ≡ None
+  flawless_all carried facts pc l r = ap (first_flaw_below us options) l ∙ r.flawless

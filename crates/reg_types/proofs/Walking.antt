@@ -63,7 +63,7 @@ by_led q fact (Err flaw) tos o h = refl
 by_led q fact (Ok e) None o h = refl
 by_led q fact (Ok e) (Some tos) o h = h (fact_after fact e)
 
-module _ (us : List ProgramUnit) (terms : LoadOptions) (pc q : ℕ) (no_jump : target us pc ≢ Some q) where
+module _ (us : List ProgramUnit) (options : LoadOptions) (pc q : ℕ) (no_jump : target us pc ≢ Some q) where
   goes_is : (x : Inst × Form) → instruction_at us pc ≡ Some x → target us pc ≡ target_by pc x.1 x.0
   goes_is x at =
       let is = instruction_is (slice_get us pc) x at in
@@ -71,13 +71,13 @@ module _ (us : List ProgramUnit) (terms : LoadOptions) (pc q : ℕ) (no_jump : t
 
   -- an instruction doesn't change what is known of unit q if q is neither its jump's target nor the next instruction
   from_elsewhere : (fact : Fact) (o : Option (Inst × Form)) (old : Option Fact) → instruction_at us pc ≡ o
-      → ((x : Inst × Form) → o ≡ Some x → q ≢ following pc x.1) → passed_from us terms pc fact o q old ≡ old
+      → ((x : Inst × Form) → o ≡ Some x → q ≢ following pc x.1) → passed_from us options pc fact o q old ≡ old
   from_elsewhere fact None old at n = refl
   from_elsewhere fact (Some x) old at n =
-      by_led q fact (ruled us terms pc fact x) _ old
+      by_led q fact (ruled us options pc fact x) _ old
       (λ f. elsewhere pc q x.0 x.1 f old (record { jump = λ e. no_jump (goes_is x at ∙ e); next = n x refl }))
 
-  passed_elsewhere : (here old : Option Fact) → ((x : Inst × Form) → instruction_at us pc ≡ Some x → q ≢ following pc x.1) → passed us terms pc here q old ≡ old
+  passed_elsewhere : (here old : Option Fact) → ((x : Inst × Form) → instruction_at us pc ≡ Some x → q ≢ following pc x.1) → passed us options pc here q old ≡ old
   passed_elsewhere None old n = refl
   passed_elsewhere (Some fact) old n = from_elsewhere fact (instruction_at us pc) old refl n
 
@@ -104,7 +104,7 @@ not_gone (Some to) q e = λ x. let same : to ≡ q = cc in no_two_truths (sym (e
 one_instruction : (x y : Inst × Form) (o : Option (Inst × Form)) → o ≡ Some x → o ≡ Some y → x ≡ y
 one_instruction x y o a b = cc
 
-module _ (us : List ProgramUnit) (terms : LoadOptions) (q : ℕ) where
+module _ (us : List ProgramUnit) (options : LoadOptions) (q : ℕ) where
   -- the instruction before unit q is one of the first n units, and all that is known of q is the fact after that instruction
   record IsLast (n : ℕ) : Type 0 where
     before : ℕ
@@ -112,10 +112,10 @@ module _ (us : List ProgramUnit) (terms : LoadOptions) (q : ℕ) where
     instruction : Inst × Form
     stands : instruction_at us before ≡ Some instruction
     next : q ≡ following before instruction.1
-    is : known us terms n q ≡ passed us terms before (inferred us terms before) q None
+    is : known us options n q ≡ passed us options before (inferred us options before) q None
 
-  still_last : (n : ℕ) → known us terms (suc n) q ≡ known us terms n q → (known us terms n q ≡ None) ⊎ IsLast n
-      → (known us terms (suc n) q ≡ None) ⊎ IsLast (suc n)
+  still_last : (n : ℕ) → known us options (suc n) q ≡ known us options n q → (known us options n q ≡ None) ⊎ IsLast n
+      → (known us options (suc n) q ≡ None) ⊎ IsLast (suc n)
   still_last n e h =
       elim h [
         | inl none ↦ inl (e ∙ none)
@@ -129,7 +129,7 @@ module _ (us : List ProgramUnit) (terms : LoadOptions) (q : ℕ) where
         })
       ]
 
-  known_is : (n : ℕ) → known us terms (suc n) q ≡ passed us terms n (inferred us terms n) q (known us terms n q)
+  known_is : (n : ℕ) → known us options (suc n) q ≡ passed us options n (inferred us options n) q (known us options n q)
   unfolding known
   known_is n = refl
 
@@ -154,11 +154,11 @@ module _ (us : List ProgramUnit) (terms : LoadOptions) (q : ℕ) where
               not_both y (instruction_at us n) second (ap (instruction_at us) (sym there) ∙ ap instruction_of is_second)
         ]
 
-    here_or_not : (n : ℕ) (fact : Option Fact) → inferred us terms n ≡ fact → (is_some fact && goes (target us n) q) ≡ false → (o : Option (Inst × Form))
-        → instruction_at us n ≡ o → (known us terms n q ≡ None) ⊎ IsLast n → (known us terms (suc n) q ≡ None) ⊎ IsLast (suc n)
-    here_or_not n None at e o i h = still_last n (known_is n ∙ ap (λ f. passed us terms n f q (known us terms n q)) at) h
+    here_or_not : (n : ℕ) (fact : Option Fact) → inferred us options n ≡ fact → (is_some fact && goes (target us n) q) ≡ false → (o : Option (Inst × Form))
+        → instruction_at us n ≡ o → (known us options n q ≡ None) ⊎ IsLast n → (known us options (suc n) q ≡ None) ⊎ IsLast (suc n)
+    here_or_not n None at e o i h = still_last n (known_is n ∙ ap (λ f. passed us options n f q (known us options n q)) at) h
     here_or_not n (Some fact) at e None i h =
-        still_last n (known_is n ∙ ap (λ f. passed us terms n f q (known us terms n q)) at ∙ ap (λ x. passed_from us terms n fact x q (known us terms n q)) i) h
+        still_last n (known_is n ∙ ap (λ f. passed us options n f q (known us options n q)) at ∙ ap (λ x. passed_from us options n fact x q (known us options n q)) i) h
     here_or_not n (Some fact) at e (Some x) i h =
         elim (cases_eq q (following n x.1)) [
           | inl next ↦ elim h [
@@ -168,44 +168,44 @@ module _ (us : List ProgramUnit) (terms : LoadOptions) (q : ℕ) where
               instruction = x;
               stands = i;
               next = next;
-              is = known_is n ∙ ap (passed us terms n (inferred us terms n) q) none;
+              is = known_is n ∙ ap (passed us options n (inferred us options n) q) none;
             })
             | inr l ↦ absurd (apart l.before n l.instruction x l.below l.stands i (sym l.next ∙ next))
           ]
           | inr other ↦
               still_last n
               (known_is n
-              ∙ passed_elsewhere us terms n q (not_gone (target us n) q e) (inferred us terms n) (known us terms n q)
+              ∙ passed_elsewhere us options n q (not_gone (target us n) q e) (inferred us options n) (known us options n q)
               (λ y there. subst (λ z. q ≢ following n z.1) (one_instruction x y (instruction_at us n) i there) other))
               h
         ]
 
     -- If no reached jump below n goes to unit q, and q isn't 0, then q isn't reached, or has only the fact after the
     -- instruction before it.
-    lasts : (n : ℕ) → is_entered us terms n q ≡ false → (known us terms n q ≡ None) ⊎ IsLast n
+    lasts : (n : ℕ) → is_entered us options n q ≡ false → (known us options n q ≡ None) ⊎ IsLast n
     unfolding known is_entered
     lasts zero e = inl (cond-false (q == 0) (Some entry_fact) None e)
     lasts (suc n) e =
-        let parts = or_parts (is_entered us terms n q) (is_some (inferred us terms n) && goes (target us n) q) e in
-        here_or_not n (inferred us terms n) refl parts.1 (instruction_at us n) refl (lasts n parts.0)
+        let parts = or_parts (is_entered us options n q) (is_some (inferred us options n) && goes (target us n) q) e in
+        here_or_not n (inferred us options n) refl parts.1 (instruction_at us n) refl (lasts n parts.0)
 
-    not_before : (n k : ℕ) → is_entered us terms (k + n) q ≡ false → is_entered us terms n q ≡ false
+    not_before : (n k : ℕ) → is_entered us options (k + n) q ≡ false → is_entered us options n q ≡ false
     unfolding is_entered
-    not_before n zero e = let z : zero + n ≡ n = omega arith in subst (λ m. is_entered us terms m q ≡ false) z e
+    not_before n zero e = let z : zero + n ≡ n = omega arith in subst (λ m. is_entered us options m q ≡ false) z e
     not_before n (suc k) e =
         let s : suc k + n ≡ suc (k + n) = omega arith in
-        let g = subst (λ m. is_entered us terms m q ≡ false) s e in
-        not_before n k (or_parts (is_entered us terms (k + n) q) (is_some (inferred us terms (k + n)) && goes (target us (k + n)) q) g).0
+        let g = subst (λ m. is_entered us options m q ≡ false) s e in
+        not_before n k (or_parts (is_entered us options (k + n) q) (is_some (inferred us options (k + n)) && goes (target us (k + n)) q) g).0
 
-    walks : is_entered us terms (length us) q ≡ false → q < length us → (inferred us terms q ≡ None) ⊎ IsBrought us terms q
+    walks : is_entered us options (length us) q ≡ false → q < length us → (inferred us options q ≡ None) ⊎ IsBrought us options q
     walks e l =
         let rest : length us - q + q ≡ length us = omega (arith, l) in
-        let here = not_before q (length us - q) (subst (λ m. is_entered us terms m q ≡ false) (sym rest) e) in
+        let here = not_before q (length us - q) (subst (λ m. is_entered us options m q ≡ false) (sym rest) e) in
         elim (lasts q here) [
           | inl none ↦ inl none
           | inr is ↦ inr (record { before = is.before; instruction = is.instruction; stands = is.stands; next = is.next; is = is.is })
         ]
 
 -- a unit without a stored fact isn't reached, or its fact is the one after the instruction before it
-pub walked : (bytes : List ℕ) (us : List ProgramUnit) (terms : LoadOptions) → units bytes ≡ Some us → AreWalked us terms
-walked bytes us terms reads q e l = walks us terms q bytes reads e l
+pub walked : (bytes : List ℕ) (us : List ProgramUnit) (options : LoadOptions) → units bytes ≡ Some us → AreWalked us options
+walked bytes us options reads q e l = walks us options q bytes reads e l

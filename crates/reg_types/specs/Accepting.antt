@@ -25,8 +25,8 @@ PlainOption (Some fact) = ArePlain fact.types
 
 -- if `fact` is known before the instruction, it is accepted, and after it R1 points to the context and R0 holds a number
 abbrev pub PlainAt : List ProgramUnit → ℕ → LoadOptions → Inst → Fact → Type 0
-PlainAt us pc terms i fact =
-    (upper : ℤ) (form : Form) → form_of i.opcode ≡ Some form → (e : Effect) × (judged (length us) pc terms fact i upper form ≡ Ok e) × ArePlain e.types
+PlainAt us pc options i fact =
+    (upper : ℤ) (form : Form) → form_of i.opcode ≡ Some form → (e : Effect) × (judged (length us) pc options fact i upper form ≡ Ok e) × ArePlain e.types
 
 -- The types that a plain program can have at a unit. At unit 0 they are those on entry; or else R1 points to the
 -- context and R0 holds a number.
@@ -34,5 +34,5 @@ abbrev pub PlainTypesAt : ℕ → List RegType → Type 0
 PlainTypesAt pc types = ((pc ≡ 0) × (types ≡ entry_types)) ⊎ ArePlain types
 
 -- each instruction is accepted with all types that a plain program can have at its unit
-pub record AcceptsAll (us : List ProgramUnit) (terms : LoadOptions) : Type 0 where
-  pub each : (pc : ℕ) (i : Inst) (fact : Fact) → slice_get us pc ≡ Some (First i) → PlainTypesAt pc fact.types → PlainAt us pc terms i fact
+pub record AcceptsAll (us : List ProgramUnit) (options : LoadOptions) : Type 0 where
+  pub each : (pc : ℕ) (i : Inst) (fact : Fact) → slice_get us pc ≡ Some (First i) → PlainTypesAt pc fact.types → PlainAt us pc options i fact

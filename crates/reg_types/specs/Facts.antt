@@ -172,11 +172,11 @@ pub record Enters (facts : Facts) (fact : Fact) (to : ℕ) : Type 0 where
 
 -- the instruction is well typed, and each state that fits the fact after it fits the facts of the units that it leads
 -- to
-pub record IsTyped (us : List ProgramUnit) (terms : LoadOptions) (facts : Facts) (pc : ℕ) (i : Inst) (fact : Fact) : Type 0 where
+pub record IsTyped (us : List ProgramUnit) (options : LoadOptions) (facts : Facts) (pc : ℕ) (i : Inst) (fact : Fact) : Type 0 where
   pub form : Form
   pub form_is : form_of i.opcode ≡ Some form
   pub effect : Effect
-  pub typed : judged (length us) pc terms fact i (upper_of us pc) form ≡ Ok effect
+  pub typed : judged (length us) pc options fact i (upper_of us pc) form ≡ Ok effect
   pub after : Fact
   pub after_is : IsAfter fact effect after
   pub tos : List ℕ
@@ -192,13 +192,13 @@ pub record IsEntry (fact : Fact) : Type 0 where
 
 -- each state that fits the fact on entry fits the first unit's fact, and the instruction of each reached unit is well
 -- typed
-pub record Covers (us : List ProgramUnit) (terms : LoadOptions) (facts : Facts) : Type 0 where
+pub record Covers (us : List ProgramUnit) (options : LoadOptions) (facts : Facts) : Type 0 where
   pub unit : Inst
   pub begins : slice_get us 0 ≡ Some (First unit)
   pub start : Fact
   pub start_is : IsEntry start
   pub entered : Enters facts start 0
-  pub each : (pc : ℕ) (i : Inst) (fact : Fact) → slice_get us pc ≡ Some (First i) → facts pc ≡ Some fact → IsTyped us terms facts pc i fact
+  pub each : (pc : ℕ) (i : Inst) (fact : Fact) → slice_get us pc ≡ Some (First i) → facts pc ≡ Some fact → IsTyped us options facts pc i fact
 
 -- the state is before an instruction whose unit has a fact, and it fits this fact
 pub record IsAt (us : List ProgramUnit) (facts : Facts) (s : State) : Type 0 where
@@ -209,10 +209,10 @@ pub record IsAt (us : List ProgramUnit) (facts : Facts) (s : State) : Type 0 whe
   pub fits : Fits fact s
 
 -- the bytes are decoded as the units `us`, and some facts cover these units
-pub record IsCovered (bytes : List ℕ) (terms : LoadOptions) (us : List ProgramUnit) : Type 0 where
+pub record IsCovered (bytes : List ℕ) (options : LoadOptions) (us : List ProgramUnit) : Type 0 where
   pub reads : units bytes ≡ Some us
   pub facts : Facts
-  pub covers : Covers us terms facts
+  pub covers : Covers us options facts
 
 -- the units are those of a program whose jumps all go forward to instructions
 pub record IsSound (us : List ProgramUnit) : Type 0 where

@@ -126,7 +126,7 @@ instruction_at us pc = instruction_of (slice_get us pc)
 
 -- the effect of the instruction at unit pc by the typing rules, if `fact` is known before it; or its flaw
 abbrev pub ruled : List ProgramUnit → LoadOptions → ℕ → Fact → Inst × Form → Result Effect Flaw
-ruled us terms pc fact x = judged (length us) pc terms fact x.0 (upper_of us pc) x.1
+ruled us options pc fact x = judged (length us) pc options fact x.0 (upper_of us pc) x.1
 
 -- the flaw of the instruction at unit pc, as a fault that names the unit; None if the instruction has an effect
 abbrev pub flaw_in : ℕ → Result Effect Flaw → Option TypeFault
@@ -134,12 +134,12 @@ flaw_in pc (Ok effect) = None
 flaw_in pc (Err flaw) = Some (located pc flaw)
 
 abbrev pub flaw_of : List ProgramUnit → LoadOptions → ℕ → Fact → Option (Inst × Form) → Option TypeFault
-flaw_of us terms pc fact None = None
-flaw_of us terms pc fact (Some x) = flaw_in pc (ruled us terms pc fact x)
+flaw_of us options pc fact None = None
+flaw_of us options pc fact (Some x) = flaw_in pc (ruled us options pc fact x)
 
 abbrev pub flaw_under : List ProgramUnit → LoadOptions → ℕ → Option Fact → Option TypeFault
-flaw_under us terms pc None = None
-flaw_under us terms pc (Some fact) = flaw_of us terms pc fact (instruction_at us pc)
+flaw_under us options pc None = None
+flaw_under us options pc (Some fact) = flaw_of us options pc fact (instruction_at us pc)
 
 -- ---- edges
 
@@ -164,24 +164,24 @@ passed_by q fact (Ok effect) None old = old
 passed_by q fact (Ok effect) (Some tos) old = arrived_all q (fact_after fact effect) tos old
 
 abbrev pub passed_from : List ProgramUnit → LoadOptions → ℕ → Fact → Option (Inst × Form) → ℕ → Option Fact → Option Fact
-passed_from us terms pc fact None q old = old
-passed_from us terms pc fact (Some x) q old = passed_by q fact (ruled us terms pc fact x) (leads pc x.0 x.1) old
+passed_from us options pc fact None q old = old
+passed_from us options pc fact (Some x) q old = passed_by q fact (ruled us options pc fact x) (leads pc x.0 x.1) old
 
 -- what is known of unit q after unit pc has been passed; `old` is what was known of q before
 abbrev pub passed : List ProgramUnit → LoadOptions → ℕ → Option Fact → ℕ → Option Fact → Option Fact
-passed us terms pc None q old = old
-passed us terms pc (Some fact) q old = passed_from us terms pc fact (instruction_at us pc) q old
+passed us options pc None q old = old
+passed us options pc (Some fact) q old = passed_from us options pc fact (instruction_at us pc) q old
 
 -- ---- the whole program
 
 -- what is known of unit q from the entry and from the edges of the units below n: nothing where none of these reaches it
 unfoldable pub known : List ProgramUnit → LoadOptions → ℕ → ℕ → Option Fact
-known us terms zero q = if q == 0 then Some entry_fact else None
-known us terms (suc n) q = passed us terms n (known us terms n n) q (known us terms n q)
+known us options zero q = if q == 0 then Some entry_fact else None
+known us options (suc n) q = passed us options n (known us options n n) q (known us options n q)
 
 -- the fact of a unit: the join over the edges from the reached units before it
 abbrev pub inferred : List ProgramUnit → LoadOptions → ℕ → Option Fact
-inferred us terms q = known us terms q q
+inferred us options q = known us options q q
 
 abbrev pub or_else : Option TypeFault → Option TypeFault → Option TypeFault
 or_else None b = b
@@ -190,11 +190,11 @@ or_else (Some fault) b = Some fault
 -- The first fault among the first n units. It is that of the lowest unit that is reached and refused, and there the one
 -- with the lowest V number.
 unfoldable pub first_flaw_below : List ProgramUnit → LoadOptions → ℕ → Option TypeFault
-first_flaw_below us terms zero = None
-first_flaw_below us terms (suc n) = or_else (first_flaw_below us terms n) (flaw_under us terms n (inferred us terms n))
+first_flaw_below us options zero = None
+first_flaw_below us options (suc n) = or_else (first_flaw_below us options n) (flaw_under us options n (inferred us options n))
 
 abbrev pub first_flaw : List ProgramUnit → LoadOptions → Option TypeFault
-first_flaw us terms = first_flaw_below us terms (length us)
+first_flaw us options = first_flaw_below us options (length us)
 
 -- ---- where facts are stored: at the first unit, and where the jumps of reached units go
 
@@ -205,8 +205,8 @@ goes (Some to) q = q == to
 
 -- whether q is the first unit, or the jump of a reached unit below n goes to it
 unfoldable pub is_entered : List ProgramUnit → LoadOptions → ℕ → ℕ → Bool
-is_entered us terms zero q = q == 0
-is_entered us terms (suc n) q = is_entered us terms n q || (is_some (inferred us terms n) && goes (target us n) q)
+is_entered us options zero q = q == 0
+is_entered us options (suc n) q = is_entered us options n q || (is_some (inferred us options n) && goes (target us n) q)
 
 -- whether the jump of a unit below n, reached or not, goes to q
 unfoldable pub is_target : List ProgramUnit → ℕ → ℕ → Bool
@@ -220,7 +220,7 @@ count_below (suc n) is = if is n then suc (count_below n is) else count_below n 
 
 -- the number of units whose facts are stored
 abbrev pub facts_in : List ProgramUnit → LoadOptions → ℕ
-facts_in us terms = count_below (length us) (is_entered us terms (length us))
+facts_in us options = count_below (length us) (is_entered us options (length us))
 
 -- the number of different targets of jumps
 abbrev pub targets_in : List ProgramUnit → ℕ

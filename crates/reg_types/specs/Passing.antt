@@ -17,7 +17,7 @@ use Rattle.flow_check.specs.declared.FlowFault.TheVariants.{OutOfMemory as NoMem
 use Rattle.reg_types.specs.declared.types.Fact.{Fact}
 use Rattle.reg_types.specs.declared.refusal.Refusal.{Refusal}
 use Rattle.reg_types.specs.declared.refusal.Refusal.TheVariants.{Decode, Flow, «Type» as TypeRefusal, OutOfMemory}
-use Rattle.reg_types.specs.LoadOptions.{terms_of}
+use Rattle.reg_types.specs.LoadOptions.{options_of}
 use Rattle.reg_types.specs.Facts.{Facts, AreDistinct, IsCovered, stored}
 use Rattle.operations.specs.declared.operation.Operation.{Operation}
 use Rattle.operations.specs.Operations.{AreOperations}
@@ -82,27 +82,27 @@ pub record IsSettled (pc : ℕ) (carried : Option StoredFact) (fact : Option Fac
 
 -- If `fact` is known before it, the instruction at pc has no flaw. The fact after it was joined with that of its jump's
 -- target, if it has a jump. The fact after it is also carried to the next instruction, if a run can go on there.
-pub record IsVisited (us : List ProgramUnit) (terms : LoadOptions) (pc : ℕ) (fact : Fact) (next : Option StoredFact) (old new : Facts) : Type 0 where
-  pub flawless : flaw_under us terms pc (Some fact) ≡ None
-  pub ahead : (q : ℕ) → pc < q → AreSame (seen next new q) (passed us terms pc (Some fact) q (old q))
+pub record IsVisited (us : List ProgramUnit) (options : LoadOptions) (pc : ℕ) (fact : Fact) (next : Option StoredFact) (old new : Facts) : Type 0 where
+  pub flawless : flaw_under us options pc (Some fact) ≡ None
+  pub ahead : (q : ℕ) → pc < q → AreSame (seen next new q) (passed us options pc (Some fact) q (old q))
   pub behind : (q : ℕ) → q ≤ pc → AreSame (new q) (old q)
   pub goes_on : IsCarriedTo us (pc + 1) next
   pub kept : (q : ℕ) → is_some (new q) ≡ (is_some (old q) || goes (target us pc) q)
 
 -- The instruction of unit pc, if one begins there, has no flaw. The facts of the units that it leads to were joined
 -- with the fact after it.
-pub record IsPassed (us : List ProgramUnit) (terms : LoadOptions) (pc : ℕ) (carried next : Option StoredFact) (old new : Facts) : Type 0 where
-  pub flawless : flaw_under us terms pc (seen carried old pc) ≡ None
-  pub ahead : (q : ℕ) → pc < q → AreSame (seen next new q) (passed us terms pc (seen carried old pc) q (seen carried old q))
+pub record IsPassed (us : List ProgramUnit) (options : LoadOptions) (pc : ℕ) (carried next : Option StoredFact) (old new : Facts) : Type 0 where
+  pub flawless : flaw_under us options pc (seen carried old pc) ≡ None
+  pub ahead : (q : ℕ) → pc < q → AreSame (seen next new q) (passed us options pc (seen carried old pc) q (seen carried old q))
   pub behind : (q : ℕ) → q < pc → AreSame (new q) (old q)
   pub here : AreStored (new pc) (seen carried old pc)
   pub goes_on : IsCarriedTo us (pc + 1) next
   pub kept : (q : ℕ) → is_some (new q) ≡ (is_some (old q) || (is_some (seen carried old pc) && goes (target us pc) q))
 
 -- facts are stored for the first unit and for the targets of reached jumps, and each is what is inferred of its unit
-pub record AreInferred (us : List ProgramUnit) (terms : LoadOptions) (facts : Facts) : Type 0 where
-  pub each : (q : ℕ) → q < length us → AreStored (facts q) (inferred us terms q)
-  pub kept : (q : ℕ) → is_some (facts q) ≡ is_entered us terms (length us) q
+pub record AreInferred (us : List ProgramUnit) (options : LoadOptions) (facts : Facts) : Type 0 where
+  pub each : (q : ℕ) → q < length us → AreStored (facts q) (inferred us options q)
+  pub kept : (q : ℕ) → is_some (facts q) ≡ is_entered us options (length us) q
 
 -- the unit where the next instruction begins
 abbrev pub following : ℕ → Form → ℕ
@@ -110,45 +110,45 @@ following pc Wide = pc + 2
 following pc form = pc + 1
 
 -- all that is known of unit q is the fact after the instruction before it
-pub record IsBrought (us : List ProgramUnit) (terms : LoadOptions) (q : ℕ) : Type 0 where
+pub record IsBrought (us : List ProgramUnit) (options : LoadOptions) (q : ℕ) : Type 0 where
   pub before : ℕ
   pub instruction : Inst × Form
   pub stands : instruction_at us before ≡ Some instruction
   pub next : q ≡ following before instruction.1
-  pub is : inferred us terms q ≡ passed us terms before (inferred us terms before) q None
+  pub is : inferred us options q ≡ passed us options before (inferred us options before) q None
 
 -- a unit without a stored fact isn't reached, or its fact is the one after the instruction before it
 abbrev pub AreWalked : List ProgramUnit → LoadOptions → Type 0
-AreWalked us terms =
-    (q : ℕ) → is_entered us terms (length us) q ≡ false → q < length us → (inferred us terms q ≡ None) ⊎ IsBrought us terms q
+AreWalked us options =
+    (q : ℕ) → is_entered us options (length us) q ≡ false → q < length us → (inferred us options q ≡ None) ⊎ IsBrought us options q
 
 -- The bytes are decoded as the units `us`, no jump of which has a fault, and no reached unit a flaw. `facts` are the
 -- stored facts, and the facts of all other units follow from them.
-pub record IsAccepted (bytes : List ℕ) (terms : LoadOptions) (us : List ProgramUnit) (facts : List StoredFact) : Type 0 where
+pub record IsAccepted (bytes : List ℕ) (options : LoadOptions) (us : List ProgramUnit) (facts : List StoredFact) : Type 0 where
   pub reads : units bytes ≡ Some us
   pub forward : GoesForward us
   pub flows : flow_fault us ≡ None
-  pub flawless : first_flaw us terms ≡ None
-  pub inferred_are : AreInferred us terms (stored facts)
+  pub flawless : first_flaw us options ≡ None
+  pub inferred_are : AreInferred us options (stored facts)
   pub distinct : AreDistinct facts
-  pub walked : AreWalked us terms
+  pub walked : AreWalked us options
 
 -- the bytes are accepted, `facts` are the facts stored for them, and `ops` are the operations that their units are
 -- decoded to
-pub record IsKept (bytes : List ℕ) (terms : LoadOptions) (facts : List StoredFact) (ops : List Operation) : Type 0 where
+pub record IsKept (bytes : List ℕ) (options : LoadOptions) (facts : List StoredFact) (ops : List Operation) : Type 0 where
   pub us : List ProgramUnit
-  pub accepted : IsAccepted bytes terms us facts
+  pub accepted : IsAccepted bytes options us facts
   pub decoded : AreOperations us ops
 
 -- some facts cover the program's units, and `ops` are the operations that these units are decoded to
 pub record IsDecoded (p : ProgramText) (ops : List Operation) : Type 0 where
   pub us : List ProgramUnit
-  pub covered : IsCovered p.bytes (terms_of p) us
+  pub covered : IsCovered p.bytes (options_of p) us
   pub operations : AreOperations us ops
 
 -- n is the number of stored facts: one for the first unit, and one for each unit that a reached jump goes to
 abbrev pub IsFactCount : ProgramText → ℕ → Type 0
-IsFactCount p n = (us : List ProgramUnit) → units p.bytes ≡ Some us → n ≡ facts_in us (terms_of p)
+IsFactCount p n = (us : List ProgramUnit) → units p.bytes ≡ Some us → n ≡ facts_in us (options_of p)
 
 -- n is at most one more than the number of different targets of jumps
 abbrev pub IsFew : List ℕ → ℕ → Type 0
@@ -164,17 +164,17 @@ decode_told fault = Decode fault
 -- The refusals that a unit can get if `fact` is known before it: its flaw, or that memory ran out. Memory is taken only
 -- for a unit without a flaw whose instruction is a jump: the fact after it is stored for the jump's target.
 abbrev pub IsUnitRefused : List ProgramUnit → LoadOptions → ℕ → Option Fact → Refusal → Type 0
-IsUnitRefused us terms pc fact (Decode fault) = ⊥
-IsUnitRefused us terms pc fact (Flow fault) = ⊥
-IsUnitRefused us terms pc fact (TypeRefusal fault) = flaw_under us terms pc fact ≡ Some fault
-IsUnitRefused us terms pc fact OutOfMemory = (flaw_under us terms pc fact ≡ None) × (target us pc ≢ None)
+IsUnitRefused us options pc fact (Decode fault) = ⊥
+IsUnitRefused us options pc fact (Flow fault) = ⊥
+IsUnitRefused us options pc fact (TypeRefusal fault) = flaw_under us options pc fact ≡ Some fault
+IsUnitRefused us options pc fact OutOfMemory = (flaw_under us options pc fact ≡ None) × (target us pc ≢ None)
 
 -- the refusals that the pass over the units can return: the program's first flaw, or that memory ran out
 abbrev pub IsPassRefused : List ProgramUnit → LoadOptions → Refusal → Type 0
-IsPassRefused us terms (Decode fault) = ⊥
-IsPassRefused us terms (Flow fault) = ⊥
-IsPassRefused us terms (TypeRefusal fault) = first_flaw us terms ≡ Some fault
-IsPassRefused us terms OutOfMemory = ⊤
+IsPassRefused us options (Decode fault) = ⊥
+IsPassRefused us options (Flow fault) = ⊥
+IsPassRefused us options (TypeRefusal fault) = first_flaw us options ≡ Some fault
+IsPassRefused us options OutOfMemory = ⊤
 
 -- if memory ran out, the refusal is `OutOfMemory`: never a fault of decoding or of a jump that says so
 abbrev pub IsToldAlone : Refusal → Type 0

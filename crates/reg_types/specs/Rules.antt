@@ -292,20 +292,20 @@ call_type declared types (Some kinds) =
 
 -- the effect of an instruction, or its flaw; `upper` is the upper half of a wide load's number
 abbrev pub effect : LoadOptions → Fact → Inst → ℤ → Form → Result Effect Flaw
-effect terms f i upper (Arithmetic op w s) =
-    set_type f.types i.dst (alu_type terms.layout op w s i (type_at f.types i.dst) (operand_type s w i f.types))
-effect terms f i upper Wide = set_type f.types i.dst (Ok (Const (cast_unsigned w32 upper * 2 ^ 32 + cast_unsigned w32 i.imm)))
-effect terms f i upper (Load size) = set_type f.types i.dst (loaded_type terms.layout f.stack f.spills (type_at f.types i.src) i (bytes_in size))
-effect terms f i upper (LoadSigned size) = set_type f.types i.dst (load_type terms.layout f.stack (type_at f.types i.src) i (bytes_in size))
-effect terms f i upper (StoreImmediate size) = store_type f.types (type_at f.types i.dst) i (bytes_in size)
-effect terms f i upper (StoreRegister size) =
+effect options f i upper (Arithmetic op w s) =
+    set_type f.types i.dst (alu_type options.layout op w s i (type_at f.types i.dst) (operand_type s w i f.types))
+effect options f i upper Wide = set_type f.types i.dst (Ok (Const (cast_unsigned w32 upper * 2 ^ 32 + cast_unsigned w32 i.imm)))
+effect options f i upper (Load size) = set_type f.types i.dst (loaded_type options.layout f.stack f.spills (type_at f.types i.src) i (bytes_in size))
+effect options f i upper (LoadSigned size) = set_type f.types i.dst (load_type options.layout f.stack (type_at f.types i.src) i (bytes_in size))
+effect options f i upper (StoreImmediate size) = store_type f.types (type_at f.types i.dst) i (bytes_in size)
+effect options f i upper (StoreRegister size) =
     store_register f.types (type_at f.types i.dst) (type_at f.types i.src) i (bytes_in size)
-effect terms f i upper Ja = Ok (unmarked f.types)
-effect terms f i upper Ja32 = Ok (unmarked f.types)
-effect terms f i upper (Branch c w s) =
+effect options f i upper Ja = Ok (unmarked f.types)
+effect options f i upper Ja32 = Ok (unmarked f.types)
+effect options f i upper (Branch c w s) =
     compared f.types i.dst i.src (type_at f.types i.dst) (operand_type s w i f.types)
-effect terms f i upper Call = call_type terms.mask f.types (signature i.imm)
-effect terms f i upper Exit = exited f.types (type_at f.types 0)
+effect options f i upper Call = call_type options.mask f.types (signature i.imm)
+effect options f i upper Exit = exited f.types (type_at f.types 0)
 
 -- a run would go on behind this instruction, but the program ends there
 abbrev pub falls_off : ℕ → ℕ → Form → Bool
@@ -317,5 +317,5 @@ falls_off count pc form = nat_le count (pc + 1)
 
 -- the effect of an instruction, or its first flaw
 abbrev pub judged : ℕ → ℕ → LoadOptions → Fact → Inst → ℤ → Form → Result Effect Flaw
-judged count pc terms f i upper form =
-    if falls_off count pc form then Err FallsOff else effect terms f i upper form
+judged count pc options f i upper form =
+    if falls_off count pc form then Err FallsOff else effect options f i upper form

@@ -31,7 +31,7 @@ use Rattle.reg_types.specs.declared.refusal.TypeFault.{TypeFault}
 use Rattle.reg_types.specs.declared.refusal.Refusal.{Refusal}
 use Rattle.reg_types.specs.declared.refusal.Refusal.TheVariants.{Decode, Flow, «Type» as TypeRefusal, OutOfMemory}
 use Rattle.reg_types.specs.Refusals.{located}
-use Rattle.reg_types.specs.LoadOptions.{terms_of}
+use Rattle.reg_types.specs.LoadOptions.{options_of}
 use Rattle.reg_types.specs.Inference.{first_flaw}
 
 -- a run would go on behind this instruction, but the program ends there
@@ -201,12 +201,12 @@ type_refusal None = None
 type_refusal (Some fault) = Some (TypeRefusal fault)
 
 abbrev pub code_refusal : LoadOptions → Option (List ProgramUnit) → Option Refusal
-code_refusal terms None = None
-code_refusal terms (Some us) = or_refused (flow_refusal (flow_fault us)) (type_refusal (first_flaw us terms))
+code_refusal options None = None
+code_refusal options (Some us) = or_refused (flow_refusal (flow_fault us)) (type_refusal (first_flaw us options))
 
 -- a program's refusal: its first fault of decoding, else of a jump, else of a type; None if the program is accepted
 unfoldable pub refusal_of : ProgramText → Option Refusal
-refusal_of p = or_refused (decode_refusal p.bytes) (code_refusal (terms_of p) (units p.bytes))
+refusal_of p = or_refused (decode_refusal p.bytes) (code_refusal (options_of p) (units p.bytes))
 
 -- the refusal is `wanted`, or that memory ran out
 abbrev pub IsRefusal : Option Refusal → Refusal → Type 0

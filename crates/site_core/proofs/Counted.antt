@@ -1,5 +1,5 @@
 -- When the declared counters of two lists are the same, and for which counters an entry has values.
-use Rattle.std.proofs.Common.{◌≡◌, ℕ, ◌/◌, ◌%◌, ◌^◌, ◌*◌, ◌<◌, ◌≤◌, ◌⊎◌, length, ◌∙◌, sym, ap, inl, inr, arith, eq-eqb, refl, replicate, Some, None}
+use Rattle.std.proofs.Common.{◌≡◌, ℕ, Bool, true, false, map, ◌/◌, ◌%◌, ◌^◌, ◌*◌, ◌<◌, ◌≤◌, ◌⊎◌, length, ◌∙◌, sym, ap, inl, inr, arith, eq-eqb, refl, replicate, Option, Some, None}
 use Rattle.std.specs.Prelude.{IsTrue}
 use Rattle.std.proofs.lemmas.List.{get_or_past}
 use Rattle.std.proofs.lemmas.Bool.{cases_lt}
@@ -9,6 +9,8 @@ use Rattle.site_core.specs.Decide.{is_declared, count_of, counts}
 use Rattle.std.proofs.Math.Nat.{one-le-pow, div-lt_iff_lt-mul, div-eq_of_lt}
 use Rattle.std.proofs.Math.Pow.{pow_mono}
 use Rattle.std.specs.Prelude.{if◌then◌else◌, ◌==◌}
+use Rattle.std.specs.List.{range_with_len}
+use Rattle.counters.specs.Changes.{adopted}
 
 at-place : (a b : Counters) (k : ℕ) → length a ≡ 32 → length b ≡ 32 → (k < 32 → counter a k ≡ counter b k) → (k < 32) ⊎ (32 ≤ k) → counter b k ≡ counter a k
 at-place a b k la lb same (inl lt) = sym (same lt)
@@ -30,3 +32,14 @@ none_above mask before after c k e l =
 pub none-counted : (before after : Counters) → counts 0 before after ≡ replicate 32 None
 unfolding counts
 none-counted before after = refl
+
+kept-if : (d : Bool) (before after left new : ℕ × ℕ) → new ≡ (if d then after else left)
+    → if◌then◌else◌ {A = Option (ℕ × ℕ)} d (Some (before.0, after.0)) None ≡ if◌then◌else◌ {A = Option (ℕ × ℕ)} d (Some (before.0, new.0)) None
+kept-if true before after left new is = ap (λ (x : ℕ × ℕ). Some (before.0, x.0)) (sym is)
+kept-if false before after left new is = refl
+
+-- An entry has the same values of counters, whether the declared ones are read before or after they are adopted.
+pub counts-adopted : (mask : ℕ) (own after new : Counters) → ((c : ℕ) → counter new c ≡ adopted mask after own c) → counts mask own after ≡ counts mask own new
+unfolding counts
+counts-adopted mask own after new is =
+    λ i. map (λ c. kept-if (is_declared mask c) (counter own c) (counter after c) (counter own c) (counter new c) (is c) i) (range_with_len 0 32)

@@ -1,7 +1,7 @@
 -- Lists of fixed length that are filled from the front, and the copy of points and prices that a station keeps for
 -- helpers.
-use Rattle.std.proofs.Common.{◌≡◌, ℕ, zero, suc, ◌-◌, ◌<◌, ◌≤◌, List, [], ◌∷◌, ◌++◌, length, map, take, replicate, set, get_or, refl, ap, arith, ◌∙◌, sym}
-use Rattle.std.proofs.lemmas.List.{length-set}
+use Rattle.std.proofs.Common.{◌≡◌, ℕ, zero, suc, ◌-◌, ◌<◌, ◌≤◌, List, [], ◌∷◌, ◌++◌, length, map, take, replicate, set, get_or, refl, ap, arith, ◌∙◌, sym, drop, max}
+use Rattle.std.proofs.lemmas.List.{length-set, drop-replicate}
 use Rattle.bpf_model.specs.declared.machine.View.{View}
 use Rattle.bpf_model.specs.declared.machine.PointView.{PointView}
 use Rattle.bpf_model.specs.Machine.{no_point}
@@ -44,3 +44,40 @@ pub keeps-seen : (points : List PointState) (view : View) (i : ℕ) (p : PointSt
 keeps-seen points view i p one lt most prices count shown is =
     let same : length (set points i p) ≡ length points = length-set points i p in
     (omega (arith, same), prices, count ∙ sym same, (λ j. set (shown j) i (is j)) ∙ seen-set points i p lt)
+
+-- Two lists are the same if they are the same at each place before n, and from n on.
+pub same-both : {A : Type 0} (n : ℕ) (xs ys : List A) → length xs ≡ length ys → ((k : ℕ) (d : A) → k < n → get_or xs k d ≡ get_or ys k d)
+    → drop n xs ≡ drop n ys → xs ≡ ys
+same-both zero xs ys len front rest = rest
+same-both (suc n) [] [] len front rest = refl
+same-both (suc n) [] (y ∷ ys) len front rest = absurd (omega arith)
+same-both (suc n) (x ∷ xs) [] len front rest = absurd (omega arith)
+same-both (suc n) (x ∷ xs) (y ∷ ys) len front rest =
+    let same : xs ≡ ys = same-both n xs ys (omega arith) (λ k d lt. front (suc k) d (omega arith)) rest in
+    λ i. front zero x (omega arith) i ∷ same i
+
+-- Behind its points, a list that is filled up to a length has only what it is filled with.
+drop-filled : {A B : Type 0} (f : A → B) (z : B) (xs : List A) (n m : ℕ) → length xs ≤ n
+    → drop n (map f xs ++ replicate (m - length xs) z) ≡ replicate (m - n) z
+drop-filled f z [] n m le =
+    let all : m - 0 ≡ m = omega arith in
+    ap (λ k. drop n (replicate k z)) all ∙ drop-replicate n m z
+drop-filled f z (x ∷ xs) zero m le = absurd (omega arith)
+drop-filled f z (x ∷ xs) (suc n) m le =
+    let less : m - suc (length xs) ≡ (m - 1) - length xs = omega arith in
+    let left : (m - 1) - n ≡ m - suc n = omega arith in
+    ap (λ k. drop n (map f xs ++ replicate k z)) less ∙ drop-filled f z xs n (m - 1) (omega arith) ∙ ap (λ k. replicate k z) left
+
+-- Two views of at most 32 points show the same from the greater of their counts on.
+pub same-others : (s t : SiteState) (v w : View) (n : ℕ) → v ≡ view_of s → w ≡ view_of t → length s.points ≤ 32 → length t.points ≤ 32
+    → n ≡ max v.count w.count → (n ≤ 32) × (drop n v.points ≡ drop n w.points)
+unfolding view_of seen_points
+same-others s t v w n v_is w_is v_few w_few greater =
+    let v_count : v.count ≡ length s.points = λ i. (v_is i).count in
+    let w_count : w.count ≡ length t.points = λ i. (w_is i).count in
+    let v_points : drop n v.points ≡ drop n (map seen s.points ++ replicate (32 - length s.points) no_point) = λ i. drop n (v_is i).points in
+    let w_points : drop n w.points ≡ drop n (map seen t.points ++ replicate (32 - length t.points) no_point) = λ i. drop n (w_is i).points in (
+      omega (arith, greater),
+      v_points ∙ drop-filled seen no_point s.points n 32 (omega (arith, greater)) ∙ sym (drop-filled seen no_point t.points n 32 (omega (arith, greater)))
+          ∙ sym w_points,
+    )

@@ -1,6 +1,6 @@
 -- Representation: what a draft keeps of the state in which it was made, and what the contracts of the steps inside
 -- `begin` and `commit` say. A reader doesn't have to believe it.
-use Rattle.std.specs.Prelude.{◌≡◌, ◌≢◌, ℕ, ◌<◌, ◌⊎◌, if◌then◌else◌, length, Option, Some, None, Result, Ok, Err}
+use Rattle.std.specs.Prelude.{◌≡◌, ◌≢◌, ℕ, ◌<◌, ◌≤◌, ◌⊎◌, if◌then◌else◌, length, Option, Some, None, Result, Ok, Err}
 use Rattle.std.specs.Result.{result_ok}
 use Rattle.fuelling_point.specs.Table.{PointState}
 use Rattle.till_request.specs.declared.act.Act.{Act}
@@ -49,11 +49,12 @@ abbrev pub WouldRun : ConfigValue → SiteState → SlotsValue → ℕ → Reque
 WouldRun config s slots till request =
     (q : Question) × (v : Version) × (asked_question config s till request ≡ Some q) × (version_in slots q.slot ≡ Some v)
 
--- The draft was made in some state in which its request wasn't refused. Its context and its view are those of that
--- state.
+-- The draft was made in some state with at most 32 points, in which its request wasn't refused. Its context and its
+-- view are those of that state.
 pub record WasAsked (draft : DraftValue) : Type 0 where
   pub config : ConfigValue
   pub state : SiteState
+  pub few : length state.points ≤ 32
   pub question : Question
   pub asked : asked_question config state draft.till draft.request ≡ Some question
   pub context_is : draft.context ≡ bytes_of (context draft.version.program.layout state draft.till draft.moment question)

@@ -1,7 +1,7 @@
 //! The comparison of the site's current state with the state that a run was made on.
 
 ghost use Rattle.std.specs.Prelude.{◌≡◌, ◌≢◌, ◌↔◌, ◌<◌, IsTrue, ◌^◌, length, MatchOption, MatchResult, Some, None};
-ghost use Rattle.std.specs.Prelude.{option_map, IfSome};
+ghost use Rattle.std.specs.Prelude.{option_map, IfSome, ◌≤◌, drop, max};
 ghost use Rattle.std.specs.Arc.{arc_value};
 ghost use Rattle.interp.specs.Depends.{Agrees};
 ghost use Rattle.program_slots.specs.Value.{Version};
@@ -12,7 +12,7 @@ ghost use Rattle.site_core.specs.Differences.{FirstDiffers, CounterDiffers};
 ghost use Rattle.bpf_model.specs.declared.limits.TheConstants.{COUNTERS, POINTS};
 
 use counters::Counters;
-use helpers::PointView;
+use helpers::{PointView, View};
 use program_slots::Slots;
 use reg_types::Program;
 use std::sync::Arc;
@@ -23,6 +23,10 @@ pub fn first_byte(a: &[u8], b: &[u8]) -> Option<u32>
     requires small { length a.now < 2 ^ 32 }
     ensures { MatchOption result (a.now ≡ b.now) (FirstDiffers a.now b.now) }
 {
+    // `==` compares several bytes at a time.
+    if a == b {
+        return None;
+    }
     for i in 0..a.len() {
         if a[i] != b[i] {
             return Some(i as u32);
@@ -31,12 +35,22 @@ pub fn first_byte(a: &[u8], b: &[u8]) -> Option<u32>
     None
 }
 
-/// Returns the place, counted from 0, of the first point that differs; `None` if no point does.
-pub fn first_point(a: &[PointView; 32], b: &[PointView; 32]) -> Option<u32>
+/// Returns the greater number of points of two views.
+pub fn most_points(a: &View, b: &View) -> u32
+    ensures { result ≡ max a.now.count b.now.count }
+{
+    if a.count < b.count { b.count } else { a.count }
+}
+
+/// Returns the place, counted from 0, of the first point that differs; `None` if no point does. Only the first `count`
+/// points are compared: the others must be the same.
+pub fn first_point(count: u32, a: &[PointView; 32], b: &[PointView; 32]) -> Option<u32>
+    requires count { count ≤ POINTS }
+    requires others { drop count a.now ≡ drop count b.now }
     ensures within { IfSome result (λ place. place < POINTS) }
     ensures first { MatchOption result (a.now ≡ b.now) (FirstDiffers a.now b.now) }
 {
-    for i in 0..32 {
+    for i in 0..count as usize {
         if a[i] != b[i] {
             return Some(i as u32);
         }
@@ -49,6 +63,10 @@ pub fn first_price(a: &[u32; 8], b: &[u32; 8]) -> Option<u32>
     ensures within { IfSome result (λ place. place < 8) }
     ensures first { MatchOption result (a.now ≡ b.now) (FirstDiffers a.now b.now) }
 {
+    // `==` compares several prices at a time.
+    if a == b {
+        return None;
+    }
     for i in 0..8 {
         if a[i] != b[i] {
             return Some(i as u32);

@@ -3,7 +3,9 @@
 
 ghost use Rattle.std.specs.Prelude.{◌≡◌, IfOk, IsOk, OnErr, None, length};
 
-use crate::comparing::{first_byte, first_counter, first_point, first_price, is_version};
+use crate::comparing::{
+    first_byte, first_counter, first_point, first_price, is_version, most_points,
+};
 use crate::config::Config;
 use crate::events::Answered;
 use crate::perform::{asked_question, routed};
@@ -157,7 +159,8 @@ impl Draft {
             return Err(Why::Context(at));
         }
         let view = station.view();
-        if let Some(place) = first_point(&view.points, &input.view.points) {
+        let count = most_points(view, &input.view);
+        if let Some(place) = first_point(count, &view.points, &input.view.points) {
             return Err(Why::PointDiffers(place + 1));
         }
         if let Some(place) = first_price(&view.prices, &input.view.prices) {

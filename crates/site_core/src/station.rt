@@ -300,7 +300,8 @@ impl Station {
 
     /// Returns what a program's helpers can look up.
     pub fn view(&self) -> &View
-        ensures { result.now ≡ view_of self.now }
+        ensures view { result.now ≡ view_of self.now }
+        ensures few { length self.now.points ≤ POINTS }
     {
         &self.view
     }
@@ -448,16 +449,14 @@ impl Station {
         ensures unchanged { OnErr result (self.new ≡ self.old) }
         ensures none { program.now.declared ≡ 0 → IsOk result }
     {
-        let own = self.counters;
+        let declared = program.declared();
+        let counts = match note_counts(self.alloc, declared, &self.counters, after) {
+            Ok(counts) => counts,
+            Err(error) => return Err(error),
+        };
         let current = &mut self.counters;
         rebase(program, given, &self.view, before, after, current);
-        match note_counts(self.alloc, program.declared(), &own, &self.counters) {
-            Ok(counts) => Ok(counts),
-            Err(error) => {
-                self.counters = own;
-                Err(error)
-            }
-        }
+        Ok(counts)
     }
 
     /// Carries out what a program answered (0 is a denial), and returns the reply. `version` is the program's version.

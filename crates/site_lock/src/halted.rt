@@ -86,7 +86,7 @@ impl<L: SiteLedger, J: Journal> Halted<L, J> {
         self.locked_site.has_stopped()
     }
 
-    /// Returns the forecourt, for further calls and another close.
+    /// Opens the forecourt again, for further calls and another close. A journal that failed stays failed.
     pub fn reopen(self) -> Forecourt<L, J>
         ensures { result ≡ self.opened }
     {

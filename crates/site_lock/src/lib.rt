@@ -7,13 +7,13 @@ pub mod check;
 mod close;
 mod desk;
 mod enter_fault;
+mod first_step;
 mod forecourt;
 mod gate;
 mod halted;
 mod journal;
 mod locked_site;
 mod look;
-mod opening;
 mod pass;
 pub mod programs;
 

@@ -162,7 +162,7 @@ pub enum Role {
     Dispenser,
     /// The lines that load programs.
     Owner,
-    /// All lines.
+    /// The lines of any till, of any dispenser, and those that load programs.
     All,
     /// The lines of the till with this number.
     OneTill(u32),

@@ -1,7 +1,7 @@
 use Rattle.std.proofs.Common.{◌≡◌, sym, subst, ◌∙◌, Some, None, Err, ap, refl}
 use Rattle.bpf_model.specs.Reading.{units}
 use Rattle.bpf_decode.proofs.Decoding.{begun}
-use Rattle.reg_types.specs.LoadOptions.{terms_of}
+use Rattle.reg_types.specs.LoadOptions.{options_of}
 use Rattle.bpf_model.specs.Program.{as_loaded}
 use Rattle.operations.specs.Operations.{AreOperations}
 use Rattle.reg_types.specs.Facts.{stored}
@@ -30,19 +30,19 @@ invariant_of-result c =
             reads = reads;
             forward = c.code.ensures.forward;
             flows = subst (λ us. flow_fault us ≡ None) (sym flow) c.in-Ok-check_flow.ensures.ok.1;
-            flawless = subst (λ us. first_flaw us (terms_of (as_loaded c.args.bytes.now c.args.declared c.args.layout)) ≡ None) own
+            flawless = subst (λ us. first_flaw us (options_of (as_loaded c.args.bytes.now c.args.declared c.args.layout)) ≡ None) own
                 c.in-Ok-infer.ensures.flawless;
-            inferred_are = subst (λ us. AreInferred us (terms_of (as_loaded c.args.bytes.now c.args.declared c.args.layout)) (stored c.in-Ok-infer.facts.items))
+            inferred_are = subst (λ us. AreInferred us (options_of (as_loaded c.args.bytes.now c.args.declared c.args.layout)) (stored c.in-Ok-infer.facts.items))
                 own c.in-Ok-infer.ensures.inferred;
             distinct = c.in-Ok-infer.ensures.distinct;
-            walked = walked c.in-Ok-from_slice.kept.items c.in-Ok-check_flow.flow (terms_of (as_loaded c.args.bytes.now c.args.declared c.args.layout)) reads;
+            walked = walked c.in-Ok-from_slice.kept.items c.in-Ok-check_flow.flow (options_of (as_loaded c.args.bytes.now c.args.declared c.args.layout)) reads;
           };
       decoded = subst (λ us. AreOperations us c.in-Ok-operations_of.ops.items) own c.in-Ok-operations_of.ensures;
     }
 
 pub returns-in-Err : goal.returns-in-Err
 returns-in-Err c =
-    let exact = decode_exact c.args.bytes.now (terms_of (as_loaded c.args.bytes.now c.args.declared c.args.layout)) c.in-Err.fault c.in-Err.ensures.refused in
+    let exact = decode_exact c.args.bytes.now (options_of (as_loaded c.args.bytes.now c.args.declared c.args.layout)) c.in-Err.fault c.in-Err.ensures.refused in
     let told = c.refused_for.ensures in
     record {
       same = tt;
@@ -50,8 +50,8 @@ returns-in-Err c =
       answers = subst (IsRefusal (refusal_of (as_loaded c.args.bytes.now c.args.declared c.args.layout))) (sym told) exact;
       alone = subst IsToldAlone (sym told) (decode_alone c.in-Err.fault);
       refused = subst (IsRefused (as_loaded c.args.bytes.now c.args.declared c.args.layout)) (sym told)
-          (decode_shown c.args.bytes.now (terms_of (as_loaded c.args.bytes.now c.args.declared c.args.layout)) c.in-Err.fault c.in-Err.ensures.refused);
-      plain = λ p. told ∙ exact_plain c.args.bytes.now (terms_of (as_loaded c.args.bytes.now c.args.declared c.args.layout))
+          (decode_shown c.args.bytes.now (options_of (as_loaded c.args.bytes.now c.args.declared c.args.layout)) c.in-Err.fault c.in-Err.ensures.refused);
+      plain = λ p. told ∙ exact_plain c.args.bytes.now (options_of (as_loaded c.args.bytes.now c.args.declared c.args.layout))
           (decode_told c.in-Err.fault) exact p;
       begins = tt;
       length = λ wrong. ap Err (told ∙ ap decode_told (fault_of_err c.in-Err.fault (c.in-Err.ensures.length wrong)));
@@ -61,7 +61,7 @@ returns-in-Err c =
 pub returns-in-Err-check_flow : goal.returns-in-Err-check_flow
 returns-in-Err-check_flow c =
     let right = begun c.args.bytes.now c.in-Ok.code c.in-Ok.ensures.ok in
-    let exact = flow_exact c.args.bytes.now (terms_of (as_loaded c.args.bytes.now c.args.declared c.args.layout)) c.in-Ok.code c.in-Err-check_flow.fault c.in-Ok.ensures.ok
+    let exact = flow_exact c.args.bytes.now (options_of (as_loaded c.args.bytes.now c.args.declared c.args.layout)) c.in-Ok.code c.in-Err-check_flow.fault c.in-Ok.ensures.ok
     c.in-Err-check_flow.ensures.refused in
     record {
       same = tt;
@@ -69,7 +69,7 @@ returns-in-Err-check_flow c =
       answers = exact;
       alone = flow_alone c.in-Ok.code c.in-Err-check_flow.fault c.in-Err-check_flow.ensures.refused;
       refused = (c.in-Ok.code, c.in-Ok.ensures.ok, c.in-Err-check_flow.ensures.refused);
-      plain = exact_plain c.args.bytes.now (terms_of (as_loaded c.args.bytes.now c.args.declared c.args.layout)) (Flow c.in-Err-check_flow.fault) exact;
+      plain = exact_plain c.args.bytes.now (options_of (as_loaded c.args.bytes.now c.args.declared c.args.layout)) (Flow c.in-Err-check_flow.fault) exact;
       begins = tt;
       length = never_wrong _ c.args.bytes.now right;
       memory = λ none. right;
@@ -94,16 +94,16 @@ pub returns-in-Err-infer : goal.returns-in-Err-infer
 returns-in-Err-infer c =
     let right = begun c.args.bytes.now c.in-Ok.code c.in-Ok.ensures.ok in
     let same = c.units-units.ensures.same ∙ c.code.ensures.same ∙ c.in-Ok-check_flow.ensures.ok.0 in
-    let passed : IsPassRefused c.in-Ok.code (terms_of (as_loaded c.args.bytes.now c.args.declared c.args.layout)) c.in-Err-infer.refusal =
-    subst (λ us. IsPassRefused us (terms_of (as_loaded c.args.bytes.now c.args.declared c.args.layout)) c.in-Err-infer.refusal) same c.in-Err-infer.ensures.refused in
-    let exact = pass_exact c.args.bytes.now c.in-Ok.code (terms_of (as_loaded c.args.bytes.now c.args.declared c.args.layout)) c.in-Ok.ensures.ok c.in-Ok-check_flow.ensures.ok.1 c.in-Err-infer.refusal passed in
+    let passed : IsPassRefused c.in-Ok.code (options_of (as_loaded c.args.bytes.now c.args.declared c.args.layout)) c.in-Err-infer.refusal =
+    subst (λ us. IsPassRefused us (options_of (as_loaded c.args.bytes.now c.args.declared c.args.layout)) c.in-Err-infer.refusal) same c.in-Err-infer.ensures.refused in
+    let exact = pass_exact c.args.bytes.now c.in-Ok.code (options_of (as_loaded c.args.bytes.now c.args.declared c.args.layout)) c.in-Ok.ensures.ok c.in-Ok-check_flow.ensures.ok.1 c.in-Err-infer.refusal passed in
     record {
       same = tt;
       good = tt;
       answers = exact;
-      alone = pass_alone c.in-Ok.code (terms_of (as_loaded c.args.bytes.now c.args.declared c.args.layout)) c.in-Err-infer.refusal passed;
-      refused = pass_shown c.args.bytes.now c.in-Ok.code (terms_of (as_loaded c.args.bytes.now c.args.declared c.args.layout)) c.in-Ok.ensures.ok c.in-Ok-check_flow.ensures.ok.1 c.in-Err-infer.refusal passed;
-      plain = exact_plain c.args.bytes.now (terms_of (as_loaded c.args.bytes.now c.args.declared c.args.layout)) c.in-Err-infer.refusal exact;
+      alone = pass_alone c.in-Ok.code (options_of (as_loaded c.args.bytes.now c.args.declared c.args.layout)) c.in-Err-infer.refusal passed;
+      refused = pass_shown c.args.bytes.now c.in-Ok.code (options_of (as_loaded c.args.bytes.now c.args.declared c.args.layout)) c.in-Ok.ensures.ok c.in-Ok-check_flow.ensures.ok.1 c.in-Err-infer.refusal passed;
+      plain = exact_plain c.args.bytes.now (options_of (as_loaded c.args.bytes.now c.args.declared c.args.layout)) c.in-Err-infer.refusal exact;
       begins = tt;
       length = never_wrong _ c.args.bytes.now right;
       memory = λ none. right;
@@ -129,12 +129,12 @@ returns c =
     let right = begun c.args.bytes.now c.in-Ok.code c.in-Ok.ensures.ok in
     let flow = c.in-Ok-check_flow.ensures.ok.0 in
     let units_are = c.units-units.ensures.same ∙ c.code.ensures.same ∙ flow in
-    let flawless = subst (λ us. first_flaw us (terms_of (as_loaded c.args.bytes.now c.args.declared c.args.layout)) ≡ None) units_are c.in-Ok-infer.ensures.flawless in
+    let flawless = subst (λ us. first_flaw us (options_of (as_loaded c.args.bytes.now c.args.declared c.args.layout)) ≡ None) units_are c.in-Ok-infer.ensures.flawless in
     let same = ap (λ bytes. as_loaded bytes c.args.declared c.args.layout) c.in-Ok-from_slice.ensures.items in
     record {
       same = same;
-      good = good_by c.args.bytes.now (terms_of (as_loaded c.args.bytes.now c.args.declared c.args.layout)) c.in-Ok.code c.in-Ok.ensures.ok (subst GoesForward flow c.code.ensures.forward) flawless;
-      answers = (same, accepted c.args.bytes.now c.in-Ok.code (terms_of (as_loaded c.args.bytes.now c.args.declared c.args.layout)) c.in-Ok.ensures.ok c.in-Ok-check_flow.ensures.ok.1 flawless);
+      good = good_by c.args.bytes.now (options_of (as_loaded c.args.bytes.now c.args.declared c.args.layout)) c.in-Ok.code c.in-Ok.ensures.ok (subst GoesForward flow c.code.ensures.forward) flawless;
+      answers = (same, accepted c.args.bytes.now c.in-Ok.code (options_of (as_loaded c.args.bytes.now c.args.declared c.args.layout)) c.in-Ok.ensures.ok c.in-Ok-check_flow.ensures.ok.1 flawless);
       alone = tt;
       refused = tt;
       plain = tt;

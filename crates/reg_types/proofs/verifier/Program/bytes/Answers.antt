@@ -9,10 +9,10 @@ pub returns-clause-good : goal.returns-clause-good
 returns-clause-good c =
     let p = c.self.inside in
     let is = c.self.invariant.accepted in
-    subst IsGood c.self.view_is (good_by p.bytes.items p.terms c.self.invariant.us is.reads is.forward is.flawless)
+    subst IsGood c.self.view_is (good_by p.bytes.items p.options c.self.invariant.us is.reads is.forward is.flawless)
 
 pub returns-clause-accepted : goal.returns-clause-accepted
 returns-clause-accepted c =
     let p = c.self.inside in
     let is = c.self.invariant.accepted in
-    subst (λ t. refusal_of t ≡ None) c.self.view_is (accepted p.bytes.items c.self.invariant.us p.terms is.reads is.flows is.flawless)
+    subst (λ t. refusal_of t ≡ None) c.self.view_is (accepted p.bytes.items c.self.invariant.us p.options is.reads is.flows is.flawless)

@@ -11,6 +11,6 @@ returns c =
     (subst (λ t. IsDecoded t p.ops.items) c.self.view_is
     (record {
       us = c.self.invariant.us;
-      covered = covered_by p.bytes.items p.terms c.self.invariant.us is.reads is.forward is.flawless;
+      covered = covered_by p.bytes.items p.options c.self.invariant.us is.reads is.forward is.flawless;
       operations = c.self.invariant.decoded;
     }))

@@ -6,8 +6,21 @@ use Rattle.bpf_model.specs.Program.{ProgramText}
 use Rattle.site_core.specs.Context.{context}
 use Rattle.site_core.specs.Draft.{DraftValue}
 use Rattle.site_core.specs.Differences.{CounterDiffers}
+use Rattle.site_core.proofs.Filling.{same-others}
 use Rattle.site_core.proofs.StillAsked.{SameBasis, differs-counter, still-asked}
 use Rattle.site_core.proofs.draft.Draft.compare.Goals as goal
+
+pub first_point-requires-clause-count : goal.first_point-requires-clause-count
+first_point-requires-clause-count c =
+    let was = c.self.invariant.1 in
+    (same-others c.args.station.now was.state c.view-view.result.now c.deref-input.result.now.view c.most_points-count.result c.view-view.ensures.view
+    ((λ i. (c.deref-input.ensures i).view) ∙ was.view_is) c.view-view.ensures.few was.few c.most_points-count.ensures).0
+
+pub first_point-requires-clause-others : goal.first_point-requires-clause-others
+first_point-requires-clause-others c =
+    let was = c.self.invariant.1 in
+    (same-others c.args.station.now was.state c.view-view.result.now c.deref-input.result.now.view c.most_points-count.result c.view-view.ensures.view
+    ((λ i. (c.deref-input.ensures i).view) ∙ was.view_is) c.view-view.ensures.few was.few c.most_points-count.ensures).1
 
 pub returns-in-Some-first_counter : goal.returns-in-Some-first_counter
 returns-in-Some-first_counter c =
@@ -31,8 +44,8 @@ returns-in-Some-first_counter c =
       routed_is = sym c.routed.ensures ∙ c.in-Some.is;
       version = c.in_default-is_version.ensures ∙ (λ i. Some (record { number = d.version; program = c.deref.ensures i }));
       context_is = sym (ap bytes_of given) ∙ sym c.bytes.ensures.bytes ∙ c.in_default-first_byte.ensures ∙ c.bytes-2.ensures.bytes ∙ (λ i. bytes_of (input_is i).context);
-      points = (λ i. (sym c.view-view.ensures i).points) ∙ c.in_default-first_point.ensures.first ∙ (λ i. (input_is i).view.points);
-      prices = (λ i. (sym c.view-view.ensures i).prices) ∙ c.in_default-first_price.ensures.first ∙ (λ i. (input_is i).view.prices);
+      points = (λ i. (sym c.view-view.ensures.view i).points) ∙ c.in_default-first_point.ensures.first ∙ (λ i. (input_is i).view.points);
+      prices = (λ i. (sym c.view-view.ensures.view i).prices) ∙ c.in_default-first_price.ensures.first ∙ (λ i. (input_is i).view.prices);
       was = c.self.invariant.1;
     } in
     let differs : CounterDiffers (arc_value d.program).declared s.counters d.counters.value c.in-Some-first_counter.c =
@@ -62,8 +75,8 @@ returns c =
       routed_is = sym c.routed.ensures ∙ c.in-Some.is;
       version = c.in_default-is_version.ensures ∙ (λ i. Some (record { number = d.version; program = c.deref.ensures i }));
       context_is = sym (ap bytes_of given) ∙ sym c.bytes.ensures.bytes ∙ c.in_default-first_byte.ensures ∙ c.bytes-2.ensures.bytes ∙ (λ i. bytes_of (input_is i).context);
-      points = (λ i. (sym c.view-view.ensures i).points) ∙ c.in_default-first_point.ensures.first ∙ (λ i. (input_is i).view.points);
-      prices = (λ i. (sym c.view-view.ensures i).prices) ∙ c.in_default-first_price.ensures.first ∙ (λ i. (input_is i).view.prices);
+      points = (λ i. (sym c.view-view.ensures.view i).points) ∙ c.in_default-first_point.ensures.first ∙ (λ i. (input_is i).view.points);
+      prices = (λ i. (sym c.view-view.ensures.view i).prices) ∙ c.in_default-first_price.ensures.first ∙ (λ i. (input_is i).view.prices);
       was = c.self.invariant.1;
     } in
     let agree : Agrees (arc_value d.program).declared d.counters.value s.counters =

@@ -2,11 +2,13 @@ use Rattle.std.proofs.Common.{◌≡◌, ap, ◌∙◌, sym, refl}
 use Rattle.bpf_model.specs.Program.{outcome}
 use Rattle.bpf_model.specs.Layouts.{bytes_of}
 use Rattle.site_core.specs.State.{SiteState, view_of}
+use Rattle.site_core.proofs.Counted.{counts-adopted}
+use Rattle.site_core.specs.Decide.{counts}
 use Rattle.site_core.proofs.Filling.{view-is}
 use Rattle.site_core.proofs.station.Station.adopt.Goals as goal
 
-pub returns-in-Ok-clause-ran : goal.returns-in-Ok-clause-ran
-returns-in-Ok-clause-ran c = λ r0 ran.
+pub returns-clause-ran : goal.returns-clause-ran
+returns-clause-ran c = λ r0 ran.
     let old : SiteState = record {
       points = c.self.inside.points.items;
       prices = c.self.inside.view.prices;
@@ -19,3 +21,10 @@ returns-in-Ok-clause-ran c = λ r0 ran.
     let counted : c.self.inside.counters ≡ c.args.self.now.counters = ap (λ (s : SiteState). s.counters) c.self.view_is in
     let before = (λ i. outcome c.args.program.now (bytes_of c.args.given.now) (shown i) c.args.before.now) ∙ ran in
     (λ i. outcome c.args.program.now (bytes_of c.args.given.now) (sym shown i) (sym counted i)) ∙ c.rebase.ensures.ran r0 before
+
+pub returns-clause-noted : goal.returns-clause-noted
+returns-clause-noted c =
+    let counted : c.self.inside.counters ≡ c.args.self.now.counters = ap (λ (s : SiteState). s.counters) c.self.view_is in
+    c.in-Ok.ensures.noted ∙ (λ i. counts (c.declared-declared.ensures i) c.self.inside.counters c.args.after.now)
+    ∙ counts-adopted c.args.program.now.declared c.self.inside.counters c.args.after.now c.rebase.new.now c.rebase.ensures.counters
+    ∙ (λ i. counts c.args.program.now.declared (counted i) c.rebase.new.now)

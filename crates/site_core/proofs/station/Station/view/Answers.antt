@@ -3,8 +3,8 @@ use Rattle.site_core.specs.State.{SiteState}
 use Rattle.site_core.proofs.Filling.{view-is}
 use Rattle.site_core.proofs.station.Station.view.Goals as goal
 
-pub returns : goal.returns
-returns c =
+pub returns-clause-view : goal.returns-clause-view
+returns-clause-view c =
     let s : SiteState = record {
       points = c.self.inside.points.items;
       prices = c.self.inside.view.prices;
