@@ -19,7 +19,7 @@ use Rattle.day_report.specs.Sales.{sale_of, unpaid_at}
 use Rattle.day_report.specs.declared.sales.Sale.{Sale}
 use Rattle.day_export.specs.declared.cells.Rows.TheVariants as rows
 use Rattle.day_export.specs.declared.cells.Cell.{Cell}
-use Rattle.day_export.specs.declared.standing.Ended.{Ended}
+use Rattle.day_export.specs.declared.standing.Delivery.{Delivery}
 use Rattle.day_export.specs.Standing.{Stand, became, ended_as, ended_between, ended_by, number_cleared, point_named, stand_after, uncleared, without}
 use Rattle.day_export.specs.Rows.{rows_from, sale_cells, sale_row}
 use Rattle.day_export.specs.Laws.{HasNoDelivery, OpensWithPoints, cell_at, was_unpaid}
@@ -93,31 +93,31 @@ opened-points config (Some o) is fits = λ n x p at found.
 
 -- ---- no delivery in a list
 
-none-head : (b : Bool) (u : Ended) (o : Option Ended) → (if b then Some u else o) ≡ None → (b ≡ false) × (o ≡ None)
-none-head true u o h = absurd (let e : ◌≡◌ {A = Option Ended} (Some u) None = h in cc)
+none-head : (b : Bool) (u : Delivery) (o : Option Delivery) → (if b then Some u else o) ≡ None → (b ≡ false) × (o ≡ None)
+none-head true u o h = absurd (let e : ◌≡◌ {A = Option Delivery} (Some u) None = h in cc)
 none-head false u o h = (refl, h)
 
-none-if : (b : Bool) (u : Ended) (o : Option Ended) → b ≡ false → o ≡ None → (if b then Some u else o) ≡ None
+none-if : (b : Bool) (u : Delivery) (o : Option Delivery) → b ≡ false → o ≡ None → (if b then Some u else o) ≡ None
 none-if b u o p q = rw p q
 
-none-both : (us vs : List Ended) (n x : ℕ) → ended_as us n x ≡ None → ended_as vs n x ≡ None → ended_as (us ++ vs) n x ≡ None
+none-both : (us vs : List Delivery) (n x : ℕ) → ended_as us n x ≡ None → ended_as vs n x ≡ None → ended_as (us ++ vs) n x ≡ None
 none-both [] vs n x g h = h
 none-both (u ∷ us) vs n x g h =
     let two = none-head (became n x u) u (ended_as us n x) g in
     none-if (became n x u) u (ended_as (us ++ vs) n x) two.0 (none-both us vs n x two.1 h)
 
-none-kept : (n x : ℕ) (u : Ended) (ws : List Ended) (c : Bool) → became n x u ≡ false → ended_as ws n x ≡ None
+none-kept : (n x : ℕ) (u : Delivery) (ws : List Delivery) (c : Bool) → became n x u ≡ false → ended_as ws n x ≡ None
     → ended_as (if not c then u ∷ ws else ws) n x ≡ None
 none-kept n x u ws true other h = h
 none-kept n x u ws false other h = none-if (became n x u) u (ended_as ws n x) other h
 
-none-without : (us : List Ended) (m y n x : ℕ) → ended_as us n x ≡ None → ended_as (without us m y) n x ≡ None
+none-without : (us : List Delivery) (m y n x : ℕ) → ended_as us n x ≡ None → ended_as (without us m y) n x ≡ None
 none-without [] m y n x h = refl
 none-without (u ∷ us) m y n x h =
     let two = none-head (became n x u) u (ended_as us n x) h in
     none-kept n x u (without us m y) (became m y u) two.0 (none-without us m y n x two.1)
 
-none-uncleared : (us : List Ended) (o : Option Sale) (a : Act) (n x : ℕ) → ended_as us n x ≡ None → ended_as (uncleared us o a) n x ≡ None
+none-uncleared : (us : List Delivery) (o : Option Sale) (a : Act) (n x : ℕ) → ended_as us n x ≡ None → ended_as (uncleared us o a) n x ≡ None
 none-uncleared us None a n x h = h
 none-uncleared us (Some sale) a n x h = none-without us sale.point (number_cleared a) n x h
 
@@ -212,7 +212,7 @@ holds-more first s e given holds = record {
 abbrev TellsNone : List PointState → List Cell → Type 0
 TellsNone first row = was_unpaid first (cell_at row 2) (cell_at row 3) ≡ true → HasNoDelivery row
 
-bare-cells : (sale : Sale) (x : ℕ) (o : Option Ended) → o ≡ None → HasNoDelivery (sale_cells sale x o)
+bare-cells : (sale : Sale) (x : ℕ) (o : Option Delivery) → o ≡ None → HasNoDelivery (sale_cells sale x o)
 bare-cells sale x o none = subst (λ y. HasNoDelivery (sale_cells sale x y)) (sym none) (refl, refl, refl)
 
 row-told : (first : List PointState) (s : Stand) (e : Entry) (o : Option Sale) (more : List (List Cell)) → Holds first s → All (TellsNone first) more

@@ -24,7 +24,7 @@ use Rattle.day_report.specs.declared.sales.Sale.{Sale}
 use Rattle.day_report.proofs.SiteSteps.{effect-says}
 use Rattle.day_export.specs.declared.cells.Rows.TheVariants as rows
 use Rattle.day_export.specs.declared.cells.Cell.{Cell}
-use Rattle.day_export.specs.declared.standing.Ended.{Ended}
+use Rattle.day_export.specs.declared.standing.Delivery.{Delivery}
 use Rattle.day_export.specs.Standing.{Stand, became, ended_as, ended_at, ended_between, ended_by, number_cleared, point_named, prices_after}
 use Rattle.day_export.specs.Standing.{stand_after, stand_before, uncleared, without}
 use Rattle.day_export.specs.Rows.{row_of, rows_from, sale_cells, sale_row}
@@ -38,26 +38,26 @@ use Rattle.day_export.proofs.CarriedIn.{carried-first, carried-told, nothing-the
 
 -- ---- one delivery in a list
 
-abbrev IsThere : List Ended → ℕ → ℕ → Type 0
+abbrev IsThere : List Delivery → ℕ → ℕ → Type 0
 IsThere us n x = IsSome (ended_as us n x)
 
-here-or-later : (b : Bool) (u : Ended) (o o2 : Option Ended) → IsSome (if b then Some u else o) → (IsSome o → IsSome o2) → IsSome (if b then Some u else o2)
+here-or-later : (b : Bool) (u : Delivery) (o o2 : Option Delivery) → IsSome (if b then Some u else o) → (IsSome o → IsSome o2) → IsSome (if b then Some u else o2)
 here-or-later true u o o2 h later = refl
 here-or-later false u o o2 h later = later h
 
-later-still : (b : Bool) (u : Ended) (o : Option Ended) → IsSome o → IsSome (if b then Some u else o)
+later-still : (b : Bool) (u : Delivery) (o : Option Delivery) → IsSome o → IsSome (if b then Some u else o)
 later-still true u o h = refl
 later-still false u o h = h
 
-later-only : (b : Bool) (u : Ended) (o : Option Ended) → b ≡ false → IsSome (if b then Some u else o) → IsSome o
+later-only : (b : Bool) (u : Delivery) (o : Option Delivery) → b ≡ false → IsSome (if b then Some u else o) → IsSome o
 later-only true u o not-here h = absurd (let e : ◌≡◌ {A = Bool} true false = not-here in cc)
 later-only false u o not-here h = h
 
-there-before : (us vs : List Ended) (n x : ℕ) → IsThere us n x → IsThere (us ++ vs) n x
+there-before : (us vs : List Delivery) (n x : ℕ) → IsThere us n x → IsThere (us ++ vs) n x
 there-before [] vs n x h = nothing-there h
 there-before (u ∷ us) vs n x h = here-or-later (became n x u) u (ended_as us n x) (ended_as (us ++ vs) n x) h (there-before us vs n x)
 
-there-behind : (us vs : List Ended) (n x : ℕ) → IsThere vs n x → IsThere (us ++ vs) n x
+there-behind : (us vs : List Delivery) (n x : ℕ) → IsThere vs n x → IsThere (us ++ vs) n x
 there-behind [] vs n x h = h
 there-behind (u ∷ us) vs n x h = later-still (became n x u) u (ended_as (us ++ vs) n x) (there-behind us vs n x h)
 
@@ -66,17 +66,17 @@ both-true true b h = (refl, h)
 both-true false b h = absurd (let e : ◌≡◌ {A = Bool} false true = h in cc)
 
 -- A delivery that became one transaction didn't become a second one.
-not-both : (u : Ended) (m y n x : ℕ) → ((m == n) && (y == x)) ≡ false → became m y u ≡ true → became n x u ≡ false
+not-both : (u : Delivery) (m y n x : ℕ) → ((m == n) && (y == x)) ≡ false → became m y u ≡ true → became n x u ≡ false
 not-both u m y n x other is =
     let two = both-true (u.point == m) (u.transaction == y) is in
     (λ j. (eqb-true u.point m two.0 j == n) && (eqb-true u.transaction y two.1 j == x)) ∙ other
 
-there-kept : (n x : ℕ) (u : Ended) (ws : List Ended) (o : Option Ended) (c : Bool) → (c ≡ true → became n x u ≡ false)
+there-kept : (n x : ℕ) (u : Delivery) (ws : List Delivery) (o : Option Delivery) (c : Bool) → (c ≡ true → became n x u ≡ false)
     → IsSome (if became n x u then Some u else o) → (IsSome o → IsThere ws n x) → IsThere (if not c then u ∷ ws else ws) n x
 there-kept n x u ws o true other h later = later (later-only (became n x u) u o (other refl) h)
 there-kept n x u ws o false other h later = here-or-later (became n x u) u o (ended_as ws n x) h later
 
-there-without : (us : List Ended) (m y n x : ℕ) → ((m == n) && (y == x)) ≡ false → IsThere us n x → IsThere (without us m y) n x
+there-without : (us : List Delivery) (m y n x : ℕ) → ((m == n) && (y == x)) ≡ false → IsThere us n x → IsThere (without us m y) n x
 there-without [] m y n x other h = nothing-there h
 there-without (u ∷ us) m y n x other h =
     there-kept n x u (without us m y) (ended_as us n x) (became m y u) (not-both u m y n x other) h (there-without us m y n x other)
@@ -88,7 +88,7 @@ abbrev IsOfDay : List PointState → ℕ → ℕ → Type 0
 IsOfDay first n x = is_some (unpaid_at first n x) ≡ false
 
 -- for each unpaid transaction of a point that wasn't unpaid when the day began, the delivery that became it is in the list
-abbrev Kept : List PointState → List PointState → List Ended → Type 0
+abbrev Kept : List PointState → List PointState → List Delivery → Type 0
 Kept first points unpaid =
     (n x : ℕ) (p : PointState) → at_number points n ≡ Some p → IsSome (find_number x p.unpaid) → IsOfDay first n x → IsThere unpaid n x
 
@@ -187,7 +187,7 @@ abbrev row-made : (s : Stand) (e : Entry) (o : Option Sale) → Option (List Cel
 row-made s e o =
     elim o [ None ↦ None | Some sale ↦ Some (sale_cells sale (number_cleared e.act) (ended_as s.unpaid sale.point (number_cleared e.act))) ]
 
-full-cells : (sale : Sale) (x : ℕ) (o : Option Ended) → IsSome o → HasDelivery (sale_cells sale x o)
+full-cells : (sale : Sale) (x : ℕ) (o : Option Delivery) → IsSome o → HasDelivery (sale_cells sale x o)
 full-cells sale x None h = nothing-there h
 full-cells sale x (Some e) h = (tt, tt, tt)
 

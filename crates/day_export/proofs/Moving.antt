@@ -8,14 +8,14 @@ use Rattle.decision_journal.specs.declared.entries.Entry.{Entry}
 use Rattle.day_report.specs.Walk.{with_entry}
 use Rattle.day_report.specs.Sales.{sale_of}
 use Rattle.day_report.specs.declared.sales.Sale.{Sale}
-use Rattle.day_export.specs.declared.standing.Ended.{Ended}
+use Rattle.day_export.specs.declared.standing.Delivery.{Delivery}
 use Rattle.day_export.specs.Standing.{Stand, ended_by, prices_after, stand_after, uncleared}
 
 -- If all n items of a list are overwritten by new ones, then it is the list of the new items.
 pub refilled : {A : Type 0} (n : ℕ) (new old : List A) → length new ≡ length old → length old ≡ n → take n (new ++ drop (length new) old) ≡ new
 refilled n new old same long = grind (arith, common_steps)
 
-pub moved : (old : Stand) (entry : Entry) (points : List PointState) (prices : List ℕ) (left unpaid : List Ended) (sale : Option Sale) (ended : Option Ended)
+pub moved : (old : Stand) (entry : Entry) (points : List PointState) (prices : List ℕ) (left unpaid : List Delivery) (sale : Option Sale) (ended : Option Delivery)
     → points ≡ with_entry old.points entry → prices ≡ prices_after old.prices entry.act entry.reply → sale ≡ sale_of old.points entry
     → left ≡ uncleared old.unpaid sale entry.act → ended ≡ ended_by old.points old.prices entry → unpaid ≡ left ++ option_to_list ended
     → (record { points = points; prices = prices; unpaid = unpaid }) ≡ stand_after old entry

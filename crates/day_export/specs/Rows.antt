@@ -11,7 +11,7 @@ use Rattle.day_export.specs.declared.cells.Rows.TheVariants as rows
 use Rattle.day_export.specs.declared.cells.Word.TheVariants as word
 use Rattle.day_export.specs.declared.cells.Cell.{Cell}
 use Rattle.day_export.specs.declared.cells.Cell.TheVariants as cell
-use Rattle.day_export.specs.declared.standing.Ended.{Ended}
+use Rattle.day_export.specs.declared.standing.Delivery.{Delivery}
 use Rattle.day_export.specs.Cells.{moment_cell}
 use Rattle.day_export.specs.Acts.{act_cells, reply_cells, run_cells, field_cell}
 use Rattle.day_export.specs.Standing.{Stand, ended_as, number_cleared, stand_after, stand_before}
@@ -19,12 +19,12 @@ use Rattle.day_export.specs.Standing.{Stand, ended_as, number_cleared, stand_aft
 -- ---- sales
 
 -- the cell of a number that a delivery has; it is empty if the delivery isn't known
-abbrev pub ended_cell : Option Ended → (Ended → ℕ) → Cell
+abbrev pub ended_cell : Option Delivery → (Delivery → ℕ) → Cell
 ended_cell None field = cell.Nothing
 ended_cell (Some e) field = cell.Number (field e)
 
 -- the row of a sale, with the number of its transaction and with its delivery, if that is known
-abbrev pub sale_cells : Sale → ℕ → Option Ended → List Cell
+abbrev pub sale_cells : Sale → ℕ → Option Delivery → List Cell
 sale_cells sale transaction ended =
     ended_cell ended (λ e. e.number)
     ∷ cell.Number sale.number

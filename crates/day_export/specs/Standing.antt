@@ -16,7 +16,7 @@ use Rattle.day_report.specs.Walk.{with_entry}
 use Rattle.day_report.specs.Sales.{sale_of}
 use Rattle.day_report.specs.Following.{AreWithin}
 use Rattle.day_report.specs.declared.sales.Sale.{Sale}
-use Rattle.day_export.specs.declared.standing.Ended.{Ended}
+use Rattle.day_export.specs.declared.standing.Delivery.{Delivery}
 use Rattle.day_export.specs.declared.standing.Standing.{Standing}
 
 -- The state of a day: the points, and the prices of the products in thousandths. `unpaid` are the deliveries of the day
@@ -24,7 +24,7 @@ use Rattle.day_export.specs.declared.standing.Standing.{Standing}
 pub record Stand : Type 0 where
   pub points : List PointState
   pub prices : List ℕ
-  pub unpaid : List Ended
+  pub unpaid : List Delivery
 
 -- The price of a product; 0 if there is no such product. Products are numbered from 1.
 abbrev pub price_of : List ℕ → ℕ → ℕ
@@ -63,7 +63,7 @@ point_named (act.Load slot mask layout bytes) = 0
 -- The delivery at point n that ended with the entry of this number; None if none ended. A delivery ended if the point
 -- gave out one more transaction number. Its product is the nozzle that was lifted before the entry, at the price before
 -- it.
-abbrev pub ended_at : List ℕ → ℕ → ℕ → PointState → PointState → Option Ended
+abbrev pub ended_at : List ℕ → ℕ → ℕ → PointState → PointState → Option Delivery
 ended_at prices number n before after =
     if after.last == before.last + 1 then Some (record {
       point = n;
@@ -73,12 +73,12 @@ ended_at prices number n before after =
       price = price_of prices before.nozzle;
     }) else None
 
-abbrev pub ended_between : List ℕ → ℕ → ℕ → Option PointState → Option PointState → Option Ended
+abbrev pub ended_between : List ℕ → ℕ → ℕ → Option PointState → Option PointState → Option Delivery
 ended_between prices number n (Some before) (Some after) = ended_at prices number n before after
 ended_between prices number n _ _ = None
 
 -- The delivery that an entry ended; None if it ended none. `points` and `prices` are those before the entry.
-unfoldable pub ended_by : List PointState → List ℕ → Entry → Option Ended
+unfoldable pub ended_by : List PointState → List ℕ → Entry → Option Delivery
 ended_by points prices entry =
     ended_between prices entry.number (point_named entry.act) (at_number points (point_named entry.act))
     (at_number (with_entry points entry) (point_named entry.act))
@@ -89,19 +89,19 @@ number_cleared (act.Till till (request.Clear n transaction)) = transaction
 number_cleared _ = 0
 
 -- whether the delivery e became this transaction of point n
-abbrev pub became : ℕ → ℕ → Ended → Bool
+abbrev pub became : ℕ → ℕ → Delivery → Bool
 became n transaction e = e.point == n && e.transaction == transaction
 
 -- The first delivery in the list that became this transaction of point n; None if there is none.
-abbrev pub ended_as : List Ended → ℕ → ℕ → Option Ended
-ended_as unpaid n transaction = find (λ (e : Ended). became n transaction e) unpaid
+abbrev pub ended_as : List Delivery → ℕ → ℕ → Option Delivery
+ended_as unpaid n transaction = find (λ (e : Delivery). became n transaction e) unpaid
 
 -- the list without the deliveries that became this transaction of point n
-abbrev pub without : List Ended → ℕ → ℕ → List Ended
-without unpaid n transaction = filter (λ (e : Ended). not (became n transaction e)) unpaid
+abbrev pub without : List Delivery → ℕ → ℕ → List Delivery
+without unpaid n transaction = filter (λ (e : Delivery). not (became n transaction e)) unpaid
 
 -- The deliveries that are still unpaid after an act. If the act made a sale, the delivery of this sale is removed.
-abbrev pub uncleared : List Ended → Option Sale → Act → List Ended
+abbrev pub uncleared : List Delivery → Option Sale → Act → List Delivery
 uncleared unpaid None act = unpaid
 uncleared unpaid (Some sale) act = without unpaid sale.point (number_cleared act)
 

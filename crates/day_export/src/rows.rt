@@ -8,7 +8,7 @@ use crate::acts::act_cells;
 use crate::cells::{Cell, Word, moment_cell, number};
 use crate::replies::reply_cells;
 use crate::runs::{field_cell, run_cells};
-use crate::standing::{Ended, Standing, ended_as, number_cleared};
+use crate::standing::{Delivery, Standing, ended_as, number_cleared};
 use day_report::Sale;
 use day_report::rulings::decision_of;
 use day_report::sales::sale_of;
@@ -16,7 +16,7 @@ use decision_journal::Entry;
 
 /// Returns the row of a sale, with the number of its transaction. `ended` is its delivery, or `None` if the day has no
 /// entry that ended it.
-fn sale_cells(sale: &Sale, transaction: u32, ended: Option<Ended>) -> [Cell; 10]
+fn sale_cells(sale: &Sale, transaction: u32, ended: Option<Delivery>) -> [Cell; 10]
     ensures { result ≡ sale_cells sale.now transaction ended }
 {
     let (ended, product, price) = match ended {

@@ -23,7 +23,7 @@ use till_request::{Act, Reply, Request};
 /// A delivery that ended. It has its point, the number of the transaction that it became, the number of the entry that
 /// ended it, its product (1 to 8), and the product's price in thousandths.
 #[derive(Clone, Copy)]
-pub(crate) struct Ended {
+pub(crate) struct Delivery {
     pub(crate) point: u32,
     pub(crate) transaction: u32,
     pub(crate) number: u32,
@@ -37,7 +37,7 @@ pub(crate) struct Ended {
 pub(crate) struct Standing {
     pub(crate) points: Vec<Point>,
     pub(crate) prices: Vec<u64>,
-    pub(crate) unpaid: Vec<Ended>,
+    pub(crate) unpaid: Vec<Delivery>,
 }
 
 /// Returns the price of a product, or 0 if there is no such product.
@@ -111,14 +111,14 @@ fn point_at(points: &[Point], n: u32) -> Option<Point>
 
 /// Returns the delivery that ended at point `n` with entry `number`, or `None` if none ended. `before` and `after` are
 /// the point before and after the entry.
-fn ended_at(prices: &[u64], number: u32, n: u32, before: &Point, after: &Point) -> Option<Ended>
+fn ended_at(prices: &[u64], number: u32, n: u32, before: &Point, after: &Point) -> Option<Delivery>
     requires { before.now.last < u32.MAX }
     ensures { result ≡ ended_at prices.now number n before.now after.now }
 {
     if after.last() != before.last() + 1 {
         return None;
     }
-    Some(Ended {
+    Some(Delivery {
         point: n,
         transaction: after.last(),
         number,
@@ -130,7 +130,7 @@ fn ended_at(prices: &[u64], number: u32, n: u32, before: &Point, after: &Point) 
 /// Changes the points in the way that an entry changed them. Returns the delivery that the entry ended, or `None` if it
 /// ended none. `prices` are those before the entry.
 #[tactic(auto, unfolding(crate::specs::Standing::ended_by))]
-fn follow_points(points: &mut [Point], prices: &[u64], entry: &Entry) -> Option<Ended>
+fn follow_points(points: &mut [Point], prices: &[u64], entry: &Entry) -> Option<Delivery>
     requires { All (λ (p : PointState). p.last < u32.MAX) points.old }
     ensures follows { Follows points.old (with_entry points.old entry.now) points.new }
     ensures ended { result ≡ ended_by points.old prices.now entry.now }
@@ -158,14 +158,14 @@ pub(crate) fn number_cleared(act: &Act) -> u32
 }
 
 /// Returns whether the delivery became this transaction of point `n`.
-fn became(n: u32, transaction: u32, ended: &Ended) -> bool
+fn became(n: u32, transaction: u32, ended: &Delivery) -> bool
     ensures { result ≡ became n transaction ended.now }
 {
     ended.point == n && ended.transaction == transaction
 }
 
 /// Returns the first delivery in the list that became this transaction of point `n`, or `None` if there is none.
-pub(crate) fn ended_as(unpaid: &[Ended], n: u32, transaction: u32) -> Option<Ended>
+pub(crate) fn ended_as(unpaid: &[Delivery], n: u32, transaction: u32) -> Option<Delivery>
     ensures { result ≡ ended_as unpaid.now n transaction }
 {
     unpaid
@@ -177,10 +177,10 @@ pub(crate) fn ended_as(unpaid: &[Ended], n: u32, transaction: u32) -> Option<End
 /// Returns the list without the deliveries that became this transaction of point `n`. The error is that memory ran out.
 fn without(
     alloc: Global,
-    unpaid: &[Ended],
+    unpaid: &[Delivery],
     n: u32,
     transaction: u32,
-) -> Result<Vec<Ended>, AllocError>
+) -> Result<Vec<Delivery>, AllocError>
     ensures { IfOk result (λ left. left.items ≡ without unpaid.now n transaction) }
 {
     unpaid
@@ -193,7 +193,7 @@ fn without(
 /// If an act made a sale, removes the delivery of this sale from the unpaid ones. The error is that memory ran out.
 fn clear_paid(
     alloc: Global,
-    unpaid: &mut Vec<Ended>,
+    unpaid: &mut Vec<Delivery>,
     sale: Option<Sale>,
     act: &Act,
 ) -> Result<(), AllocError>
@@ -207,7 +207,7 @@ fn clear_paid(
 }
 
 /// Adds the delivery `ended`, if there is one, to the unpaid ones. The error is that memory ran out.
-fn add_ended(unpaid: &mut Vec<Ended>, ended: Option<Ended>) -> Result<(), AllocError>
+fn add_ended(unpaid: &mut Vec<Delivery>, ended: Option<Delivery>) -> Result<(), AllocError>
     ensures added { OnOk result (unpaid.new.items ≡ unpaid.old.items ++ option_to_list ended) }
     ensures none { ended ≡ None → IsOk result }
 {
