@@ -114,8 +114,9 @@ fn is_word(token: Token) -> bool
     )
 }
 
-// Parses the tokens after `dst OPERATOR=`, or after `dst =` for MOV: a register of the same width or a number, and
-// nothing more. Returns the instruction. `offset` is its offset field, as in `Token::Assign`.
+// Parses the tokens after `dst OPERATOR=`, or after `dst =` for MOV: a register of the same width, or a number, which
+// can have a `-` before it, and nothing more. Returns the instruction; `None` if the tokens aren't this. `offset` is
+// its offset field, as in `Token::Assign`.
 fn operand(
     operator: Operator,
     offset: u64,
@@ -162,7 +163,8 @@ fn target_of(tokens: &[Token]) -> Option<Target>
     }
 }
 
-// Parses `(SIZE *)`, and returns SIZE and the tokens after it.
+// Parses `(SIZE *)`, and returns SIZE, which can be any token, and the tokens after the `)`; `None` if the tokens don't
+// begin so.
 fn sized(tokens: &[Token]) -> Option<(Token, &[Token])>
     ensures { option_map (λ p. (p.0, p.1.now)) result ≡ spec.sized tokens.now }
 {
@@ -172,7 +174,8 @@ fn sized(tokens: &[Token]) -> Option<(Token, &[Token])>
     }
 }
 
-// Parses `(r2 + N)` or `(r2 - N)`, and returns the register's number, N with its sign, and the tokens after it.
+// Parses `(r2 + N)` or `(r2 - N)`, with any 64-bit register, and returns the register's number, N with its sign, and
+// the tokens after the `)`; `None` if the tokens don't begin so.
 fn based(tokens: &[Token]) -> Option<(u8, Value, &[Token])>
     ensures { option_map (λ p. (p.0, p.1, p.2.now)) result ≡ spec.based tokens.now }
 {
@@ -277,8 +280,9 @@ fn is_full(width: Width) -> bool
     matches!(width, Width::Bits64)
 }
 
-// Parses the tokens after `r1 = -` as NEG: the token must be the same register again. This function and the next three
-// each parse one form that exists only with `=`: NEG, a sign extension, END and a wide load.
+// Parses the tokens after `r1 = -` as NEG: there must be one token, the same register again. This function and the next
+// three each parse one form that exists only with `=`: NEG, a sign extension, END and a wide load. Each returns `None`
+// if the tokens aren't of its form.
 fn negated(width: Width, dst: u8, tokens: &[Token]) -> Option<Statement>
     ensures { result ≡ spec.only_assigned width dst (Token.Minus ∷ tokens.now) }
 {
@@ -339,7 +343,7 @@ fn wide(n: Option<u64>, width: Width, dst: u8, tokens: &[Token]) -> Option<State
 }
 
 // Parses the tokens after `r1 =` as a form that exists only with `=`: NEG, a sign extension, END, a wide load or a
-// load.
+// load. Returns `None` if they are no such form.
 fn only_assigned(width: Width, dst: u8, tokens: &[Token]) -> Option<Statement>
     ensures { result ≡ spec.only_assigned width dst tokens.now }
 {
@@ -354,7 +358,8 @@ fn only_assigned(width: Width, dst: u8, tokens: &[Token]) -> Option<Statement>
     }
 }
 
-// Returns the instruction for the tokens after `r1 =` (or another register) at the start of a line.
+// Returns the instruction for the tokens after `r1 =` (or another register) at the start of a line; `None` if they
+// can't be parsed. `width` and `dst` are the width and the number of the register.
 fn assigned(width: Width, dst: u8, tokens: &[Token]) -> Option<Statement>
     ensures { result ≡ spec.assigned width dst tokens.now }
 {
@@ -364,8 +369,8 @@ fn assigned(width: Width, dst: u8, tokens: &[Token]) -> Option<Statement>
     }
 }
 
-// Parses the tokens of a store after its address: `=` and a register or a number. The address is the register `base`
-// plus `offset`.
+// Parses the tokens of a store after its address: `=`, and a 64-bit register or a number, which can have a `-` before
+// it. Returns `None` if they can't be parsed. The address is the register `base` plus `offset`.
 fn stored(size: Size, base: u8, offset: Value, tokens: &[Token]) -> Option<Statement>
     ensures { result ≡ spec.stored size base offset tokens.now }
 {
@@ -410,8 +415,9 @@ fn jump_to(form: Form, fields: Fields, tokens: &[Token]) -> Option<Statement>
     Some(Statement::Jump(form, fields, target))
 }
 
-// Returns the instruction for the tokens after `if r1 CMP r2`. `width` and `dst` are those of `r1`, and `other` and
-// `src` are the width and the number of `r2`.
+// Returns the instruction for the tokens after `if r1 CMP r2`: `goto` and a target. Returns `None` if they can't be
+// parsed, or if the widths differ. `width` and `dst` are the width and the number of `r1`, and `other` and `src` are
+// those of `r2`.
 fn register_branch(
     condition: Condition,
     width: Width,
@@ -433,7 +439,8 @@ fn register_branch(
     }
 }
 
-// Returns the instruction for the tokens after `if r1 CMP N`.
+// Returns the instruction for the tokens after `if r1 CMP N`: `goto` and a target; `None` if they can't be parsed. `n`
+// is N, or `None` if N is above 2^64 - 1.
 fn number_branch(
     condition: Condition,
     width: Width,
@@ -454,7 +461,8 @@ fn number_branch(
     }
 }
 
-// Returns the instruction for the tokens after `if r1 CMP -`.
+// Returns the instruction for the tokens after `if r1 CMP -`: a number, `goto` and a target; `None` if they can't be
+// parsed.
 fn minus_branch(condition: Condition, width: Width, dst: u8, tokens: &[Token]) -> Option<Statement>
     ensures { result ≡ spec.branch condition width dst (Token.Minus ∷ tokens.now) }
 {
@@ -468,7 +476,7 @@ fn minus_branch(condition: Condition, width: Width, dst: u8, tokens: &[Token]) -
     }
 }
 
-// Returns the instruction for the tokens after `if r1 CMP`.
+// Returns the instruction for the tokens after `if r1 CMP`; `None` if they can't be parsed.
 fn branch(condition: Condition, width: Width, dst: u8, tokens: &[Token]) -> Option<Statement>
     ensures { result ≡ spec.branch condition width dst tokens.now }
 {
@@ -487,7 +495,7 @@ fn no_fields() -> Fields
     fields_of(0, 0, exactly(0), exactly(0))
 }
 
-// Returns the instruction for the tokens after a register at the start of a line.
+// Returns the instruction for the tokens after a register at the start of a line; `None` if they can't be parsed.
 fn changed(width: Width, dst: u8, tokens: &[Token]) -> Option<Statement>
     ensures { result ≡ spec.statement (Token.Register width dst ∷ tokens.now) }
 {
@@ -499,7 +507,7 @@ fn changed(width: Width, dst: u8, tokens: &[Token]) -> Option<Statement>
     }
 }
 
-// Returns the instruction for the tokens after `if`.
+// Returns the instruction for the tokens after `if`; `None` if they can't be parsed.
 fn conditional(tokens: &[Token]) -> Option<Statement>
     ensures { result ≡ spec.statement (Token.If ∷ tokens.now) }
 {
@@ -513,7 +521,8 @@ fn conditional(tokens: &[Token]) -> Option<Statement>
     }
 }
 
-// Returns the instruction for the tokens after `call`.
+// Returns the instruction for the tokens after `call`; `None` if they aren't one number, which can have a `-` before
+// it.
 fn call(tokens: &[Token]) -> Option<Statement>
     ensures { result ≡ spec.statement (Token.Call ∷ tokens.now) }
 {
@@ -524,7 +533,7 @@ fn call(tokens: &[Token]) -> Option<Statement>
     }
 }
 
-// Returns the instruction for the tokens after `exit`.
+// Returns the instruction for the tokens after `exit`; `None` if there are any.
 fn exit(tokens: &[Token]) -> Option<Statement>
     ensures { result ≡ spec.statement (Token.Exit ∷ tokens.now) }
 {
@@ -551,7 +560,8 @@ pub fn statement_of(tokens: &[Token]) -> Option<Statement>
     }
 }
 
-/// Parses the tokens of a line; `None` if they are neither empty nor a label's definition nor an instruction.
+/// Returns the parsed line that the tokens of a line mean; `None` if they are neither empty nor a label's definition
+/// nor an instruction.
 pub fn line_of(tokens: &[Token]) -> Option<Line>
     ensures { result ≡ spec.line_of tokens.now }
 {

@@ -52,7 +52,8 @@ fn define<'a>(
     }
 }
 
-/// Returns the labels that the rows define, in their order, each with the unit that it names.
+/// Returns the labels that the rows define, in their order, each with the unit that it names. A label after the last
+/// unit gets the number of all units. A label that is defined twice is there twice.
 pub fn labels_of<'a>(
     alloc: Global,
     rows: &[(Line, &'a [u8])],
@@ -72,7 +73,8 @@ pub fn labels_of<'a>(
     Ok(labels)
 }
 
-/// Returns the unit that a label names; `None` if no row defines the label.
+/// Returns the unit that a label names; `None` if the label isn't in `labels`, which is as `labels_of` returns it. If
+/// the label is there twice, returns the first unit.
 pub fn place_of(mut labels: &[(&[u8], u64)], name: &[u8]) -> Option<u64>
     ensures { result ≡ spec.place_found (map (λ d. spec.definition d.0.now d.1) labels.entry.now) name.now }
 {

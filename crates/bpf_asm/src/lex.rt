@@ -182,8 +182,8 @@ pub fn code_len(line: &[u8]) -> usize
     at
 }
 
-/// Returns the texts of the tokens of a line without its comment; `None` if a part of the line is neither a token nor
-/// blank.
+/// Splits `text`, a line without its comment and its LF, and returns the texts of its tokens in order; `None` if a part
+/// of it is neither a token nor a blank, which is a space or a tab. The error is that memory ran out.
 pub fn split<'a>(alloc: Global, text: &'a [u8]) -> Result<Option<Vec<&'a [u8]>>, AllocError>
     ensures { IfOk result (λ found. option_map (λ v. map (λ t. t.now) v.items) found ≡ spec.split text.now) }
 {

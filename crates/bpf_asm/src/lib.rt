@@ -56,7 +56,7 @@ fn high(units: &[Unit]) -> i32
     }
 }
 
-/// Returns the text of a program, with one line for each instruction. The error is that memory ran out.
+/// Returns the text of a program: one line for each instruction, each with its LF. The error is that memory ran out.
 pub fn disassemble(alloc: Global, code: &Code) -> Result<String, AllocError>
     ensures { IfOk result (λ text. string_bytes text ≡ canon code.now) }
 {
@@ -83,7 +83,8 @@ pub fn instruction_line(alloc: Global, code: &Code, unit: u32) -> Result<Option<
     }
 }
 
-/// Returns the line of the instruction that begins at the first of these units; `None` if no instruction begins there.
+/// Returns the line, with its LF, of the instruction that begins at the first of these units; `None` if no instruction
+/// begins there, or if there are no units.
 fn front_line(alloc: Global, units: &[Unit]) -> Result<Option<String>, AllocError>
     ensures line { IfOk result (λ found. option_map string_bytes found ≡ front_of units.now) }
     ensures none { front_of units.now ≡ None → IsOk result }
@@ -117,8 +118,8 @@ pub fn disassemble_numbered(alloc: Global, code: &Code) -> Result<String, AllocE
     Ok(out)
 }
 
-/// Appends the number of a unit, `: `, and the line of the instruction that begins there. `high` is the upper 32 bits
-/// of a wide load's number.
+/// Appends `number`, which is that of a unit, `: `, and the line of the instruction `inst` that begins there, with its
+/// LF. `high` is the upper 32 bits of a wide load's number, and isn't used for other instructions.
 fn write_numbered(out: &mut String, number: u64, inst: Inst, high: i32) -> Result<(), AllocError>
     ensures { OnOk result (string_bytes out.new ≡ string_bytes out.old ++ decimal number ++ codes ": "
         ++ instruction_text (form_of inst.opcode) inst high) }
@@ -133,9 +134,9 @@ fn is_length(count: u64) -> bool
     1 <= count && count <= 512
 }
 
-// Returns the program that the parsed lines spell, each given with its label. All their numbers must be in range. The
-// error is that the program doesn't have 1 to 512 units, else the first wrong label, or that memory ran out. No memory
-// is taken before the units are counted.
+// Returns the program that the parsed lines spell. `rows` is as `line::rows_of` returns it. The error is that the
+// program doesn't have 1 to 512 units, else the fault of the first line with a wrong label, or that memory ran out. No
+// memory is taken before the units are counted.
 fn assemble_rows(alloc: Global, rows: &[(Line, &[u8])]) -> Result<Code, AsmFault>
     requires fits { spec.AreRight (map (λ p. spec.row p.0 p.1.now) rows.now) }
     requires sound { AreSound (map (λ p. spec.row p.0 p.1.now) rows.now) }
@@ -166,8 +167,9 @@ fn assemble_rows(alloc: Global, rows: &[(Line, &[u8])]) -> Result<Code, AsmFault
     Ok(Code::from_units(units))
 }
 
-/// Assembles a text. The error is the fault of the first line that can't be parsed or has a number out of range. Else
-/// it is that the program doesn't have 1 to 512 units, else the first wrong label. It can also be that memory ran out.
+/// Assembles a text, and returns its program. The error is the fault of the first line that can't be parsed or has a
+/// number out of range. Else it is that the program doesn't have 1 to 512 units, else the fault of the first line with
+/// a wrong label. It can also be that memory ran out.
 pub fn assemble(alloc: Global, text: &[u8]) -> Result<Code, AsmFault>
     ensures ok { IfOk result (λ code. spec.Spells text.now code) }
     ensures refused { IfErr result (λ fault. spec.IsRefused text.now fault) }

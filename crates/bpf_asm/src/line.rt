@@ -79,9 +79,10 @@ fn row_by<'a>(alloc: Global, words: &[&'a [u8]]) -> Result<Option<(Line, &'a [u8
     Ok(row_with(tokens.as_slice(), words))
 }
 
-/// Parses a line, and returns the parsed line with a label. For a line that defines a label, it is this label. For an
-/// instruction, it is the text of the last token, which in a jump to a label is the target. For an empty line, it is
-/// empty. Returns `None` if the line can't be parsed. A line with a byte that isn't ASCII takes no memory.
+/// Parses a line without its LF, and returns the parsed line with a label. For a line that defines a label, it is this
+/// label. For an instruction, it is the text of the last token, which in a jump to a label is the target. For an empty
+/// line, it is empty. Returns `None` if the line can't be parsed. A line with a byte that isn't ASCII, even in its
+/// comment, can't be parsed, and takes no memory. The error is that memory ran out.
 pub fn row_of<'a>(alloc: Global, line: &'a [u8]) -> Result<Option<(Line, &'a [u8])>, AllocError>
     ensures found { IfOk result (λ found. option_map (λ p. spec.row p.0 p.1.now) found ≡ spec.row_of line.now) }
     ensures other { list_all (λ b. nat_lt b 128) line.now ≡ false → IsOk result }
@@ -123,7 +124,9 @@ fn statement_fits(statement: Statement) -> bool
     }
 }
 
-/// Returns whether all numbers of a parsed line are in range.
+/// Returns whether all numbers of a parsed line are in range: an offset and the distance of `goto` from -2^15 to
+/// 2^15 - 1, the number of a wide load below 2^64, and any other number from -2^31 to 2^31 - 1. A line without an
+/// instruction has no numbers, and the result is `true`.
 pub fn line_fits(line: Line) -> bool
     ensures { result ≡ spec.line_fits line }
 {
@@ -145,7 +148,7 @@ fn line_len(text: &[u8]) -> usize
     at
 }
 
-// Returns the text after its first `n` bytes and the LF that follows them.
+// Returns the text after its first `n` bytes and the LF that follows them, or an empty text if nothing follows them.
 fn past(text: &[u8], n: usize) -> &[u8]
     requires { n ≤ length text.now }
     ensures value { result.now ≡ drop (n + 1) text.now }
@@ -156,7 +159,8 @@ fn past(text: &[u8], n: usize) -> &[u8]
     }
 }
 
-/// Splits a text into its lines, and returns them without their LF. The error is that memory ran out.
+/// Splits a text into its lines, and returns them without their LF. The last line may lack its LF. An empty text has no
+/// lines. The error is that memory ran out.
 pub fn cut<'a>(alloc: Global, text: &'a [u8]) -> Result<Vec<&'a [u8]>, AllocError>
     ensures { IfOk result (λ v. map (λ t. t.now) v.items ≡ spec.cut text.now) }
 {

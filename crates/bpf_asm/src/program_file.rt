@@ -79,9 +79,9 @@ fn bytes_of(alloc: Global, digits: &[u8]) -> Result<Vec<u8>, ProgramFileFault>
     }
 }
 
-/// Reads a program file, and returns the program's bytes. The file has at most 65,536 bytes: hexadecimal digits in
-/// either case, and spaces, tabs, CR and LF, which are skipped. A file that is too long is refused before its digits
-/// are checked.
+/// Reads a program file, and returns the program's bytes. The file has at most 65,536 bytes: an even number of
+/// hexadecimal digits in either case, and spaces, tabs, CR and LF, which are skipped. The error is `TooLong`, else
+/// `BadDigits`, or that memory ran out.
 #[tactic(auto, unfolding(crate::specs::ProgramFile::program_in))]
 pub fn read_program(alloc: Global, text: &[u8]) -> Result<Vec<u8>, ProgramFileFault>
     ensures given { Gives (λ bytes. bytes.items) result (program_in text.now) }
@@ -94,7 +94,8 @@ pub fn read_program(alloc: Global, text: &[u8]) -> Result<Vec<u8>, ProgramFileFa
     bytes_of(alloc, digits.as_slice())
 }
 
-/// Appends the line of a unit: 16 hexadecimal digits and an LF.
+/// Appends the line of unit `unit`, counted from 0, of the program in `bytes`: 16 lower case hexadecimal digits and an
+/// LF.
 fn push_line(alloc: Global, text: &mut String, bytes: &[u8], unit: usize) -> Result<(), AllocError>
     requires { 8 * unit + 8 ≤ length bytes.now }
     ensures { OnOk result (string_bytes text.new ≡ string_bytes text.old ++ line_at bytes.now unit) }

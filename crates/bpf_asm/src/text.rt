@@ -314,7 +314,7 @@ fn write_place(out: &mut String, size: &str, base: u8, offset: i16) -> Result<()
     out.push_str(")")
 }
 
-// Appends the line of a load. `size` is the name of its size, such as `u8`.
+// Appends the line of a load, with its LF. `size` is the name of its size, such as `u8`.
 fn write_load(out: &mut String, size: &str, inst: Inst) -> Result<(), AllocError>
     ensures { OnOk result (string_bytes out.new ≡ string_bytes out.old
         ++ line_text (Next (register_text Width.Bits64 inst.dst) ∷ After (codes "=") ∷ After (codes "*")
@@ -405,8 +405,8 @@ fn write_call(out: &mut String, inst: Inst) -> Result<(), AllocError>
     end_with_number(out, inst.imm)
 }
 
-/// Appends the line of an instruction, or nothing if no form has its opcode. `high` is the upper 32 bits of a wide
-/// load's number, and isn't used for other instructions.
+/// Appends the line of an instruction, with its LF, or nothing if no form has its opcode. `high` is the upper 32 bits
+/// of a wide load's number, and isn't used for other instructions.
 pub fn write_instruction(out: &mut String, inst: Inst, high: i32) -> Result<(), AllocError>
     ensures { OnOk result (string_bytes out.new ≡ string_bytes out.old
         ++ instruction_text (form_of inst.opcode) inst high) }

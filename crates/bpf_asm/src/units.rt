@@ -182,7 +182,8 @@ fn apart(place: u64, at: u64) -> i16
     to - from
 }
 
-// Returns the distance of a jump at unit `at` to a label, in units from the unit after the jump.
+// Returns the distance of a jump at unit `at` to a label, in units from the unit after the jump. A label that isn't in
+// `labels` counts as one that names unit 0.
 fn distance_to(labels: &[(&[u8], u64)], at: u64, name: &[u8]) -> i16
     requires at { at ≤ UNITS }
     requires places { spec.AreWithin UNITS (map (λ d. spec.definition d.0.now d.1) labels.now) }

@@ -75,7 +75,8 @@ fn option_arg<'a>(alloc: Global, name: &'a str, value: &'a str, help: &'a str) -
         .help(help)
 }
 
-/// Makes the option `--counters`: the mask of the counters that a program declares.
+/// Makes the option `--counters`: the mask of the counters that a program declares, a number below 2^32. It is 0 if the
+/// option isn't given.
 fn mask_arg<'a>(alloc: Global) -> Arg<'a>
     ensures rule { rule_of result ≡ mask_rule }
     ensures local { result.global ≡ false }
@@ -86,7 +87,8 @@ fn mask_arg<'a>(alloc: Global) -> Arg<'a>
         .value_parser(value_parser!(u32))
 }
 
-/// Makes the option `--context`: the layout of the contexts that a program is run on.
+/// Makes the option `--context`: the layout of the contexts that a program is run on. It is `1` if the option isn't
+/// given.
 fn context_arg<'a>(alloc: Global) -> Arg<'a>
     ensures rule { rule_of result ≡ context_rule }
     ensures local { result.global ≡ false }

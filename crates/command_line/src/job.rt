@@ -93,21 +93,21 @@ pub enum ServeJob {
         opening: Option<String>,
         config: String,
     },
-    /// Write the journal to a file as it grows.
+    /// Write the journal to a file as it grows. If the file has a journal already, go on from it.
     Kept {
         opening: Option<String>,
         config: String,
         journal: String,
     },
-    /// Write the journal to a file as it grows, and send an answer only after its line in the journal is synced.
+    /// Like `Kept`, but send an answer only after its line in the journal is synced.
     Synced {
         opening: Option<String>,
         config: String,
         journal: String,
     },
-    /// Serve the newest day of a station, and keep its journal in the folder of the days. If `is_synced`, send an
-    /// answer only after its line in the journal is synced. If `is_new_day` and the newest day has an entry, close that
-    /// day first, and serve the next one.
+    /// Serve the newest day of a station, or day 1 if its folder has no day, and keep its journal in the folder. If
+    /// `is_synced`, send an answer only after its line in the journal is synced. If `is_new_day` and the newest day has
+    /// an entry, close that day first, and serve the next one.
     Days {
         folder: String,
         config: String,

@@ -28,7 +28,8 @@ fn file_of(alloc: Global, matches: &ArgMatches, id: &str) -> Result<Option<Strin
     }
 }
 
-/// Returns the mask that `--counters` gives, or `None` if its value isn't a number below 2^32.
+/// Returns the mask that `--counters` gives to `verify`, or `None` if its value isn't a number below 2^32. The mask is
+/// 0 if the option isn't given.
 fn mask_of(matches: &ArgMatches) -> Option<u32>
     ensures { ReadsMask (rows_of (found_of matches.now)) result }
 {
@@ -48,7 +49,8 @@ fn layout_named(text: &str) -> Option<Layout>
     }
 }
 
-/// Returns the layout that `--context` names, or `None` if it names none.
+/// Returns the layout that `--context` gives to `verify`, or `None` if its value names none. The layout is `One` if the
+/// option isn't given.
 fn layout_of(matches: &ArgMatches) -> Option<Layout>
     ensures { result ≡ layout_in (rows_of (found_of matches.now)) }
 {
@@ -264,7 +266,7 @@ fn format_asked(matches: &ArgMatches) -> Format
     }
 }
 
-/// Returns the job of `fc export`, or `None` if its argument KIND names no rows or a file isn't given.
+/// Returns the job of `fc export`, or `None` if its argument KIND names no rows, or if CONFIG or JOURNAL isn't given.
 fn export_of(alloc: Global, matches: &ArgMatches) -> Result<Option<Job>, AllocError>
     ensures job { IfOk result (Finds (codes "export") (rows_of (found_of matches.now))) }
     ensures kind { kind_in (rows_of (found_of matches.now)) ≡ None → IsOk result }
@@ -338,7 +340,8 @@ fn serve_days_by(
     }
 }
 
-/// Returns the job of `fc serve`, or `None` if CONFIG isn't given or the options ask for none.
+/// Returns the job of `fc serve`. Returns `None` if CONFIG isn't given, for `--days` with an opening or a journal, for
+/// `--new-day` without `--days`, and for `--sync` with neither `--days` nor a journal.
 fn serve_of(alloc: Global, matches: &ArgMatches) -> Result<Option<Job>, AllocError>
     ensures { IfOk result (Finds (codes "serve") (rows_of (found_of matches.now))) }
 {
@@ -356,7 +359,7 @@ fn serve_of(alloc: Global, matches: &ArgMatches) -> Result<Option<Job>, AllocErr
     }
 }
 
-/// Returns the job of a subcommand, or `None` if its arguments ask for none.
+/// Returns the job of the subcommand `name`, or `None` if its arguments ask for none or there is no such subcommand.
 fn named_job(alloc: Global, name: &str, matches: &ArgMatches) -> Result<Option<Job>, AllocError>
     ensures { IfOk result (Finds name.now (rows_of (found_of matches.now))) }
 {
@@ -374,7 +377,8 @@ fn named_job(alloc: Global, name: &str, matches: &ArgMatches) -> Result<Option<J
     }
 }
 
-/// Returns the job of a parsed command line, or `None` if it asks for none. Without a subcommand no memory is taken.
+/// Returns the job of a parsed command line, or `None` if it asks for none. Without a subcommand the job is `NoWords`,
+/// and no memory is taken.
 fn job_of(alloc: Global, matches: &ArgMatches) -> Result<Option<Job>, AllocError>
     ensures job { IfOk result (FindsIn (subcommand_rows_of matches.now)) }
     ensures nothing { subcommand_rows_of matches.now ≡ None → IsOk result }

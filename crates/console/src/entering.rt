@@ -17,7 +17,8 @@ use till_request::{Act, Answer, Bytes};
 /// The number of the pass with which all acts of a script are entered.
 const PASS: u32 = 1;
 
-/// Applies an event to a site at a moment, and returns the answer.
+/// Applies an event to a site at a moment, and returns the answer. If the journal is full or memory runs out, the
+/// answer says so, and the site is unchanged.
 fn enter_event(site: &mut Site, moment: u64, what: What) -> Answer
     ensures { EventAnswered site.old moment (act_of what) result site.new }
 {
@@ -36,11 +37,12 @@ fn enter_event(site: &mut Site, moment: u64, what: What) -> Answer
     }
 }
 
-/// The answer to an act, and why its program was refused.
+/// The answer to an act, and why the verifier refused its program, if it did.
 #[derive(Clone, Copy)]
 pub struct Entered {
     pub answer: Answer,
-    /// Why the verifier refuses the program, if the act is a load that it refuses.
+    /// Why the verifier refuses the program of a load. It is `None` if the act is no load, if the program is accepted,
+    /// or if memory ran out.
     pub refusal: Option<Refusal>,
 }
 
@@ -67,7 +69,8 @@ fn refuse_load(refusal: Refusal) -> Entered
     }
 }
 
-/// Verifies the bytes of a load, and enters the load if they are accepted.
+/// Verifies the bytes of a load, and enters the load if they are accepted. Otherwise the site is unchanged, and the
+/// result is that of `refuse_load`.
 fn enter_load(
     alloc: Global,
     site: &mut Site,
@@ -100,7 +103,7 @@ fn unrefused(answer: Answer) -> Entered
 }
 
 /// Carries out an act on a site at a moment. Returns the answer, and the refusal if the verifier refuses the program of
-/// a load.
+/// a load. The site is unchanged if the program is refused, if the journal is full, or if memory ran out.
 pub fn enter(alloc: Global, site: &mut Site, moment: u64, act: &Act) -> Entered
     ensures answered { ActAnswered site.old moment act.now result.answer site.new }
     ensures refused { IsWhyRefused act.now result.answer result.refusal }

@@ -50,9 +50,11 @@ pub fn play_within<I: LineIn, O: LineOut, N: PlayNotices>(
 }
 
 /// Answers a script line by line, on a new site of this configuration. The moment is 0 until a line sets it. At most
-/// 67,108,864 reads of one byte are made.
+/// 67,108,864 reads of one byte are made. Returns how many lines were answered, and the fault of the last line if that
+/// was too long (L1) or had no LF (L4).
 ///
-/// After an error, some of the first bytes of the answers may have been written.
+/// The error is that a read or a write failed, that more reads would be needed, or that memory ran out. After an error,
+/// some of the first bytes of the answers may have been written.
 pub fn play<I: LineIn, O: LineOut>(
     alloc: Global,
     config: Config,

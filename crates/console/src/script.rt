@@ -15,9 +15,9 @@ use till_request::{Act, LINE_WORDS, LineFault, Role};
 #[derive(Drop)]
 pub enum ScriptLine {
     Act(Act),
-    /// `moment N` sets the moment of later requests.
+    /// `moment N` sets the moment of the acts in later lines.
     Moment(u64),
-    /// `counter C` asks for the value and the bound of a counter.
+    /// `counter C` asks for the value and the bound of counter C, counted from 0.
     Counter(u32),
     /// `journal` asks for all entries of the history.
     Journal,

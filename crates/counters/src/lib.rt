@@ -30,7 +30,7 @@ impl Model for Counters {
 }
 
 impl Counters {
-    /// Makes counters from pairs of a value and a bound, counter 0 first.
+    /// Makes counters from pairs of a value and a bound, counter 0 first. Each value must be at most its bound.
     pub fn new(cells: [(u64, u64); 32]) -> Counters
         requires { All (λ c. c.0 ≤ c.1) cells }
         ensures { result ≡ cells }
@@ -72,7 +72,7 @@ impl Counters {
     }
 
     /// Copies from `other` the counters that the mask `declared` names, with their values and bounds. Bit c of a mask
-    /// names counter c.
+    /// names counter c. The counters that the mask doesn't name stay as they are.
     pub fn adopt(&mut self, declared: u32, other: &Counters)
         ensures { (c : ℕ) → counter self.new c ≡ adopted declared other.now self.old c }
     {

@@ -46,7 +46,7 @@ fn sent_by(sender: Word, verb: Word) -> ActCells
     }
 }
 
-/// Returns the cells of a till's request at point `n`.
+/// Returns the cells of a till's request at point `n` that has no further values.
 fn asked_at(till: u32, verb: Word, n: u32) -> ActCells
     ensures { result ≡ asked_at till verb n }
 {
@@ -67,7 +67,7 @@ fn asked_of(till: u32, verb: Word, n: u32, transaction: u32) -> ActCells
     }
 }
 
-/// Returns the cells of a till's request with an amount at point `n`.
+/// Returns the cells of a till's request for an amount, in cents, at point `n`.
 fn amount_asked(till: u32, verb: Word, n: u32, amount: u64) -> ActCells
     ensures { result ≡ record (asked_at till verb n) { amount = Cell.Number amount } }
 {
@@ -77,7 +77,8 @@ fn amount_asked(till: u32, verb: Word, n: u32, amount: u64) -> ActCells
     }
 }
 
-/// Returns the cells of a till's request to change the price of a product.
+/// Returns the cells of a till's request to change the price of a product. The price, in thousandths of the currency
+/// per litre, is in the cell `amount`.
 fn price_asked(till: u32, product: u32, price: u64) -> ActCells
     ensures { result ≡ request_cells till (Request.Price product price) }
 {
@@ -109,7 +110,7 @@ fn request_cells(till: u32, request: Request) -> ActCells
     }
 }
 
-/// Returns the cells of a dispenser's event at point `n`.
+/// Returns the cells of a dispenser's event at point `n` that has no further values.
 fn reported_at(n: u32, verb: Word) -> ActCells
     ensures { result ≡ reported_at n verb }
 {
@@ -119,7 +120,7 @@ fn reported_at(n: u32, verb: Word) -> ActCells
     }
 }
 
-/// Returns the cells of a dispenser's event.
+/// Returns the cells of a dispenser's event at point `n`.
 fn event_cells(n: u32, event: DispenserEvent) -> ActCells
     ensures { result ≡ event_cells n event }
 {

@@ -33,7 +33,8 @@ fn cell_value(alloc: Global, cell: Cell) -> Result<Value, AllocError>
     }
 }
 
-/// Puts the value of each cell under the name of its column, first to last. The error is that memory ran out.
+/// Puts the value of each cell into `members` under the name of its column, first to last. If there are more names than
+/// cells, or more cells than names, those left over are ignored. The error is that memory ran out.
 fn put_cells(
     members: &mut Map<String, Value>,
     alloc: Global,
@@ -62,7 +63,7 @@ fn object_of(alloc: Global, rows: Rows, cells: &[Cell]) -> Result<Value, AllocEr
     Ok(Value::Object(members))
 }
 
-/// Returns a row as a line of JSON. The error is that memory ran out.
+/// Returns a row as a line of JSON, with its LF. The error is that memory ran out.
 fn line_of(alloc: Global, rows: Rows, cells: &[Cell]) -> Result<String, AllocError>
     ensures { IfOk result (λ line. string_bytes line ≡ row_bytes rows format.Json cells.now) }
 {

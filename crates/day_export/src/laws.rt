@@ -10,7 +10,8 @@ pub fn law_of_rows()
 {}
 
 /// A law: the row of a decision has the fields of the context that the rule ran on, in their order, from the column
-/// `context_till` on. Each field must be a number that its bytes can hold.
+/// `context_till` on. Each field must be a number that its bytes can hold. In layout 1, which has no counts of cleared
+/// transactions and of open points, the last two cells are empty.
 pub fn law_of_contexts()
     ensures { RowsTellContexts }
 {}

@@ -42,7 +42,7 @@ fn ordered(word: Word) -> ReplyCells
     }
 }
 
-/// Returns the cells of a reply that is an order, with the order's amount if it has one.
+/// Returns the cells of a reply that is an order. If the order has an amount, in cents, it is in the cell `granted`.
 fn order_cells(order: Order) -> ReplyCells
     ensures { result ≡ order_cells order }
 {

@@ -14,8 +14,8 @@ use day_report::rulings::decision_of;
 use day_report::sales::sale_of;
 use decision_journal::Entry;
 
-/// Returns the row of a sale, with the number of its transaction. `ended` is its delivery, or `None` if the day has no
-/// entry that ended it.
+/// Returns the row of a sale whose transaction has the number `transaction`. `ended` is its delivery, or `None` if the
+/// day has no entry that ended it. Then the cells `ended`, `product` and `price` are `Nothing`.
 fn sale_cells(sale: &Sale, transaction: u32, ended: Option<Delivery>) -> [Cell; 10]
     ensures { result ≡ sale_cells sale.now transaction ended }
 {
@@ -41,7 +41,8 @@ fn sale_cells(sale: &Sale, transaction: u32, ended: Option<Delivery>) -> [Cell; 
     ]
 }
 
-/// Returns the row of the sale that an entry makes, or `None` if it makes none.
+/// Returns the row of the sale that an entry makes, or `None` if it makes none. `standing` is the state before the
+/// entry.
 #[tactic(auto, unfolding(crate::specs::Rows::sale_row))]
 pub(crate) fn sale_row(standing: &Standing, entry: &Entry) -> Option<[Cell; 10]>
     ensures { result ≡ sale_row (stand_of standing.now) entry.now }

@@ -21,7 +21,7 @@ use std::alloc::{AllocError, Global};
 use till_request::{Act, Reply, Request};
 
 /// A delivery that ended. It has its point, the number of the transaction that it became, the number of the entry that
-/// ended it, its product (1 to 8), and the product's price in thousandths.
+/// ended it, its product (1 to 8), and the product's price then, in thousandths of the currency per litre.
 #[derive(Clone, Copy)]
 pub(crate) struct Delivery {
     pub(crate) point: u32,
@@ -31,8 +31,9 @@ pub(crate) struct Delivery {
     pub(crate) price: u64,
 }
 
-/// The state of a day between two entries: the points, and the prices of the products in thousandths. `unpaid` are the
-/// deliveries of the day that ended and weren't cleared yet, oldest first.
+/// The state of a day between two entries: the points, point 1 first, and the prices of products 1 to 8 in thousandths
+/// of the currency per litre, 0 for none. `unpaid` are the deliveries of the day that ended and weren't cleared yet,
+/// oldest first.
 #[derive(Drop)]
 pub(crate) struct Standing {
     pub(crate) points: Vec<Point>,
@@ -110,7 +111,7 @@ fn point_at(points: &[Point], n: u32) -> Option<Point>
 }
 
 /// Returns the delivery that ended at point `n` with entry `number`, or `None` if none ended. `before` and `after` are
-/// the point before and after the entry.
+/// the point before and after the entry, and `prices` are those before the entry.
 fn ended_at(prices: &[u64], number: u32, n: u32, before: &Point, after: &Point) -> Option<Delivery>
     requires { before.now.last < u32.MAX }
     ensures { result ≡ ended_at prices.now number n before.now after.now }
@@ -191,6 +192,7 @@ fn without(
 }
 
 /// If an act made a sale, removes the delivery of this sale from the unpaid ones. The error is that memory ran out.
+/// Without a sale nothing changes, and there is no error.
 fn clear_paid(
     alloc: Global,
     unpaid: &mut Vec<Delivery>,
@@ -206,7 +208,8 @@ fn clear_paid(
     Ok(())
 }
 
-/// Adds the delivery `ended`, if there is one, to the unpaid ones. The error is that memory ran out.
+/// Adds the delivery `ended`, if there is one, to the unpaid ones. The error is that memory ran out. Without a delivery
+/// there is no error.
 fn add_ended(unpaid: &mut Vec<Delivery>, ended: Option<Delivery>) -> Result<(), AllocError>
     ensures added { OnOk result (unpaid.new.items ≡ unpaid.old.items ++ option_to_list ended) }
     ensures none { ended ≡ None → IsOk result }
@@ -236,7 +239,7 @@ impl Standing {
     }
 
     /// Changes the state in the way that an entry changed it. The error is that memory ran out, which can't happen if
-    /// the entry makes no sale and ends no delivery.
+    /// the entry makes no sale and ends no delivery. After an error only a part of the state is changed.
     #[tactic(auto, unfolding(crate::specs::Standing::stand_after))]
     pub(crate) fn follow(&mut self, alloc: Global, entry: &Entry) -> Result<(), AllocError>
         requires { All (λ (p : PointState). p.last < u32.MAX) self.old.points.items }

@@ -20,7 +20,8 @@ pub(crate) trait RowTaker {
     /// States that a row can be taken. After an error this may no longer be so.
     ghost is_ready: { Self → Type 0 };
 
-    /// Writes a row.
+    /// Writes a row of the kind `rows` with these cells. The error is that of the underlying writer, or that memory ran
+    /// out. After an error a part of the row may be written.
     fn take_row(&mut self, rows: Rows, cells: &[Cell]) -> Result<(), RowsFault>
         requires { is_ready self.old }
         ensures text { OnOk result (Appends (taken self.old) (taken self.new) (row_bytes rows format cells.now)) }

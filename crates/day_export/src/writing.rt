@@ -20,7 +20,7 @@ use site_core::{Config, Site};
 use std::alloc::Global;
 use std::io::Write;
 
-/// Writes a row, if there is one. Without a row there is no error.
+/// Writes a row, if there is one. The error is that of `take_row`. Without a row there is no error.
 fn put_some<T: RowTaker, const N: usize>(
     to: &mut T,
     rows: Rows,
@@ -37,8 +37,8 @@ fn put_some<T: RowTaker, const N: usize>(
     }
 }
 
-/// Writes the row of an entry. If the entry has no row, nothing is written, and there is no error. `standing` is the
-/// state before the entry.
+/// Writes the row that an entry has among the rows of the kind `rows`. The error is that of `take_row`. If the entry
+/// has no such row, nothing is written, and there is no error. `standing` is the state before the entry.
 fn put_row<T: RowTaker>(
     to: &mut T,
     rows: Rows,
@@ -58,7 +58,8 @@ fn put_row<T: RowTaker>(
     }
 }
 
-/// Writes the rows of a history, one after another.
+/// Writes the rows that the history of a site of this configuration has, one after another. The error is that memory
+/// ran out, or the writer's own error. After an error some of the rows may be written.
 fn put_rows<T: RowTaker>(
     alloc: Global,
     to: &mut T,
@@ -80,7 +81,8 @@ fn put_rows<T: RowTaker>(
     Ok(())
 }
 
-/// Writes rows as CSV, and returns the writer `out`.
+/// Writes the names of the columns and the rows of a site's history as CSV, and returns the writer `out`. The error is
+/// that memory ran out, or the error of `out`.
 fn write_csv<W: Write + Drop>(
     alloc: Global,
     site: &Site,
@@ -95,7 +97,8 @@ fn write_csv<W: Write + Drop>(
     to.finish()
 }
 
-/// Writes rows as lines of JSON, and returns the writer `out`.
+/// Writes the rows of a site's history as lines of JSON, and returns the writer `out`. The error is that memory ran
+/// out, or the error of `out`.
 fn write_json<W: Write + Drop>(
     alloc: Global,
     site: &Site,

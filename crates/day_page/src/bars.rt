@@ -14,7 +14,8 @@ const APART: usize = 28;
 /// The width that is kept free to the right of the longest bar, for its value.
 const VALUE: usize = 140;
 
-/// Adds the start of a picture of `bars` bars.
+/// Adds the start of a picture that has room for `bars` bars. `title` and `text` are the title and description that
+/// screen readers read.
 fn add_bars_head(sheet: &mut Sheet, bars: usize, title: &'static str, text: &'static str) {
     add_head(
         sheet,
@@ -24,7 +25,8 @@ fn add_bars_head(sheet: &mut Sheet, bars: usize, title: &'static str, text: &'st
     );
 }
 
-/// Adds the bar at a place, with its name to the left and its value to the right.
+/// Adds the bar at `place`, counted from 0 at the top. The bar begins `left` from the left of the picture and is
+/// `width` wide. `name` is written to its left, and `value` to its right.
 fn add_bar(sheet: &mut Sheet, place: usize, left: usize, width: usize, name: Text, value: Text) {
     let over = place.saturating_mul(APART);
     let (top, foot) = (over.saturating_add(4), over.saturating_add(20));
@@ -40,7 +42,7 @@ fn add_bar(sheet: &mut Sheet, place: usize, left: usize, width: usize, name: Tex
 /// How far from the left of the picture the bars of points begin.
 const POINTS: usize = 90;
 
-/// Returns the greatest of the totals, in cents.
+/// Returns the most cents that one of the sums has, or 0 if there are no sums.
 fn most_sold(sums: &[Sum]) -> u128 {
     let mut most = 0;
     for sum in sums {
@@ -49,7 +51,7 @@ fn most_sold(sums: &[Sum]) -> u128 {
     most
 }
 
-/// Adds the picture of sales by point: one bar for each point.
+/// Adds the picture of sales by point: one bar for each point. `sums` has the sales of each point, point 1 first.
 pub(crate) fn add_points(sheet: &mut Sheet, sums: &[Sum]) {
     add_bars_head(
         sheet,
@@ -76,7 +78,8 @@ pub(crate) fn add_points(sheet: &mut Sheet, sums: &[Sum]) {
 /// How far from the left of the picture the bars of refusals begin: their names in words come before.
 const NUMBERS: usize = 440;
 
-/// Returns the greatest of the counts, and how many counts aren't 0. Each count that isn't 0 gets a bar.
+/// Returns the greatest of the counts, or 0 if there are no counts, and how many counts aren't 0. Each count that isn't
+/// 0 gets a bar.
 pub(crate) fn most_refused(counts: &[usize]) -> (usize, usize) {
     let (mut most, mut bars) = (0usize, 0usize);
     for count in counts {
@@ -88,7 +91,8 @@ pub(crate) fn most_refused(counts: &[usize]) -> (usize, usize) {
     (most, bars)
 }
 
-/// Adds the picture of refusals: one bar for each number of a refusal that occurred.
+/// Adds the picture of refusals: one bar for each number of a refusal that occurred. `counts` says how often each of
+/// the refusals S20 to S34 was the reply, S20 first.
 pub(crate) fn add_refusals(sheet: &mut Sheet, counts: &[usize]) {
     let (most, bars) = most_refused(counts);
     add_bars_head(
@@ -111,7 +115,8 @@ pub(crate) fn add_refusals(sheet: &mut Sheet, counts: &[usize]) {
     sheet.add(END);
 }
 
-/// Adds the picture of sales by hour of the day: one column for each hour.
+/// Adds the picture of sales by hour of the day: one column for each hour. `sums` has the sales of each hour, hour 0
+/// first.
 pub(crate) fn add_hours(sheet: &mut Sheet, sums: &[Sum]) {
     add_head(
         sheet,
@@ -127,7 +132,7 @@ pub(crate) fn add_hours(sheet: &mut Sheet, sums: &[Sum]) {
     sheet.add(COLUMNS_END);
 }
 
-/// Adds the column of an hour.
+/// Adds the column of an hour (0 to 23), `height` high, with the hour's number below it.
 fn add_hour(sheet: &mut Sheet, hour: usize, height: usize) {
     let left = hour.saturating_mul(41).saturating_add(8);
     add_rect(
@@ -143,7 +148,8 @@ fn add_hour(sheet: &mut Sheet, hour: usize, height: usize) {
     sheet.add("\n");
 }
 
-/// The most columns. If there are this many versions or more, neighbouring versions share a column.
+/// The most columns that the picture of decisions by version has. If there are this many versions or more, neighbouring
+/// versions share a column.
 const COLUMNS: usize = 1000;
 
 /// Adds the picture of decisions by version, in the order of the versions in `totals`. Each version has a column of two
@@ -164,7 +170,8 @@ pub(crate) fn add_versions(sheet: &mut Sheet, totals: &Totals) {
     sheet.add(COLUMNS_END);
 }
 
-/// Adds the columns of the picture, one for every `together` neighbouring versions.
+/// Adds the columns of the picture of decisions by version, one for every `together` neighbouring versions. The last
+/// column can be for fewer.
 fn add_columns(sheet: &mut Sheet, totals: &Totals, together: usize)
     requires { 0 < together }
 {
@@ -181,7 +188,8 @@ fn add_columns(sheet: &mut Sheet, totals: &Totals, together: usize)
     }
 }
 
-/// Returns the most decisions that any column counts, if each column is for `together` neighbouring versions.
+/// Returns how many decisions the column with the most decisions has, or 0 if there are no columns. Each column is for
+/// `together` neighbouring versions.
 fn most_decided(totals: &Totals, together: usize) -> u128
     requires { 0 < together }
 {
@@ -193,7 +201,8 @@ fn most_decided(totals: &Totals, together: usize) -> u128
     most
 }
 
-/// Returns how many requests the version at a place granted, and how many it denied.
+/// Returns how many requests the version at `place` of `totals.versions`, counted from 0, granted, and how many it
+/// denied. Requests are those for releases, presets and prices. Both numbers are 0 if there is no such place.
 fn decided_at(totals: &Totals, place: usize) -> (u128, u128) {
     let releases = outcome_of(&totals.releases, place);
     let presets = outcome_of(&totals.presets, place);
@@ -204,7 +213,8 @@ fn decided_at(totals: &Totals, place: usize) -> (u128, u128) {
     )
 }
 
-/// Returns how many requests the `count` versions from a place on granted together, and how many they denied.
+/// Returns how many requests the `count` versions from `place` on granted together, and how many they denied. `place`
+/// is counted from 0, in `totals.versions`.
 fn decided(totals: &Totals, place: usize, count: usize) -> (u128, u128) {
     let (mut granted, mut denied) = (0u128, 0u128);
     for more in 0..count {
@@ -215,7 +225,7 @@ fn decided(totals: &Totals, place: usize, count: usize) -> (u128, u128) {
     (granted, denied)
 }
 
-/// Returns the left edge and the width of the column at a place, if there are `columns` columns.
+/// Returns the left edge and the width of the column at `place`, counted from 0. There are `columns` columns in all.
 fn column_at(place: usize, columns: usize) -> (usize, usize) {
     // Fewer than 12 columns leave a part of the width free, so that none is too wide.
     let room = 1000usize.min(scaled(columns as u128, 12, 1000));
@@ -226,8 +236,8 @@ fn column_at(place: usize, columns: usize) -> (usize, usize) {
     (left, width)
 }
 
-/// Adds the column at a place, if there are `columns` columns. `low` is the height of its lower part, `high` that of
-/// its upper part.
+/// Adds the column at `place`, counted from 0. There are `columns` columns in all. `low` is the height of its lower
+/// part (granted), `high` that of its upper part (denied).
 fn add_column(sheet: &mut Sheet, place: usize, columns: usize, low: usize, high: usize) {
     let (left, width) = column_at(place, columns);
     let top = 206usize.saturating_sub(low);
@@ -237,7 +247,8 @@ fn add_column(sheet: &mut Sheet, place: usize, columns: usize, low: usize, high:
     sheet.add("/>");
 }
 
-/// Adds the number of a version below its column, if there are at most 24 columns.
+/// Adds the number of a version below the column at `place`, counted from 0. There are `columns` columns in all. If
+/// there are more than 24, nothing is added.
 fn add_name(sheet: &mut Sheet, place: usize, columns: usize, version: u32) {
     if columns <= 24 {
         let (left, width) = column_at(place, columns);

@@ -12,8 +12,8 @@ pub(crate) const LEFT: usize = 90;
 
 pub(crate) const WIDTH: usize = 900;
 
-/// Adds the axis below a drawing, with labels at its ends and at each quarter. The axis is `top` below the picture's
-/// top.
+/// Adds the axis below a drawing, with labels at its ends and at each quarter. `axis` says whether the labels are
+/// entries' numbers or times of day. The line of the axis is `top` below the upper edge of the picture.
 pub(crate) fn add_axis(sheet: &mut Sheet, axis: Axis, top: usize) {
     sheet.fill(
         "<path class=\"axis\" d=\"M{} {}h{}\"/>\n",
@@ -24,8 +24,8 @@ pub(crate) fn add_axis(sheet: &mut Sheet, axis: Axis, top: usize) {
     }
 }
 
-/// Adds the label on an axis at `quarters` quarters of its length from the start. The label's baseline is `foot` below
-/// the picture's top.
+/// Adds the label on an axis at `quarters` quarters (0 to 4) of its length from the start. The label's baseline is
+/// `foot` below the upper edge of the picture.
 fn add_place(sheet: &mut Sheet, axis: Axis, quarters: usize, foot: usize) {
     let x = quarters.min(4) * (WIDTH / 4) + LEFT;
     let anchor = match quarters {
@@ -44,8 +44,8 @@ fn add_place(sheet: &mut Sheet, axis: Axis, quarters: usize, foot: usize) {
     );
 }
 
-/// Returns the label on an axis at `quarters` quarters of its length from the start: an entry's number, or a time of
-/// day.
+/// Returns the label on an axis at `quarters` quarters (0 to 4) of its length from the start: an entry's number, which
+/// is at least 1, or a time of day.
 fn name_at(axis: Axis, quarters: usize) -> Text {
     match axis {
         Axis::Entries(count) => Text::Entry(step_of(quarters as u64, 4, count).max(1) as u64),
@@ -59,7 +59,8 @@ fn name_at(axis: Axis, quarters: usize) -> Text {
 /// The distance between the bands of two neighbouring points.
 const APART: usize = 26;
 
-/// Adds the picture of the points' states: a band for each point, coloured by its state.
+/// Adds the picture of the points' states: a band for each point, coloured by the point's state in each step, and the
+/// axis below them. `axis` is the axis for which `bands` was made.
 pub(crate) fn add_bands(sheet: &mut Sheet, bands: &Bands, axis: Axis) {
     let foot = bands.points.saturating_mul(APART).saturating_add(6);
     add_head(
@@ -76,7 +77,7 @@ pub(crate) fn add_bands(sheet: &mut Sheet, bands: &Bands, axis: Axis) {
     sheet.add(END);
 }
 
-/// Adds the band of a point.
+/// Adds the band of the point at `place`, counted from 0, with the point's name to its left.
 fn add_point(sheet: &mut Sheet, bands: &Bands, place: usize) {
     let y = place.saturating_mul(APART).saturating_add(16);
     let name = Text::Point((place as u64).saturating_add(1));
@@ -91,14 +92,16 @@ fn add_point(sheet: &mut Sheet, bands: &Bands, place: usize) {
     sheet.add("</g>\n");
 }
 
-/// Returns whether the point at a place is in this state in a step of the axis.
+/// Returns whether the point at `place` is in this state in step `step`, both counted from 0. Returns false if there is
+/// no such step.
 fn is_at(bands: &Bands, place: usize, state: State, step: usize) -> bool {
     let at = step.saturating_mul(bands.points).saturating_add(place);
     step < bands.steps && bands.states.get(at) == Some(&state)
 }
 
-/// Adds a level line at `y` for the steps `from..to`, in all of which the point is in one state. Lengths along the axis
-/// are in 2,000ths of the drawing's width: `add_point` scales them.
+/// Adds a level line, `y` below the upper edge of the picture, to the path that was begun. The line is for the steps
+/// `from..to`, in all of which the point is in one state. Lengths along the axis are in 2,000ths of the drawing's
+/// width: `add_point` scales them.
 fn add_stretch(sheet: &mut Sheet, bands: &Bands, from: usize, to: usize, y: usize) {
     let left = scaled(from as u128, bands.steps as u128, 2000);
     let width = scaled(to as u128, bands.steps as u128, 2000).saturating_sub(left);
@@ -114,7 +117,8 @@ fn add_path_head(sheet: &mut Sheet, state: State) {
     );
 }
 
-/// Returns the first step at or after `from` in which the point isn't in this state, or `bands.steps` if there is none.
+/// Returns the first step at or after `from` in which the point at `place` isn't in this state, or `bands.steps` if
+/// there is none. Places and steps are counted from 0.
 fn end_of(bands: &Bands, place: usize, state: State, from: usize) -> usize {
     for step in from..bands.steps {
         if !is_at(bands, place, state, step) {
@@ -124,7 +128,8 @@ fn end_of(bands: &Bands, place: usize, state: State, from: usize) -> usize {
     bands.steps
 }
 
-/// Adds the path that marks all steps in which the point at a place is in this state.
+/// Adds the path that marks all steps in which the point at `place`, counted from 0, is in this state. The path is `y`
+/// below the upper edge of the picture. If there is no such step, nothing is added.
 fn add_state(sheet: &mut Sheet, bands: &Bands, place: usize, state: State, y: usize) {
     let mut is_begun = false;
     let mut is_before = false;
@@ -144,7 +149,7 @@ fn add_state(sheet: &mut Sheet, bands: &Bands, place: usize, state: State, y: us
     }
 }
 
-/// Adds the entry of the legend for a state: its colour, number and name.
+/// Adds the item of the legend for a state: its colour, number and name.
 fn add_name(sheet: &mut Sheet, state: State) {
     let digit = Text::Number(state.number() as u64);
     sheet.fill(

@@ -29,7 +29,7 @@ pub const STATES: [State; 9] = [
     State::SuspendedFuelling,
 ];
 
-/// Returns what a refusal of this number (20 to 34) means, in words.
+/// Returns what a refusal of this number (20 to 34) means, in words; `another refusal` for any other number.
 pub(crate) fn refusal_name(number: u32) -> &'static str {
     match number {
         20 => "no such point",

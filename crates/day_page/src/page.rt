@@ -103,7 +103,7 @@ fn add_day(sheet: &mut Sheet, day: &Day) {
 /// The closing tag of a section.
 const SECTION_END: &str = "</section>\n";
 
-/// Adds the title, the times and the main totals.
+/// Adds the number of entries, the title and the main totals. If the axis is time, also adds its first and last moment.
 fn add_headline(sheet: &mut Sheet, totals: &Totals, axis: Axis) {
     sheet.fill(
         "<p class=\"audited\">{} entries, audited</p>\n<h1>The day in a picture</h1>\n",
@@ -191,7 +191,7 @@ fn add_sales(sheet: &mut Sheet, totals: &Totals) {
     sheet.add(SECTION_END);
 }
 
-/// Adds the tables of sales by point, and by the till that cleared them.
+/// Adds the tables of sales by point, and by the till that cleared them. If there are no sales, the second is left out.
 fn add_sums(sheet: &mut Sheet, totals: &Totals) {
     sheet.add("<div class=\"side\"><div><h3>By point</h3>");
     tables::add_points(sheet, totals);

@@ -16,7 +16,8 @@ pub(crate) const END: &str = "</svg></div>\n";
 /// The line below the columns, and the closing tags of their picture.
 pub(crate) const COLUMNS_END: &str = "<path class=\"axis\" d=\"M0 206.5h1000\"/>\n</svg></div>\n";
 
-/// Adds a text at a place of a picture. `anchor` says which part of the text is at `x`: `start`, `middle` or `end`.
+/// Adds a text to a picture. `anchor` says which part of the text is `x` from the left edge of the picture: `start`,
+/// `middle` or `end`. The text's baseline is `y` below the picture's upper edge.
 pub(crate) fn add_label(sheet: &mut Sheet, x: usize, y: usize, anchor: &'static str, text: Text) {
     sheet.fill(
         "<text x=\"{}\" y=\"{}\" text-anchor=\"{}\">{}</text>",
@@ -24,7 +25,8 @@ pub(crate) fn add_label(sheet: &mut Sheet, x: usize, y: usize, anchor: &'static 
     );
 }
 
-/// Adds a rectangle without the end of its tag, so that the caller can add attributes.
+/// Adds a rectangle whose upper left corner is `x` from the left edge of the picture and `y` below its upper edge. The
+/// end of the rectangle's tag is left out, so that the caller can add attributes before it adds the end.
 pub(crate) fn add_rect(
     sheet: &mut Sheet,
     class: &'static str,

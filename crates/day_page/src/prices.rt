@@ -5,10 +5,11 @@ use crate::sheet::Sheet;
 use crate::texts::{Text, number, scaled};
 use day_report::{Axis, PriceChange};
 
-/// The number of places, at equal distances, where a product's line can rise or fall.
+/// The number of equal parts into which the drawing's width is divided. A product's line can rise or fall where a part
+/// begins or ends.
 const PLACES: usize = 225;
 
-/// The distance between two neighbouring places where a product's line can rise or fall, in units of the picture.
+/// The width of one of the `PLACES` parts, in units of the picture.
 const APART: usize = WIDTH / PLACES;
 
 /// The height of the drawing, in units of the picture.
@@ -22,7 +23,8 @@ struct Range {
 }
 
 impl Range {
-    /// Returns how far below the top of the picture a price is drawn.
+    /// Returns how far below the top of the picture a price is drawn, in units of the picture. That is 170 for the
+    /// least price, and 10 for the greatest if it is above the least.
     fn depth(&self, price: u64) -> usize {
         let above = price.saturating_sub(self.least) as u128;
         let span = self.greatest.saturating_sub(self.least).max(1) as u128;
@@ -54,8 +56,8 @@ fn range_of(opening: &[u32; 8], changes: &[PriceChange]) -> Range {
     range
 }
 
-/// Adds the picture of the prices: a line for each product that has a price. `opening` has the prices before the first
-/// entry.
+/// Adds the picture of the prices: a line for each product that has a price. `opening` has the prices of products 1 to
+/// 8 before the first entry, 0 for none. `changes` has the changes since then, oldest first.
 pub(crate) fn add_lines(
     sheet: &mut Sheet,
     opening: &[u32; 8],
@@ -86,7 +88,7 @@ fn add_range(sheet: &mut Sheet, range: Range) {
     sheet.add("\n");
 }
 
-/// Returns how far from the left a change of a price is drawn.
+/// Returns how far from the left of the picture a change of a price is drawn, in units of the picture.
 fn x_of(change: &PriceChange, axis: Axis) -> usize {
     let place = match axis {
         Axis::Entries(count) => scaled(change.number as u128, count as u128, PLACES),
@@ -116,7 +118,9 @@ fn add_step(sheet: &mut Sheet, product: u32, is_begun: bool, x: usize, depth: us
     }
 }
 
-/// Adds the line of a product: level at each price, with a step where a new price was granted.
+/// Adds the line of a product: level at each price, with a step where a new price was granted. `opening` is the price
+/// before the first entry, 0 for none. Without it, the line begins at the product's first change, and nothing is added
+/// if there is no such change.
 fn add_line(
     sheet: &mut Sheet,
     product: u32,
@@ -130,7 +134,7 @@ fn add_line(
     let mut is_begun = false;
     for change in changes {
         if change.product == product {
-            // Where the clock was set back, the line doesn't go back.
+            // On an axis of time, a change without a moment is drawn where the line ends so far.
             let next = x_of(change, axis).max(x);
             if next != x && price > 0 {
                 add_step(sheet, product, is_begun, x, range.depth(price), next);
@@ -153,7 +157,9 @@ fn add_line(
     }
 }
 
-/// Adds the legend of the lines' colours: each product that has a price, with its first and last price.
+/// Adds the legend of the lines' colours: each product that has a price, with its price before the first entry (0.000
+/// for none) and, if it is another one, its price at the end. `opening` has the prices of products 1 to 8 before the
+/// first entry, 0 for none.
 pub(crate) fn add_legend(sheet: &mut Sheet, opening: &[u32; 8], changes: &[PriceChange]) {
     sheet.add("<ul class=\"legend\">\n");
     for (place, price) in opening.iter().enumerate() {
@@ -167,7 +173,8 @@ pub(crate) fn add_legend(sheet: &mut Sheet, opening: &[u32; 8], changes: &[Price
     sheet.add("</ul>\n");
 }
 
-/// Adds the entry of the legend for a product.
+/// Adds the item of the legend for a product. `opening` is the product's price before the first entry, `last` that at
+/// the end; 0 means that it has none.
 fn add_product(sheet: &mut Sheet, product: u32, opening: u64, last: u64) {
     let product = Text::Number(product as u64);
     sheet.fill(
@@ -180,7 +187,7 @@ fn add_product(sheet: &mut Sheet, product: u32, opening: u64, last: u64) {
     sheet.fill("{}</li>\n", &[Text::Thousandths(last)]);
 }
 
-/// Returns the price of a product after all changes.
+/// Returns the price of a product after all changes. That is `opening` if none of the changes is of this product.
 fn last_price(changes: &[PriceChange], product: u32, opening: u64) -> u64 {
     let mut price = opening;
     for change in changes {

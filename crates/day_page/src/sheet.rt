@@ -41,6 +41,8 @@ impl Sheet {
     }
 
     /// Adds a template of HTML in which the first text replaces the first `{}`, the second text the second, and so on.
+    /// If there are fewer texts than `{}`, each `{}` without a text is left out. If there are more texts, the first
+    /// text without a `{}` is added at the end, and the others are ignored.
     pub fn fill(&mut self, form: &str, texts: &[Text]) {
         let mut texts = texts.iter();
         for piece in form.split("{}") {

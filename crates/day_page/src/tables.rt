@@ -42,6 +42,7 @@ fn add_sum(sheet: &mut Sheet, name: Text, sum: &Sum) {
 }
 
 /// Adds the row of a point: its sales, the number of its unpaid transactions, and its state at the end of the history.
+/// It serves for the row of all points too, with an empty `state`.
 fn add_point(sheet: &mut Sheet, name: Text, sum: &Sum, unpaid: usize, state: &'static str) {
     let cells = [
         Text::Thousands(sum.count as u128),
@@ -70,7 +71,8 @@ fn add_place(sheet: &mut Sheet, totals: &Totals, place: usize, point: &Point) {
 const BY_POINT: &str =
     head!("by-point"; "Point", "Sales", "Money", "Litres", "Unpaid at the end", "State at the end");
 
-/// Adds the table of the points: what was sold at each, and its state at the end.
+/// Adds the table of the points, with a last row for all points: what was sold at each, how many of its transactions
+/// are unpaid at the end, and its state at the end.
 pub(crate) fn add_points(sheet: &mut Sheet, totals: &Totals) {
     sheet.add(BY_POINT);
     for (place, point) in totals.points.iter().enumerate() {
@@ -92,8 +94,8 @@ pub(crate) const BY_TILL: &str = head!("by-till"; "Till", "Sales", "Money", "Lit
 /// The start of the table of sales by hour.
 pub(crate) const BY_HOUR: &str = head!("by-hour"; "Hour", "Sales", "Money", "Litres");
 
-/// Adds a table of sales by till or by hour, with a row for each till or hour that has a sale. `first` is the number of
-/// the first till or hour.
+/// Adds a table of sales by till or by hour, with a row for each till or hour that has a sale. `head` is `BY_TILL` or
+/// `BY_HOUR`. `first` is the number of the first till or hour, to which the first of `sums` belongs.
 pub(crate) fn add_parts(sheet: &mut Sheet, head: &str, sums: &[Sum], first: u64) {
     sheet.add(head);
     for (place, sum) in sums.iter().enumerate() {
@@ -135,7 +137,8 @@ fn count_at(counts: &[u64], place: usize) -> u64 {
     counts.get(place).copied().unwrap_or(0)
 }
 
-/// Returns how many requests the version at a place granted, and how many it denied.
+/// Returns how many requests the version at `place`, counted from 0, granted, and how many it denied. Both numbers are
+/// 0 if there is no such place.
 pub(crate) fn outcome_of(outcomes: &Outcomes, place: usize) -> (u64, u64) {
     (
         count_at(&outcomes.granted, place),
@@ -143,9 +146,9 @@ pub(crate) fn outcome_of(outcomes: &Outcomes, place: usize) -> (u64, u64) {
     )
 }
 
-/// Adds the row of the version at a place, with how many requests it granted and denied. `rule` has the version's slot
-/// and number. `entry` is the number of the entry that loaded the version, or says that it was carried in. `loaded` is
-/// the last moment before that entry, or empty.
+/// Adds the row of the version at `place` of `totals.versions`, counted from 0, with how many requests it granted and
+/// denied. `rule` has the version's slot and number. `entry` is the number of the entry that loaded the version, or
+/// says that it was carried in. `loaded` is the last moment before that entry, or empty if the version was carried in.
 fn add_version(
     sheet: &mut Sheet,
     totals: &Totals,
@@ -171,7 +174,7 @@ fn add_version(
     add_row(sheet, Text::Number(rule.version as u64), &cells);
 }
 
-/// Adds the row of a version that was loaded. `place` is its place among the loads.
+/// Adds the row of a version that was loaded. `place` is its place among the loads, counted from 0.
 fn add_load(sheet: &mut Sheet, totals: &Totals, place: usize, load: &Load) {
     let rule = CarriedRule {
         slot: load.slot,
@@ -207,8 +210,9 @@ pub(crate) fn add_versions(sheet: &mut Sheet, totals: &Totals) {
     sheet.add(FOOT);
 }
 
-/// Adds a row for each till of which the version at place `at` decided a request. `rows` is how many rows there were
-/// before. Returns how many there are then. Rows beyond `ROWS` are counted but left out.
+/// Adds a row for each till of which the version at place `at`, counted from 0, decided a request. `version` is its
+/// number. `rows` is how many rows there were before. Returns how many there are then. Rows beyond `ROWS` are counted
+/// but left out.
 fn add_tills(sheet: &mut Sheet, tills: &[Outcomes], at: usize, version: u32, rows: usize) -> usize {
     let mut rows = rows;
     for (place, outcomes) in tills.iter().enumerate() {
@@ -230,7 +234,8 @@ fn add_tills(sheet: &mut Sheet, tills: &[Outcomes], at: usize, version: u32, row
 
 const BY_VERSION_AND_TILL: &str = head!("versions-by-till"; "Version", "Till", "Granted", "Denied");
 
-/// Adds the table of how many requests each version granted and denied for each till.
+/// Adds the table of how many requests each version granted and denied for each till. It has the first `ROWS` rows. If
+/// there are more, a note below it says how many are left out.
 pub(crate) fn add_versions_by_till(sheet: &mut Sheet, totals: &Totals) {
     sheet.add(BY_VERSION_AND_TILL);
     let mut rows = 0;
@@ -250,7 +255,8 @@ fn add_remark(sheet: &mut Sheet, remark: &str, left: usize) {
     }
 }
 
-/// Adds the row of a counter, if its bound isn't 0.
+/// Adds the row of counter number `place`, counted from 0. `counter` is its value and its bound. If the bound is 0,
+/// nothing is added.
 fn add_counter(sheet: &mut Sheet, place: usize, counter: &(u64, u64)) {
     let (value, bound) = *counter;
     if bound > 0 {
@@ -264,7 +270,8 @@ fn add_counter(sheet: &mut Sheet, place: usize, counter: &(u64, u64)) {
 
 const COUNTERS: &str = head!("counters"; "Counter", "Value at the end", "Bound");
 
-/// Adds the table of the counters whose bound isn't 0, with their values at the end.
+/// Adds the table of the counters whose bound isn't 0, with their values at the end and their bounds. `counters` has
+/// the value and the bound of each counter, counter 0 first.
 pub(crate) fn add_counters(sheet: &mut Sheet, counters: &[(u64, u64)]) {
     sheet.add(COUNTERS);
     for (place, counter) in counters.iter().enumerate() {
@@ -290,7 +297,8 @@ const PRICES: &str = head!(
     "Entry", "Moment", "Product", "New price", "Asked by till", "Granted by version"
 );
 
-/// Adds the table of the changed prices: the last `ROWS` of them, if there are more.
+/// Adds the table of the changed prices. If there are more than `ROWS`, it has the last `ROWS` of them, and a note
+/// below it says how many are left out.
 pub(crate) fn add_prices(sheet: &mut Sheet, changes: &[PriceChange]) {
     sheet.add(PRICES);
     let left = changes.len().saturating_sub(ROWS);

@@ -15,7 +15,7 @@ pub enum Text {
     Thousandths(u64),
     /// Nanoseconds as seconds with nine decimals, as in 0.000012500.
     Seconds(u64),
-    /// A moment as a date and a time of day in UTC; 0 is written as `not told`.
+    /// A moment as a date and a time of day in UTC, as in 2026-11-28 14:42:43; 0 is written as `not told`.
     Moment(u64),
     /// A moment as a time of day in UTC: hours and minutes.
     Clock(u64),
@@ -70,7 +70,8 @@ pub(crate) fn date_of(moment: u64) -> Date {
     }
 }
 
-/// Returns `value` scaled so that `most` becomes `length`. The result is at most `length`, and 0 if `most` is 0.
+/// Returns `value` scaled so that `most` becomes `length`, rounded down. The result is at most `length`, and 0 if
+/// `most` is 0.
 pub(crate) fn scaled(value: u128, most: u128, length: usize) -> usize
     ensures { result ≤ length }
 {

@@ -44,7 +44,7 @@ pub struct Totals {
     pub by_point: Vec<Sum>,
     /// What each of the tills 1 to 64 cleared, till 1 first.
     pub by_till: Vec<Sum>,
-    /// What was sold in each of the hours 0 to 23 of the day, in UTC.
+    /// What was sold in each of the hours 0 to 23 of the day, in UTC. A sale without a moment is in no hour.
     pub by_hour: Vec<Sum>,
     /// The fuelling points as they are after the last entry.
     pub points: Vec<Point>,

@@ -60,7 +60,7 @@ fn count_if(counts: &mut HashMap<u32, u64>, version: u32, wanted: bool) -> Resul
 }
 
 /// Returns for each version how many of the decisions in this part it granted, if `granted` is true, or denied, if it
-/// is false. The error is that memory ran out.
+/// is false. A version without such a decision isn't in the map. The error is that memory ran out.
 fn by_version(
     alloc: Global,
     decisions: &[Decision],

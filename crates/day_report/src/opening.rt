@@ -47,8 +47,8 @@ fn points_in(alloc: Global, opening: &Opening) -> Result<Vec<Point>, AllocError>
     Vec::from_slice(alloc, opening.points.as_slice())
 }
 
-/// Returns the prices of products 1 to 8 that a site of this configuration starts with: those of its opening, or those
-/// of the configuration. They are in thousandths of the currency per litre, 0 for none.
+/// Returns the prices of products 1 to 8 that a site of this configuration starts with: those of its opening, or,
+/// without an opening, those of the configuration. They are in thousandths of the currency per litre, 0 for none.
 pub fn opening_prices(config: &Config) -> [u32; 8]
     ensures { result ≡ (opening_state config.now).prices }
 {

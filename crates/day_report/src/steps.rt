@@ -41,6 +41,7 @@ fn first_or(first: u64, moment: u64) -> u64
 }
 
 /// Returns the axis for a history: time, if its moments never decrease and span at least ten minutes; else its entries.
+/// An entry whose moment is 0 has none.
 #[tactic(auto, unfolding(crate::specs::Picture::axis_of))]
 pub fn axis_of(entries: &[Entry]) -> Axis
     ensures { result ≡ axis_of entries.now }
@@ -76,7 +77,7 @@ pub fn step_of(at: u64, most: u128, steps: usize) -> usize
     (scaled / most).min(steps as u128) as usize
 }
 
-/// Returns how many steps a picture has along this axis.
+/// Returns how many steps a picture has along this axis: one for each entry or for each second, but at most 2,000.
 fn steps_of(axis: Axis) -> usize
     ensures { result ≡ steps_along axis }
 {
@@ -86,7 +87,8 @@ fn steps_of(axis: Axis) -> usize
     }
 }
 
-/// Returns the step that the entry at this place belongs to, or `None` if the axis is time and the entry has no moment.
+/// Returns the step, counted from 0, that an entry belongs to if the axis is divided into `steps` steps. `place` is the
+/// entry's place in the history, counted from 0. Returns `None` if the axis is time and the entry has no moment.
 fn step_at(axis: Axis, place: usize, entry: &Entry, steps: usize) -> Option<usize>
     ensures step { result ≡ step_at axis place entry.now.moment steps }
     ensures few { IfSome result (λ step. step ≤ steps) }
@@ -136,7 +138,8 @@ fn cuts(
     Ok(cuts)
 }
 
-/// The state of each point in each step: first the states of all points in step 0, then those in step 1, and so on.
+/// The state that is shown of each of `points` points in each of `steps` steps: first the states of all points in step
+/// 0, point 1 first, then those in step 1, and so on.
 #[derive(Drop)]
 pub struct Bands {
     pub points: usize,
@@ -161,7 +164,8 @@ fn point_of(entry: &Entry) -> Option<u32>
     }
 }
 
-/// Sets the stored state of point `n` to this state, if this one has the greater number.
+/// Sets the stored state of point `n` to this state, if this one has the greater number. If there is no point `n`,
+/// nothing changes.
 fn raise(states: &mut [State], n: u32, state: State)
     ensures { states.new ≡ raised states.old n state }
 {
@@ -170,7 +174,8 @@ fn raise(states: &mut [State], n: u32, state: State)
     }
 }
 
-/// Sets the stored state of point `n` to its current state, if the current state has the greater number.
+/// Sets the stored state of point `n` to its state in `points`, if that one has the greater number. If `n` is `None` or
+/// there is no such point, nothing changes.
 fn show_point(states: &mut [State], points: &[Point], n: Option<u32>)
     ensures { states.new ≡ with_point states.old points.now n }
 {
@@ -207,8 +212,8 @@ fn states_of(alloc: Global, points: &[Point]) -> Result<Vec<State>, AllocError>
     Ok(states)
 }
 
-/// Applies the entries of a step to the points, and returns for each point the state with the greatest number that it
-/// has in the step. The error is that memory ran out.
+/// Applies the entries of a step to the points, and returns for each point the state with the greatest number of those
+/// that it has before the entries and after each of them. The error is that memory ran out.
 fn step_states(
     alloc: Global,
     points: &mut [Point],
@@ -225,8 +230,9 @@ fn step_states(
     Ok(states)
 }
 
-/// Returns for each step and each point the state with the greatest number that the point has in the step. The entries
-/// are those of a site of this configuration. The error is that memory ran out.
+/// Returns for each step of the axis and each point the state with the greatest number of those that the point has
+/// before the entries of the step and after each of them. The entries are the history of a site of this configuration.
+/// The error is that memory ran out.
 pub fn follow_states(
     alloc: Global,
     config: &Config,

@@ -32,9 +32,9 @@ impl Display for Unfit {
     }
 }
 
-/// Returns the configuration of a site that begins with an opening. The counters have the values of the opening, and
-/// the bounds of `config`. The error is why no site of this configuration can begin with the opening, or, if one can,
-/// that memory ran out.
+/// Returns `config` with `opening` in place of any opening that it had, so that a site of the result begins with
+/// `opening`. The counters have the values of `opening`, and the bounds of `config`. The error is why no site of this
+/// configuration can begin with the opening, or, if one can, that memory ran out.
 pub fn begun(alloc: Global, config: Config, opening: Opening) -> Result<Config, Unfit>
     ensures begun { IfOk result (BeginsWith config opening) }
     ensures unfit { IfErr result (IsUnfit config opening) }

@@ -9,7 +9,7 @@ use site_core::{AuditFault, Config};
 pub enum Unleft {
     /// The day has no journal.
     NoJournal,
-    /// The day's site leaves no opening.
+    /// The day's site leaves no opening, or memory ran out.
     Uncarried(Uncarried),
 }
 
@@ -29,11 +29,12 @@ pub enum Unbegun {
     NoOpening,
     /// The day is day 1, and an opening is given for it, or its configuration has an opening.
     HasOpening,
-    /// The bytes that are given as the opening, and why they aren't the text of an opening.
+    /// The bytes that are given as the opening, and why they couldn't be read: they aren't the text of an opening, or
+    /// memory ran out.
     Flawed(Vec<u8>, OpeningFlaw),
-    /// The opening is one for the day of this number.
+    /// The opening is one for another day, which has this number.
     OtherDay(u32),
-    /// No site of the configuration begins with the opening.
+    /// No site of the configuration begins with the opening, or memory ran out.
     Unfit(Unfit),
 }
 
@@ -49,7 +50,7 @@ pub enum Unclosed<J> {
     OutOfMemory(Option<J>),
 }
 
-/// Why days don't follow one another.
+/// Why days don't follow one another. `Unleft`, `Unbegun` and `Unclosed` can also say that memory ran out.
 #[derive(Drop)]
 pub enum Cause<J> {
     /// There is no day.
@@ -66,7 +67,8 @@ pub enum Cause<J> {
     Unclosed(Unclosed<J>),
 }
 
-/// The number of the first day that isn't as it should be, and why.
+/// The number of the first day that isn't as it should be, and why. If there are no days, the number is the one that
+/// the first day would have.
 #[derive(Drop)]
 pub struct DaysFault<J> {
     pub day: u32,

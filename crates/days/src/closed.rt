@@ -10,7 +10,8 @@ ghost use Rattle.days.specs.Leaving.{IsUncarried};
 use crate::file::{OpeningFile, Uncarried};
 use site_core::Site;
 
-/// The close of a day: the site that the day's journal leads to, and the SHA-256 of the journal's bytes.
+/// The close of a day: the site that the day's journal leads to, and the SHA-256 of the journal's bytes. For a day
+/// without a journal, these are a new site and the SHA-256 of no bytes.
 #[derive(Drop)]
 pub struct Closed {
     pub site: Site,

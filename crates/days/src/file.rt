@@ -32,7 +32,7 @@ pub enum OpeningFlaw {
 /// Why the site of a day leaves no opening for the next day.
 #[derive(Clone, Copy)]
 pub enum Uncarried {
-    /// The number of the day is the greatest one.
+    /// The day has the greatest number that a day can have: 4,294,967,295.
     LastDay,
     /// One of the site's numbers is too great for an opening, or memory ran out.
     Fault(OpeningFault),

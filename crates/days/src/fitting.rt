@@ -13,7 +13,7 @@ use std::fmt::{self, Display};
 /// Why a site of a configuration can't begin with an opening: the first of these cases that applies.
 #[derive(Clone, Copy)]
 pub enum Misfit {
-    /// How many points the opening has, and how many the configuration.
+    /// How many points the opening has, and how many the configuration has. These numbers differ.
     Points(usize, usize),
     /// A till whose number is over the configuration's number of tills holds an unpaid transaction. The values are the
     /// place of the first point with such a transaction, counted from 0, the point's first such transaction, and how
@@ -166,7 +166,7 @@ fn rebounded(counters: &Counters, bounds: &[(u64, u64); 32]) -> Result<Counters,
     }
 }
 
-/// Returns for each counter a pair of its value and the bound in `bounds`.
+/// Returns for each counter a pair of its value and its new bound: the second number of the counter's pair in `bounds`.
 fn bounded(counters: &Counters, bounds: &[(u64, u64); 32]) -> [(u64, u64); 32]
     ensures { AreBounded counters.now bounds.now result }
 {
@@ -177,7 +177,8 @@ fn bounded(counters: &Counters, bounds: &[(u64, u64); 32]) -> [(u64, u64); 32]
     cells
 }
 
-/// Returns the number of the first counter whose value is over its bound.
+/// Returns the number of the first counter whose value is over its bound, or `None` if there is no such counter. Each
+/// pair in `cells` is a counter's value and its bound, from counter 0 on.
 fn over(cells: &[(u64, u64); 32]) -> Option<usize>
     ensures { MatchOption result (All (λ (c : ℕ × ℕ). c.0 ≤ c.1) cells.now)
         (λ c. (c < 32) × ((counter cells.now c).1 < (counter cells.now c).0)

@@ -14,7 +14,7 @@ pub enum Line {
     Cleared(u64, u64),
     /// How many versions were ever loaded.
     Versions(u32),
-    /// The version in force in a slot: its number and its program.
+    /// The version in force in a slot, counted from 0: the version's number and its program.
     Version {
         slot: u64,
         number: u32,
@@ -22,9 +22,9 @@ pub enum Line {
         layout: Layout,
         bytes: Bytes,
     },
-    /// A product and its price.
+    /// A product, counted from 1, and its price.
     Price(u32, u32),
-    /// A counter, its value and its bound.
+    /// A counter, counted from 0, its value and its bound.
     Counter(u32, u64, u64),
     /// A point's number, counted from 1, and all that the point keeps but its unpaid transactions.
     Point(u64, Snapshot),

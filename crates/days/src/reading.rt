@@ -24,8 +24,8 @@ pub(crate) fn is_same(text: &[u8], other: &[u8]) -> bool
     text == other
 }
 
-/// Returns the line that these bytes spell. `room` is overwritten. The error is `Misplaced` if the bytes don't spell a
-/// line, or that memory ran out.
+/// Returns the line that these bytes, given without an LF, spell. `room` is overwritten. The error is `Misplaced` if
+/// the bytes don't spell a line, or that memory ran out.
 fn read_line(alloc: Global, room: &mut String, bytes: &[u8]) -> Result<Line, StepFault>
     ensures { LineFound bytes.now result }
 {
@@ -47,8 +47,9 @@ fn read_line(alloc: Global, room: &mut String, bytes: &[u8]) -> Result<Line, Ste
     }
 }
 
-/// Reads the line of these bytes, and adds it to the reading. `room` is overwritten. The error is `BadLine` or
-/// `BadProgram` with `number` as the number of the line, or that memory ran out.
+/// Reads the line of these bytes, given without an LF, and adds it to the reading. `room` is overwritten. The error is
+/// `BadLine` if the bytes spell no line that can come next, or `BadProgram` if the verifier refuses the line's program,
+/// each with `number` as the number of the line. It can also be that memory ran out.
 fn take_line(
     alloc: Global,
     room: &mut String,
@@ -72,7 +73,8 @@ fn take_line(
     }
 }
 
-/// Takes all lines of a text into an empty reading. Returns the number of the line that would be next.
+/// Takes all lines of a text into an empty reading. Returns the number of the line that would be next, counted from 1.
+/// The error is the first flaw in the text, or that memory ran out. A text that ends too early is no error here.
 fn read_lines(alloc: Global, reading: &mut Reading, text: &[u8]) -> Result<u32, OpeningFlaw>
     requires { reading.old ≡ nothing_read }
     ensures read { IfOk result (λ number. HasRead text.now [] number reading.new) }

@@ -49,7 +49,7 @@ fn load_word(layout: Layout) -> &'static str
     }
 }
 
-/// Appends a space and an order as one word. The error is that memory ran out.
+/// Appends a space and an order as one word, which is `none` if there is no order. The error is that memory ran out.
 fn put_order(text: &mut String, order: Option<Order>) -> Result<(), AllocError>
     ensures { OnOk result (string_bytes text.new ≡ with_words (string_bytes text.old) (order_word order ∷ [])) }
 {
@@ -66,7 +66,7 @@ fn put_order(text: &mut String, order: Option<Order>) -> Result<(), AllocError>
     }
 }
 
-/// Appends a space and `yes` or `no`. The error is that memory ran out.
+/// Appends a space, and then `yes` if `answer` is true, or else `no`. The error is that memory ran out.
 fn put_answer(text: &mut String, answer: bool) -> Result<(), AllocError>
     ensures { OnOk result (string_bytes text.new ≡ with_words (string_bytes text.old) (yes_or_no answer ∷ [])) }
 {
@@ -77,7 +77,7 @@ fn put_answer(text: &mut String, answer: bool) -> Result<(), AllocError>
     }
 }
 
-/// Appends the words of the first line. The error is that memory ran out.
+/// Appends the words of an opening's first line. The error is that memory ran out.
 fn put_day(text: &mut String, day: u32) -> Result<(), AllocError>
     ensures { OnOk result (string_bytes text.new ≡ with_line (string_bytes text.old) (line_words (Line.Day day))) }
 {
@@ -85,7 +85,8 @@ fn put_day(text: &mut String, day: u32) -> Result<(), AllocError>
     put_number(text, u64::from(day))
 }
 
-/// Appends the words of the line that says what was cleared. The error is that memory ran out.
+/// Appends the words of the line that says what was cleared: the total in cents, and how many transactions. The error
+/// is that memory ran out.
 fn put_cleared(text: &mut String, total: u64, count: u64) -> Result<(), AllocError>
     ensures { OnOk result (string_bytes text.new
         ≡ with_line (string_bytes text.old) (line_words (Line.Cleared total count))) }
@@ -122,7 +123,8 @@ fn put_version(
     put_word(text, load_word(layout))
 }
 
-/// Appends the words of a point's own line. The error is that memory ran out.
+/// Appends the words of the line of point `point`, counted from 1. The unpaid transactions in `values` aren't written:
+/// they have lines of their own. The error is that memory ran out.
 fn put_point(text: &mut String, point: u64, values: &Snapshot) -> Result<(), AllocError>
     ensures { OnOk result (string_bytes text.new
         ≡ with_line (string_bytes text.old) (line_words (Line.Point point values.now))) }
@@ -140,7 +142,8 @@ fn put_point(text: &mut String, point: u64, values: &Snapshot) -> Result<(), All
     put_number(text, u64::from(values.last))
 }
 
-/// Appends the words of a transaction's line. The error is that memory ran out.
+/// Appends the words of the line of an unpaid transaction at point `point`, counted from 1. The error is that memory
+/// ran out.
 fn put_unpaid(text: &mut String, point: u64, unpaid: &Transaction) -> Result<(), AllocError>
     ensures { OnOk result (string_bytes text.new
         ≡ with_line (string_bytes text.old) (line_words (Line.Unpaid point unpaid.now))) }
@@ -163,7 +166,7 @@ fn put_price(text: &mut String, product: u32, price: u32) -> Result<(), AllocErr
     put_number(text, u64::from(price))
 }
 
-/// Appends the words of the last line. The error is that memory ran out.
+/// Appends the words of an opening's last line. The error is that memory ran out.
 fn put_journal(
     alloc: Global,
     text: &mut String,
@@ -189,7 +192,7 @@ fn put_counter(text: &mut String, counter: u32, value: u64, bound: u64) -> Resul
     put_number(text, bound)
 }
 
-/// Appends the words of a line. The error is that memory ran out.
+/// Appends the words of a line, without an LF. The error is that memory ran out.
 fn put_words(alloc: Global, text: &mut String, line: &Line) -> Result<(), AllocError>
     ensures { OnOk result (string_bytes text.new ≡ with_line (string_bytes text.old) (line_words line.now)) }
 {

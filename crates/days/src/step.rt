@@ -52,11 +52,12 @@ pub(crate) enum StepFault {
     OutOfMemory,
 }
 
-/// What has been read of an opening.
+/// What has been read of an opening. What hasn't been read is 0, `None` or an empty list. A counter is a pair of its
+/// value and its bound.
 #[derive(Drop)]
 pub(crate) struct Reading {
     alloc: Global,
-    /// The least place that the next line can have.
+    /// The least place that the next line can have. After the last line it is 61, which is the place of no line.
     next: u32,
     day: u32,
     points: Vec<Point>,
@@ -137,7 +138,7 @@ impl Reading {
         self.next == END_AT + 1
     }
 
-    /// Returns what was read.
+    /// Returns what was read. The value of each counter must be at most the counter's bound.
     pub(crate) fn finish(self) -> OpeningFile
         requires { All (λ c. c.0 ≤ c.1) self.file.opening.counters }
         ensures { result ≡ self.file }
@@ -297,7 +298,7 @@ impl Reading {
         Ok(())
     }
 
-    /// Takes a line, if it can come next with these values.
+    /// Takes a line, if it can come next with these values. After an error the reading is as before.
     ///
     /// The error is `Misplaced` if the line can't come next, or if one of its values isn't allowed there. Otherwise it
     /// is `Refused` if the verifier refuses the line's program. It can also be that memory ran out.

@@ -15,7 +15,7 @@ use program_slots::Version;
 use site_core::Opening;
 use std::alloc::{AllocError, Global};
 
-/// Appends the first three lines.
+/// Appends the first three lines of an opening.
 fn put_head(alloc: Global, text: &mut String, file: &OpeningFile) -> Result<(), AllocError>
     ensures { OnOk result (AddsLines (string_bytes text.old) (string_bytes text.new) (head_lines file.now)) }
 {
@@ -44,7 +44,7 @@ fn put_rule(
     }
 }
 
-/// Appends the lines of all slots.
+/// Appends the lines of all slots that have a version. The first one in `rules` is slot 0.
 fn put_rules(alloc: Global, text: &mut String, rules: &[Option<Version>]) -> Result<(), AllocError>
     ensures { OnOk result (AddsLines (string_bytes text.old) (string_bytes text.new)
         (numbered_lines version_lines 0 rules.now)) }
@@ -55,7 +55,7 @@ fn put_rules(alloc: Global, text: &mut String, rules: &[Option<Version>]) -> Res
     Ok(())
 }
 
-/// Appends the line of a product, if it has a price.
+/// Appends the line of a product, unless `price` is 0: then the product has no price.
 fn put_price(alloc: Global, text: &mut String, product: u32, price: u32) -> Result<(), AllocError>
     ensures lines { OnOk result (AddsLines (string_bytes text.old) (string_bytes text.new) (price_lines product price)) }
     ensures none { price ≡ 0 → IsOk result }
@@ -66,7 +66,7 @@ fn put_price(alloc: Global, text: &mut String, product: u32, price: u32) -> Resu
     put_line(alloc, text, &Line::Price(product, price))
 }
 
-/// Appends the lines of all products.
+/// Appends the lines of all products that have a price. The first one in `prices` is the price of product 1.
 fn put_prices(alloc: Global, text: &mut String, prices: &[u32]) -> Result<(), AllocError>
     requires { length prices.now ≤ 8 }
     ensures { OnOk result (AddsLines (string_bytes text.old) (string_bytes text.new)
@@ -78,7 +78,7 @@ fn put_prices(alloc: Global, text: &mut String, prices: &[u32]) -> Result<(), Al
     Ok(())
 }
 
-/// Appends the line of a counter, unless its value and its bound are 0.
+/// Appends the line of a counter, unless both its value and its bound are 0.
 fn put_counter(
     alloc: Global,
     text: &mut String,
@@ -96,7 +96,7 @@ fn put_counter(
     put_line(alloc, text, &Line::Counter(counter, value, bound))
 }
 
-/// Appends the lines of all counters.
+/// Appends the lines of all counters whose value and bound aren't both 0.
 fn put_counters(alloc: Global, text: &mut String, counters: &Counters) -> Result<(), AllocError>
     ensures { OnOk result (AddsLines (string_bytes text.old) (string_bytes text.new)
         (numbered_lines counter_lines 0 counters.now)) }
@@ -115,7 +115,7 @@ fn put_counters(alloc: Global, text: &mut String, counters: &Counters) -> Result
     Ok(())
 }
 
-/// Appends the line of an unpaid transaction, if there is one.
+/// Appends the line of an unpaid transaction of point `number`, counted from 1, if there is a transaction.
 fn put_unpaid(
     alloc: Global,
     text: &mut String,
@@ -132,7 +132,7 @@ fn put_unpaid(
     }
 }
 
-/// Appends the line of a point, and those of its unpaid transactions.
+/// Appends the line of point `number`, counted from 1, and then the lines of its unpaid transactions.
 fn put_point(alloc: Global, text: &mut String, number: u64, point: &Point) -> Result<(), AllocError>
     ensures { OnOk result (AddsLines (string_bytes text.old) (string_bytes text.new) (point_lines number point.now)) }
 {
@@ -158,7 +158,7 @@ fn put_points(alloc: Global, text: &mut String, points: &[Point]) -> Result<(), 
     Ok(())
 }
 
-/// Appends the lines of all slots and products.
+/// Appends the lines of the slots that have a version, and then those of the products that have a price.
 fn put_rules_and_prices(
     alloc: Global,
     text: &mut String,
@@ -171,7 +171,7 @@ fn put_rules_and_prices(
     put_prices(alloc, text, &opening.prices)
 }
 
-/// Appends the lines of all counters and points.
+/// Appends the lines of the counters whose value and bound aren't both 0, and then those of the points.
 fn put_counters_and_points(
     alloc: Global,
     text: &mut String,

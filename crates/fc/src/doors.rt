@@ -33,7 +33,8 @@ impl Display for Name {
     }
 }
 
-/// Writes the numbers of some points: if bit p of `points` is set, point p + 1 is one of them.
+/// Writes the word `points`, and then the numbers of some points: if bit p of the value `points` is set, point p + 1 is
+/// one of them.
 fn write_points<W: fmt::Write>(f: &mut fmt::Formatter<W>, points: u32) -> fmt::Result {
     f.write_str("points")?;
     for place in 0..32u32 {
@@ -105,8 +106,9 @@ fn mode_of(role: Role) -> u32 {
     }
 }
 
-/// Prints why a socket can't be opened, with the configuration's file and the key that names the socket. If memory ran
-/// out, prints nothing: the result has the error, which is printed later.
+/// Prints why a socket can't be opened, with the configuration's file, which `word` names, and the key that names the
+/// socket. The result has the exit status. If memory ran out, prints nothing: the result has the error, which is
+/// printed later.
 fn refuse_socket(rt: &HostRuntime, word: &str, door: &Door, error: io::Error) -> Stop {
     if error.kind() == ErrorKind::OutOfMemory && error.raw_os_error().is_none() {
         return Stop::Failed(error);
@@ -116,14 +118,15 @@ fn refuse_socket(rt: &HostRuntime, word: &str, door: &Door, error: io::Error) ->
     Stop::Said(FAILED)
 }
 
-/// Prints that the folder in which a socket is bound can't be made, since something else has its name.
+/// Prints that the folder in which a socket is bound can't be made, since something else has its name. The result has
+/// the exit status. `word` names the configuration's file.
 fn refuse_folder(rt: &HostRuntime, word: &str, door: &Door, folder: Beside<'_>) -> Stop {
     let (place, key) = (Place::of(word), &door.place);
     let _ = eprintln!(rt; "fc: {place}: {key}: {folder} is in the way");
     Stop::Said(FAILED)
 }
 
-/// Prints why a port can't be opened.
+/// Prints why a port can't be opened. The result has the exit status.
 pub fn refuse_port(rt: &HostRuntime, port: u32, error: io::Error) -> Stop {
     let _ = eprintln!(rt; "fc: port {port}: {error}");
     Stop::Said(FAILED)
@@ -158,7 +161,8 @@ impl<'a> Opened<'a> {
     }
 
     /// Opens a door, and adds it to `doors`. If it is a socket, adds its file to `files`. If it can't be opened, prints
-    /// why.
+    /// why; the error has the exit status. If memory ran out, the error is printed later. `word` names the
+    /// configuration's file.
     fn open<H: Files + Net<Listener = TcpListener, Stream = TcpStream>>(
         &mut self,
         rt: &'a HostRuntime,
@@ -176,7 +180,7 @@ impl<'a> Opened<'a> {
         }
     }
 
-    /// Opens doors in their order, up to the first that can't be opened.
+    /// Opens doors in their order, up to the first that can't be opened. The error is that of `open` for this door.
     fn open_all<H: Files + Net<Listener = TcpListener, Stream = TcpStream>>(
         &mut self,
         rt: &'a HostRuntime,
@@ -191,7 +195,8 @@ impl<'a> Opened<'a> {
     }
 }
 
-/// Opens the doors of a configuration in their order. If one can't be opened, prints why, and closes those before it.
+/// Opens the doors of a configuration in their order. If one can't be opened, prints why, and closes those before it;
+/// the error has the exit status. `word` names the configuration's file.
 pub fn open_doors<'a, H: Files + Net<Listener = TcpListener, Stream = TcpStream>>(
     rt: &'a HostRuntime,
     host: &H,

@@ -17,7 +17,8 @@ use std::sync::Wait;
 use std::thread::Threads;
 use std::time::Clock;
 
-/// Does a job, and returns the exit status. Faults of files and devices are printed on standard error.
+/// Does a job, and returns the exit status. Faults of files and devices are printed on standard error. The error is why
+/// the job ended before it was done.
 ///
 /// `host` is the same runtime as `rt`, but has a type that can start threads and open sockets. Only `main` can borrow
 /// the runtime with this type.

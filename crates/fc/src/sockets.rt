@@ -144,7 +144,7 @@ fn make_again<H: Net>(rt: &HostRuntime, host: &H, folder: &str, socket: &str) ->
 }
 
 /// Makes the folder beside a path, which nobody else may enter. A folder that a killed process may have left there is
-/// replaced. Returns false if anything else has the folder's name.
+/// replaced. Returns false if anything else has the folder's name. `socket` is the path of the socket in the folder.
 fn make_folder<H: Net>(rt: &HostRuntime, host: &H, folder: &str, socket: &str) -> io::Result<bool> {
     match rt.create_dir_with_mode(folder, 0o700) {
         Ok(()) => Ok(true),
@@ -192,7 +192,8 @@ fn move_to<'a, H: Net>(
     }
 }
 
-/// Binds a socket at `socket`, and moves its file to `path`. If the file can't be moved, it is removed.
+/// Binds a socket at `socket`, and moves its file to `path`. If the file can't be moved, it is removed. The result is
+/// never `None`.
 fn bind_and_move<'a, H: Files + Net>(
     rt: &'a HostRuntime,
     host: &H,
@@ -233,7 +234,8 @@ fn bind_beside<'a, H: Files + Net>(
 
 /// Listens at a path. The socket is bound in a folder that nobody else may enter, and its file is then moved to the
 /// path. So the file has this mode from the moment at which others can see it. A socket at the path at which nobody
-/// listens is replaced. Anything else there is an error, and stays as it is.
+/// listens is replaced. Anything else there is an error, and stays as it is. A path of more than 104 bytes is an error
+/// too.
 ///
 /// Returns `None` if something that a killed process can't have left already has the name of that folder.
 pub fn listen_at<'a, H: Files + Net>(

@@ -27,7 +27,8 @@ impl<'a> Answers<'a> {
         })
     }
 
-    /// Writes all buffered answers. Writes nothing if an earlier write failed.
+    /// Writes all buffered answers. Writes nothing if an earlier write failed. The error is that the answers can't be
+    /// written.
     fn flush(&self) -> io::Result<()> {
         match self.waiting.try_borrow_mut() {
             Ok(mut waiting) => match waiting.flush() {
@@ -39,8 +40,8 @@ impl<'a> Answers<'a> {
         }
     }
 
-    /// Appends a piece of an answer to the buffer, and returns how many of its bytes were taken. Returns an error if an
-    /// earlier write failed.
+    /// Appends a piece of an answer to the buffer, and returns how many of its bytes were taken. If the buffer has no
+    /// room, its answers are written first. The error is that this write or an earlier one failed.
     fn add(&self, piece: &[u8]) -> io::Result<usize>
         ensures { IfOk result (λ count. count ≤ length piece.now) }
     {

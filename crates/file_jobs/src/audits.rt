@@ -21,7 +21,8 @@ use std::io;
 use till_request::devices::StreamIn;
 
 /// Audits the journal in a file as this site's journal, prints the result, and returns the exit status. The argument
-/// `journal` names the file.
+/// `journal` names the file. If a file can't be read, if the configuration, the opening or the text of the journal is
+/// refused, or if two files are standard input, prints why; the error has the exit status.
 pub fn audit_files(rt: &HostRuntime, site: SiteFiles<'_>, journal: &str) -> Result<u8, Stop>
     ensures { IsTrue (reads_twice site.entry.config.now (option_map (λ w. w.now) site.entry.opening) journal.now)
         → result ≡ Err (Stop.Said 2) }
@@ -37,7 +38,8 @@ pub fn audit_files(rt: &HostRuntime, site: SiteFiles<'_>, journal: &str) -> Resu
     Ok(say(rt, &told.text, told.status))
 }
 
-/// Returns the text and the exit status of the audit of a journal. The argument `journal` names its file.
+/// Returns the text and the exit status of the audit of a journal. The argument `journal` names its file. If the
+/// journal can't be read, prints why; the error has the exit status.
 fn audited(
     rt: &HostRuntime,
     config: &Config,
@@ -53,13 +55,15 @@ fn audited(
 }
 
 /// Opens and reads a journal again, and prints on standard error why it was refused, or why it can't be opened or read.
+/// Prints nothing if the file has changed and isn't refused any more.
 pub(crate) fn explain_journal(rt: &HostRuntime, word: &str, config: Config) {
     if let Ok(source) = source_of(rt, word) {
         explain_source(rt, word, config, &mut stream(source));
     }
 }
 
-/// Prints on standard error why the journal in `input` was refused, or why it can't be read.
+/// Prints on standard error why the journal in `input` was refused, or why it can't be read. Prints nothing if it isn't
+/// refused any more.
 fn explain_source(rt: &HostRuntime, word: &str, config: Config, input: &mut StreamIn<Source>) {
     match journal_flaw(rt.alloc(), config, input) {
         Ok(Some((line, flaw))) => tell_journal(rt, word, line, &flaw),

@@ -18,8 +18,9 @@ use days::writing::opening_text;
 use site_core::Config;
 
 /// Audits the journal in a file as this site's journal, prints the opening of the next day, and returns the exit
-/// status. The argument `journal` names the file. If the journal is refused, prints what its audit prints, and no
-/// opening.
+/// status. The argument `journal` names the file. If a file is refused or can't be read, or if two files are standard
+/// input, prints what the audit prints, and no opening. If the day can't be closed, prints why. The error has the exit
+/// status.
 pub fn carry_files(rt: &HostRuntime, site: SiteFiles<'_>, journal: &str) -> Result<u8, Stop>
     ensures done { IfOk result (EndsWith 0) }
     ensures twice { IsTrue (reads_twice site.entry.config.now (option_map (λ w. w.now) site.entry.opening) journal.now)
@@ -33,8 +34,8 @@ pub fn carry_files(rt: &HostRuntime, site: SiteFiles<'_>, journal: &str) -> Resu
     }
 }
 
-/// Audits a journal, and returns the close of its day. If the journal is refused, prints what its audit prints; the
-/// error has the exit status.
+/// Audits a journal, and returns the close of its day. If the journal is refused or can't be read, prints what its
+/// audit prints; the error has the exit status.
 fn closed(rt: &HostRuntime, config: Config, journal: &str, source: Source) -> Result<Closed, Stop>
     ensures { IfErr result (SaysOrFails 1) }
 {
@@ -55,8 +56,8 @@ fn closed(rt: &HostRuntime, config: Config, journal: &str, source: Source) -> Re
     }
 }
 
-/// Prints the opening that day `number` leaves for the next one, and returns the exit status. `journal` names the file
-/// of its journal.
+/// Prints the opening that day `number` leaves for the next one, and returns the exit status. If the day can't be
+/// closed, prints why; the error has the exit status. `journal` names the file of the day's journal.
 fn print_opening(rt: &HostRuntime, journal: &str, number: u32, closed: &Closed) -> Result<u8, Stop>
     ensures done { IfOk result (EndsWith 0) }
     ensures refused { IfErr result (SaysOrFails 1) }

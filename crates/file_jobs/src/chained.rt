@@ -41,7 +41,7 @@ struct FolderIn<'a> {
     /// The next day, or `None` after the newest.
     next: Option<u32>,
     newest: u32,
-    /// Why a day couldn't be read.
+    /// Why a day couldn't be read, or `None` while each day could be.
     stop: Option<Stop>,
 }
 
@@ -142,8 +142,9 @@ impl<'a> DaysIn for FolderIn<'a> {
     }
 }
 
-/// Audits all days of a folder, prints the result, and returns the exit status. `word` names the configuration for each
-/// day for which the folder has none.
+/// Audits all days of the folder that the argument `path` names, prints the result, and returns the exit status. `word`
+/// names the configuration for each day for which the folder has none. If a file can't be read, or the days are
+/// refused, prints why; the error has the exit status.
 pub fn audit_folder(rt: &HostRuntime, path: &str, word: &str) -> Result<u8, Stop>
     ensures done { IfOk result (EndsWith 0) }
     ensures input { is_input path.now ≡ true → result ≡ Err (Stop.Said 2) }
@@ -157,7 +158,8 @@ pub fn audit_folder(rt: &HostRuntime, path: &str, word: &str) -> Result<u8, Stop
     }
 }
 
-/// Audits the days of a folder from its oldest to its newest, prints the result, and returns the exit status.
+/// Audits the days of a folder from its oldest to its newest, prints the result, and returns the exit status. If a day
+/// can't be read or is refused, prints why; the error has the exit status.
 fn audit_span(rt: &HostRuntime, folder: Folder<'_>, config: Config, span: Span) -> Result<u8, Stop>
     ensures { IfOk result (EndsWith 0) }
 {
@@ -242,7 +244,7 @@ fn refuse_unfollowed(rt: &HostRuntime, opening: &str, day: u32, why: Unfollowed)
     }
 }
 
-/// Returns the message for a line that the day before this one left, or `None` if the line is empty or isn't text.
+/// Returns the message for a line that the day before `day` left, or `None` if the line is empty or isn't text.
 fn left_line(day: u32, line: &[u8]) -> Option<Left<'_>>
     ensures left { IfSome result (λ left. (left.0 ≡ day - 1) × (left.1.now ≡ line.now)) }
     ensures none { IfNone result (IsUtf8 line.now → line.now ≡ []) }

@@ -15,7 +15,8 @@ use site_core::Site;
 use std::io::{self, BufWriter, Write};
 
 /// Audits the journal in a file as this site's journal, prints the rows that are asked for, and returns the exit
-/// status. If the journal is refused, prints what its audit prints, and no rows.
+/// status. The argument `journal` names the file. If a file is refused or can't be read, or if two files are standard
+/// input, prints what the audit prints, and no rows; the error has the exit status.
 pub fn export_files(
     rt: &HostRuntime,
     rows: Rows,

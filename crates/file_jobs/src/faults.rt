@@ -104,7 +104,8 @@ pub fn complain<D: Display>(rt: &HostRuntime, place: Place<'_>, words: &D, code:
     let _ = eprintln!(rt; "fc: {place}: {words} ({code})");
 }
 
-/// Returns `status` if printing succeeded. If it failed, prints why on standard error, and returns `FAILED`.
+/// Returns `status` if printing succeeded. If it failed, returns `FAILED`, and prints why on standard error, unless the
+/// reader of standard output closed the pipe.
 pub fn once_printed(rt: &HostRuntime, printed: io::Result<()>, status: u8) -> u8
     ensures exact { result ≡ once_printed printed status }
     ensures either { EndsWith status result }
@@ -118,14 +119,16 @@ pub fn once_printed(rt: &HostRuntime, printed: io::Result<()>, status: u8) -> u8
     }
 }
 
-/// Prints a text on standard output, and returns `status`, or `FAILED` if the text can't be written.
+/// Prints a text on standard output as it is, with no LF added, and returns `status`, or `FAILED` if the text can't be
+/// written.
 pub fn say(rt: &HostRuntime, text: &str, status: u8) -> u8
     ensures { EndsWith status result }
 {
     once_printed(rt, print!(rt; "{text}"), status)
 }
 
-/// Prints a fault's number on standard output, and returns `REFUSED`, or `FAILED` if it can't be written.
+/// Prints a line with a fault's number, as in `K1`, on standard output, and returns `REFUSED`, or `FAILED` if the line
+/// can't be written.
 pub fn refuse(rt: &HostRuntime, fault: &str) -> u8
     ensures { EndsWith 1 result }
 {
@@ -133,6 +136,7 @@ pub fn refuse(rt: &HostRuntime, fault: &str) -> u8
 }
 
 /// Prints on standard error why standard output can't be written. Prints nothing if its reader closed the pipe.
+/// `failure` is the error of the write, or `None` if it isn't known.
 pub(crate) fn tell_write(rt: &HostRuntime, failure: Option<&io::Error>) {
     match failure {
         Some(error) if error.kind() == ErrorKind::BrokenPipe => (),
@@ -141,7 +145,7 @@ pub(crate) fn tell_write(rt: &HostRuntime, failure: Option<&io::Error>) {
 }
 
 /// Prints on standard error why standard output can't be written. Unlike `tell_write`, also prints it if the reader
-/// closed the pipe.
+/// closed the pipe. `failure` is the error of the write, or `None` if it isn't known.
 pub fn tell_loss(rt: &HostRuntime, failure: Option<&io::Error>) {
     match failure {
         Some(error) => complain(rt, Place::output(), error, "N2"),
@@ -149,7 +153,8 @@ pub fn tell_loss(rt: &HostRuntime, failure: Option<&io::Error>) {
     }
 }
 
-/// Prints that a file has too many bytes (L1), and returns the exit status.
+/// Prints that a file has over 65,536 bytes: the words on standard error, the number (L1) on standard output too.
+/// Returns the exit status. `word` is the argument that names the file.
 pub(crate) fn refuse_length(rt: &HostRuntime, word: &str) -> u8
     ensures { EndsWith 1 result }
 {
@@ -195,7 +200,7 @@ pub fn out_of_memory(rt: &HostRuntime) -> u8
     FAILED
 }
 
-/// Returns the number of a configuration's fault, as it is printed, or `None` if memory ran out.
+/// Returns the number of a configuration's fault, as it is printed, or `None` if the fault is that memory ran out.
 fn config_code(fault: ConfigFault) -> Option<&'static str>
     ensures code { option_map (λ code. code.now) result ≡ config_code fault }
     ensures some { IfSome result (λ _. fault ≢ ConfigFault.OutOfMemory) }
@@ -209,15 +214,15 @@ fn config_code(fault: ConfigFault) -> Option<&'static str>
     }
 }
 
-/// Prints why a configuration is refused: the words on standard error, the number (K1 to K3) on standard output.
-/// Returns the exit status.
+/// Prints why a configuration is refused: the words on standard error, the number (K1 to K3) on standard output too. If
+/// the flaw is that memory ran out, prints only that, on standard error. Returns the exit status.
 pub(crate) fn refuse_config(rt: &HostRuntime, word: &str, flaw: &ConfigFlaw) -> u8
     ensures { EndsWith 1 result }
 {
     refuse_fault(rt, word, flaw, flaw.fault())
 }
 
-/// Prints why a configuration is refused with this fault, as `refuse_config` does.
+/// Prints why a configuration is refused, as `refuse_config` does. `fault` is the fault of `flaw`.
 fn refuse_fault(rt: &HostRuntime, word: &str, flaw: &ConfigFlaw, fault: ConfigFault) -> u8
     ensures refused { fault ≢ ConfigFault.OutOfMemory → EndsWith 1 result }
     ensures memory { fault ≡ ConfigFault.OutOfMemory → result ≡ 3 }
@@ -233,7 +238,7 @@ fn refuse_fault(rt: &HostRuntime, word: &str, flaw: &ConfigFlaw, fault: ConfigFa
     refuse_with(rt, place, flaw, code)
 }
 
-/// Returns the number of a program file's fault, as it is printed, or `None` if memory ran out.
+/// Returns the number of a program file's fault, as it is printed, or `None` if the fault is that memory ran out.
 fn file_code(fault: ProgramFileFault) -> Option<&'static str>
     ensures { option_map (λ code. code.now) result ≡ file_code fault }
 {
@@ -259,7 +264,8 @@ pub(crate) fn tell_program(rt: &HostRuntime, word: &str, flaw: &ProgramFlaw) {
     }
 }
 
-/// Prints on standard error why an assembler text is refused. Prints nothing if it is accepted.
+/// Prints on standard error why an assembler text is refused. Prints nothing if it is accepted. The error is that
+/// memory ran out.
 pub(crate) fn tell_text(rt: &HostRuntime, word: &str, text: &[u8]) -> Result<(), AllocError> {
     match asm_flaw(rt.alloc(), text)? {
         Some((fault, flaw)) => tell_asm(rt, Place::of(word), fault, &flaw),
@@ -267,8 +273,8 @@ pub(crate) fn tell_text(rt: &HostRuntime, word: &str, text: &[u8]) -> Result<(),
     }
 }
 
-/// Returns the line that an assembler text's fault names, if it names one, and the fault's number, A1 to A4. Returns
-/// `None` if memory ran out.
+/// Returns the number of the line that an assembler text's fault names, if it names one, and the fault's number, A1 to
+/// A4. Lines are counted from 1. Returns `None` if the fault is that memory ran out.
 fn asm_code(fault: AsmFault) -> Option<(Option<u64>, &'static str)>
     ensures code { option_map (λ told. (told.0, told.1.now)) result ≡ asm_code fault }
     ensures some { IfSome result (λ _. fault ≢ AsmFault.OutOfMemory) }
@@ -283,8 +289,8 @@ fn asm_code(fault: AsmFault) -> Option<(Option<u64>, &'static str)>
     }
 }
 
-/// Prints on standard error what is wrong with an assembler text, with its fault A1 to A4. The error is that memory ran
-/// out.
+/// Prints on standard error what is wrong with an assembler text, with its fault A1 to A4. If the fault is that memory
+/// ran out, prints nothing, and returns the error.
 fn tell_asm(
     rt: &HostRuntime,
     file: Place<'_>,
@@ -301,7 +307,7 @@ fn tell_asm(
     Ok(())
 }
 
-/// Returns the place of this line of a file, or of the whole file for `None`.
+/// Returns the place of this line of a file. Returns `file` as it is for `None`.
 fn at_line(file: Place<'_>, line: Option<u64>) -> Place<'_>
     ensures name { result.name.now ≡ file.entry.name.now }
     ensures line { result.line ≡ (if is_some line then line else file.entry.line) }
@@ -313,7 +319,7 @@ fn at_line(file: Place<'_>, line: Option<u64>) -> Place<'_>
     }
 }
 
-/// Returns the number of a journal's flaw, as it is printed, or `None` if memory ran out.
+/// Returns the number of a journal's flaw, as it is printed, or `None` if the flaw is that memory ran out.
 fn journal_code(flaw: &JournalFlaw) -> Option<&'static str>
     ensures { option_map (λ code. code.now) result ≡ journal_code flaw.now }
 {
@@ -338,7 +344,8 @@ pub(crate) fn tell_journal(rt: &HostRuntime, word: &str, line: Option<u32>, flaw
     complain_journal(rt, place, flaw, flaw);
 }
 
-/// Prints a message about a journal's flaw on standard error: the place, the words, and the flaw's number.
+/// Prints a message about a journal's flaw on standard error: the place, the words, and the flaw's number. If the flaw
+/// is that memory ran out, prints only that.
 pub(crate) fn complain_journal<D: Display>(
     rt: &HostRuntime,
     place: Place<'_>,
@@ -351,8 +358,8 @@ pub(crate) fn complain_journal<D: Display>(
     }
 }
 
-/// Returns the number of a fault that breaks a play off, as it is printed, or `None` for a fault that another function
-/// prints.
+/// Returns the number of a fault that breaks a play off, as it is printed: N1 for a failed read, N3 if no more reads
+/// may be made. Returns `None` for the other faults, which other functions print.
 pub(crate) fn session_code(fault: SessionFault) -> Option<&'static str>
     ensures { option_map (λ code. code.now) result ≡ session_code fault }
 {

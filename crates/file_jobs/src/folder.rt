@@ -64,7 +64,8 @@ impl<'a> Folder<'a> {
         Ok(Folder { path: word })
     }
 
-    /// Returns the path of a file of this day.
+    /// Returns the path of the file `part` of this day, whether the folder has it or not. The error is that memory ran
+    /// out.
     pub fn file(self, rt: &HostRuntime, day: u32, part: Part) -> Result<String, AllocError>
         ensures { IfOk result (λ path. string_bytes path ≡ path_of self.entry.path.now day part) }
     {
@@ -108,9 +109,9 @@ impl<'a> Folder<'a> {
         }
     }
 
-    /// Writes a file of this day: it is written and synced under another name, and then renamed. So even if the program
-    /// is stopped meanwhile, either the whole new file is there, or what was there before. If that fails, prints why;
-    /// the error has the exit status.
+    /// Writes `bytes` as the file `part` of this day: they are written and synced under another name, and the file is
+    /// then renamed. So even if the program is stopped meanwhile, either the whole new file is there, or what was there
+    /// before. If that fails, prints why; the error has the exit status.
     pub fn put(self, rt: &HostRuntime, day: u32, part: Part, bytes: &[u8]) -> Result<(), Stop>
         ensures { IfErr result Fails }
     {

@@ -51,10 +51,11 @@ pub fn read_given<'a>(rt: &HostRuntime, word: &'a str) -> Result<Given<'a>, Stop
     }
 }
 
-/// Returns the day that a station goes on with: the newest day of its folder, or day 1 if it has no day. If
+/// Returns the day that a station goes on with: the newest day of its folder, or day 1 if the folder has no day. If
 /// `is_new_day` and the newest day has an entry, closes that day first, and returns the next one. `given` says how the
-/// day is served. Its configuration is used for a day that has none in the folder, or whose journal is missing or
-/// empty. If a file can't be used or is refused, prints why; the error has the exit status.
+/// day is served. The configuration in `given` is used for a day that has none in the folder, or whose journal is
+/// missing or empty. If the day goes on with another configuration, prints that. If a file can't be used or is refused,
+/// or if the day to close isn't the newest any more, prints why; the error has the exit status.
 pub fn newest_day(
     rt: &HostRuntime,
     folder: Folder<'_>,
@@ -94,7 +95,8 @@ pub fn newest_day(
     }
 }
 
-/// Prints that a day goes on with the configuration that the folder has for it, `kept`, if that isn't the given one.
+/// Prints on standard error that a day goes on with the configuration that the folder has for it, `kept`, if that isn't
+/// the one in `given`. Prints nothing if there is no `kept`. The error is that memory ran out.
 fn tell_other(
     rt: &HostRuntime,
     folder: Folder<'_>,
@@ -124,7 +126,9 @@ enum Going {
     Behind(u32),
 }
 
-/// Returns the day with which a station goes on. `span` has the oldest and the newest day of its folder.
+/// Returns the day with which a station goes on: `With` day 1 if `span` is `None`, `Behind` the newest day if
+/// `is_new_day`, and else `With` the newest day. `span` has the oldest and the newest day of the station's folder, or
+/// is `None` if the folder has no day.
 fn going_on(span: Option<Span>, is_new_day: bool) -> Going
     ensures { result ≡ going_on span is_new_day }
 {
@@ -135,10 +139,11 @@ fn going_on(span: Option<Span>, is_new_day: bool) -> Going
     }
 }
 
-/// Returns the number of the day that a station goes on with: the newest day of its folder, or 1 if it has no day. If
-/// `is_new_day` and the newest day has an entry, closes that day first, and returns the number of the next one. The
-/// configuration in `given` is used if the folder has none for the day to close, or if that day's journal is missing or
-/// empty.
+/// Returns the number of the day that a station goes on with: the newest day of its folder, or 1 if the folder has no
+/// day. If `is_new_day` and the newest day has an entry, closes that day first, and returns the number of the next one.
+/// The configuration in `given` is used if the folder has none for the day to close, or if that day's journal is
+/// missing or empty. If a file can't be used or is refused, or if the day to close isn't the newest any more, prints
+/// why; the error has the exit status.
 fn number_of(
     rt: &HostRuntime,
     folder: Folder<'_>,
@@ -160,7 +165,8 @@ fn number_of(
     }
 }
 
-/// Returns the configuration that a folder has for a day, or `None` if it has none.
+/// Returns the configuration that a folder has for a day, or `None` if it has none. If the file can't be read or is
+/// refused, prints why; the error has the exit status.
 pub(crate) fn kept_config(
     rt: &HostRuntime,
     folder: Folder<'_>,
@@ -180,7 +186,8 @@ pub(crate) fn kept_config(
 }
 
 /// Returns the configuration with which a day goes on. Returns `None` if the folder has no configuration for the day,
-/// or if the day's journal is missing or empty: such a day can still begin with another configuration.
+/// or if the day's journal is missing or empty: such a day can still begin with another configuration. If a file can't
+/// be used or is refused, prints why; the error has the exit status.
 fn settled_config(rt: &HostRuntime, folder: Folder<'_>, day: u32) -> Result<Option<Config>, Stop>
     ensures { IfErr result (SaysOrFails 1) }
 {
@@ -191,8 +198,9 @@ fn settled_config(rt: &HostRuntime, folder: Folder<'_>, day: u32) -> Result<Opti
     }
 }
 
-/// Returns the configuration with the opening that the folder has for this day. The first day has no opening. If the
-/// opening is missing, is another day's or is refused, prints why; the error has the exit status.
+/// Returns the configuration with the opening that the folder has for this day. Returns `config` as it is for day 1,
+/// which has no opening. If the opening is missing, is another day's or is refused, prints why; the error has the exit
+/// status.
 fn begin_day(
     rt: &HostRuntime,
     folder: Folder<'_>,
@@ -247,7 +255,8 @@ impl Display for OfDay {
 
 /// Closes a day, unless it has no entry: syncs the day's journal, and writes the opening of the next day. Returns the
 /// number of the day that is then the newest. `config` is the configuration of the day's site, without an opening.
-/// `unkept` is the configuration's text, if closing the day must also write it into the folder.
+/// `unkept` is the configuration's text, if closing the day must also write it into the folder. If a file can't be used
+/// or is refused, or if the next day has begun already, prints why; the error has the exit status.
 fn close_day(
     rt: &HostRuntime,
     folder: Folder<'_>,
@@ -295,7 +304,8 @@ fn put_close(
     leave(rt, folder, number, &closing.closed)
 }
 
-/// Writes the opening that a day leaves for the next one, and returns the next one's number.
+/// Writes the opening that a day leaves for the next one, and returns the next one's number. If that fails, prints why;
+/// the error has the exit status.
 fn leave(rt: &HostRuntime, folder: Folder<'_>, number: u32, closed: &Closed) -> Result<u32, Stop>
     ensures next { IfOk result (λ next. next ≡ number + 1) }
     ensures refused { IfErr result (SaysOrFails 1) }
@@ -312,9 +322,9 @@ fn leave(rt: &HostRuntime, folder: Folder<'_>, number: u32, closed: &Closed) -> 
     Ok(opening.day)
 }
 
-/// Returns an error if the day after this one has begun, and prints that. A caller that has locked this day's journal
-/// then knows that this day stays the newest until the lock is released: to begin the next day, a process locks the
-/// same journal.
+/// Returns an error if the day after this one has begun, or if that can't be found out, and prints why. A caller that
+/// has locked this day's journal and gets no error knows that this day stays the newest until the lock is released: to
+/// begin the next day, a process locks the same journal.
 pub fn check_newest(rt: &HostRuntime, folder: Folder<'_>, number: u32) -> Result<(), Stop>
     ensures { IfErr result Fails }
 {

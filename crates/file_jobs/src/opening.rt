@@ -59,8 +59,8 @@ pub fn begin_with(rt: &HostRuntime, word: &str, config: Config) -> Result<Begun,
     }
 }
 
-/// Returns the bytes of an opening in the file that an argument names. If they can't be read or are too many, prints
-/// why; the error has the exit status.
+/// Returns the bytes of an opening in the file that an argument names. If they can't be read or are more than
+/// `MOST_OPENING`, prints why; the error has the exit status.
 pub fn opening_bytes(rt: &HostRuntime, word: &str) -> Result<Vec<u8>, Stop>
     ensures few { IfOk result (λ bytes. vec_len bytes ≤ MOST_OPENING) }
     ensures refused { IfErr result (SaysOrFails 1) }
@@ -88,8 +88,9 @@ fn opening_in(rt: &HostRuntime, word: &str) -> Result<OpeningFile, Stop>
     }
 }
 
-/// Prints why the text of an opening is refused: the words on standard error, the number (J1, J2 or F2) and the line
-/// on standard output.
+/// Prints why the text of an opening is refused: the words on standard error, the number (J1, J2 or F2) and the line on
+/// standard output. If the flaw is that memory ran out, prints only that, on standard error. The result has the exit
+/// status.
 pub fn refuse_opening(rt: &HostRuntime, word: &str, text: &[u8], flaw: OpeningFlaw) -> Stop
     ensures { RefusesOpening flaw result }
 {
@@ -135,7 +136,8 @@ fn refuse_line(rt: &HostRuntime, word: &str, line: u32, words: &str, code: &str)
     Stop::Said(once_printed(rt, println!(rt; "{code} {line}"), REFUSED))
 }
 
-/// Prints why the verifier refuses the program in a line of an opening.
+/// Prints why the verifier refuses the program in a line of an opening. The result has the exit status. `text` is the
+/// opening's text, and `line` is counted from 1.
 fn refuse_rule(rt: &HostRuntime, word: &str, text: &[u8], line: u32, refusal: Refusal) -> Stop
     ensures { SaysOrFails 1 result }
 {
@@ -198,7 +200,7 @@ fn opened(rt: &HostRuntime, word: &str, config: Config, opening: Opening) -> Res
     }
 }
 
-/// Prints why an opening doesn't fit a configuration.
+/// Prints why an opening doesn't fit a configuration. `word` names the opening's file. The result has the exit status.
 pub fn refuse_unfit(rt: &HostRuntime, word: &str, unfit: Unfit) -> Stop
     ensures { result ≡ Stop.Said (unfit_status unfit) }
 {
@@ -242,7 +244,8 @@ fn is_out_of_memory(fault: OpeningFault) -> bool
     }
 }
 
-/// Prints on standard error what is wrong with a file, without a fault's number. Prints nothing on standard output.
+/// Prints on standard error what is wrong with a file, without a fault's number. Prints nothing on standard output. The
+/// result has the exit status, which is `REFUSED`.
 pub fn refuse_words<D: Display>(rt: &HostRuntime, word: &str, words: &D) -> Stop
     ensures { result ≡ Stop.Said 1 }
 {

@@ -88,7 +88,7 @@ fn read_error(fault: SessionFault, read: Option<&io::Error>) -> Option<&io::Erro
 }
 
 /// Plays the script in standard input against a new site, and returns the exit status. The configuration comes before
-/// the script, in standard input too.
+/// the script, in standard input too. If the configuration is refused, prints why; the error has the exit status.
 pub fn play_input(rt: &HostRuntime) -> Result<u8, Stop>
     ensures ended { IfOk result IsEnded }
     ensures refused { IfErr result (SaysOrFails 1) }
@@ -100,7 +100,8 @@ pub fn play_input(rt: &HostRuntime) -> Result<u8, Stop>
     play_both(rt, &mut script_of(Source::input(rt), &answers, None))
 }
 
-/// Plays a script that follows its configuration in the same input, and returns the exit status.
+/// Plays a script that follows its configuration in the same input, and returns the exit status. If the configuration
+/// is refused, prints why; the error has the exit status.
 fn play_both<'a>(rt: &'a HostRuntime, input: &mut Script<'a, '_, '_>) -> Result<u8, Stop>
     ensures ended { IfOk result IsEnded }
     ensures refused { IfErr result (Says 1) }
@@ -119,8 +120,8 @@ fn play_both<'a>(rt: &'a HostRuntime, input: &mut Script<'a, '_, '_>) -> Result<
     }
 }
 
-/// Returns the settings in `head`, the input up to the line that ends the configuration. If they are refused, prints
-/// why; the error has the exit status.
+/// Returns the settings in `head`, which is the input up to and with the line that ends the configuration, or all of it
+/// if there is no such line. If the settings are refused, prints why; the error has the exit status.
 fn settings_before(rt: &HostRuntime, head: &[u8]) -> Result<Settings, Stop>
     ensures { IfErr result (Says 1) }
 {
@@ -151,7 +152,8 @@ fn outlet<'a, 'b>(answers: &'b Answers<'a>) -> StreamOut<Outgoing<'a, 'b>> {
 }
 
 /// Plays the script in a file against this site, with no entries yet, and returns the exit status. The argument
-/// `script` names the file.
+/// `script` names the file. If a file can't be opened, if the configuration or the opening is refused, or if two files
+/// are standard input, prints why; the error has the exit status.
 pub fn play_files<'a>(rt: &'a HostRuntime, site: SiteFiles<'_>, script: &'a str) -> Result<u8, Stop>
     ensures ended { IfOk result IsEnded }
     ensures twice { IsTrue (reads_twice site.entry.config.now (option_map (λ w. w.now) site.entry.opening) script.now)

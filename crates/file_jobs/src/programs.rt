@@ -26,13 +26,15 @@ pub enum Tell {
 }
 
 /// Prints what `tell` asks for about a file, and returns the exit status. The argument `word` names the file. If the
-/// file is refused, also prints why on standard error.
+/// file is refused, also prints why on standard error. If it can't be read or has over 65,536 bytes, prints why; the
+/// error has the exit status.
 pub fn tell_file(rt: &HostRuntime, word: &str, tell: Tell) -> Result<u8, Stop> {
     let text = text_of(rt, word)?;
     tell_bytes(rt, word, tell, &text)
 }
 
-/// Prints what `tell` asks for about a file with the bytes `text`, and returns the exit status.
+/// Prints what `tell` asks for about a file with the bytes `text`, and returns the exit status. The argument `word`
+/// names the file. If the file is refused, also prints why on standard error.
 fn tell_bytes(rt: &HostRuntime, word: &str, tell: Tell, text: &[u8]) -> Result<u8, Stop>
     ensures { IfOk result (λ status. (told : Told) × TellsFile tell text.now told × EndsWith told.status status) }
 {

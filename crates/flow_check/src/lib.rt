@@ -16,7 +16,7 @@ use std::fmt;
 use std::marker::Model;
 
 /// Why a program's jumps are refused: what is wrong with the first wrong jump, and the number of its unit, counted from
-/// 0. `Display` doesn't write this number.
+/// 0; or that memory ran out. `Display` doesn't write this number.
 #[derive(Clone, Copy)]
 pub enum FlowFault {
     BackwardJump(u32),
@@ -110,7 +110,8 @@ fn fault_of_jump(units: &[Unit], pc: usize) -> Option<JumpFault>
     fault_of_distance(units, pc, distance(units[pc]))
 }
 
-// Returns the unit of the first wrong jump, and what is wrong with it; `None` if no jump is wrong.
+// Returns the number of the unit of the first wrong jump, counted from 0, and what is wrong with it; `None` if no jump
+// is wrong.
 fn first_jump_fault(units: &[Unit]) -> Option<(u32, JumpFault)>
     requires { length units.now ≤ UNITS }
     ensures { result ≡ flow_fault units.now }
@@ -143,8 +144,9 @@ fn fault_at(fault: JumpFault, pc: u32) -> FlowFault
     }
 }
 
-/// Checks that each jump, whether a run can reach it or not, goes forward to the first unit of an instruction. The
-/// error is the first wrong jump. It is never `OutOfMemory`, as nothing is allocated.
+/// Checks that each jump of `code`, whether a run can reach it or not, goes forward to the first unit of an
+/// instruction, and returns the same program as a `Flow`. The error says what is wrong with the first wrong jump. It is
+/// never `OutOfMemory`, as nothing is allocated.
 pub fn check_flow(_alloc: Global, code: Code) -> Result<Flow, FlowFault>
     ensures ok { IfOk result (λ flow. (flow ≡ code) × (flow_fault code ≡ None)) }
     ensures refused { IfErr result (λ fault. IsShown code fault) }
@@ -164,7 +166,8 @@ impl Flow {
         &self.code
     }
 
-    /// Returns the target of the jump at unit `pc`; `None` where no jump begins.
+    /// Returns the number of the unit to which the jump at unit `pc` goes, both counted from 0; `None` if no jump
+    /// begins at `pc`.
     pub fn target(&self, pc: u32) -> Option<u32>
         ensures same { result ≡ target self.now pc }
         ensures ahead { IfSome result (λ to. IsAhead self.now pc to) }

@@ -3,7 +3,8 @@
 
 use std::fmt;
 
-/// A text that is written with its special characters escaped, so that none of them is parsed as HTML markup.
+/// A text that is written with its characters `<`, `>`, `&`, `"` and `'` escaped, so that none of them is parsed as
+/// HTML markup. All other characters are written as they are.
 #[derive(Clone, Copy)]
 pub struct Escaped<'a>(pub &'a str);
 

@@ -27,7 +27,8 @@ fn told_units(alloc: Global, code: &Code) -> Result<Told, AllocError>
     Ok(Told { text, status: 0 })
 }
 
-/// Returns the line for a fault of the assembler, with status 1. For the fault `OutOfMemory` returns the error.
+/// Returns the line for a fault of the assembler, with status 1. The error is that memory ran out. The fault
+/// `OutOfMemory` has no line and gives this error too.
 fn told_asm_fault(alloc: Global, fault: AsmFault) -> Result<Told, AllocError>
     ensures said { IfOk result (λ told. IsSaid told (asm_fault_text fault) 1) }
     ensures fault { OnOk result (fault ≢ AsmFault.OutOfMemory) }
@@ -50,8 +51,10 @@ fn asm_text(alloc: Global, text: &[u8]) -> Result<Told, AllocError>
     }
 }
 
-/// Returns what `fc asm` prints for a text: its units, each as a line of 16 hexadecimal digits, with status 0. With
-/// status 1 returns `L1` for a text of over 65,536 bytes, or the text's first fault: `A1 LINE` to `A3 LINE`, or `A4`.
+/// Returns what `fc asm` prints for an assembler text: the units of its program, each as a line of 16 hexadecimal
+/// digits, with status 0. For a text that is refused returns a line with status 1: `L1` for a text of over 65,536
+/// bytes, or else the text's first fault, which is `A1 LINE`, `A2 LINE`, `A3 LINE` or `A4`. Lines count from 1. The
+/// error is that memory ran out.
 pub fn asm_file(alloc: Global, text: &[u8]) -> Result<Told, AllocError>
     ensures { IfOk result (AsmTells text.now) }
 {
@@ -79,7 +82,7 @@ fn dis_bytes(alloc: Global, bytes: &[u8]) -> Result<Told, AllocError>
 
 /// Returns what `fc dis` prints for a program file: the program as assembler text, with status 0. With status 1 returns
 /// `L1` for a file of over 65,536 bytes, `H1` for wrong digits, or the line of the V fault for bytes that don't decode.
-/// Jumps and types aren't checked.
+/// Jumps and types aren't checked. The error is that memory ran out.
 pub fn dis_file(alloc: Global, file: &[u8]) -> Result<Told, AllocError>
     ensures { IfOk result (DisTells file.now) }
 {
@@ -108,7 +111,7 @@ fn dis_units(alloc: Global, bytes: &[u8]) -> Result<Told, AllocError>
 }
 
 /// Returns what `fc dis --units` prints for a program file. It is what `dis_file` returns, but each instruction has
-/// before it the number of its first unit, a colon and a blank.
+/// before it the number of its first unit, counted from 0, a colon and a blank. The error is that memory ran out.
 pub fn dis_units_file(alloc: Global, file: &[u8]) -> Result<Told, AllocError>
     ensures { IfOk result (DisUnitsTells file.now) }
 {

@@ -44,8 +44,8 @@ fn file_flaw(fault: ProgramFileFault) -> Result<ProgramFlaw, AllocError>
     }
 }
 
-/// Returns why `verify_file` refuses a program file, or `None` if it accepts the file. The error is that memory ran
-/// out, which it can't for a file that is too long.
+/// Returns why `verify_file` refuses a program file with these counters and this context, or `None` if it accepts the
+/// file. The error is that memory ran out. For a file of over 65,536 bytes there is no error.
 pub fn verify_flaw(
     alloc: Global,
     file: &[u8],
@@ -66,7 +66,7 @@ pub fn verify_flaw(
 }
 
 /// Returns why `dis_file` refuses a program file, or `None` if it prints the file as text. The error is that memory ran
-/// out, which it can't for a file that is too long.
+/// out. For a file of over 65,536 bytes there is no error.
 pub fn dis_flaw(alloc: Global, file: &[u8]) -> Result<Option<ProgramFlaw>, AllocError>
     ensures flaw { IfOk result (λ found. MatchOption found (IsShown file.now) (IsDisFlaw file.now)) }
     ensures length { 65536 < length file.now → IsOk result }
@@ -77,8 +77,8 @@ pub fn dis_flaw(alloc: Global, file: &[u8]) -> Result<Option<ProgramFlaw>, Alloc
     }
 }
 
-/// Returns why bytes don't decode, or `None` if they do. The error is that memory ran out, which it can't if the number
-/// of bytes is wrong.
+/// Returns why bytes don't decode, or `None` if they do. The error is that memory ran out. Bytes that aren't 1 to 512
+/// whole units give no error.
 fn undecoded(alloc: Global, bytes: &[u8]) -> Result<Option<ProgramFlaw>, AllocError>
     ensures flaw { IfOk result (λ found. MatchOption found (ShownOf (Ok bytes.now)) (DisFlawOf (Ok bytes.now))) }
     ensures length { has_right_length bytes.now ≡ false → IsOk result }

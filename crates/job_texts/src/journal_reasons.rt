@@ -53,8 +53,9 @@ impl fmt::Display for JournalFlaw {
     }
 }
 
-/// Returns the site after the entries `before` and then the event of `entry`. The result is `None` if the site's
-/// history is full before that event. The error is that memory ran out.
+/// Returns the site after the entries `before` and then the event of `entry`. A site of this configuration must be able
+/// to have the entries `before`, and if the event is a load, the verifier must accept its program. The result is `None`
+/// if the site's history is full before that event. The error is that memory ran out.
 fn answered_after(
     alloc: Global,
     config: Config,
@@ -110,7 +111,8 @@ fn entry_flaw(
     Ok(JournalFlaw::Entry(difference))
 }
 
-/// Returns the first difference between an entry of a journal and the last entry of the site's history.
+/// Returns the first difference between an entry of a journal and the last entry of the site's history. The two must
+/// differ.
 fn last_difference(site: &Site, entry: &Entry) -> Difference
     requires { HasOtherLast site.now.history entry.now }
     ensures { (before : List Entry) (last : Entry) → site.now.history ≡ before ++ last ∷ []
@@ -160,7 +162,7 @@ fn fault_flaw(
     }
 }
 
-/// Returns the place of the entry that an audit's fault names; `None` for `OutOfMemory`.
+/// Returns the place of the entry that an audit's fault names, counted from 1; `None` for `OutOfMemory`.
 fn place_of(fault: AuditFault) -> Option<u32>
     ensures { MatchOption result (fault ≡ AuditFault.OutOfMemory) (IsPlaceOf fault) }
 {
@@ -172,8 +174,9 @@ fn place_of(fault: AuditFault) -> Option<u32>
     }
 }
 
-/// Returns the place of the entry that an audit refuses, counted from 1, and what is wrong with it. The error is that
-/// memory ran out.
+/// Returns the place of the entry that an audit refuses, counted from 1, and what is wrong with it. `fault` must be the
+/// fault that the audit of these entries found. The error is that memory ran out. The fault `OutOfMemory` gives this
+/// error too.
 fn shown_flaw(
     alloc: Global,
     config: Config,
@@ -227,8 +230,9 @@ fn text_flaw(fault: JournalFault) -> Result<(Option<u32>, JournalFlaw), JournalF
     }
 }
 
-/// Returns why the text that a device gives isn't the journal of a site of this configuration: the flaw, and the line
-/// at fault if there is one. Returns `None` if the text is such a journal.
+/// Returns why the text that a device gives isn't the journal of a site of this configuration: the number of the line
+/// at fault, counted from 1, and the flaw. The number is `None` if the flaw is that the last line has no LF. The result
+/// is `None` if the text is such a journal.
 ///
 /// The error is `Device` if a read failed or more reads were needed than are allowed, or `OutOfMemory`.
 pub fn journal_flaw<I: LineIn>(

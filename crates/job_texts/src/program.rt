@@ -26,7 +26,8 @@ fn told_accepted(alloc: Global, program: &Program) -> Result<Told, AllocError>
 }
 
 /// Returns the line of the V fault of a refused program, with status 1: the fault's number, its unit, and its register
-/// or argument, where it has them.
+/// or argument, where it has them. The error is that memory ran out. The refusal `OutOfMemory` has no line and gives
+/// this error too.
 pub(crate) fn told_refusal(alloc: Global, refusal: Refusal) -> Result<Told, AllocError>
     ensures program { IfOk result
         (λ told. (p : ProgramText) → IsRefusal (refusal_of p) refusal → IsRefused p refusal → Refused p told) }
@@ -64,7 +65,8 @@ fn verify_bytes(
 
 /// Returns what `fc verify` prints for a program file, for contexts of this layout. Bit c of `counters` declares
 /// counter c. An accepted program gives `accepted UNITS` with status 0. With status 1 the result is `L1` for a file of
-/// over 65,536 bytes, `H1` for wrong digits, or the line of the program's first V fault.
+/// over 65,536 bytes, `H1` for wrong digits, or the line of the program's first V fault. The error is that memory ran
+/// out.
 pub fn verify_file(
     alloc: Global,
     file: &[u8],

@@ -20,13 +20,13 @@ use reg_types::{Layout, Refusal, TypeFault};
 use std::alloc::{AllocError, Global};
 use std::fmt;
 
-/// Why a program is refused: the refusal, the line of the instruction at fault, and, if the argument of a helper is at
+/// Why a program is refused: the refusal, the line of the unit that it names, and, if the argument of a helper is at
 /// fault, what kind it must be.
 #[derive(Drop)]
 pub struct RefusedProgram {
     pub refusal: Refusal,
     /// The instruction as `fc dis` prints it, or the unit's 16 hexadecimal digits if the bytes don't decode; with an
-    /// LF.
+    /// LF. It is `None` if the refusal names no unit.
     pub line: Option<String>,
     pub wanted: Option<Kind>,
 }
@@ -144,7 +144,8 @@ fn digits_of(alloc: Global, bytes: &[u8], unit: u32) -> Result<Option<String>, A
     }
 }
 
-/// If an argument of a helper is at fault, returns the kind that the helper takes there.
+/// If the refusal names an argument of a helper, returns the kind that the helper takes there. Returns `None` for any
+/// other refusal, and if there is no such helper or argument.
 fn wanted_by(code: &Code, refusal: Refusal) -> Option<Kind>
     ensures { result ≡ kind_wanted code.now refusal }
 {
@@ -194,9 +195,9 @@ fn units_of(alloc: Global, bytes: &[u8]) -> Result<Option<Code>, AllocError>
     }
 }
 
-/// Returns a refusal of these bytes, with the line of the unit that the refusal names: the instruction there, or the
-/// unit's digits if the bytes don't decode. The error is that memory ran out, which it can't if the refusal names no
-/// unit.
+/// Explains a refusal of these bytes. Returns it with the line of the unit that it names: the instruction there, or the
+/// unit's digits if the bytes don't decode; and with the kind that a helper takes, if its argument is at fault. If the
+/// refusal names no unit, the line is `None`, and there is no error. Otherwise the error is that memory ran out.
 pub fn explain_refusal(
     alloc: Global,
     bytes: &[u8],
@@ -236,8 +237,9 @@ pub fn explain_refusal(
     }
 }
 
-/// Returns why the bytes of a program are refused, or `None` if they are accepted. The error is that memory ran out,
-/// which it can't if the number of bytes is wrong.
+/// Returns why the bytes of a program are refused for contexts of this layout, or `None` if they are accepted. Bit c of
+/// `counters` declares counter c. The error is that memory ran out. Bytes that aren't 1 to 512 whole units give no
+/// error.
 pub fn refused_program(
     alloc: Global,
     bytes: &[u8],

@@ -15,7 +15,8 @@ pub struct Told {
     pub status: u8,
 }
 
-/// Returns the line of a refusal, with status 1. The error is that memory ran out.
+/// Returns the line of a refusal, with status 1. `line` has no LF, and the text ends with one. The error is that memory
+/// ran out.
 pub fn refused(alloc: Global, line: &str) -> Result<Told, AllocError>
     ensures { IfOk result (λ told. IsSaid told (line.now ++ 10 ∷ []) 1) }
 {
@@ -26,7 +27,7 @@ pub fn refused(alloc: Global, line: &str) -> Result<Told, AllocError>
     })
 }
 
-/// Returns a line that is a word, a blank and a number, with this status. The error is that memory ran out.
+/// Returns a line that is a word, a blank, a number and an LF, with this status. The error is that memory ran out.
 pub fn numbered(alloc: Global, word: &str, number: u64, status: u8) -> Result<Told, AllocError>
     ensures { IfOk result (λ told. IsSaid told (word.now ++ 32 ∷ decimal number ++ 10 ∷ []) status) }
 {

@@ -31,7 +31,8 @@ impl AnswerBuffer {
         }
     }
 
-    /// Returns whether the buffered answers must be written before the next line is read.
+    /// Returns whether the buffered answers have at least 16,384 bytes. They must then be written before the next line
+    /// is read.
     pub fn is_full(&self) -> bool {
         self.held.bytes.len() >= MOST_WAITING
     }
@@ -55,8 +56,8 @@ impl AnswerBuffer {
         }
     }
 
-    /// Appends an answer's line to the buffer, and returns true. If memory runs out, leaves the buffered answers as
-    /// they are and returns false.
+    /// Appends an answer with its LF to the buffer, and returns true. If memory runs out, leaves the buffered answers
+    /// as they are and returns false.
     fn hold(&mut self, alloc: Global, answer: &Answer) -> bool
         ensures waits { result ≡ true
             → self.new.held.bytes.items ≡ self.old.held.bytes.items ++ answer_line answer.now }
@@ -72,8 +73,9 @@ impl AnswerBuffer {
         }
     }
 
-    /// Appends an answer's line to the buffer. If there is no memory for the line, writes the buffered answers and then
-    /// the line. The error is that a write failed.
+    /// Appends an answer with its LF to the buffer. If there is no memory for that, writes the buffered answers and
+    /// then this answer, and empties the buffer. The error is that a write failed: then some of the first bytes of
+    /// these answers may have been written, and the buffer is empty too.
     pub fn put<O: LineOut>(
         &mut self,
         alloc: Global,

@@ -19,7 +19,7 @@ use till_request::{Answer, Found, InputFault, LineFault, LineIn, LineOut, WriteF
 pub const READS: u32 = 67_108_864;
 
 /// How a session ended: the number of its answers, and the fault of the last line if that was too long (L1) or had no
-/// LF (L4).
+/// LF (L4), else `None`. The answer to such a line is counted too.
 #[derive(Clone, Copy, PartialEq)]
 pub struct Ended {
     pub lines: u64,
@@ -127,10 +127,11 @@ fn end<O: LineOut>(
 }
 
 /// Answers the lines of an input in order, with at most `left` reads, and sets `left` to the number of reads that
-/// remain.
+/// remain. `handler` writes each answer to `output`, and can use and change `clock` and `desk`.
 ///
-/// A line that is too long, or a last line without LF, is answered with its fault, and the session ends. An answer is
-/// written in part only if a write fails.
+/// The session ends at the end of the input. A line that is too long, or a last line without LF, is answered with its
+/// fault, and the session ends there too. The error is that a read or a write failed, that a read is needed and `left`
+/// is 0, that memory ran out, or that the journal failed. An answer is written in part only if a write fails.
 pub fn answer_lines_within<I: LineIn, O: LineOut, C, D, S: LineHandler<C, D>>(
     alloc: Global,
     input: &mut I,

@@ -12,8 +12,9 @@ use till_request::grammar::parse_line;
 use till_request::write::write_answer;
 use till_request::{Answer, LineFault, LineOut, Role, WriteFault};
 
-/// Returns the answer to a line from a role: the desk's answer to its act at the clock's moment, or the fault of a line
-/// that can't be read as an act of the role.
+/// Returns the answer to a line from a role. The line is given without its LF. The answer is the desk's answer to the
+/// line's act at the clock's moment. If the line can't be read as an act of the role, the answer is the line's fault,
+/// and the clock and the desk stay as they are.
 pub fn answer_to<C: Clock, D: Desk>(
     alloc: Global,
     role: Role,
@@ -32,8 +33,9 @@ pub fn answer_to<C: Clock, D: Desk>(
     }
 }
 
-/// Returns the error of an answer that isn't written and ends the session: memory ran out for the line, or the journal
-/// failed. Returns `None` for all other answers.
+/// Returns the error of an answer that isn't written and ends the session: `OutOfMemory` for the answer
+/// `Line(OutOfMemory)`, and `Journal` for `JournalFailed`. Returns `None` for all other answers, `Answer::OutOfMemory`
+/// among them.
 pub fn unsaid(answer: &Answer) -> Option<HandlerError>
     ensures some { IfSome result (λ fault. IsUnsaid fault answer.now) }
     ensures none { IfNone result (ends_unsaid answer.now ≡ false) }

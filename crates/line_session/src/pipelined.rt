@@ -233,7 +233,7 @@ fn device_failed(fault: SessionFault) -> bool
 /// Answers the lines of a connection in order, as acts of a role, like `session`. But several answers are written
 /// together if the input has the next line in its buffer, as `doors` reports by `has_buffered_line`.
 ///
-/// After a failed read, answers that are still buffered are not written.
+/// After a failed read or write, answers that are still buffered are not written. After any other error they are.
 pub fn pipelined_session<S: Doors, C: Clock, D: Desk>(
     alloc: Global,
     role: Role,

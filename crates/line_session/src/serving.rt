@@ -10,7 +10,8 @@ use crate::pipelined::pipelined_session;
 use std::alloc::Global;
 use till_request::{DeviceFault, Role};
 
-/// Opens a connection and runs a session over it. Returns `None` if the connection couldn't be opened.
+/// Opens a connection, runs a session over it, reports to `doors` how the session ended, and returns this. Returns
+/// `None` if the connection couldn't be opened.
 fn serve_connection<S: Doors, C: Clock, D: Desk>(
     alloc: Global,
     role: Role,

@@ -20,8 +20,9 @@ fn without_worker(peers: &[Peers]) -> Option<Role>
     }
 }
 
-/// Returns the first of these that holds for a station whose journal has this many entries: the journal failed, the
-/// journal is nearly full, a role has no worker left. If none holds, returns `Well`.
+/// Returns whether all is well with a station whose journal has `entries` entries. The result is the first of these
+/// that is true, or `Well` if none is: the journal failed; the journal is nearly full, with 1,000,000 entries or more;
+/// a role in `peers` has no worker left.
 pub fn health(has_failed: bool, entries: u32, peers: &[Peers]) -> Health
     ensures { result ≡ health_of has_failed entries peers.now }
 {

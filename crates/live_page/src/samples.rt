@@ -25,7 +25,8 @@ macro_rules! singles {
     };
 }
 
-/// Makes the lines of a metric that tells how often something was done, and how long it took in all, in seconds.
+/// Makes the lines of a metric that tells how often something was done, and how long it took in all. The first `{}` in
+/// them is the place of the time, in seconds, and the second that of the number of times.
 macro_rules! summary {
     ($name:literal: $help:literal) => {
         concat!(
@@ -57,7 +58,7 @@ pub fn metrics(alloc: Global, station: &Station<'_>) -> Result<String, AllocErro
     sheet.finish()
 }
 
-/// Adds a sample: the line `form`, in which `label` replaces the first `{}`, and `value` the second.
+/// Adds a sample: the line `form`, given with its LF, in which `label` replaces the first `{}`, and `value` the second.
 fn add_sample(sheet: &mut Sheet, form: &str, label: Text, value: u64) {
     sheet.fill(form, &[label, Text::Number(value)]);
 }
@@ -125,7 +126,8 @@ fn add_version(sheet: &mut Sheet, slot: Text, version: u32, decided: &Decided) {
     sheet.fill(DECISIONS, &[slot, version, granted, slot, version, denied]);
 }
 
-/// Adds the samples of the versions of which something was counted, and of the others that are in force.
+/// Adds the samples of each version that an entry loaded, that decided in an entry, or that is in force. `rules` has
+/// the versions in force, that of slot 0 first.
 fn add_decisions(sheet: &mut Sheet, tally: &Tally, rules: &[Option<Version>]) {
     sheet.add(
         head!("fc_decisions_total" is a "counter": "Decisions of rules in this journal, by version."),
@@ -140,14 +142,14 @@ fn add_decisions(sheet: &mut Sheet, tally: &Tally, rules: &[Option<Version>]) {
     }
 }
 
-/// Adds the samples of a version that is in force, if nothing was counted of it.
+/// Adds the samples of a version that is in force, with both counts 0, if `tally` doesn't have the version.
 fn add_idle(sheet: &mut Sheet, slot: Text, version: u32, tally: &Tally) {
     if tally.versions().get(&version).is_none() {
         add_version(sheet, slot, version, &NOTHING);
     }
 }
 
-/// Adds the samples of a point: 1 for the state that it is in, and 0 for each other state.
+/// Adds the samples of the point at `place`, counted from 0: 1 for the state `now`, and 0 for each other state.
 fn add_states(sheet: &mut Sheet, place: usize, now: State) {
     for state in &STATES {
         let is_now = u64::from(*state == now);
@@ -275,7 +277,7 @@ fn add_peers(sheet: &mut Sheet, peers: &[Peers]) {
     }
 }
 
-/// Adds how often something was done, and how long it took in all.
+/// Adds a metric that tells how often something was done, and how long it took in all. `form` is made by `summary!`.
 fn add_times(sheet: &mut Sheet, form: &str, times: Times) {
     sheet.fill(
         form,

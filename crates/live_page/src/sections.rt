@@ -85,8 +85,8 @@ fn money_or_none(cents: u64) -> Text {
     if cents == 0 { NONE } else { hundredths(cents) }
 }
 
-/// Returns the number of a nozzle and the price of its product, which has the same number. Both are empty for nozzle 0,
-/// which means that no nozzle is up.
+/// Returns the number of a nozzle, 1 to 8, and the price of its product, which has the same number. Both are empty for
+/// any other number, such as 0, which means that no nozzle is up.
 fn nozzle_texts(nozzle: u32, prices: &[u32; 8]) -> (Text, Text) {
     match prices.get((nozzle as usize).wrapping_sub(1)) {
         None => (NONE, NONE),
@@ -119,7 +119,8 @@ fn add_points(sheet: &mut Sheet, left: &Opening) {
     sheet.add(END);
 }
 
-/// Adds the row of an unpaid transaction of the point at a place, if there is one.
+/// Adds the row of `transaction`, which is unpaid at the point at `place`, counted from 0. If it is `None`, nothing is
+/// added.
 fn add_transaction(sheet: &mut Sheet, place: usize, transaction: Option<Transaction>) {
     let Some(unpaid) = transaction else {
         return;

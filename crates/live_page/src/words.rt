@@ -130,7 +130,8 @@ pub(crate) fn order_name(order: Option<Order>) -> &'static str {
     }
 }
 
-/// Returns the name of the state with this number, 1 to 9, or `unknown` for a greater number.
+/// Returns the name of the state with this number, 1 to 9. Returns `unknown` for a greater number, and the name of
+/// state 1 for 0.
 fn state_numbered(number: u32) -> &'static str {
     match STATES.get((number as usize).saturating_sub(1)) {
         None => "unknown",
@@ -149,8 +150,8 @@ fn asks_price(act: &Act) -> bool {
     )
 }
 
-/// Returns the words for a grant by this version. `value` is a price in thousandths if `is_price` is true, or else an
-/// amount in cents.
+/// Returns the words for a grant by this version. `value` is a price in thousandths of the currency per litre if
+/// `is_price` is true, or else an amount in cents.
 fn grant_words(is_price: bool, value: u64, version: u32) -> Phrase {
     let granted = if is_price {
         Text::Thousandths(value)

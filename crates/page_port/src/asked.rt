@@ -50,7 +50,7 @@ impl Refusal {
         }
     }
 
-    /// Returns the text of the answer, one line.
+    /// Returns the text of the answer, one line with its LF.
     pub fn text(self) -> &'static str
         ensures { result.now ≡ text_refusing self }
     {
@@ -75,7 +75,7 @@ fn is_port(rest: &[u8]) -> bool
     }
 }
 
-/// Returns whether a host has this name, in upper or lower case, with any port or none.
+/// Returns whether a host has this name, whatever the case of its letters, with any port or none.
 fn is_named(host: &[u8], name: &[u8]) -> bool
     ensures { result ≡ is_named host.now name.now }
 {
@@ -104,8 +104,8 @@ fn lines_after(digits: &[u8]) -> Result<View, Refusal>
     }
 }
 
-/// Returns the view of the lines that a query asks for: `after=` and a number. Without a query they begin with the
-/// first entry.
+/// Returns the view of the journal's lines that a query asks for by `after=` and a number. Without a query they begin
+/// with the first entry. For any other query the error is `NoNumber`.
 fn journal_at(query: Option<&[u8]>) -> Result<View, Refusal>
     ensures { result ≡ journal_at (option_copied query.entry) }
 {
@@ -124,7 +124,8 @@ fn journal_at(query: Option<&[u8]>) -> Result<View, Refusal>
 }
 
 /// Returns what a path shows. The query of `/journal` gives the entry after which its lines begin. That of another path
-/// doesn't matter.
+/// doesn't matter. The error is `NoSuchPath` for a path that shows nothing, and `NoNumber` for a wrong query of
+/// `/journal`.
 fn view_at(path: &[u8], query: Option<&[u8]>) -> Result<View, Refusal>
     ensures { result ≡ view_at path.now (option_copied query.entry) }
 {
@@ -150,7 +151,8 @@ fn is_read(method: &[u8]) -> bool
     method == b"GET".as_slice() || method == b"HEAD".as_slice()
 }
 
-/// Returns the host that a request is for: the one of its target, or else of its field `Host`.
+/// Returns the host that a request is for: the one of its target, or else of its field `Host`, perhaps with a port. The
+/// result is `None` if it has neither.
 fn host_of(request: &Request<Bytes>) -> Option<&[u8]>
     ensures { option_copied result ≡ host_of (head_of request.now) }
 {
@@ -173,7 +175,7 @@ fn is_for_here(host: Option<&[u8]>) -> bool
     }
 }
 
-/// Returns the query of a request's target, if it has one.
+/// Returns the query of a request's target, without its `?`, or `None` if it has none.
 fn query_of(request: &Request<Bytes>) -> Option<&[u8]>
     ensures { option_copied result ≡ uri_query (head_of request.now).uri }
 {
@@ -183,7 +185,8 @@ fn query_of(request: &Request<Bytes>) -> Option<&[u8]>
     }
 }
 
-/// Returns what a request asks for, or why it is refused.
+/// Returns what a request asks for, or why it is refused. Its host is looked at first, then its method, then its path,
+/// and last its query.
 pub fn view_of(request: &Request<Bytes>) -> Result<View, Refusal>
     ensures { result ≡ asked_of (head_of request.now) }
 {

@@ -45,7 +45,8 @@ pub struct Client {
 }
 
 impl Client {
-    /// Makes a client of a connection that was just opened.
+    /// Makes a client of a connection that was just opened. The error is that of the system, which sets up the
+    /// connection and reads the clock.
     pub fn new<R: Clock>(
         rt: &R,
         alloc: Global,
@@ -69,8 +70,8 @@ impl Client {
         matches!(self.connection.state(), State::Open)
     }
 
-    /// Answers the request, if it is there now. The seconds for the answer begin once it is made, however long that
-    /// took.
+    /// Answers the request if it has come by now and isn't answered yet. The seconds for taking the answer begin once
+    /// it is made, however long that took. The error is that the clock can't be read.
     fn answer<S: Service, R: Clock>(&mut self, rt: &R, service: &mut S) -> io::Result<()> {
         if self.is_open() {
             self.connection.advance(service);
@@ -82,6 +83,7 @@ impl Client {
     }
 
     /// Writes to the connection if something is to be sent, and reads from it otherwise. Returns the number of bytes.
+    /// The error is `WouldBlock` if nothing can be written or read at once.
     fn carry(&mut self) -> io::Result<usize> {
         if self.connection.wants_write() {
             self.connection.write_to(&mut self.stream)
@@ -91,7 +93,7 @@ impl Client {
     }
 
     /// Takes what the peer still sends after its answer: if the connection were closed before that, the system might
-    /// throw the answer away. Returns 0 once the peer has closed its side.
+    /// throw the answer away. Returns how many bytes came, at most 4,096, or 0 once the peer has closed its side.
     fn take_rest(&mut self) -> io::Result<usize> {
         if !self.is_answered {
             self.is_answered = true;
@@ -101,7 +103,7 @@ impl Client {
         self.stream.read(&mut bytes)
     }
 
-    /// Does what can be done at once. After an error the connection is to be closed.
+    /// Does what `turn` does, but returns a failure as an error. After it the connection is to be closed.
     fn go_on<S: Service, R: Clock>(&mut self, rt: &R, service: &mut S) -> io::Result<Turn> {
         self.answer(rt, service)?;
         if self.since.elapsed(rt)?.as_secs() >= MOST_SECONDS {
@@ -121,8 +123,8 @@ impl Client {
         }
     }
 
-    /// Does what can be done at once. After a failure the result is `Over`: a peer that goes away is of no interest to
-    /// anybody.
+    /// Writes or reads what can be moved at once, and has `service` answer the request once it has come. After a
+    /// failure the result is `Over`: a peer that goes away is of no interest to anybody.
     pub fn turn<S: Service, R: Clock>(&mut self, rt: &R, service: &mut S) -> Turn {
         match self.go_on(rt, service) {
             Ok(turn) => turn,

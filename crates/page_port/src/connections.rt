@@ -39,7 +39,8 @@ impl Counted {
     }
 }
 
-/// Counts the workers of a site, and their connections, by kind of role: tills, dispensers and the owner.
+/// Counts the workers of a site, and their connections, by kind of role: tills, dispensers and the owner. Workers that
+/// take all lines count as the owner's.
 #[derive(Drop)]
 pub struct Connections {
     tills: Counted,
@@ -75,7 +76,7 @@ impl Connections {
         counted.workers = counted.workers.saturating_add(workers);
     }
 
-    /// Counts a connection of a worker with this role.
+    /// Counts that a connection of a worker with this role was opened.
     pub fn connected(&self, role: Role) {
         self.counted(role).opened.fetch_add(1, Ordering::SeqCst);
     }
@@ -90,7 +91,8 @@ impl Connections {
         self.counted(role).left.fetch_add(1, Ordering::SeqCst);
     }
 
-    /// Returns the counts of each kind of role that has workers, or had some.
+    /// Returns the counts of each kind of role that has workers, or had some: tills, then dispensers, then the owner.
+    /// The error is that memory ran out.
     pub(crate) fn peers(&self, alloc: Global) -> Result<Vec<Peers>, AllocError> {
         let mut peers = Vec::new(alloc);
         for role in [Role::Till, Role::Dispenser, Role::Owner] {

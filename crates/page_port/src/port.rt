@@ -50,7 +50,7 @@ pub struct PagePort<'a> {
 }
 
 /// Opens a port of 127.0.0.1. Returns its listener, and a second handle of the same socket, by which it can be shut
-/// down.
+/// down. A port above 65,535 gives the error `InvalidInput`.
 fn listen<H: Net<Listener = TcpListener, Stream = TcpStream>>(
     host: &H,
     port: u32,
@@ -66,7 +66,7 @@ fn listen<H: Net<Listener = TcpListener, Stream = TcpStream>>(
 }
 
 /// Gives each client a turn, except for one that takes the place of a client that is over. Closes the connections of
-/// the clients that are over. Returns whether the result of a turn was `Moved` or `Over`.
+/// the clients that are over. Returns whether the result of at least one turn was `Moved` or `Over`.
 fn take_turns<S: Service, R: Clock>(rt: &R, clients: &mut Vec<Client>, service: &mut S) -> bool {
     let mut went_on = false;
     for place in 0..clients.len() {
@@ -135,8 +135,8 @@ impl<'a> PagePort<'a> {
         }
     }
 
-    /// Returns whether a write to the journal's file or a sync of it failed. After a failed sync the site itself learns
-    /// of it only at the next event.
+    /// Returns whether a write to the journal's file or a sync of it failed. The result is false if the journal isn't
+    /// kept in a file. After a failed sync the site itself learns of it only at the next event.
     pub(crate) fn has_journal_failed(&self) -> bool {
         match self.journal {
             Some(counts) => counts.has_failed(),
@@ -171,9 +171,9 @@ impl<'a> PagePort<'a> {
         thread::sleep(self.rt, Duration::from_millis(PAUSE_MILLISECONDS));
     }
 
-    /// Accepts the next connection, if there is one and fewer than 32 clients. Returns whether it did. If there is no
-    /// client, waits for a connection. `has_failed` says whether the last connection couldn't be accepted, and is
-    /// updated.
+    /// Accepts the next connection, unless none has come or there are 32 clients already. Returns whether it did. If
+    /// there is no client, waits for a connection. If a connection can't be accepted, calls `pause`, unless `leave` was
+    /// called. `has_failed` says whether the last connection couldn't be accepted, and is updated.
     fn accept_next<R: Clock>(
         &self,
         rt: &R,

@@ -102,7 +102,7 @@ fn add_allowed(refusal: Refusal, response: &mut Response) -> Result<(), AllocErr
     }
 }
 
-/// Fills the response to a request that is refused.
+/// Puts the answer to a request that is refused for this reason into a blank response.
 pub fn refuse(refusal: Refusal, response: &mut Response) -> Result<(), AllocError>
     requires { IsBlank response.old }
     ensures { OnOk result (Refuses refusal response.new) }

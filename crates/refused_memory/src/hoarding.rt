@@ -9,7 +9,7 @@ const HELD: usize = 1080;
 /// The most sizes of the free block that are tried for a line.
 pub const TURNS: usize = 120;
 
-/// Allocates blocks of `size` bytes until that fails.
+/// Allocates blocks of `size` bytes until that fails, but at most 100,000, and adds them to `blocks`.
 fn take_all(alloc: Global, blocks: &mut Vec<Vec<u8>>, size: usize) {
     for _ in 0..100_000u32 {
         match Vec::with_capacity(alloc, size) {
@@ -23,7 +23,7 @@ fn take_all(alloc: Global, blocks: &mut Vec<Vec<u8>>, size: usize) {
     }
 }
 
-/// Allocates all memory that is left, in blocks from 2^46 bytes down to 8.
+/// Allocates all memory that is left, in blocks from 2^46 bytes down to 8, and adds the blocks to `blocks`.
 fn hoard(alloc: Global, blocks: &mut Vec<Vec<u8>>) {
     for less in 0..36u32 {
         take_all(alloc, blocks, 1usize << (46 - less));
@@ -52,7 +52,7 @@ pub fn take_but(alloc: Global, size: usize) -> Option<Taken> {
 }
 
 /// Allocates all memory except 64 MiB, which are enough for what a test makes. With only that left, the later calls of
-/// `take_but` take a hundredth of the time.
+/// `take_but` take a hundredth of the time. Returns `None` if there is too little memory for that.
 pub fn leave_few(alloc: Global) -> Option<Taken> {
     take_but(alloc, 1 << 26)
 }

@@ -31,7 +31,8 @@ impl Narrow {
         }
     }
 
-    /// If the line begins, allocates all memory except one free block. If the line has ended, frees that memory.
+    /// While line number `line`, counted from 0, is read, makes sure that all memory except one free block is
+    /// allocated. After that line, frees the memory. Before it, does nothing.
     fn turn(&mut self)
         ensures { self.new.input ≡ self.old.input }
     {

@@ -33,7 +33,8 @@ const DELIVERY: &str =
         disp 1 started\ndisp 1 flow 2500 1390\ndisp 1 down\ntill 1 lock 1 1\ntill 2 lock 1 1\ntill 2 clear 1 1\n\
         till 1 clear 1 1\ntill 1 clear 1 1\ntill 1 show 1\n";
 
-/// How a play ended, and what it wrote. `is_out_of_memory` says that it ended with `OutOfMemory`.
+/// How a play ended, and what it wrote. `is_done` says that it ended without a fault, and `is_out_of_memory` that it
+/// ended with `OutOfMemory`. Both are false after any other fault.
 #[derive(Drop)]
 struct Outcome {
     text: Vec<u8>,
@@ -52,21 +53,24 @@ fn outcome_of(alloc: Global, config: Config, mut input: Narrow, mut output: Memo
 }
 
 /// Makes an input that gives a script, and leaves only `size` bytes of memory during line number `line`, counted from
-/// 0.
+/// 0. Returns `None` if there is too little memory for the script.
 fn narrow(alloc: Global, script: &[u8], line: usize, size: usize) -> Option<Narrow> {
     let bytes = Vec::from_slice(alloc, script).ok()?;
     let input = MemoryIn::new(bytes, Vec::new(alloc), None);
     Some(Narrow::new(alloc, input, line, size))
 }
 
-/// Makes an output that takes all answers without allocating.
+/// Makes an output that takes up to 65,536 bytes of answers without allocating. Returns `None` if there is too little
+/// memory for it.
 fn output(alloc: Global) -> Option<MemoryOut> {
     let mut output = MemoryOut::new(alloc, Vec::new(alloc), None);
     output.bytes = Vec::with_capacity(alloc, 65_536).ok()?;
     Some(output)
 }
 
-/// Plays a script with only `size` bytes of memory during line number `line`, counted from 0.
+/// Plays a script with only `size` bytes of memory during line number `line`, counted from 0. If the script has no such
+/// line, each line has all memory. `site` is the text of the site's configuration. Returns `None` if the configuration
+/// can't be read, or if memory ran out before the play.
 fn played(alloc: Global, site: &str, script: &[u8], line: usize, size: usize) -> Option<Outcome> {
     let config = read_config(alloc, site.as_bytes()).ok()?.config;
     let output = output(alloc)?;
@@ -74,14 +78,16 @@ fn played(alloc: Global, site: &str, script: &[u8], line: usize, size: usize) ->
     Some(outcome_of(alloc, config, input, output))
 }
 
-/// The two texts that a play may write: `whole` if no memory is refused, and `told` if one line is answered `S31`.
+/// The two texts that a play may write: `whole` if no memory is refused, and `told` if the line for which there was
+/// little memory is answered `S31` and changes nothing.
 #[derive(Drop)]
 struct Wanted {
     whole: Vec<u8>,
     told: Vec<u8>,
 }
 
-/// What happened to the line for which there was little memory.
+/// What happened to the line for which there was little memory: it was answered as with enough memory (`Answered`), it
+/// was answered `S31` and changed nothing (`Refused`), or it wasn't answered (`Ended`).
 #[derive(Clone, Copy)]
 enum Became {
     Answered,
@@ -90,7 +96,8 @@ enum Became {
     Ended,
 }
 
-/// Returns what happened to line number `line`, or `None` if the play wrote something wrong.
+/// Returns what happened to line number `line`, counted from 0, for which there was little memory. Returns `None` if
+/// the play wrote something wrong, or if it ended with another fault than `OutOfMemory`.
 fn what_became(found: &Outcome, wanted: &Wanted, line: usize) -> Option<Became> {
     let text = found.text.as_slice();
     if found.is_out_of_memory {
@@ -105,7 +112,7 @@ fn what_became(found: &Outcome, wanted: &Wanted, line: usize) -> Option<Became> 
     (text == wanted.told.as_slice()).then_some(Became::Refused)
 }
 
-/// Returns the first `lines` lines of a text.
+/// Returns the first `lines` lines of a text with their LFs, or the whole text if it has fewer lines.
 fn first_lines(text: &[u8], lines: usize) -> &[u8] {
     let mut left = lines;
     for (at, byte) in text.iter().enumerate() {
@@ -119,7 +126,8 @@ fn first_lines(text: &[u8], lines: usize) -> &[u8] {
     text
 }
 
-/// Returns the text with `put` in place of the `less` lines from line number `line` on.
+/// Returns the text with `put` in place of the `less` lines from line number `line` on, counted from 0. A line in `put`
+/// has its LF. Returns `None` if memory ran out.
 fn changed(alloc: Global, text: &[u8], line: usize, put: &[u8], less: usize) -> Option<Vec<u8>> {
     let behind = first_lines(text, line.wrapping_add(less));
     let mut all = Vec::from_slice(alloc, first_lines(text, line)).ok()?;
@@ -128,7 +136,8 @@ fn changed(alloc: Global, text: &[u8], line: usize, put: &[u8], less: usize) -> 
     Some(all)
 }
 
-/// Returns what a play writes if line number `line` is answered `S31` and changes nothing.
+/// Returns what a play writes if line number `line`, counted from 0, is answered `S31` and changes nothing, and each
+/// other line has enough memory. Returns `None` if the configuration can't be read, or if memory ran out.
 fn told_without(alloc: Global, site: &str, script: &str, line: usize) -> Option<Vec<u8>> {
     let less = changed(alloc, script.as_bytes(), line, b"", 1)?;
     let found = played(alloc, site, &less, script.len(), 0)?;
@@ -144,9 +153,10 @@ fn wanted_of(alloc: Global, site: &str, script: &str, line: usize) -> Option<Wan
     })
 }
 
-/// Plays a script again and again, with a larger free block each time, until the line has enough memory. Returns how
-/// often the line was answered `S31`, and how often the play ended with `OutOfMemory`. Returns `None` if the play wrote
-/// something wrong, or if no free block was large enough.
+/// Plays a script again and again, with a larger free block each time, until line number `line`, counted from 0, has
+/// enough memory. Returns how often this line was answered `S31`, and how often the play ended with `OutOfMemory`.
+/// Returns `None` if a play wrote something wrong or ended with another fault, if no free block was large enough, or if
+/// memory ran out before a play.
 fn count_refusals(
     alloc: Global,
     site: &str,
@@ -172,8 +182,9 @@ fn refused_at(alloc: Global, site: &str, script: &str, line: usize) -> Option<(u
     count_refusals(alloc, site, script, line, &wanted)
 }
 
-/// Tries each line of a script in turn. Returns for how many lines the answer was `S31` at least once, and for how many
-/// the play ended with `OutOfMemory` at least once.
+/// Tries each of the first `lines` lines of a script in turn. Returns for how many lines the answer was `S31` at least
+/// once, and for how many the play ended with `OutOfMemory` at least once. Returns `None` if `count_refusals` returns
+/// `None` for a line, or if memory ran out elsewhere.
 fn refused_in(alloc: Global, site: &str, script: &str, lines: usize) -> Option<(u32, u32)> {
     let (mut wanted, mut ended) = (0u32, 0u32);
     for line in 0..lines {

@@ -9,8 +9,8 @@ use flow_check::FlowFault;
 use std::fmt;
 
 /// What is wrong with an instruction, given the fact (the abstract state) before it. The first number in a variant is
-/// the unit where the instruction begins, which `Display` doesn't write. A second number is the register at fault, or
-/// the argument (1 or 2).
+/// the unit where the instruction begins, counted from 0, which `Display` doesn't write. A second number is the
+/// register at fault (0 to 10), or the argument (1 or 2).
 #[derive(Clone, Copy)]
 pub enum TypeFault {
     FallsOff(u32),
@@ -128,8 +128,9 @@ fn show_type(fault: TypeFault) -> (u32, Option<u32>, Option<u32>)
 }
 
 impl Refusal {
-    /// Returns the number of the fault (1 for V1, to 20 for V20), then its unit and its register or argument, where it
-    /// has them. Returns `None` if memory ran out.
+    /// Returns the number of the fault (1 for V1, to 20 for V20), then its unit, counted from 0, and then its register
+    /// or argument. The unit is `None` for V1 only, and the register or argument is `None` except for V11 and V19.
+    /// Returns `None` if memory ran out.
     pub fn shown(self) -> Option<(u32, Option<u32>, Option<u32>)>
         ensures { result ≡ shown_by self }
     {

@@ -42,7 +42,8 @@ fn common_spill(a: u16, b: u16) -> u16
     if a == b { a } else { 0 }
 }
 
-/// Joins `others` into `spills`: a number that is the same in both is kept, and each other one becomes 0 (no pointer).
+/// Joins `others` into `spills`: a place that has the same number in both keeps it, and all other places get 0 (no
+/// pointer).
 pub fn join_spills(spills: &mut [u16; 64], others: &[u16; 64])
     ensures { spills.new ≡ joined spills.old others.now }
 {
@@ -51,8 +52,8 @@ pub fn join_spills(spills: &mut [u16; 64], others: &[u16; 64])
     }
 }
 
-/// Writes `spill` for each aligned place of eight bytes that has at least one of the `len` bytes from `at` on. `len` is
-/// at least 1.
+/// Writes `spill` for each aligned place of eight bytes that has at least one of the `len` bytes from byte `at` on,
+/// counted from the stack's lowest byte. `len` is at least 1.
 pub fn put_spill(spills: &mut [u16; 64], spill: u16, at: u32, len: u32)
     requires { at + len ≤ STACK_BYTES }
     ensures { spills.new ≡ respilled spill at len 0 spills.old }

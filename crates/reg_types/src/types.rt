@@ -57,8 +57,9 @@ pub struct CarriedFact {
     pub fact: Fact,
 }
 
-/// What an instruction writes to the stack: `len` bytes from byte `at` on, counted from the stack's lowest byte. `kept`
-/// is the type of a pointer that is spilled there, or `Unset` if the bytes become those of a number.
+/// What an instruction writes to the stack: `len` bytes from byte `at` on, counted from the stack's lowest byte. If it
+/// writes nothing, both are 0. `kept` is the type of a pointer that is spilled there, or `Unset` if the bytes become
+/// those of a number.
 #[derive(Clone, Copy)]
 pub struct StackWrite {
     pub at: u32,
@@ -158,8 +159,8 @@ impl RegType {
 }
 
 impl Fact {
-    /// Returns the fact before the first instruction: R1 points to the context, R10 to the stack's end, and no byte of
-    /// the stack is set.
+    /// Returns the fact before the first instruction: R1 points to the context's first byte and R10 to the stack's end,
+    /// nothing is known of the other registers, no byte of the stack is set, and no pointer is spilled.
     pub fn entry() -> Fact
         ensures { IsEntry result }
     {

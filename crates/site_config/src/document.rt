@@ -10,7 +10,8 @@ use crate::flaw::ConfigFlaw;
 use std::alloc::Global;
 use toml::Table;
 
-/// Returns the line and the column after a byte that is at the line and the column `at`.
+/// Returns the position after `byte`, which is at the position `at`. A position is a line and a column, both counted
+/// from 1. The column counts characters, and a line ends with its LF.
 fn past(at: (usize, usize), byte: u8) -> (usize, usize)
     requires { (at.0 < usize.MAX) × (at.1 < usize.MAX) }
     ensures { result ≡ past at byte }
@@ -34,15 +35,16 @@ fn position_behind(text: &[u8]) -> (usize, usize)
     at
 }
 
-/// Returns the line and the column of the byte at the index `at`.
+/// Returns the line and the column of the byte at the index `at`, as `position_behind` counts them. If `bytes` has no
+/// such index, returns those of its end.
 fn position_at(bytes: &[u8], at: usize) -> (usize, usize)
     ensures { result ≡ position_at bytes.now at }
 {
     position_behind(bytes.get(..at).unwrap_or(bytes))
 }
 
-/// Returns the flaw of a text in which the TOML reader found an error at the index `at`, with the reader's message. If
-/// memory ran out, returns `OutOfMemory`.
+/// Returns the flaw `NotToml` for an error that the TOML reader found in `text` at the byte with the index `at`: the
+/// line and the column of this byte, and a copy of the reader's message. If memory ran out, returns `OutOfMemory`.
 fn not_toml(alloc: Global, text: &str, at: usize, message: &str) -> ConfigFlaw
     requires { at ≤ length text.now }
     ensures fault { result ≢ ConfigFlaw.OutOfMemory → IsOfText result }

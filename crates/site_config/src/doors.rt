@@ -48,7 +48,8 @@ fn item_of(list: Place, place: usize) -> Place
     }
 }
 
-/// Makes the address of a door. The error is `OutOfRange` or `Empty`, or that memory ran out.
+/// Makes the address of a door. `place` is that of the key that names the address. The error is `OutOfRange` if a port
+/// isn't from 1 to 65,535, `Empty` if a path is empty, or that memory ran out.
 #[tactic(auto, unfolding(crate::specs::Doors::address_of))]
 fn make_address(alloc: Global, place: Place, address: &RawAddress) -> Result<Address, ConfigFlaw>
     ensures read { Finds address_seen result (address_of place address.now) }
@@ -65,7 +66,8 @@ fn make_address(alloc: Global, place: Place, address: &RawAddress) -> Result<Add
     }
 }
 
-/// Checks the address of a door. The error is `OutOfRange` or `Empty`.
+/// Checks the address of a door, which the key at `place` names. The error is `OutOfRange` if a port isn't from 1 to
+/// 65,535, or `Empty` if a path is empty.
 #[tactic(auto, unfolding(crate::specs::Doors::address_fits, crate::specs::Doors::address_of))]
 fn check_address(place: Place, address: &RawAddress) -> Result<(), ConfigFlaw>
     ensures read { Finds (λ x. x) result (address_fits place address.now) }
@@ -84,8 +86,9 @@ fn check_address(place: Place, address: &RawAddress) -> Result<(), ConfigFlaw>
     Ok(())
 }
 
-/// Adds the point `value`, which is the item at `place` of the list at `list`, to the points in `bits`, and returns all
-/// of them as bits: point p is bit p - 1. The site has `points` points. The error is `OutOfRange` or `PointTwice`.
+/// Adds the point `value` to the points in `bits`, and returns all of them as bits: point p is bit p - 1. The value is
+/// item `place`, counted from 0, of the list at `list`. The error is `OutOfRange` if the value isn't from 1 to
+/// `points`, the number of the site's points, or `PointTwice` if `bits` has the point already.
 #[tactic(auto, unfolding(crate::specs::Doors::with_point))]
 fn add_point(
     list: Place,
@@ -123,7 +126,8 @@ fn add_points(list: Place, points: u32, values: &[i64]) -> Result<u32, ConfigFla
 }
 
 /// Returns the points in `values`, the list at `list`, as bits: point p is bit p - 1. The site has `points` points. The
-/// error is `WrongCount`, `OutOfRange` or `PointTwice`.
+/// error is `WrongCount` if the list is empty. Else it is `OutOfRange` or `PointTwice`, for the first value that isn't
+/// a point of the site or is a point a second time.
 #[tactic(auto, unfolding(crate::specs::Doors::bits_of))]
 fn make_bits(list: Place, points: u32, values: &[i64]) -> Result<u32, ConfigFlaw>
     requires { points ≤ POINTS }
@@ -289,7 +293,8 @@ fn page_of(doors: &[RawDoor], port: Option<i64>) -> Result<Option<u32>, ConfigFl
     }
 }
 
-/// Returns how many workers a shared door has, or 0 if there is no such door. The error is `OutOfRange`.
+/// Returns how many workers a shared door has. `value` is that of the key `key` of `[serve]`. If it is `None`, there is
+/// no such door, and the result is 0. The error is `OutOfRange` if the value isn't from 1 to `most`.
 fn shared_of(key: Key, value: Option<i64>, most: u32) -> Result<u32, ConfigFlaw>
     ensures read { Finds (λ x. x) result (shared_workers key most value) }
     ensures range { IfOk result (λ n. n ≤ most) }
@@ -393,7 +398,8 @@ fn check_side(
     }
 }
 
-/// Returns how many workers a door of this role has.
+/// Returns how many workers a door of this role has: `till_workers` if it takes all tills' lines, `dispenser_workers`
+/// if it takes all dispensers' lines, else 1.
 fn workers_for(till_workers: u32, dispenser_workers: u32, role: &RawRole) -> u32
     ensures { result ≡ workers_of till_workers dispenser_workers role.now }
 {
@@ -404,7 +410,8 @@ fn workers_for(till_workers: u32, dispenser_workers: u32, role: &RawRole) -> u32
     }
 }
 
-/// How many tills and points a site has, and how many workers its shared doors have.
+/// How many tills and points a site has, and how many workers the shared door of the tills and that of the dispensers
+/// have, 0 if there is no such door.
 #[derive(Clone, Copy)]
 struct Counts {
     tills: u32,

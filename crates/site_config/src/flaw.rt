@@ -322,8 +322,8 @@ impl fmt::Display for Over {
     }
 }
 
-/// A flaw of the doors of `[serve]`: of their keys, addresses or workers, or of whose lines they take. For any other
-/// flaw nothing is written.
+/// A flaw of a kind that only `[serve]` can have: `BothThere`, `Needless`, `Empty`, `SamePort`, `SameSocket`,
+/// `SameTill`, `PointTwice`, `TooManyWorkers` or `WithoutDoor`. For a flaw of any other kind nothing is written.
 #[derive(Clone, Copy)]
 struct OfDoors<'a>(&'a ConfigFlaw);
 
@@ -438,7 +438,7 @@ impl ConfigFlaw {
     }
 
     /// Returns the line and the column of a K1, both counted from 1: where the text stops being UTF-8, or where the
-    /// TOML reader found an error. Returns `None` for other flaws.
+    /// TOML reader found an error. The column counts characters. Returns `None` for other flaws.
     pub fn position(&self) -> Option<(usize, usize)>
         ensures { result ≡ position_of self.now }
     {

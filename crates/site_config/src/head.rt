@@ -12,7 +12,7 @@ use till_request::{InputFault, LineIn};
 /// How many bytes a configuration may have at most.
 pub const MOST_BYTES: usize = 65_536;
 
-/// Returns whether the bytes end with a line `---`.
+/// Returns whether the bytes end with a line that is `---` and its LF.
 fn is_head_end(bytes: &[u8]) -> bool
     ensures { result ≡ ends_head bytes.now }
 {
@@ -20,11 +20,13 @@ fn is_head_end(bytes: &[u8]) -> bool
     bytes == b"---\n".as_slice() || &bytes[from..] == b"\n---\n".as_slice()
 }
 
-/// Reads the bytes up to the first line `---` and returns them with that line, or all bytes if there is no such line.
-/// What follows the line stays unread. Reading also stops once there are too many bytes for a configuration.
+/// Reads the bytes up to the first line that is `---` and its LF, and returns them with that line, or all bytes if
+/// there is no such line. What follows the line stays unread. Reading also stops after 65,541 bytes, which are too many
+/// for a configuration and its line `---`, and returns these bytes.
 ///
-/// Each read is of one byte and subtracts 1 from `left`, the number of reads that may still be made. The error is that
-/// no read is left, that the input failed, or that there was no memory for a byte that was read.
+/// Each read is of one byte, or finds the end of the input, and subtracts 1 from `left`, the number of reads that may
+/// still be made. The error is that no read is left, that the input failed, or that there was no memory for a byte that
+/// was read.
 pub fn read_head<I: LineIn>(
     alloc: Global,
     input: &mut I,

@@ -45,7 +45,7 @@ fn not_negative(place: Place, value: i64) -> Result<u64, ConfigFlaw>
     }
 }
 
-/// Returns the flaw for a list with the wrong count of items.
+/// Returns the flaw for the list at the key `key` of the document, which has `count` items and not `low` to `high`.
 fn wrong_count(key: Key, count: usize, low: usize, high: usize) -> ConfigFlaw
     ensures { result ≡ ConfigFlaw.WrongCount (Place.At Section.Top key) count low high }
 {

@@ -83,8 +83,10 @@ fn is_shared(table: &Table, keys: (Key, Key)) -> bool
     has_key(table, keys.0) || has_key(table, keys.1)
 }
 
-/// Reads the shared door of tills or of dispensers, and appends it to the doors so far. If its keys aren't given, there
-/// must be tables of doors at the key `tables`. The error is `Missing`, `BothThere` or `WrongType`, or that memory ran
+/// Reads the shared door of tills or of dispensers, and appends it to `doors`. The keys `keys` of `[serve]` name its
+/// address. If neither of them is given, there is no such door, and `doors` is returned as it is. Then the key `tables`
+/// must be given, but its value isn't checked. The error is `Missing` if none of the three keys is given, `BothThere`
+/// if both of `keys` are given, `WrongType` if the port isn't a number or the socket isn't a text, or that memory ran
 /// out.
 #[tactic(auto, unfolding(crate::specs::Typed::shared_at, crate::specs::Memory::TakesShared))]
 fn add_shared(
@@ -129,7 +131,8 @@ fn read_workers(table: &Table, keys: (Key, Key), key: Key) -> Result<Option<i64>
     Ok(None)
 }
 
-/// Reads the door of one till from its table, whose place is counted from 0.
+/// Reads the door of one till from `value`, which must be a table. `place` is its place in `[[serve.till]]`, counted
+/// from 0. The error is the first flaw that is a K2, or that memory ran out.
 #[tactic(auto, unfolding(crate::specs::Typed::till_in, crate::specs::Memory::TakesTill))]
 fn read_till(alloc: Global, value: &Value, place: usize) -> Result<RawDoor, ConfigFlaw>
     ensures read { Finds (λ x. x) result (till_in place (view value.now)) }
@@ -142,7 +145,8 @@ fn read_till(alloc: Global, value: &Value, place: usize) -> Result<RawDoor, Conf
     read_door(alloc, table, section, KEYS, RawRole::OneTill(number))
 }
 
-/// Reads the door of some points from its table, whose place is counted from 0.
+/// Reads the door of some points from `value`, which must be a table. `place` is its place in `[[serve.dispenser]]`,
+/// counted from 0. The error is the first flaw that is a K2, or that memory ran out.
 #[tactic(auto, unfolding(crate::specs::Typed::dispenser_in, crate::specs::Typed::integers_at, crate::specs::Memory::TakesDispenser, crate::specs::Memory::TakesIntegers))]
 fn read_dispenser(alloc: Global, value: &Value, place: usize) -> Result<RawDoor, ConfigFlaw>
     ensures read { Finds (λ x. x) result (dispenser_in place (view value.now)) }
@@ -157,7 +161,8 @@ fn read_dispenser(alloc: Global, value: &Value, place: usize) -> Result<RawDoor,
     read_door(alloc, table, section, KEYS, role)
 }
 
-/// Reads the door of one till, or that of some points, from its table, whose place is counted from 0.
+/// Reads the door of one till as `read_till` does if the side is tills, or that of some points as `read_dispenser` does
+/// if the side is dispensers.
 fn read_single(
     alloc: Global,
     side: Side,
@@ -173,8 +178,8 @@ fn read_single(
     }
 }
 
-/// Reads the doors of single tills, or those of some points each, from their tables, and appends them to the doors so
-/// far.
+/// Reads a door from each of `values`, as `read_single` does, and appends the doors to `doors` in this order. The error
+/// is the flaw of the first value that isn't the table of a door, or that memory ran out.
 fn each_single(
     alloc: Global,
     side: Side,
@@ -194,8 +199,9 @@ fn each_single(
     Ok(doors)
 }
 
-/// Reads the doors of single tills, or those of some points each, from the tables at this key, and appends them to the
-/// doors so far.
+/// Reads the doors of single tills, or those of some points each, from the tables at the key `key`, and appends them to
+/// `doors`. If the key isn't given, returns `doors` as it is. The error is `WrongType` if its value isn't an array, one
+/// that `each_single` returns, or that memory ran out.
 fn add_singles(
     alloc: Global,
     table: &Table,
@@ -236,7 +242,8 @@ fn add_owner(
     Ok(doors)
 }
 
-/// Reads all doors, in the order in which workers get their passes.
+/// Reads all doors from the table `[serve]`, in the order in which workers get their passes. The error is the first
+/// flaw that is a K2, or that memory ran out.
 #[tactic(auto, unfolding(crate::specs::Typed::doors_at, crate::specs::Typed::tills_at, crate::specs::Typed::dispensers_at, crate::specs::Memory::TakesDoors))]
 fn read_doors(alloc: Global, table: &Table) -> Result<Vec<RawDoor>, ConfigFlaw>
     ensures read { Finds (λ v. v.items) result (doors_at (table_view table.now)) }
@@ -298,7 +305,8 @@ fn read_served(alloc: Global, value: &Value) -> Result<Served, ConfigFlaw>
     })
 }
 
-/// Reads the table `[serve]`, if there is one. The error is the first flaw in it that is a K2, or that memory ran out.
+/// Reads the table `[serve]`, or returns `None` if the document has no key `serve`. The error is the first flaw in the
+/// value of this key that is a K2, or that memory ran out.
 #[tactic(auto, unfolding(crate::specs::Typed::served_at))]
 pub fn find_served(alloc: Global, table: &Table) -> Result<Option<Served>, ConfigFlaw>
     ensures read { Finds (option_map seen_serve) result (served_at (table_view table.now)) }

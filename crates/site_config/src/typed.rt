@@ -66,7 +66,8 @@ fn read_counter(alloc: Global, value: &Value, place: usize) -> Result<(i64, i64)
     )
 }
 
-/// Reads each item of a list as a point, and returns the two slots of each point: `release`, then `preset`.
+/// Reads each item of a list as a point, and returns the two slots of each point: `release`, then `preset`. The error
+/// is the flaw of the first item that isn't a point, or that memory ran out.
 fn read_points(alloc: Global, values: &[Value]) -> Result<Vec<(i64, i64)>, ConfigFlaw>
     ensures read { Finds (λ v. v.items) result (each_in point_in 0 (items_view values.now)) }
     ensures memory { result ≡ Err ConfigFlaw.OutOfMemory → KeepsFirst point_in TakesPoint (items_view values.now) }
@@ -78,7 +79,8 @@ fn read_points(alloc: Global, values: &[Value]) -> Result<Vec<(i64, i64)>, Confi
     Ok(pairs)
 }
 
-/// Reads each item of a list as a counter, and returns the value and the bound of each counter.
+/// Reads each item of a list as a counter, and returns the value and the bound of each counter. The error is the flaw
+/// of the first item that isn't a counter, or that memory ran out.
 fn read_counters(alloc: Global, values: &[Value]) -> Result<Vec<(i64, i64)>, ConfigFlaw>
     ensures read { Finds (λ v. v.items) result (each_in counter_in 0 (items_view values.now)) }
     ensures memory { result ≡ Err ConfigFlaw.OutOfMemory → KeepsFirst counter_in TakesCounter (items_view values.now) }

@@ -184,8 +184,8 @@ fn is_dispenser(key: &str) -> bool
     key == "points" || key == "port" || key == "socket"
 }
 
-/// Checks that a table of this section may have each key of `table`. The error is `UnknownKey` with the first key that
-/// such a table may not have, or that memory ran out.
+/// Checks that a table of this section may have each key of `table`. The error is `UnknownKey` with the first key, in
+/// the order of the keys' bytes, that such a table may not have, or that memory ran out.
 pub fn check_keys(alloc: Global, table: &Table, section: Section) -> Result<(), ConfigFlaw>
     ensures read { Finds (λ x. x) result (known_in section (table_view table.now)) }
     ensures memory { result ≡ Err ConfigFlaw.OutOfMemory → CopiesKey section (table_view table.now) }

@@ -109,8 +109,8 @@ pub fn is_same_program(a: &Program, b: &Program) -> bool
     a.declared() == b.declared() && a.layout() == b.layout() && a.bytes() == b.bytes()
 }
 
-/// Returns `Ok` if the slot has the version of this number and program. The error is the number of the version that is
-/// in the slot instead, if any is.
+/// Returns `Ok` if the version in the slot has this number and this program. Else the error is the number of the
+/// version in the slot, or `None` for an empty slot and for a slot over 15.
 pub fn is_version(
     slots: &Slots,
     slot: u32,

@@ -56,8 +56,8 @@ impl Model for Config {
     }) };
 }
 
-/// Returns whether a configuration can have these prices, points and counters: each number is in its range, and there
-/// are 1 to 32 points.
+/// Returns whether a configuration can have these prices, points and counters: each number is in the range that
+/// `Config::new` names, and there are 1 to 32 points.
 fn are_in_range(prices: &[u32; 8], points: &[(u32, u32)], counters: &[(u64, u64); 32]) -> bool
     ensures { IsTrue result ↔ All (λ price. price ≤ 9999999) prices.now × (1 ≤ length points.now)
         × (length points.now ≤ 32) × All (λ p. (p.0 ≤ 15) × (p.1 ≤ 15)) points.now × All IsCounter counters.now }
@@ -73,9 +73,10 @@ fn are_in_range(prices: &[u32; 8], points: &[(u32, u32)], counters: &[(u64, u64)
 }
 
 impl Config {
-    /// Makes a configuration, or returns `None` if a value is out of its range: there are 1 to 64 tills and 1 to 32
-    /// points, slots are 0 to 15, a price is at most 9,999,999 (0 for none), a counter's value is at most its bound,
-    /// and a bound is at most 2^63 - 1. Allocates no memory.
+    /// Makes a configuration without an opening. `points` has for each point the slot of its releases and the slot of
+    /// its presets, and `counters` has for each counter its value and its bound. Returns `None` if a value is out of
+    /// its range: there are 1 to 64 tills and 1 to 32 points, slots are 0 to 15, a price is at most 9,999,999 (0 for
+    /// none), a counter's value is at most its bound, and a bound is at most 2^63 - 1. Allocates no memory.
     pub fn new(
         tills: u32,
         price_slot: u32,
@@ -137,8 +138,9 @@ impl Config {
         })
     }
 
-    /// Returns this configuration with this opening, in place of any that it had. The error is why a site with this
-    /// many points can't begin with the opening, or, if it can, that memory ran out.
+    /// Returns this configuration with this opening, in place of any that it had. The error is the first fault that the
+    /// opening has for a site with the configuration's number of points, in the order of `OpeningFault`. If it has
+    /// none, the error is that memory ran out. After an error the configuration and the opening are dropped.
     pub fn opened(self, alloc: Global, opening: Opening) -> Result<Config, OpeningFault>
         ensures value { IfOk result (λ config. config ≡ record self { opening = Some opening }) }
         ensures fits { OnOk result (IsOpening (length self.points) opening) }
@@ -211,14 +213,16 @@ impl Config {
         self.price_slot
     }
 
-    /// Returns the prices of products 1 to 8 in thousandths, 0 for none.
+    /// Returns the prices of products 1 to 8 in thousandths, 0 for none. If there is an opening, the site begins with
+    /// the opening's prices instead.
     pub fn prices(&self) -> [u32; 8]
         ensures { result ≡ self.now.prices }
     {
         self.prices
     }
 
-    /// Returns the values and the bounds of the counters.
+    /// Returns for each of counters 0 to 31 its value and its bound. If there is an opening, the site begins with the
+    /// opening's counters instead.
     pub fn counters(&self) -> [(u64, u64); 32]
         ensures { result ≡ self.now.counters }
     {

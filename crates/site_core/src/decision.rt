@@ -70,8 +70,9 @@ pub fn price_at(busy: Option<State>, question: Question) -> Result<Question, Rep
     }
 }
 
-/// Returns what is granted where the program answered `r0`: an amount in cents, or a price in thousandths. `preset` is
-/// the point's preset, 0 for none.
+/// Returns what is granted if the program answered `r0`. For a release or a preset it is the amount `asked` in cents,
+/// but at most `r0`, and for a release also at most the point's `preset`, unless that is 0 for none. For a price it is
+/// the price `asked` in thousandths.
 pub fn granted_point(kind: Kind, asked: u64, r0: u64, preset: u64) -> u64
     ensures { result ≡ granted_point kind asked r0 preset }
 {
@@ -83,7 +84,8 @@ pub fn granted_point(kind: Kind, asked: u64, r0: u64, preset: u64) -> u64
     }
 }
 
-/// Returns the command that carries out a granted release or preset at its point.
+/// Returns the command that carries out a granted release or preset at its point. `granted` is in cents. For a price
+/// the result has no meaning.
 pub fn command_of(kind: Kind, granted: u64) -> Command
     ensures { result ≡ command_of kind granted }
 {

@@ -124,7 +124,8 @@ impl Draft {
         }
     }
 
-    /// Runs the draft's program. Allocates no memory.
+    /// Runs the draft's program on the context, view and counters that the draft has. Returns the draft with the
+    /// program's answer and the counters after the run. Allocates no memory.
     pub fn run(self) -> Ready
         ensures { result.draft ≡ self }
     {
@@ -274,7 +275,7 @@ pub enum Begin {
 }
 
 /// The result of a commit: `Done`, the decision was entered; or `Stale`, something that its run depends on has changed
-/// since, and nothing was entered.
+/// since its draft was made, and nothing was entered.
 #[derive(Clone, Copy)]
 pub enum Commit {
     Done(Answered),

@@ -13,7 +13,7 @@ use std::fmt;
 use std::marker::Model;
 
 /// The greatest number that a point's newest transaction may have in an opening. A day has 1,048,576 entries at most,
-/// so the numbers of a day stay below 2^32.
+/// so the numbers of its transactions stay below 2^32.
 const MOST_TRANSACTIONS: u32 = 4_290_000_000;
 
 /// The greatest total of cleared amounts in an opening, in cents, and the greatest number of cleared transactions.
@@ -23,7 +23,7 @@ const MOST_CLEARED: u64 = 1_000_000_000_000_000_000;
 const MOST_VERSIONS: u32 = 4_290_000_000;
 
 /// Why a site can't begin with an opening: the first fault that the opening has, in the order of these cases, or that
-/// memory ran out.
+/// memory ran out. The text that `fmt` writes of a case says what it means.
 #[derive(Clone, Copy)]
 pub enum OpeningFault {
     Points,
@@ -101,7 +101,7 @@ impl Model for Opening {
 }
 
 impl Opening {
-    /// Returns why a site with this many points can't begin with the opening, or `None` if it can. An opening may have
+    /// Returns why a site with `count` points can't begin with the opening, or `None` if it can. An opening may have
     /// more than one fault; the first one is returned, in the order of `OpeningFault`. It is never `OutOfMemory`.
     pub(crate) fn fault(&self, count: usize) -> Option<OpeningFault>
         ensures first { MatchOption result (IsOpening count self.now) (λ fault. Misfits count self.now fault) }
@@ -159,7 +159,8 @@ impl Opening {
         are_same_rules(&self.rules, &other.rules)
     }
 
-    /// Returns the prices, the two totals of what was cleared, and how many versions there were.
+    /// Returns the prices, the total of all cleared amounts, how many transactions were cleared, and how many versions
+    /// were loaded.
     fn numbers(&self) -> ([u32; 8], u64, u64, u32)
         ensures { result ≡ (self.now.prices, self.now.cleared, self.now.clears, self.now.versions) }
     {

@@ -82,7 +82,7 @@ pub fn perform(
     }
 }
 
-/// Makes the entry of an act that has no moment, and for which no program is run.
+/// Makes the entry of an act for which no program is run. The entry's moment is 0.
 pub fn entry_without_run(number: u32, pass: u32, act: Act, reply: Reply) -> Entry
     ensures { result ≡ record {
       number = number;
@@ -103,7 +103,9 @@ pub fn entry_without_run(number: u32, pass: u32, act: Act, reply: Reply) -> Entr
     }
 }
 
-/// Installs a program in a slot as a new version, and returns the reply to the load. The error is that memory ran out.
+/// Installs a program in a slot as a new version. Returns the reply to the load: S32 for a slot over 15, else S30 if
+/// 4,096 versions were installed already, else the version's number. The error is that memory ran out. After a refusal
+/// or an error the slots are unchanged.
 fn load(slots: &mut Slots, slot: u32, program: Arc<Program>) -> Result<Reply, AllocError>
     ensures reply { IfOk result (λ reply. (config : ConfigValue) (past : List Entry) → Agrees config slots.old past
         → Loads config slots.old slot (arc_value program) past reply slots.new) }

@@ -25,7 +25,7 @@ const NOT_YOUR_TRANSACTION: Reply = Reply::Refused(27, None);
 /// S28: there is no unpaid transaction of this number.
 const NO_SUCH_TRANSACTION: Reply = Reply::Refused(28, None);
 
-/// S30: all 4,096 versions are used.
+/// S30: 4,096 versions were installed since the site began, which is the most.
 pub const VERSIONS_FULL: Reply = Reply::Refused(30, None);
 
 /// S32: there is no slot of this number; slots are 0 to 15.
@@ -58,7 +58,8 @@ pub fn denied(version: u32) -> Reply
     Reply::Refused(24, Some(version))
 }
 
-/// Returns the reply to a dispenser, from what the point returned for its event.
+/// Returns the reply to a dispenser, from what the point returned for its event: the order, `Done` if the point
+/// returned none, or the refusal.
 pub fn event_reply(outcome: Result<Option<Order>, PointFault>) -> Reply
     ensures { result ≡ event_reply outcome }
 {

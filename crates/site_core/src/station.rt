@@ -138,7 +138,9 @@ impl Station {
         n >= 1 && n as usize <= self.points.len()
     }
 
-    /// Carries out a till's command at a point, and returns the reply.
+    /// Carries out a till's command at point `n`, counted from 1. Returns `Done`, or the refusal: S20 if there is no
+    /// such point, else the point's own. A `Clear` adds its amount to the total of all cleared amounts, and 1 to the
+    /// number of cleared transactions. A refused command changes nothing. `till` is counted from 1 and isn't checked.
     pub fn command(&mut self, till: u32, n: u32, command: Command) -> Reply
         requires bounded { HasRoom self.old }
         requires till { 0 < till }
@@ -163,8 +165,9 @@ impl Station {
         }
     }
 
-    /// Carries out a dispenser's event at a point, and returns the reply, which for `TakeOrder` has the point's pending
-    /// order.
+    /// Carries out a dispenser's event at point `n`, counted from 1. Returns the pending order for `TakeOrder`, `Done`
+    /// for any other event, or the refusal: S20 if there is no such point, else the point's own. A refused event
+    /// changes nothing.
     pub fn report(&mut self, n: u32, event: DispenserEvent) -> Reply
         requires { HasRoom self.old }
         ensures effect { reported self.old n event ≡ replied result self.new }
@@ -180,7 +183,8 @@ impl Station {
         event_reply(outcome)
     }
 
-    /// Returns the reply to a till's request to show a point.
+    /// Returns the reply to a till's request to show point `n`, counted from 1: the point as it is, or S20 if there is
+    /// no such point.
     pub fn show(&self, n: u32) -> Reply
         ensures { result ≡ show_reply self.now n }
     {
@@ -210,7 +214,7 @@ impl Station {
     }
 
     /// Checks a question in the current state, and returns it. The error is the reply that refuses the question before
-    /// a program is run.
+    /// a program is run: that of `price_at` for a price change, else that of `asked_at_point`.
     pub fn admitted(&self, question: Question) -> Result<Question, Reply>
         ensures question { result ≡ admitted self.now question }
         ensures asked { IfOk result (λ q. WellAsked self.now q) }
@@ -222,7 +226,7 @@ impl Station {
     }
 
     /// Checks the question of a release or a preset in the current state, and returns it. The error is the reply that
-    /// refuses the question before a program is run.
+    /// refuses the question before a program is run: S20 if there is no such point, else that of `asked_at`.
     fn asked_at_point(&self, question: Question) -> Result<Question, Reply>
         ensures question { result ≡ asked_at_point self.now question }
         ensures asked { IfOk result (λ q. WellAsked self.now q) }
@@ -388,7 +392,7 @@ impl Station {
     }
 
     /// Returns the product of a question: for a price change the product whose price is to change, else the product of
-    /// the point's lifted nozzle, or 0 if none is lifted.
+    /// the point's lifted nozzle, or 0 if none is lifted or there is no such point.
     fn product_of(&self, question: &Question) -> u32
         ensures { result ≡ product_of self.now question.now }
     {
@@ -398,9 +402,10 @@ impl Station {
         }
     }
 
-    /// Runs a program on the current state. Returns its answer, and the values of each declared counter before and
-    /// after the run. The error is that memory for these values ran out; then the station is unchanged. For a program
-    /// that declares no counter there is no error.
+    /// Runs a program on the context `given`, which has the program's layout, and on the current view and counters.
+    /// Only the counters that the program declares may change. Returns the program's answer, and the values of each
+    /// declared counter before and after the run. The error is that memory for these values ran out; then the station
+    /// is unchanged. For a program that declares no counter there is no error.
     pub fn run(&mut self, program: &Program, given: &Context) -> Result<(u64, Counts), AllocError>
         requires { layout_of given.now ≡ program.now.layout }
         ensures ran { IfOk result (λ r. outcome program.now (bytes_of given.now) (view_of self.old) self.old.counters
@@ -459,7 +464,10 @@ impl Station {
         Ok(counts)
     }
 
-    /// Carries out what a program answered (0 is a denial), and returns the reply. `version` is the program's version.
+    /// Carries out the answer `r0` of a program to a question, and returns the reply. The answer 0 is a denial: the
+    /// reply is S24, and nothing changes. For any other answer `grant` is called, and the reply is `Granted` with what
+    /// was granted. `version` is the number of the program's version, which both replies name. The question must be one
+    /// that `admitted` accepts in the current state.
     pub fn settle(&mut self, till: u32, question: &Question, version: u32, r0: u64) -> Reply
         requires bounded { HasRoom self.old }
         requires till { 0 < till }

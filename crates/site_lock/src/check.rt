@@ -16,7 +16,8 @@ fn matches(id: u32, receipt: &Receipt, entry: &Entry) -> bool
     entry.act == receipt.act && entry.reply == receipt.reply
 }
 
-// Returns whether a receipt agrees with the entry of its number.
+// Returns whether a receipt of the pass `id` agrees with the entry of its number. The result is false if there is no
+// such entry.
 fn stands(history: &[Entry], id: u32, receipt: &Receipt) -> bool
     ensures { IsTrue result ↔ IsEntryOf history.now id receipt.now }
 {
@@ -29,8 +30,8 @@ fn stands(history: &[Entry], id: u32, receipt: &Receipt) -> bool
     }
 }
 
-// Returns the number of the first wrong receipt of a pass, or `None` if all are right. The first `base` entries are
-// older than the passes.
+// Returns the entry number of the first wrong receipt of the pass `id`, or `None` if all are right. A receipt is wrong
+// if it disagrees with its entry, or if its number isn't above `base` and above that of the receipt before.
 fn wrong_receipt(history: &[Entry], base: u32, id: u32, receipts: &[Receipt]) -> Option<u32>
     ensures none { IfNone result (StandsFrom history.now id base receipts.now) }
     ensures some { IfSome result (λ n. FailsFrom history.now id base receipts.now n) }
@@ -157,8 +158,8 @@ pub fn fault<L: SiteLedger>(history: &[Entry], passes: &[Pass<L>]) -> Option<(u3
     fault_since(0, history, passes)
 }
 
-/// Does what `fault` does for a history whose first `base` entries are older than the passes. The number of each
-/// receipt must be above `base`, and each later entry must have a receipt in its pass.
+/// Does what `fault` does for a history whose first `base` entries, which may be all, are older than the passes. A
+/// receipt is also wrong if its number isn't above `base`, and only the later entries need a receipt.
 pub fn fault_since<L: SiteLedger>(
     base: u32,
     history: &[Entry],
@@ -180,7 +181,7 @@ fn count_of<L: SiteLedger>(passes: &[Pass<L>], id: u32) -> usize
     passes.iter().filter(|pass| pass.id() == id).count()
 }
 
-/// Returns whether these are the passes 1 to `number`, each once.
+/// Returns whether these are the passes 1 to `number`, each once, in any order.
 pub fn are_all<L: SiteLedger>(number: u32, passes: &[Pass<L>]) -> bool
     ensures { IsTrue result ↔ AreAll number passes.now }
 {

@@ -104,7 +104,8 @@ fn said(called: Result<Answered, EnterFault>) -> Answer
     }
 }
 
-// Returns the answer to a load whose program is refused, which makes no event.
+// Returns the answer to a load that makes no event, since its program was refused: `Program` with the refusal's number,
+// unit, and register or argument, or `OutOfMemory` if memory ran out.
 fn refused<G: Gate, J: Journal>(refusal: Refusal) -> Answer
     ensures answers { (config : ConfigValue) (pass : PassView) (act : Act) (moment : ℕ) → IsRefusedAct act refusal
         → IsRefusal (load_refusal act) refusal → DeskAnswers config J.may_fail pass pass act moment result }

@@ -15,7 +15,8 @@ pub trait Gate {
     /// States that a call on a gate in the first state makes this run, and leaves the gate in the second state.
     ghost makes: { Self → ReadyValue → Self → Type 0 };
 
-    /// Runs the draft of a till's request.
+    /// Runs the draft of a request of the till `till`, and returns it with the program's answer and the counters after
+    /// the run. Counts one call.
     fn run(&mut self, till: u32, draft: Draft) -> Ready
         ensures run { result.draft ≡ draft }
         ensures made { makes self.old result self.new }

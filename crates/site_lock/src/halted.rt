@@ -44,7 +44,7 @@ impl<L: SiteLedger, J: Journal> Model for Halted<L, J> {
 impl<L: SiteLedger, J: Journal> Halted<L, J> {
     ghost use Rattle.site_lock.specs.Closing.{ClosesSince, IsHalted, RefusesSince};
 
-    /// Returns why the forecourt can't be closed with these passes, or `None` if it can.
+    /// Returns why the forecourt can't be closed with these passes, or `None` if it can. Changes nothing.
     pub(super) fn refusal(&mut self, passes: &mut Vec<Pass<L>>) -> Option<CloseRefusal>
         ensures same { (self.new ≡ self.old) × (passes.new.items ≡ passes.old.items) }
         ensures none { IfNone result
@@ -99,7 +99,8 @@ impl<L: SiteLedger, J: Journal> Halted<L, J> {
         Forecourt::over(alloc, config, passes, locked_site)
     }
 
-    /// Returns the journal. It took the text of all answered entries, and if it failed, a beginning of one more line.
+    /// Returns the journal. Since the forecourt was made, it took the text of all entries that were answered, and if it
+    /// failed, also a beginning of one more line, which may be none or all of it.
     pub fn into_journal(self) -> J
         ensures written { J.written result ≡ self.locked_site.written }
         ensures stands { IsHalted J.may_fail self }

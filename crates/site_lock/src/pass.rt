@@ -6,8 +6,8 @@ use std::marker::{Brand, Model};
 use std::sync::ledger::{Ledger, Share};
 use till_request::{Act, Reply};
 
-/// The ledger of a forecourt's answered calls: one part for each pass, the configuration of the site, and the history
-/// that the forecourt starts from.
+/// The ledger of a forecourt's answered calls: one part for each pass, the configuration of the site, the history that
+/// the forecourt starts from, and the bytes that its journal took before.
 ///
 /// A forecourt is made, used and closed in one function that is generic over its ledger. The function is called with
 /// `Brand` as the ledger, and the proof of the call chooses name, parts and configuration. So code that uses a pass of

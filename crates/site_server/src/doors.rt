@@ -40,7 +40,8 @@ pub struct SocketDoors<'a, R: Clock, N: Notices> {
     pause: u64,
 }
 
-/// Returns how long to wait next, in milliseconds, after a wait of `pause` milliseconds.
+/// Returns how long to wait next, in milliseconds, after a wait of `pause` milliseconds: 10 if `pause` is 0, or else
+/// twice as long, but at most 1,000.
 fn longer(pause: u64) -> u64
     ensures { result ≡ longer_pause pause }
 {

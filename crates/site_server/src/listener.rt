@@ -32,7 +32,8 @@ impl Listener {
         Ok(Listener::Port(TcpListener::bind(rt, address)?))
     }
 
-    /// Waits for the next connection. What is written to it is sent at once, without a delay to gather more bytes.
+    /// Waits for the next connection, and returns it. What is written to it is sent at once, without a delay to gather
+    /// more bytes.
     pub(crate) fn accept(&self) -> io::Result<Stream> {
         match self {
             Listener::Port(listener) => {

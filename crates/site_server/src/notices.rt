@@ -6,7 +6,7 @@ use till_request::{LineFault, Role};
 /// Why a session ended with a fault.
 #[derive(Clone, Copy)]
 pub enum SessionFailure {
-    /// The line that ended the session: it was too long (L1), or the input ended before its LF (L4).
+    /// The fault of the line that ended the session: it was too long (L1), or the input ended before its LF (L4).
     Line(LineFault),
     /// The fault of the session: a device failed, too many reads were needed, memory ran out, or the journal failed.
     Session(SessionFault),
@@ -58,7 +58,7 @@ pub trait Notices {
     /// Reports that a connection was opened for the worker with this role and this pass.
     fn connected(&self, role: Role, pass: u32);
 
-    /// Reports that the session of a connection of this worker ended, with or without a fault.
+    /// Reports that a session of the worker with this role and this pass ended, with or without a fault.
     fn disconnected(&self, role: Role, pass: u32)
         ensures { end_told role pass };
 

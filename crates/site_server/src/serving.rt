@@ -27,7 +27,7 @@ pub struct Serving<J: Journal = NoJournal> {
     pub site: Site,
     pub journal: J,
     pub crew: Crew,
-    /// The number of connections that each worker serves, one after another.
+    /// The number of connections that each worker serves, one after another. One that can't be opened counts too.
     pub connections: u32,
     /// The most seconds that a peer may send nothing, or take no bytes of an answer; 0 is no limit.
     pub idle_seconds: u32,
@@ -79,7 +79,7 @@ impl From<AllocError> for ServeFault {
 #[derive(Drop)]
 pub struct Unclosed<J: Journal = NoJournal> {
     pub why: ServeFault,
-    /// The site and the journal, unchanged, if `why` is `OutOfMemory`: then nothing was served.
+    /// The site and the journal, unchanged, if `why` is `OutOfMemory`: then nothing was served. Otherwise `None`.
     pub back: Option<(Site, J)>,
 }
 
@@ -131,8 +131,9 @@ fn why_not_closed(why: CloseRefusal, has_stopped: bool) -> ServeFault
     }
 }
 
-/// Closes the site of a forecourt. The close is refused unless the site's history is the one that the forecourt started
-/// with, followed by exactly the entries that the passes have receipts of.
+/// Closes the site of a forecourt, and returns it with its journal and `clean`. The close is refused unless the site's
+/// history is the one that the forecourt started with, followed by exactly the entries that the passes have receipts
+/// of.
 fn close<L: SiteLedger, J: Journal, R: Wait>(
     rt: &R,
     forecourt: Forecourt<L, J>,

@@ -8,15 +8,16 @@ use crate::crew::Worker;
 use site_lock::{Pass, SiteLedger};
 use std::alloc::{AllocError, Global};
 
-/// A worker's task. It starts with the pass and the worker in `waiting`. At its end `done` has the pass, and the number
-/// of connections whose sessions ended without a `SessionFault`.
+/// A worker's task. Before it runs, `waiting` has the pass and the worker, and `done` is `None`. At its end `waiting`
+/// is `None`, and `done` has the pass, and the number of connections whose sessions ended without a `SessionFault`.
 #[derive(Drop)]
 pub struct WorkerTask<L: SiteLedger> {
     pub waiting: Option<(Pass<L>, Worker)>,
     pub done: Option<(Pass<L>, u64)>,
 }
 
-/// Makes a task for each pass, with the worker at the same place of the list.
+/// Makes a task for each pass, with the worker at the same place in `workers`. If one list is longer, the rest of it is
+/// dropped. The error is that memory ran out.
 pub(crate) fn tasks_of<L: SiteLedger>(
     alloc: Global,
     passes: Vec<Pass<L>>,
@@ -36,7 +37,7 @@ pub(crate) fn tasks_of<L: SiteLedger>(
 }
 
 /// Moves the pass of a finished task into `passes`, which has room for it. Returns the number of the task's connections
-/// whose sessions ended without a `SessionFault`.
+/// whose sessions ended without a `SessionFault`. For a task that isn't finished, moves nothing and returns 0.
 fn collect_pass<L: SiteLedger>(task: &mut WorkerTask<L>, passes: &mut Vec<Pass<L>>) -> u64
     requires { vec_len passes.old + 1 ≤ vec_capacity passes.old }
     ensures items { passes.new.items ≡ passes.old.items ++ collected (task.old.done ∷ []) }
@@ -53,8 +54,8 @@ fn collect_pass<L: SiteLedger>(task: &mut WorkerTask<L>, passes: &mut Vec<Pass<L
     }
 }
 
-/// Moves the passes of finished tasks into `passes`, which has room for them. Returns the number of connections whose
-/// sessions ended without a `SessionFault`.
+/// Moves the passes of those tasks that are finished into `passes`, which has room for them. Returns the number of all
+/// their connections whose sessions ended without a `SessionFault`.
 pub fn collect_passes<L: SiteLedger>(tasks: &mut [WorkerTask<L>], passes: &mut Vec<Pass<L>>) -> u64
     requires room { vec_len passes.old + length tasks.old ≤ vec_capacity passes.old }
     requires few { clean_in (map (λ p. p.done) tasks.old) < 2 ^ 64 }

@@ -13,7 +13,8 @@ pub trait Watcher {
         forecourt: &Forecourt<L, J>,
     );
 
-    /// Asks `watch` to return soon. It is called once the last worker has ended.
+    /// Asks `watch` to return soon, even if `watch` begins only later. `Serving::run` calls this once the last worker
+    /// has ended.
     fn leave(&self);
 }
 

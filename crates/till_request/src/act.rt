@@ -80,7 +80,7 @@ impl PartialEq for Bytes {
 }
 
 /// A till's request. The first number names a point, or for `Price` a product. The second number of `Lock`, `Unlock`
-/// and `Clear` names one of the point's transactions.
+/// and `Clear` names one of the point's transactions. Points, products and transactions are counted from 1.
 #[derive(Clone, Copy, PartialEq)]
 pub enum Request {
     /// Allow a delivery of at most this amount, in cents.
@@ -104,7 +104,8 @@ pub enum Request {
     Show(u32),
 }
 
-/// What a line asks for or reports: a till's request, a dispenser's event, or the load of a program.
+/// What a line asks for or reports: a till's request, a dispenser's event, or the load of a program. Tills and points
+/// are counted from 1.
 #[derive(PartialEq, Drop)]
 pub enum Act {
     Till {
@@ -115,8 +116,8 @@ pub enum Act {
         point: u32,
         event: DispenserEvent,
     },
-    /// A program is put into a slot. Bit c of `mask` is set if the program declares counter c, and `layout` is that of
-    /// the program's context.
+    /// The program in `bytes` is put into a slot, counted from 0. Bit c of `mask`, 0 to 31, is set if the program
+    /// declares counter c, and `layout` is that of the program's context.
     Load {
         slot: u32,
         mask: u32,
@@ -132,7 +133,7 @@ pub enum Reply {
     /// A rule granted the request: the amount in cents, or the price in thousandths of the currency per litre, and the
     /// rule's version.
     Granted(u64, u32),
-    /// A program was loaded: the number of its version.
+    /// A program was loaded: the number of its version, counted from 1.
     Version(u32),
     /// The order that was pending at the dispenser's point.
     Order(Order),
@@ -153,7 +154,8 @@ pub enum Reply {
     Refused(u32, Option<u32>),
 }
 
-/// Who sends the lines. The role decides which lines are accepted. Any other line is a `BadLine`.
+/// Who sends the lines. Each role accepts the lines that its comment names. A well-formed line of another sender is a
+/// `BadLine`.
 #[derive(Clone, Copy)]
 pub enum Role {
     /// The lines of any till.
@@ -197,8 +199,9 @@ pub enum Answer {
     OutOfMemory,
     /// The line can't be read as an act.
     Line(LineFault),
-    /// A program was refused. The first number is the refusal's, such as 11 for `V11`. The others are the numbers of
-    /// the unit, and of the register or argument, if the refusal names them.
+    /// A program was refused. The first number is the refusal's, such as 11 for `V11`. The others are the number of the
+    /// unit, counted from 0, and that of the register, 0 to 10, or of the argument, 1 or 2. Each of these two is `None`
+    /// if the refusal doesn't name it.
     Program(u32, Option<u32>, Option<u32>),
     /// The journal failed, and the site accepts no further act. Sessions end without writing this answer.
     JournalFailed,

@@ -16,7 +16,7 @@ use std::io::{Read, Write};
 /// A source that returns the bytes of a list in memory, from index `at` on.
 ///
 /// Read n, counted from 0, returns at most `sizes[n]` bytes, or `each` if `sizes` has no index n. A size of 0 counts as
-/// size 1. If `good` is `Some(k)`, the next k reads succeed, and every later one fails.
+/// size 1. If `good` is `Some(k)`, the next k reads succeed, and every later one fails. If it is `None`, no read fails.
 #[derive(Drop)]
 pub struct MemoryIn {
     pub bytes: Vec<u8>,
@@ -31,8 +31,9 @@ pub struct MemoryIn {
 }
 
 impl MemoryIn {
-    /// Makes a source that returns `bytes`: at most `sizes[n]` of them (0 counts as 1) at read n, or as many as the
-    /// read asks for if `sizes` has no index n. If `good` is `Some(k)`, every read after the first k fails.
+    /// Makes a source that returns `bytes`: at most `sizes[n]` of them (0 counts as 1) at read n, counted from 0, or as
+    /// many as the read asks for if `sizes` has no index n. If `good` is `Some(k)`, every read after the first k fails.
+    /// If it is `None`, no read fails.
     pub fn new(bytes: Vec<u8>, sizes: Vec<usize>, good: Option<u64>) -> Self
         ensures bytes { result.bytes ≡ bytes }
         ensures start { result.at ≡ 0 }
@@ -67,7 +68,8 @@ fn size_at(sizes: &[usize], each: usize, call: u64) -> usize
     }
 }
 
-/// Returns how many calls will succeed after one more call; `None` if no call is made to fail.
+/// Returns how many calls will still succeed after one more call, where `good` is how many will before it: one less,
+/// but 0 stays 0. `None` stays `None`: no call is made to fail.
 fn after_one(good: Option<u64>) -> Option<u64>
     ensures { result ≡ one_less good }
 {
@@ -191,7 +193,8 @@ impl<I: LineIn + Drop> Ahead<I> {
         }
     }
 
-    /// Returns whether an LF was read ahead. If so, the line that ends there can be read without a read of `input`.
+    /// Returns whether an LF is among the bytes that were read ahead and not taken out yet. If so, the line that ends
+    /// there can be read without a read of `input`.
     pub fn holds_line(&self) -> bool
         ensures there { result ≡ true → (count : ℕ) × EndsBehind count self.now.block }
         ensures none { result ≡ false → HasNoLf self.now.block }
@@ -233,7 +236,8 @@ impl<I: LineIn + Drop> LineIn for Ahead<I> {
 /// A sink that appends what is written to a list in memory.
 ///
 /// Write n, counted from 0, accepts at most `sizes[n]` bytes, or `each` if `sizes` has no index n. A size of 0 counts
-/// as size 1. If `good` is `Some(k)`, every write after the next k fails. A write also fails if memory runs out.
+/// as size 1. If `good` is `Some(k)`, the next k writes succeed, and every later one fails. If it is `None`, no write
+/// is made to fail. A write also fails if memory runs out.
 #[derive(Drop)]
 pub struct MemoryOut {
     pub bytes: Vec<u8>,
@@ -245,8 +249,9 @@ pub struct MemoryOut {
 }
 
 impl MemoryOut {
-    /// Makes a sink to which nothing was written yet: write n accepts at most `sizes[n]` bytes (0 counts as 1), or all
-    /// its bytes if `sizes` has no index n. If `good` is `Some(k)`, every write after the first k fails.
+    /// Makes a sink to which nothing was written yet: write n, counted from 0, accepts at most `sizes[n]` bytes (0
+    /// counts as 1), or all its bytes if `sizes` has no index n. If `good` is `Some(k)`, every write after the first k
+    /// fails. If it is `None`, a write fails only if memory runs out.
     pub fn new(alloc: Global, sizes: Vec<usize>, good: Option<u64>) -> Self
         ensures bytes { result.bytes.items ≡ [] }
         ensures sizes { result.sizes ≡ sizes }
@@ -296,8 +301,8 @@ impl LineOut for MemoryOut {
     }
 }
 
-/// A sink that writes to a writer of `std`. A write of a piece that isn't empty fails if the writer accepts no byte of
-/// it.
+/// A sink that writes to a writer of `std`. A write fails if the writer fails, or if it accepts no byte of a piece that
+/// isn't empty.
 #[derive(Drop)]
 pub struct StreamOut<W: Write> {
     pub writer: W,

@@ -148,7 +148,9 @@ pub fn text_of(keyword: Keyword) -> &'static str
     }
 }
 
-/// Returns whether a sender of this role may send lines of `by`, which is `Till`, `Dispenser` or `Owner`.
+/// Returns whether a sender of this role may send lines of `by`, which is `Till`, `Dispenser` or `Owner`. The result is
+/// true for `OneTill` and `Till`, and for `SomePoints` and `Dispenser`, whatever till or point a line names. The till
+/// or the point is checked later, when the line is parsed.
 #[inline(always)]
 pub fn may_send(role: Role, by: Role) -> bool
     ensures { result ≡ allows role by }
@@ -257,7 +259,8 @@ fn has_form(form: Form, words: &[&[u8]]) -> bool
     }
 }
 
-/// Returns whether the role may send lines of this form and the words have this form.
+/// Returns whether the role may send lines of this form, whichever till or point they name, and the words have this
+/// form.
 #[inline(always)]
 fn is_suited(role: Role, words: &[&[u8]], form: Form) -> bool
     ensures { result ≡ suits role (map (λ w. w.now) words.now) form }
@@ -279,7 +282,8 @@ fn first_suited(role: Role, words: &[&[u8]], forms: &[Form]) -> Option<Form>
     None
 }
 
-/// Returns the form that the words have, if the role may send lines of it; `None` otherwise.
+/// Returns the form that the words have, if the role may send lines of it, whichever till or point they name; `None` if
+/// the words have no form, or one that the role may not send.
 pub fn form_of(role: Role, words: &[&[u8]]) -> Option<Form>
     ensures found { result ≡ find (suits role (map (λ w. w.now) words.now)) all_forms }
     ensures suited { IfSome result (λ form. suits role (map (λ w. w.now) words.now) form ≡ true) }

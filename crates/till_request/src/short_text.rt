@@ -145,8 +145,8 @@ fn put_part(text: &mut ShortText, part: Option<u32>)
     }
 }
 
-/// Writes the answer to a refused program into an empty text: the refusal's number with a V before it, and then the
-/// unit, and the register or argument, that it names.
+/// Writes the answer to a refused program, without an LF, into an empty text: the refusal's number with a V before it,
+/// and then, with a space before each, the unit and the register or argument (`part`) that it names.
 fn put_program(text: &mut ShortText, number: u32, unit: Option<u32>, part: Option<u32>)
     requires { text.old.bytes ≡ [] }
     ensures text { text.new.bytes ≡ answer_text (Answer.Program number unit part) }
@@ -158,7 +158,7 @@ fn put_program(text: &mut ShortText, number: u32, unit: Option<u32>, part: Optio
     put_part(text, part);
 }
 
-/// Writes an entry's number and its reply into an empty text.
+/// Writes an entry's number, a space and its reply, without an LF, into an empty text.
 #[tactic(auto, using(crate::proofs::Short::entered))]
 fn put_entered(text: &mut ShortText, number: u32, reply: &Reply)
     requires { text.old.bytes ≡ [] }

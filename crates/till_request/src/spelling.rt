@@ -18,8 +18,8 @@ use fuelling_point::DispenserEvent;
 use std::alloc::{AllocError, Global};
 use std::fmt;
 
-/// States that the line of each act is read as that same act, for the role `All`. A load must have at least one byte.
-/// The line may have more than 8,400 bytes, which `parse_line` refuses. Does nothing.
+/// States that the line of each act is read as that same act for the role `All`, except that of a load without bytes.
+/// How long the line is isn't checked for this, but `parse_line` refuses more than 8,400 bytes. Does nothing.
 pub fn spelling_is_read()
     ensures { ReadsBack }
 {}
