@@ -46,7 +46,8 @@ fn sent_by(sender: Word, verb: Word) -> ActCells
     }
 }
 
-/// Returns the cells of a till's request at point `n` that has no further values.
+/// Returns the cells of a till's request that has no values but its point, `n`. The cells of all other values are
+/// `Nothing`.
 fn asked_at(till: u32, verb: Word, n: u32) -> ActCells
     ensures { result ≡ asked_at till verb n }
 {

@@ -214,15 +214,17 @@ fn config_code(fault: ConfigFault) -> Option<&'static str>
     }
 }
 
-/// Prints why a configuration is refused: the words on standard error, the number (K1 to K3) on standard output too. If
-/// the flaw is that memory ran out, prints only that, on standard error. Returns the exit status.
+/// Prints why a configuration is refused: the words on standard error, and the number (K1 to K3) on standard output
+/// too. If memory ran out, prints only that, on standard error. Returns the exit status. `word` is the argument that
+/// names the file.
 pub(crate) fn refuse_config(rt: &HostRuntime, word: &str, flaw: &ConfigFlaw) -> u8
     ensures { EndsWith 1 result }
 {
     refuse_fault(rt, word, flaw, flaw.fault())
 }
 
-/// Prints why a configuration is refused, as `refuse_config` does. `fault` is the fault of `flaw`.
+/// Prints why a configuration is refused, and returns the exit status, as `refuse_config` does. `fault` has to be the
+/// fault of `flaw`: its number is printed, and the words of `flaw`.
 fn refuse_fault(rt: &HostRuntime, word: &str, flaw: &ConfigFlaw, fault: ConfigFault) -> u8
     ensures refused { fault ≢ ConfigFault.OutOfMemory → EndsWith 1 result }
     ensures memory { fault ≡ ConfigFault.OutOfMemory → result ≡ 3 }

@@ -36,7 +36,8 @@ impl fmt::Display for RefusedProgram {
 
     ghost output = { λ told. Some (refused_text told) };
 
-    /// Writes the unit, its instruction, and what is wrong with it.
+    /// Writes the number of the unit at fault, its instruction, and what is wrong with it. Writes only what is wrong if
+    /// the refusal names no unit. If the bytes don't decode, their hexadecimal digits stand for the instruction.
     fn fmt<W: fmt::Write>(&self, f: &mut fmt::Formatter<W>) -> fmt::Result {
         let unit = UnitAtFault(unit_of(self.refusal));
         let line = LineAtFault(&self.line);

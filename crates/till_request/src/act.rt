@@ -154,21 +154,21 @@ pub enum Reply {
     Refused(u32, Option<u32>),
 }
 
-/// Who sends the lines. Each role accepts the lines that its comment names. A well-formed line of another sender is a
-/// `BadLine`.
+/// Who sends the lines, and so which lines are accepted. Any other line is a `BadLine`, also if it is well formed.
 #[derive(Clone, Copy)]
 pub enum Role {
-    /// The lines of any till.
+    /// Some tills: a till's line is accepted, whichever till it names.
     Till,
-    /// The lines of any dispenser.
+    /// Some dispensers: a dispenser's line is accepted, whichever point it names.
     Dispenser,
-    /// The lines that load programs.
+    /// The owner: a line that loads a program is accepted.
     Owner,
-    /// The lines of any till, of any dispenser, and those that load programs.
+    /// Everybody: a till's line, a dispenser's line and a line that loads a program are accepted.
     All,
-    /// The lines of the till with this number.
+    /// The till with this number: its lines are accepted.
     OneTill(u32),
-    /// The lines of dispensers that name one of these points: bit p - 1 is set for point p, which is 1 to 32.
+    /// The dispensers of some points: a dispenser's line is accepted if it names one of these points. Bit p - 1 is set
+    /// for point p, which is 1 to 32.
     SomePoints(u32),
 }
 
