@@ -138,9 +138,10 @@ impl Config {
         })
     }
 
-    /// Returns this configuration with this opening, in place of any that it had. The error is the first fault that the
-    /// opening has for a site with the configuration's number of points, in the order of `OpeningFault`. If it has
-    /// none, the error is that memory ran out. After an error the configuration and the opening are dropped.
+    /// Returns this configuration with this opening, in place of any opening that it had. The error is the first fault
+    /// that the opening has for a site with the configuration's number of points, in the order of `OpeningFault`. If
+    /// the opening has no fault, the only possible error is that memory ran out. After an error the configuration and
+    /// the opening are dropped.
     pub fn opened(self, alloc: Global, opening: Opening) -> Result<Config, OpeningFault>
         ensures value { IfOk result (λ config. config ≡ record self { opening = Some opening }) }
         ensures fits { OnOk result (IsOpening (length self.points) opening) }

@@ -24,7 +24,7 @@ impl Field {
         }
     }
 
-    /// Writes the field's bytes, the least significant first, into a slice of exactly its size.
+    /// Writes the field's bytes, the least significant first, into `bytes`, which must have exactly the field's size.
     fn put(self, bytes: &mut [u8])
         requires { length bytes.old ≡ size_of self }
         ensures { bytes.new ≡ field_bytes self }
@@ -47,7 +47,7 @@ pub fn kind_number(kind: Kind) -> u32
     }
 }
 
-/// Writes the fields, one after another, into a slice of exactly their size.
+/// Writes the fields, one after another, into `bytes`, which must have exactly the size of all fields together.
 pub fn lay(fields: &[Field], bytes: &mut [u8])
     requires { length bytes.old ≡ length (laid fields.now) }
     ensures { bytes.new ≡ laid fields.now }

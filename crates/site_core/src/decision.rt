@@ -13,7 +13,7 @@ use fuelling_point::{Command, Point, State};
 use std::alloc::{AllocError, Global};
 use till_request::Reply;
 
-/// The greatest amount that a release or a preset may ask for, in cents.
+/// The greatest amount that a release or a preset is allowed to ask for, in cents.
 const GREATEST_AMOUNT: u64 = 999_999_999;
 
 /// How many products a site has.

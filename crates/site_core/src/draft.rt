@@ -1,10 +1,13 @@
 //! Decisions whose program is run outside the site: a draft is made under the site's lock, run without it, and
 //! committed under it.
 
-ghost use Rattle.std.specs.Prelude.{◌≡◌, IfOk, IsOk, OnErr, None, length};
+ghost use Rattle.std.specs.Prelude.{◌≡◌, ◌≤◌, IfOk, IsOk, OnErr, None, length};
+ghost use Rattle.std.specs.Arc.{arc_value};
+ghost use Rattle.bpf_model.specs.declared.limits.TheConstants.{POINTS};
+ghost use Rattle.site_core.specs.State.{view_of};
 
 use crate::comparing::{
-    first_byte, first_counter, first_point, first_price, is_version, most_points,
+    first_byte, first_counter, first_point, first_price, is_same_program, is_version, most_points,
 };
 use crate::config::Config;
 use crate::events::Answered;
@@ -24,7 +27,7 @@ use std::marker::Model;
 use std::sync::Arc;
 use till_request::{Act, Request};
 
-/// What a run reads, except counters.
+/// The context and the view that a run reads.
 #[derive(Clone, Copy)]
 struct Input {
     context: Context,
@@ -33,8 +36,6 @@ struct Input {
 
 /// All that the run for a request needs of a site, copied when the decision begins. A draft is made only if the site
 /// would then run a program for the request. The largest parts are kept behind pointers, as a draft is moved often.
-/// Each of these parts has less than a kilobyte: the C library keeps freed memory of that size for the thread that
-/// freed it, so a thread that makes a draft under the site's lock needn't wait for another thread.
 #[derive(Drop)]
 pub struct Draft {
     till: u32,
@@ -81,7 +82,8 @@ impl Draft {
     ghost use Rattle.site_core.specs.Outside.{drafted};
 
     /// Makes the draft for a request in the current state, or returns `Direct` if no program would be run for it. The
-    /// error is that memory ran out.
+    /// draft uses the memory in `spent`, which is `None` then; if it was `None` before, memory is allocated. The error
+    /// is that memory ran out.
     pub(crate) fn begin(
         config: &Config,
         station: &Station,
@@ -89,6 +91,7 @@ impl Draft {
         till: u32,
         moment: u64,
         request: &Request,
+        spent: &mut Option<Spent>,
     ) -> Result<Begin, AllocError>
         requires { length station.now.points ≡ length config.now.points }
         ensures made { IfOk result (λ b. Drafts config.now station.now slots.now till moment request.now (drafted b)) }
@@ -101,17 +104,15 @@ impl Draft {
         let Some((version, program)) = slots.in_slot(question.slot) else {
             return Ok(Begin::Direct);
         };
-        let layout = program.layout();
-        let program = Arc::try_clone(program)?;
-        let input = Input {
-            context: station.context(layout, till, moment, &question),
-            view: *station.view(),
-        };
-        let Ok(input) = Box::new(station.alloc(), input) else {
-            return Err(AllocError);
-        };
-        match Box::new(station.alloc(), *station.counters()) {
-            Ok(counters) => Ok(Begin::Run(Draft {
+        let context = station.context(program.layout(), till, moment, &question);
+        match Spent::made(spent, program, context, station) {
+            Ok(
+                Spent {
+                    program,
+                    input,
+                    counters,
+                },
+            ) => Ok(Begin::Run(Draft {
                 till,
                 moment,
                 request: *request,
@@ -120,7 +121,7 @@ impl Draft {
                 input,
                 counters,
             })),
-            Err(_) => Err(AllocError),
+            Err(refused) => Err(refused),
         }
     }
 
@@ -176,6 +177,101 @@ impl Draft {
     }
 }
 
+/// The memory of a run that has ended, and the run's program, to be used for another draft. With it a draft is made
+/// without an allocation. If the program is the same, its count of owners stays the same too: all threads would change
+/// this count, and each would have to wait for the others.
+#[derive(Drop)]
+pub struct Spent {
+    program: Arc<Program>,
+    input: Box<Input>,
+    counters: Box<Counters>,
+}
+
+impl Spent {
+    /// Returns the memory for a draft of this program, with this context, and with the current view and counters. It is
+    /// the memory in `spent`, which is `None` then, or new memory if `spent` was `None`. The error is that memory ran
+    /// out.
+    fn made(
+        spent: &mut Option<Spent>,
+        program: &Arc<Program>,
+        context: Context,
+        station: &Station,
+    ) -> Result<Spent, AllocError>
+        ensures program { IfOk result (λ made. arc_value made.program ≡ arc_value program.now) }
+        ensures context { IfOk result (λ made. made.input.value.context ≡ context) }
+        ensures view { IfOk result (λ made. made.input.value.view ≡ view_of station.now) }
+        ensures few { IfOk result (λ _. length station.now.points ≤ POINTS) }
+        ensures counters { IfOk result (λ made. made.counters.value ≡ station.now.counters) }
+    {
+        match spent.take() {
+            Some(spent) => spent.filled(program, context, station),
+            None => Spent::new(program, context, station),
+        }
+    }
+
+    /// Allocates memory for a draft of this program, with this context, and with the current view and counters. The
+    /// error is that memory ran out.
+    fn new(program: &Arc<Program>, context: Context, station: &Station) -> Result<Spent, AllocError>
+        ensures program { IfOk result (λ made. arc_value made.program ≡ arc_value program.now) }
+        ensures context { IfOk result (λ made. made.input.value.context ≡ context) }
+        ensures view { IfOk result (λ made. made.input.value.view ≡ view_of station.now) }
+        ensures few { IfOk result (λ _. length station.now.points ≤ POINTS) }
+        ensures counters { IfOk result (λ made. made.counters.value ≡ station.now.counters) }
+    {
+        let program = Arc::try_clone(program)?;
+        let input = Input {
+            context,
+            view: *station.view(),
+        };
+        let Ok(input) = Box::new(station.alloc(), input) else {
+            return Err(AllocError);
+        };
+        match Box::new(station.alloc(), *station.counters()) {
+            Ok(counters) => Ok(Spent {
+                program,
+                input,
+                counters,
+            }),
+            Err(_) => Err(AllocError),
+        }
+    }
+
+    /// Returns the same memory for a draft of this program, with this context, and with the current view and counters.
+    /// The error is that the program has too many owners.
+    fn filled(
+        self,
+        program: &Arc<Program>,
+        context: Context,
+        station: &Station,
+    ) -> Result<Spent, AllocError>
+        ensures program { IfOk result (λ made. arc_value made.program ≡ arc_value program.now) }
+        ensures context { IfOk result (λ made. made.input.value.context ≡ context) }
+        ensures view { IfOk result (λ made. made.input.value.view ≡ view_of station.now) }
+        ensures few { IfOk result (λ _. length station.now.points ≤ POINTS) }
+        ensures counters { IfOk result (λ made. made.counters.value ≡ station.now.counters) }
+    {
+        let Spent {
+            program: held,
+            mut input,
+            mut counters,
+        } = self;
+        let program = if is_same_program(&held, program) {
+            held
+        } else {
+            Arc::try_clone(program)?
+        };
+        let room: &mut Input = &mut input;
+        room.context = context;
+        room.view = *station.view();
+        *counters = *station.counters();
+        Ok(Spent {
+            program,
+            input,
+            counters,
+        })
+    }
+}
+
 /// A draft that was run: with the program's answer `r0`, and the counters after the run.
 #[derive(Drop)]
 pub struct Ready {
@@ -203,6 +299,22 @@ impl Ready {
     ghost use Rattle.site_core.specs.Differences.{IsFresh};
     ghost use Rattle.site_core.specs.Asked.{DiffersIfStale, basis_in};
     ghost use Rattle.site_core.specs.Outside.{IsRunOf};
+
+    /// Returns the memory and the program of the run, for another draft.
+    pub fn into_spent(self) -> Spent {
+        let Ready { draft, .. } = self;
+        let Draft {
+            program,
+            input,
+            counters,
+            ..
+        } = draft;
+        Spent {
+            program,
+            input,
+            counters,
+        }
+    }
 
     /// Carries out what the program answered and returns the decision's entry, with this number and pass, if nothing
     /// that the run depends on has changed since the draft was made. Counters that the program doesn't declare keep

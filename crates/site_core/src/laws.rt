@@ -13,48 +13,51 @@ ghost use Rattle.site_core.specs.Audit.{OwnAudit};
 ghost use Rattle.site_core.specs.Days.{BoundsStay, DayGoesOn, EachEventGoesOn, HoldersStay};
 ghost use Rattle.site_core.specs.declared.why.Why.{Why};
 
-/// A law: if nothing that a draft's run depends on differs, there is no first difference. So a commit returns `Stale`
-/// only if something has changed.
+/// Does nothing. Its contract is a law: if nothing that a draft's run depends on differs at the site now, there is no
+/// first difference. So a commit returns `Stale` only if something has changed.
 pub fn fresh_differs_nowhere()
     ensures { (now : Basis) (draft : DraftValue) (why : Why) → IsFresh now draft → Differs now draft why → ⊥ }
 {}
 
-/// A law: a draft and a site have at most one first difference.
+/// Does nothing. Its contract is a law: a draft and a site have at most one first difference.
 pub fn one_difference_is_first()
     ensures { (now : Basis) (draft : DraftValue) (a b : Why) → Differs now draft a → Differs now draft b → a ≡ b }
 {}
 
-/// A law: the reply to an act is a grant or S24 (a denial by a program) exactly if a program is run for the act.
+/// Does nothing. Its contract is a law: the reply to an act is a grant or S24 (a denial by a program) exactly if a
+/// program is run for the act.
 pub fn programs_alone_decide()
     ensures { (config : ConfigValue) (past : List Entry) (s : SiteState) (moment : ℕ) (act : Act) →
         is_decided (effect config past s moment act).reply ≡ is_some (effect config past s moment act).run }
 {}
 
-/// A law: an audit of a site's own history returns that site, unless memory runs out.
+/// Does nothing. Its contract is a law: an audit of a site's own history returns that site, unless memory runs out.
 pub fn audit_of_its_own_history()
     ensures { OwnAudit }
 {}
 
-/// A law: closing a day changes nothing but the numbers of entries. The legal histories of the next day are those by
-/// which the day before could have gone on, and they lead to the same states. The law holds while both days together
-/// have at most 1,048,576 entries and fewer than 4,096 versions.
+/// Does nothing. Its contract is a law: closing a day changes nothing but the numbers of entries. The legal histories
+/// of the next day are those by which the closed day could have gone on, and they lead to the same states. The law
+/// holds while both days together have at most 1,048,576 entries and fewer than 4,096 versions.
 pub fn day_goes_on()
     ensures { DayGoesOn }
 {}
 
-/// A law: an event of the next day has the effect that it would have had if the day before had gone on, however many
-/// entries the two days have. The law holds while they have fewer than 4,096 versions together.
+/// Does nothing. Its contract is a law: an event of a day has the effect that it would have had if the preceding day
+/// had gone on, however many entries the two days have. The law holds while the two days together have fewer than 4,096
+/// versions.
 pub fn each_event_goes_on()
     ensures { EachEventGoesOn }
 {}
 
-/// A law: the counters that a site leaves for the next day have the same bounds as those that the site began with.
+/// Does nothing. Its contract is a law: the counters that a site leaves for the next day have the same bounds as those
+/// that the site began with.
 pub fn bounds_stay()
     ensures { BoundsStay }
 {}
 
-/// A law: if each unpaid transaction with which a site begins is held by nobody or by one of its tills, then so is each
-/// that it leaves for the next day.
+/// Does nothing. Its contract is a law: if each unpaid transaction with which a site begins is held by nobody or by one
+/// of the site's tills, then so is each that the site leaves for the next day.
 pub fn holders_stay()
     ensures { HoldersStay }
 {}

@@ -12,8 +12,8 @@ use program_slots::Version;
 use std::fmt;
 use std::marker::Model;
 
-/// The greatest number that a point's newest transaction may have in an opening. A day has 1,048,576 entries at most,
-/// so the numbers of its transactions stay below 2^32.
+/// The greatest number that a point's newest transaction is allowed to have in an opening. A day has 1,048,576 entries
+/// at most, so the numbers of its transactions stay below 2^32.
 const MOST_TRANSACTIONS: u32 = 4_290_000_000;
 
 /// The greatest total of cleared amounts in an opening, in cents, and the greatest number of cleared transactions.
@@ -101,8 +101,9 @@ impl Model for Opening {
 }
 
 impl Opening {
-    /// Returns why a site with `count` points can't begin with the opening, or `None` if it can. An opening may have
-    /// more than one fault; the first one is returned, in the order of `OpeningFault`. It is never `OutOfMemory`.
+    /// Returns why a site with `count` points can't begin with the opening, or `None` if it can. An opening can have
+    /// more than one fault; the first one is returned, in the order of `OpeningFault`. The result is never
+    /// `OutOfMemory`.
     pub(crate) fn fault(&self, count: usize) -> Option<OpeningFault>
         ensures first { MatchOption result (IsOpening count self.now) (λ fault. Misfits count self.now fault) }
         ensures memory { IfSome result (λ fault. fault ≢ OpeningFault.OutOfMemory) }

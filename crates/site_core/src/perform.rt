@@ -153,8 +153,8 @@ fn ask(
     }
 }
 
-/// Returns the question that a request asks a program; `None` if the request is refused before that, or is of a kind
-/// that no program decides.
+/// Returns the question that a request asks a program; `None` if the request is refused before a program is looked for,
+/// or if it is of a kind that no program decides.
 pub fn asked_question(
     config: &Config,
     station: &Station,

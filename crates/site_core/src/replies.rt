@@ -16,22 +16,22 @@ pub const NO_SUCH_TILL: Reply = Reply::Refused(21, None);
 /// S25: an amount, a price or a product is out of range.
 pub const BAD_AMOUNT: Reply = Reply::Refused(25, None);
 
-/// S26: two transactions of the point are unpaid, which is the most.
+/// S26: two transactions of the point are unpaid, and a point can't have more.
 pub const TRANSACTIONS_FULL: Reply = Reply::Refused(26, None);
 
-/// S27: another till holds the transaction, or no till holds it and the request is to unlock or clear it.
+/// S27: another till holds the transaction. S27 also refuses to unlock or to clear a transaction that no till holds.
 const NOT_YOUR_TRANSACTION: Reply = Reply::Refused(27, None);
 
 /// S28: there is no unpaid transaction of this number.
 const NO_SUCH_TRANSACTION: Reply = Reply::Refused(28, None);
 
-/// S30: 4,096 versions were installed since the site began, which is the most.
+/// S30: 4,096 versions were installed since the site began, and a site can't install more.
 pub const VERSIONS_FULL: Reply = Reply::Refused(30, None);
 
 /// S32: there is no slot of this number; slots are 0 to 15.
 pub const NO_SUCH_SLOT: Reply = Reply::Refused(32, None);
 
-/// S33: no order is pending.
+/// S33: no `Order` to the dispenser is pending.
 const NO_ORDER: Reply = Reply::Refused(33, None);
 
 /// S34: the dispenser's event, or a number in it, doesn't fit the point as it is now.
@@ -58,8 +58,8 @@ pub fn denied(version: u32) -> Reply
     Reply::Refused(24, Some(version))
 }
 
-/// Returns the reply to a dispenser, from what the point returned for its event: the order, `Done` if the point
-/// returned none, or the refusal.
+/// Returns the reply to a dispenser, from what the point returned for the dispenser's event: the `Order`, `Done` if the
+/// point returned no order, or the refusal.
 pub fn event_reply(outcome: Result<Option<Order>, PointFault>) -> Reply
     ensures { result ≡ event_reply outcome }
 {

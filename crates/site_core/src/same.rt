@@ -35,7 +35,8 @@ fn is_same_point(a: &Point, b: &Point) -> bool
     are_same_unpaid(a.unpaid, b.unpaid)
 }
 
-/// Returns the numbers of a point, and whether its order was taken.
+/// Returns a point's nozzle, preset, limit, amount and volume, the number of its newest transaction, and whether the
+/// dispenser has taken the order `Authorise` of the current delivery.
 fn numbers_of(point: &Snapshot) -> (u32, u64, u64, u64, u64, u32, bool)
     ensures { result ≡ (
       point.now.nozzle,

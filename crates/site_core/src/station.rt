@@ -140,7 +140,8 @@ impl Station {
 
     /// Carries out a till's command at point `n`, counted from 1. Returns `Done`, or the refusal: S20 if there is no
     /// such point, else the point's own. A `Clear` adds its amount to the total of all cleared amounts, and 1 to the
-    /// number of cleared transactions. A refused command changes nothing. `till` is counted from 1 and isn't checked.
+    /// number of cleared transactions. A refused command changes nothing. `till` must be at least 1; whether the site
+    /// has such a till isn't checked.
     pub fn command(&mut self, till: u32, n: u32, command: Command) -> Reply
         requires bounded { HasRoom self.old }
         requires till { 0 < till }
@@ -402,10 +403,10 @@ impl Station {
         }
     }
 
-    /// Runs a program on the context `given`, which has the program's layout, and on the current view and counters.
-    /// Only the counters that the program declares may change. Returns the program's answer, and the values of each
-    /// declared counter before and after the run. The error is that memory for these values ran out; then the station
-    /// is unchanged. For a program that declares no counter there is no error.
+    /// Runs a program on the context `given`, which must have the program's layout, and on the current view and
+    /// counters. Only the counters that the program declares can change. Returns the program's answer, and the values
+    /// of each declared counter before and after the run. The error is that memory for these values ran out; then the
+    /// station is unchanged. For a program that declares no counter there is no error.
     pub fn run(&mut self, program: &Program, given: &Context) -> Result<(u64, Counts), AllocError>
         requires { layout_of given.now ≡ program.now.layout }
         ensures ran { IfOk result (λ r. outcome program.now (bytes_of given.now) (view_of self.old) self.old.counters

@@ -16,8 +16,8 @@ fn matches(id: u32, receipt: &Receipt, entry: &Entry) -> bool
     entry.act == receipt.act && entry.reply == receipt.reply
 }
 
-// Returns whether a receipt of the pass `id` agrees with the entry of its number. The result is false if there is no
-// such entry.
+// Returns whether a receipt of the pass `id` agrees with the entry whose number the receipt has. The result is false if
+// there is no such entry.
 fn stands(history: &[Entry], id: u32, receipt: &Receipt) -> bool
     ensures { IsTrue result ↔ IsEntryOf history.now id receipt.now }
 {
@@ -31,7 +31,8 @@ fn stands(history: &[Entry], id: u32, receipt: &Receipt) -> bool
 }
 
 // Returns the entry number of the first wrong receipt of the pass `id`, or `None` if all are right. A receipt is wrong
-// if it disagrees with its entry, or if its number isn't above `base` and above that of the receipt before.
+// if no entry has its number, if it disagrees with that entry, if its number is at most `base`, or if its number is at
+// most that of the receipt before it.
 fn wrong_receipt(history: &[Entry], base: u32, id: u32, receipts: &[Receipt]) -> Option<u32>
     ensures none { IfNone result (StandsFrom history.now id base receipts.now) }
     ensures some { IfSome result (λ n. FailsFrom history.now id base receipts.now n) }
@@ -67,7 +68,7 @@ fn has_number(receipts: &[Receipt], number: u32) -> bool
     receipts.iter().any(|receipt| receipt.number == number)
 }
 
-// Does what `has_number` does, faster, for receipts whose numbers rise. For other receipts it may wrongly return false.
+// Does what `has_number` does, faster, for receipts whose numbers rise. For other receipts it can wrongly return false.
 fn has_rising_number(receipts: &[Receipt], number: u32) -> bool
     ensures { IsTrue result → HasNumber receipts.now number }
 {
@@ -94,7 +95,7 @@ fn is_covered<L: SiteLedger>(passes: &[Pass<L>], entry: &Entry) -> bool
     false
 }
 
-// Does what `is_covered` does, faster, for passes whose receipts' numbers rise. For other passes it may wrongly return
+// Does what `is_covered` does, faster, for passes whose receipts' numbers rise. For other passes it can wrongly return
 // false.
 fn is_covered_soon<L: SiteLedger>(passes: &[Pass<L>], entry: &Entry) -> bool
     ensures { IsTrue result → Covered passes.now entry.now }
@@ -126,7 +127,7 @@ fn uncovered<L: SiteLedger>(history: &[Entry], passes: &[Pass<L>]) -> Option<(u3
     None
 }
 
-// Returns the entries after the first `base`.
+// Returns all entries but the first `base` ones.
 pub(super) fn behind(base: u32, history: &[Entry]) -> &[Entry]
     requires { base ≤ length history.now }
     ensures { result.now ≡ drop base history.now }
@@ -150,7 +151,7 @@ fn uncovered_since<L: SiteLedger>(
 /// Compares a history with the receipts of the passes. Returns `None` if they agree, or else the number of a pass and
 /// the number of an entry. There are two cases. Either the first wrong receipt of the pass has that entry number: the
 /// history has no such entry, the entry has another pass, moment, act or reply, or the number isn't above that of the
-/// receipt before. Or the entry of that number is one of this pass, and the pass has no receipt of it.
+/// receipt before this one. Or the entry of that number is one of this pass, and the pass has no receipt of it.
 pub fn fault<L: SiteLedger>(history: &[Entry], passes: &[Pass<L>]) -> Option<(u32, u32)>
     ensures none { IfNone result (IsMerge history.now passes.now) }
     ensures some { IfSome result (λ x. IsFault history.now passes.now x.0 x.1) }
@@ -158,8 +159,9 @@ pub fn fault<L: SiteLedger>(history: &[Entry], passes: &[Pass<L>]) -> Option<(u3
     fault_since(0, history, passes)
 }
 
-/// Does what `fault` does for a history whose first `base` entries, which may be all, are older than the passes. A
-/// receipt is also wrong if its number isn't above `base`, and only the later entries need a receipt.
+/// Does what `fault` does for a history whose first `base` entries are older than the passes. `base` must be at most
+/// the number of all entries. A receipt is also wrong if its number isn't above `base`, and only the entries after the
+/// first `base` ones need a receipt.
 pub fn fault_since<L: SiteLedger>(
     base: u32,
     history: &[Entry],

@@ -10,8 +10,9 @@ use std::fmt;
 pub enum CloseRefusal {
     /// C1: the passes given to the close aren't exactly the passes of the forecourt, each once.
     PassMissing,
-    /// C2: the receipt of this pass and number doesn't agree with the entry of that number. Or the entry of this pass
-    /// and number has no receipt, such as the entry at which a journal failed.
+    /// C2, with the number of a pass and the number of an entry. Either the pass's receipt with this entry number is
+    /// wrong, as `check::fault_since` says. Or the entry is one of this pass and has no receipt, such as the entry at
+    /// which a journal failed.
     NotInHistory(u32, u32),
     /// C3: the site has another configuration than the forecourt was made for.
     OtherConfig,

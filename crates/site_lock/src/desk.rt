@@ -22,8 +22,8 @@ use std::sync::Wait;
 use till_request::{Act, Answer};
 
 /// A desk that calls a forecourt with one pass and one gate. A load's program is verified before the lock is taken. If
-/// the verifier refuses it, the answer names that refusal, such as V11, and there is no event. Once the journal has
-/// failed, each event is answered with `JournalFailed`, which ends the session without a line.
+/// the verifier refuses the program, the answer names the refusal, such as V11, and there is no event. Once the journal
+/// has failed, each event is answered with `JournalFailed`: no line is written for this answer, and the session ends.
 #[derive(Drop)]
 pub struct PassDesk<'a, L: SiteLedger, R: Wait, G: Gate + Drop, J: Journal = NoJournal> {
     rt: &'a R,
@@ -75,7 +75,7 @@ impl<L: SiteLedger, R: Wait, G: Gate + Drop, J: Journal> Desk for PassDesk<'_, L
     fn answer(&mut self, act: Act, moment: u64) -> Answer {
         let (rt, alloc, forecourt) = (self.rt, self.alloc, self.forecourt);
         let (pass, gate) = (&mut self.pass, &mut self.gate);
-        // This call gives the prover that the configuration is the one that the ledger names.
+        // This call gives the prover that the forecourt's configuration is `L.config`.
         let _ = forecourt.config();
         match &act {
             Act::Till { till, request } => said(forecourt.ask(
@@ -104,8 +104,9 @@ fn said(called: Result<Answered, EnterFault>) -> Answer
     }
 }
 
-// Returns the answer to a load that makes no event, since its program was refused: `Program` with the refusal's number,
-// unit, and register or argument, or `OutOfMemory` if memory ran out.
+// Returns the answer to a load that makes no event, since its program was refused. The answer is `OutOfMemory` if
+// memory ran out. Otherwise it is `Program` with three numbers from the refusal: its own, that of the unit, and that of
+// the register or argument.
 fn refused<G: Gate, J: Journal>(refusal: Refusal) -> Answer
     ensures answers { (config : ConfigValue) (pass : PassView) (act : Act) (moment : ℕ) → IsRefusedAct act refusal
         → IsRefusal (load_refusal act) refusal → DeskAnswers config J.may_fail pass pass act moment result }

@@ -9,10 +9,11 @@ pub trait Gate {
     ghost use Rattle.till_request.specs.Count.{RoseBy};
     ghost use Rattle.site_core.specs.Draft.{ReadyValue};
 
-    /// The number of calls so far.
+    /// For proofs: the number of calls of `run` so far.
     ghost calls: { Self → ℕ };
 
-    /// States that a call on a gate in the first state makes this run, and leaves the gate in the second state.
+    /// For proofs: `run`, called on a gate in the first state, can return this `Ready` and leave the gate in the second
+    /// state.
     ghost makes: { Self → ReadyValue → Self → Type 0 };
 
     /// Runs the draft of a request of the till `till`, and returns it with the program's answer and the counters after

@@ -74,7 +74,7 @@ impl<L: SiteLedger, J: Journal> Halted<L, J> {
         ensures same { result.now ≡ self.now.locked_site.site.history }
         ensures stands { IsHalted J.may_fail self.now }
     {
-        // Reading a field gives the prover that the configuration is the one that the ledger names.
+        // Reading a field gives the prover that the forecourt's configuration is `L.config`.
         let _ = &self.config;
         self.locked_site.history()
     }
@@ -99,13 +99,14 @@ impl<L: SiteLedger, J: Journal> Halted<L, J> {
         Forecourt::over(alloc, config, passes, locked_site)
     }
 
-    /// Returns the journal. Since the forecourt was made, it took the text of all entries that were answered, and if it
-    /// failed, also a beginning of one more line, which may be none or all of it.
+    /// Returns the journal. Since the forecourt was made, the journal took the text of all entries that were answered.
+    /// If it failed, it then also took the first n bytes of one more line, where n is a number from 0 to the length of
+    /// the line.
     pub fn into_journal(self) -> J
         ensures written { J.written result ≡ self.locked_site.written }
         ensures stands { IsHalted J.may_fail self }
     {
-        // Reading a field gives the prover that the configuration is the one that the ledger names.
+        // Reading a field gives the prover that the forecourt's configuration is `L.config`.
         let _ = &self.config;
         let (_, journal) = self.locked_site.into_parts();
         journal

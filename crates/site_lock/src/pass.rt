@@ -1,6 +1,7 @@
 //! Passes: the rights of callers to call a forecourt, with the receipts of what they were answered.
 ghost use Rattle.std.specs.Prelude.{◌≡◌, length, [], None};
 
+use site_core::Spent;
 use std::alloc::Global;
 use std::marker::{Brand, Model};
 use std::sync::ledger::{Ledger, Share};
@@ -46,12 +47,13 @@ pub struct Receipt {
 }
 
 /// The pass of a caller: its number, counted from 1, its share of the ledger, and the receipts of all answered calls,
-/// the oldest first.
+/// the oldest first. It also keeps the memory of the last run for the next one.
 #[derive(Drop)]
 pub struct Pass<L: SiteLedger> {
     pub(super) id: u32,
     pub(super) share: Share<L>,
     pub(super) receipts: Vec<Receipt>,
+    pub(super) spent: Option<Spent>,
 }
 
 impl<L: SiteLedger> Model for Pass<L> {
@@ -77,7 +79,15 @@ impl<L: SiteLedger> Pass<L> {
             id,
             share,
             receipts: Vec::new(alloc),
+            spent: None,
         }
+    }
+
+    /// Keeps the memory of a run for the next one.
+    pub(super) fn keep(&mut self, spent: Spent)
+        ensures { self.new ≡ self.old }
+    {
+        self.spent = Some(spent);
     }
 
     /// Returns the number of the pass.

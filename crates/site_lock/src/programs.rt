@@ -30,8 +30,8 @@ fn places(alloc: Global, count: usize) -> Result<Vec<Result<Program, Refusal>>, 
 }
 
 /// Verifies each item (its bytes, mask and layout), and returns the results of `verify` in the items' order. At most
-/// `workers` threads, 1 to 16, do the work. The error is that there was no memory for the list of results. If memory
-/// runs out for an item, that item's own result says so.
+/// `workers` threads do the work, and `workers` must be 1 to 16. The error is that there was no memory for the list of
+/// results. If memory runs out for an item, that item's own result says so.
 pub fn verify_all<R: Threads + Sync>(
     rt: &R,
     alloc: Global,
