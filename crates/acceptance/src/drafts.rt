@@ -24,7 +24,7 @@ const ASKED: Rule = Rule {
     layout: Layout::One,
 };
 
-/// A program for the second layout that answers 1.
+/// A program for `Layout::Two` that answers 1.
 const ONE: Rule = Rule {
     bytes: &[0xb7, 0, 0, 0, 1, 0, 0, 0, 0x95, 0, 0, 0, 0, 0, 0, 0],
     mask: 0,
@@ -188,7 +188,7 @@ fn enter(alloc: Global, site: &mut Site, all: &[Does]) -> Option<()> {
     Some(())
 }
 
-/// Makes and runs the draft of a case, applies the events between, and commits.
+/// Makes and runs the draft of a case, applies the case's events `between`, and commits the run.
 fn late(alloc: Global, site: &mut Site, row: &Row) -> Option<Result<(u32, Reply), Why>> {
     let ready = decide(site, row.asked)?;
     enter(alloc, site, row.between)?;

@@ -1,4 +1,4 @@
-//! A site for tests: its configuration, the lines of a delivery there, their answers, and their journal.
+//! A site for tests: its configuration, the lines of a delivery at the site, their answers, and their journal.
 use site_core::Config;
 use std::alloc::Global;
 use std::test::Fail;

@@ -54,7 +54,7 @@ impl fmt::Display for AsmFlaw<'_> {
     }
 }
 
-/// The most bytes of a line or a label that a message shows.
+/// How many bytes of a line or a label a message shows at most.
 const MOST_SHOWN: usize = 80;
 
 /// A line or a label, of which the first 80 bytes are written, and ` ..` if there are more.

@@ -13,7 +13,7 @@ pub struct Value {
     pub size: Option<u64>,
 }
 
-/// The fields of an instruction, with numbers that may still be out of range.
+/// The fields of an instruction, with numbers that can still be out of range.
 #[derive(Clone, Copy)]
 pub struct Fields {
     pub dst: u8,

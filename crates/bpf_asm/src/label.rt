@@ -53,7 +53,7 @@ fn define<'a>(
 }
 
 /// Returns the labels that the rows define, in their order, each with the unit that it names. A label after the last
-/// unit gets the number of all units. A label that is defined twice is there twice.
+/// unit gets the number of all units. A label that is defined twice is in the result twice.
 pub fn labels_of<'a>(
     alloc: Global,
     rows: &[(Line, &'a [u8])],
@@ -74,7 +74,7 @@ pub fn labels_of<'a>(
 }
 
 /// Returns the unit that a label names; `None` if the label isn't in `labels`, which is as `labels_of` returns it. If
-/// the label is there twice, returns the first unit.
+/// the label is in `labels` twice, returns the first of its two units.
 pub fn place_of(mut labels: &[(&[u8], u64)], name: &[u8]) -> Option<u64>
     ensures { result ≡ spec.place_found (map (λ d. spec.definition d.0.now d.1) labels.entry.now) name.now }
 {

@@ -134,7 +134,7 @@ fn is_length(count: u64) -> bool
     1 <= count && count <= 512
 }
 
-// Returns the program that the parsed lines spell. `rows` is as `line::rows_of` returns it. The error is that the
+// Returns the program that the parsed lines spell. `rows` must be as `line::rows_of` returns it. The error is that the
 // program doesn't have 1 to 512 units, else the fault of the first line with a wrong label, or that memory ran out. No
 // memory is taken before the units are counted.
 fn assemble_rows(alloc: Global, rows: &[(Line, &[u8])]) -> Result<Code, AsmFault>
@@ -184,8 +184,8 @@ pub fn assemble(alloc: Global, text: &[u8]) -> Result<Code, AsmFault>
     assemble_rows(alloc, rows.as_slice())
 }
 
-/// States that the text of a program, as `disassemble` writes it, assembles to that program and to no other. It does
-/// nothing: its contract is the law.
+/// Does nothing. Its contract is a law: the text of a program, as `disassemble` writes it, assembles to this program
+/// and to no other.
 pub fn law_of_canonical_text()
     ensures { RoundTrip }
 {}

@@ -7,7 +7,7 @@ use hex::FromHexError;
 use std::alloc::{AllocError, Global};
 use std::fmt;
 
-/// The most bytes that a program file or an assembler text can have.
+/// How many bytes a program file or an assembler text can have at most.
 pub const MOST_BYTES: usize = 65_536;
 
 /// Why a program file can't be read.

@@ -216,7 +216,7 @@ fn write_moved(out: &mut String, width: Width, source: Source, inst: Inst) -> Re
     }
 }
 
-// Appends the second operand and the end of the line, for all operators except NEG, END and MOV.
+// Appends the second operand and the end of the line. The operator must not be NEG, END or MOV.
 fn write_second(
     out: &mut String,
     operator: Operator,

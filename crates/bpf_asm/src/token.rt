@@ -2,7 +2,7 @@
 
 use bpf_model::instruction::{Condition, Operator, Size, Source, Width};
 
-/// A token: a register, a number, a symbol, or a word.
+/// A token: a register with its width and its number, a number, a symbol, or a word.
 #[derive(Clone, Copy)]
 pub enum Token {
     Register(Width, u8),
@@ -104,7 +104,7 @@ pub const WORDS: [(&[u8], Token); 22] = [
 
 ghost use Rattle.bpf_asm.specs.Tables.{TablesAreRight};
 
-/// States that the tables of symbols and words are those of the definitions. It does nothing: its contract is the law.
+/// Does nothing. Its contract is a law: the tables of symbols and words are those of the definitions.
 pub fn tables()
     ensures { TablesAreRight }
 {}

@@ -399,7 +399,7 @@ fn has_days(matches: &ArgMatches) -> bool
     }
 }
 
-/// Returns what is wrong with values of `audit` that ask for no job.
+/// Returns what is wrong with arguments of `audit` that ask for no job.
 fn unaudited_by(matches: &ArgMatches) -> &'static str
     ensures { result.now ≡ unaudited_by (rows_of (found_of matches.now)) }
 {
@@ -410,7 +410,7 @@ fn unaudited_by(matches: &ArgMatches) -> &'static str
     }
 }
 
-/// Returns what is wrong with values of `serve` that ask for no job.
+/// Returns what is wrong with arguments of `serve` that ask for no job.
 fn unserved_by(matches: &ArgMatches) -> &'static str
     ensures { result.now ≡ unserved_by (rows_of (found_of matches.now)) }
 {
@@ -423,7 +423,7 @@ fn unserved_by(matches: &ArgMatches) -> &'static str
     }
 }
 
-/// Returns what is wrong with the values of a subcommand that `clap` accepts, but that ask for no job.
+/// Returns what is wrong with arguments of a subcommand that `clap` accepts, but that ask for no job.
 fn unasked_by(name: &str, matches: &ArgMatches) -> &'static str
     ensures { result.now ≡ unasked_by name.now (rows_of (found_of matches.now)) }
 {

@@ -8,7 +8,7 @@ pub trait PlayNotices {
     ghost use Rattle.till_request.specs.declared.act.Act.{Act};
     ghost use Rattle.console.specs.Loading.{IsRefusedAct};
 
-    /// States that this refusal of this load's program was reported.
+    /// For proofs: this refusal of this load's program was reported.
     ghost reported: { Self → Act → Refusal → Type 0 } = { λ _ _ _. Unit {0} };
 
     /// Reports that the play begins to answer the next line of the script.

@@ -80,8 +80,9 @@ pub fn play<I: LineIn, O: LineOut>(
     play_within(alloc, config, input, output, &NoNotices, &mut left)
 }
 
-/// A law: the answers to a script don't depend on the sizes of the reads. Let two plays of the same bytes with the same
-/// configuration both end, and neither run out of memory at a line. Then they wrote the same and left the same site.
+/// Does nothing. Its contract is a law: the answers to a script don't depend on the sizes of the reads. Let two plays
+/// of the same bytes with the same configuration both end, and neither run out of memory at a line. Then they wrote the
+/// same and left the same site.
 ///
 /// The law follows from the contract of `play`, which depends on the bytes of its input, but not on the device that
 /// gives them.

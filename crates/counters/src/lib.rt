@@ -39,7 +39,7 @@ impl Counters {
         Counters { cells }
     }
 
-    /// Returns the value of counter number `c` (0 to 31).
+    /// Returns the value of counter number `c`, which must be 0 to 31.
     pub fn get(&self, c: u32) -> u64
         requires { c < COUNTERS }
         ensures value { result ≡ (counter self.now c).0 }
@@ -48,7 +48,7 @@ impl Counters {
         self.cells[c as usize].0
     }
 
-    /// Returns the bound of counter number `c` (0 to 31).
+    /// Returns the bound of counter number `c`, which must be 0 to 31.
     pub fn bound(&self, c: u32) -> u64
         requires { c < COUNTERS }
         ensures { result ≡ (counter self.now c).1 }
@@ -56,8 +56,8 @@ impl Counters {
         self.cells[c as usize].1
     }
 
-    /// Adds `n` to counter number `c` (0 to 31), and returns true. Where the sum would be above the bound, changes
-    /// nothing and returns false.
+    /// Adds `n` to counter number `c`, which must be 0 to 31, and returns true. Where the sum would be above the bound,
+    /// changes nothing and returns false.
     pub fn add(&mut self, c: u32, n: u64) -> bool
         requires { c < COUNTERS }
         ensures answer { result ≡ can_add self.old c n }
@@ -86,8 +86,8 @@ impl Counters {
         }
     }
 
-    /// Subtracts `n` from counter number `c` (0 to 31), and returns true. Where `n` is above the value, changes nothing
-    /// and returns false.
+    /// Subtracts `n` from counter number `c`, which must be 0 to 31, and returns true. Where `n` is above the value,
+    /// changes nothing and returns false.
     pub fn take(&mut self, c: u32, n: u64) -> bool
         requires { c < COUNTERS }
         ensures answer { result ≡ can_take self.old c n }
@@ -102,7 +102,7 @@ impl Counters {
     }
 }
 
-// Proves that each bound is below 2^64, which follows from its type.
+// Changes nothing. Its contract is a law: each bound is below 2^64, which follows from the bound's type.
 fn prove_small(cells: &[(u64, u64); 32])
     ensures { All (λ c. c.1 < 2 ^ 64) cells.now }
 {

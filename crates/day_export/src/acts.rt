@@ -9,7 +9,8 @@ use bpf_model::context::Layout;
 use fuelling_point::DispenserEvent;
 use till_request::{Act, Request};
 
-/// The cells of an act, one for each column. If the act has no value for a column, its cell is `Nothing`.
+/// The cells of an act, one for each column that describes the act. If the act has no value for a column, the column's
+/// cell is `Nothing`.
 #[derive(Clone, Copy)]
 pub(crate) struct ActCells {
     pub(crate) sender: Cell,
@@ -46,8 +47,8 @@ fn sent_by(sender: Word, verb: Word) -> ActCells
     }
 }
 
-/// Returns the cells of a till's request that has no values but its point, `n`. The cells of all other values are
-/// `Nothing`.
+/// Returns the cells of a till's request that has no values but its point, `n`. All cells but those of the sender, the
+/// till, the verb and the point are `Nothing`.
 fn asked_at(till: u32, verb: Word, n: u32) -> ActCells
     ensures { result ≡ asked_at till verb n }
 {

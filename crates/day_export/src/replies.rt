@@ -7,7 +7,8 @@ use crate::cells::{Cell, Word, number, optional};
 use fuelling_point::Order;
 use till_request::Reply;
 
-/// The cells of a reply, one for each column. If the reply has no value for a column, its cell is `Nothing`.
+/// The cells of a reply, one for each column that describes the reply. If the reply has no value for a column, the
+/// column's cell is `Nothing`.
 #[derive(Clone, Copy)]
 pub(crate) struct ReplyCells {
     pub(crate) reply: Cell,

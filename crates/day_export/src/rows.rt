@@ -14,8 +14,8 @@ use day_report::rulings::decision_of;
 use day_report::sales::sale_of;
 use decision_journal::Entry;
 
-/// Returns the row of a sale whose transaction has the number `transaction`. `ended` is its delivery, or `None` if the
-/// day has no entry that ended it. Then the cells `ended`, `product` and `price` are `Nothing`.
+/// Returns the row of a sale whose transaction has the number `transaction`. `ended` is the sale's delivery, or `None`
+/// if no entry of the day ended the delivery. For `None` the cells `ended`, `product` and `price` are `Nothing`.
 fn sale_cells(sale: &Sale, transaction: u32, ended: Option<Delivery>) -> [Cell; 10]
     ensures { result ≡ sale_cells sale.now transaction ended }
 {

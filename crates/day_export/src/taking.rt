@@ -10,18 +10,20 @@ pub(crate) trait RowTaker {
     ghost use Rattle.day_export.specs.declared.cells.Format.{Format};
     ghost use Rattle.day_export.specs.Text.{row_bytes};
 
-    /// The format of the rows.
+    /// For proofs: the format of the rows.
     ghost format: { Format };
 
-    /// What the underlying writer had before, followed by the names of the columns if the format begins with them, and
-    /// by the bytes of all rows that were taken. It is `None` if that isn't known.
+    /// For proofs: the bytes in the underlying writer, and after them those that wait in a buffer to be written to it.
+    /// As long as there was no error, these are what the underlying writer had when this writer of rows was made, then
+    /// the names of the columns if the format begins with them, and then all rows that were taken. The value is `None`
+    /// if the contract of the underlying writer doesn't say which bytes it has.
     ghost taken: { Self → Option (List ℕ) };
 
-    /// States that a row can be taken. After an error this may no longer be so.
+    /// For proofs: a row can be taken. After an error this is perhaps false.
     ghost is_ready: { Self → Type 0 };
 
     /// Writes a row of the kind `rows` with these cells. The error is that of the underlying writer, or that memory ran
-    /// out. After an error a part of the row may be written.
+    /// out. After an error, a part of the row was perhaps written.
     fn take_row(&mut self, rows: Rows, cells: &[Cell]) -> Result<(), RowsFault>
         requires { is_ready self.old }
         ensures text { OnOk result (Appends (taken self.old) (taken self.new) (row_bytes rows format cells.now)) }

@@ -59,7 +59,7 @@ fn put_row<T: RowTaker>(
 }
 
 /// Writes the rows that the history of a site of this configuration has, one after another. The error is that memory
-/// ran out, or the writer's own error. After an error some of the rows may be written.
+/// ran out, or the writer's own error. After an error, some of the rows were perhaps written.
 fn put_rows<T: RowTaker>(
     alloc: Global,
     to: &mut T,
@@ -114,7 +114,7 @@ fn write_json<W: Write + Drop>(
 }
 
 /// Writes the rows of a site's history, one after another, and returns the writer. The rows are made one at a time. The
-/// error is that memory ran out, or the writer's own error. After an error some of the rows may be written.
+/// error is that memory ran out, or the writer's own error. After an error, some of the rows were perhaps written.
 pub fn write_rows<W: Write + Drop>(
     alloc: Global,
     site: &Site,

@@ -75,7 +75,8 @@ pub(crate) fn add_points(sheet: &mut Sheet, sums: &[Sum]) {
     sheet.add(END);
 }
 
-/// How far from the left of the picture the bars of refusals begin: their names in words come before.
+/// How far from the left of the picture the bars of refusals begin. The refusals' names in words are to the left of the
+/// bars.
 const NUMBERS: usize = 440;
 
 /// Returns the greatest of the counts, or 0 if there are no counts, and how many counts aren't 0. Each count that isn't
@@ -148,8 +149,8 @@ fn add_hour(sheet: &mut Sheet, hour: usize, height: usize) {
     sheet.add("\n");
 }
 
-/// The most columns that the picture of decisions by version has. If there are this many versions or more, neighbouring
-/// versions share a column.
+/// The greatest number of columns that the picture of decisions by version can have. If there are this many versions or
+/// more, neighbouring versions share a column.
 const COLUMNS: usize = 1000;
 
 /// Adds the picture of decisions by version, in the order of the versions in `totals`. Each version has a column of two

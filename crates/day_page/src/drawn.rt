@@ -99,9 +99,9 @@ fn is_at(bands: &Bands, place: usize, state: State, step: usize) -> bool {
     step < bands.steps && bands.states.get(at) == Some(&state)
 }
 
-/// Adds a level line, `y` below the upper edge of the picture, to the path that was begun. The line is for the steps
-/// `from..to`, in all of which the point is in one state. Lengths along the axis are in 2,000ths of the drawing's
-/// width: `add_point` scales them.
+/// Adds a level line, `y` below the upper edge of the picture, to the path that `add_path_head` began. The line is for
+/// the steps `from..to`, in all of which the path's point is in the path's state. Lengths along the axis are in
+/// 2,000ths of the drawing's width: `add_point` scales them.
 fn add_stretch(sheet: &mut Sheet, bands: &Bands, from: usize, to: usize, y: usize) {
     let left = scaled(from as u128, bands.steps as u128, 2000);
     let width = scaled(to as u128, bands.steps as u128, 2000).saturating_sub(left);

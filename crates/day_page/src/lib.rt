@@ -1,5 +1,5 @@
 //! A page of HTML that shows what a site's history adds up to, in tables and pictures. The crate `live_page` also uses
-//! parts of it.
+//! parts of this crate.
 #![tactic(auto)]
 
 mod bars;

@@ -233,7 +233,7 @@ fn add_unpaid(sheet: &mut Sheet, unpaid: &[Unpaid]) {
     }
 }
 
-/// Returns whether one of these counters has a bound that isn't 0.
+/// Returns whether one of these counters, each a value and a bound, has a bound that isn't 0.
 fn has_bound(counters: &[(u64, u64)]) -> bool {
     for counter in counters {
         if counter.1 > 0 {

@@ -13,7 +13,7 @@ pub(crate) fn add_head(sheet: &mut Sheet, height: usize, title: &'static str, te
 /// The closing tags of a picture.
 pub(crate) const END: &str = "</svg></div>\n";
 
-/// The line below the columns, and the closing tags of their picture.
+/// The line below the columns of a picture, and the closing tags of this picture.
 pub(crate) const COLUMNS_END: &str = "<path class=\"axis\" d=\"M0 206.5h1000\"/>\n</svg></div>\n";
 
 /// Adds a text to a picture. `anchor` says which part of the text is `x` from the left edge of the picture: `start`,

@@ -119,7 +119,7 @@ fn add_step(sheet: &mut Sheet, product: u32, is_begun: bool, x: usize, depth: us
 }
 
 /// Adds the line of a product: level at each price, with a step where a new price was granted. `opening` is the price
-/// before the first entry, 0 for none. Without it, the line begins at the product's first change, and nothing is added
+/// before the first entry, 0 for none. If it is 0, the line begins at the product's first change, and nothing is added
 /// if there is no such change.
 fn add_line(
     sheet: &mut Sheet,
@@ -158,8 +158,8 @@ fn add_line(
 }
 
 /// Adds the legend of the lines' colours: each product that has a price, with its price before the first entry (0.000
-/// for none) and, if it is another one, its price at the end. `opening` has the prices of products 1 to 8 before the
-/// first entry, 0 for none.
+/// for none) and, if the price at the end is another one, with that price too. `opening` has the prices of products 1
+/// to 8 before the first entry, 0 for none.
 pub(crate) fn add_legend(sheet: &mut Sheet, opening: &[u32; 8], changes: &[PriceChange]) {
     sheet.add("<ul class=\"legend\">\n");
     for (place, price) in opening.iter().enumerate() {

@@ -4,7 +4,7 @@ use crate::texts::{Date, Text, date_of};
 use html_text::Escaped;
 use std::alloc::{AllocError, Global};
 
-/// A text to which pieces are added. If memory runs out, it remembers that, and only `finish` returns the error.
+/// A text to which pieces are added. If memory runs out, the sheet remembers this, and only `finish` returns the error.
 #[derive(Drop)]
 pub struct Sheet {
     text: String,
@@ -163,5 +163,5 @@ impl Sheet {
     }
 }
 
-/// The most groups of three digits that a number of 128 bits has.
+/// The greatest number of groups of three digits in a number of 128 bits.
 const GROUPS: u32 = 13;

@@ -5,8 +5,8 @@ use crate::texts::{Text, number, numbered};
 use day_report::{CarriedRule, Load, Outcomes, PriceChange, Sum, Totals, Unpaid};
 use fuelling_point::Point;
 
-/// The most rows of the table of price changes, and of the table of decisions by version and till. Rows over that
-/// number are left out.
+/// The greatest number of rows that each of two tables can have: that of price changes, and that of decisions by
+/// version and till. Rows over this number are left out.
 const ROWS: usize = 1000;
 
 /// Makes the start of a table: its id, and the names of its columns.
@@ -42,7 +42,7 @@ fn add_sum(sheet: &mut Sheet, name: Text, sum: &Sum) {
 }
 
 /// Adds the row of a point: its sales, the number of its unpaid transactions, and its state at the end of the history.
-/// It serves for the row of all points too, with an empty `state`.
+/// This function also adds the row of all points, for which `state` is empty.
 fn add_point(sheet: &mut Sheet, name: Text, sum: &Sum, unpaid: usize, state: &'static str) {
     let cells = [
         Text::Thousands(sum.count as u128),
@@ -210,9 +210,9 @@ pub(crate) fn add_versions(sheet: &mut Sheet, totals: &Totals) {
     sheet.add(FOOT);
 }
 
-/// Adds a row for each till of which the version at place `at`, counted from 0, decided a request. `version` is its
-/// number. `rows` is how many rows there were before. Returns how many there are then. Rows beyond `ROWS` are counted
-/// but left out.
+/// Adds a row for each till of which the version at place `at`, counted from 0, decided a request. `version` is the
+/// version's number. `rows` is the count of rows before this call, and the result is the count after it. Rows beyond
+/// `ROWS` are counted, but left out of the table.
 fn add_tills(sheet: &mut Sheet, tills: &[Outcomes], at: usize, version: u32, rows: usize) -> usize {
     let mut rows = rows;
     for (place, outcomes) in tills.iter().enumerate() {
@@ -247,8 +247,8 @@ pub(crate) fn add_versions_by_till(sheet: &mut Sheet, totals: &Totals) {
     add_remark(sheet, remark, rows.saturating_sub(ROWS));
 }
 
-/// Adds the note `remark` on the `left` rows that are left out, if there are any. The first `{}` in it is replaced by
-/// `ROWS`, the second by `left`.
+/// Adds the note `remark` on the `left` rows that are left out, if there are any. The first `{}` in `remark` is
+/// replaced by `ROWS`, the second by `left`.
 fn add_remark(sheet: &mut Sheet, remark: &str, left: usize) {
     if left > 0 {
         sheet.fill(remark, &[number(ROWS), Text::Thousands(left as u128)]);

@@ -25,7 +25,7 @@ use fuelling_point::{Point, Transaction};
 use site_core::{Config, Opening};
 use std::alloc::{AllocError, Global};
 
-/// The most parts into which sales are divided at once.
+/// The greatest number of parts into which sales are divided at once.
 const MOST_PARTS: usize = 64;
 
 /// The most tills that a site can have.
@@ -65,12 +65,12 @@ pub struct Totals {
     pub releases: Outcomes,
     pub presets: Outcomes,
     pub price_requests: Outcomes,
-    /// For each of the tills 1 to 64, how often each version granted and denied its requests.
+    /// For each of the tills 1 to 64, how often each version granted and denied requests of this till.
     pub tills: Vec<Outcomes>,
 }
 
 /// What was carried in from the day before: how many unpaid transactions and their total in cents, how many rules, and
-/// the total that was cleared before, in cents.
+/// the total that was cleared before the day, in cents.
 #[derive(Clone, Copy)]
 pub struct CarriedIn {
     pub unpaid: usize,
@@ -79,8 +79,8 @@ pub struct CarriedIn {
     pub cleared: u64,
 }
 
-/// An unpaid transaction: its point, its number there, its amount in cents, its volume in centilitres, and the till
-/// that holds it, or 0 if no till does.
+/// An unpaid transaction: its point, its number at the point, its amount in cents, its volume in centilitres, and the
+/// till that holds it, or 0 if no till does.
 #[derive(Clone, Copy)]
 pub struct Unpaid {
     pub point: usize,
@@ -156,7 +156,7 @@ fn outcomes(
     })
 }
 
-/// Returns for each of the 64 tills how often each version granted and denied its requests.
+/// Returns for each of the 64 tills how often each version granted and denied requests of this till.
 fn by_till_asked(
     alloc: Global,
     decisions: &[Decision],
@@ -261,7 +261,7 @@ fn verdicts_of(
     })
 }
 
-/// What the sales of a history add up to, the points after the last entry, and what is unpaid there.
+/// What the sales of a history add up to, the points after the last entry, and the unpaid transactions of these points.
 #[derive(Drop)]
 struct Takings {
     sold: Sum,

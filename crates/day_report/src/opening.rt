@@ -12,8 +12,8 @@ use program_slots::Version;
 use site_core::{Config, Opening};
 use std::alloc::{AllocError, Global};
 
-/// Returns the points that a site of this configuration starts with: those of its opening, or closed ones. The error is
-/// that memory ran out.
+/// Returns the points that a site of this configuration starts with: those of its opening, or, without an opening,
+/// closed ones. The error is that memory ran out.
 pub fn opening_points(alloc: Global, config: &Config) -> Result<Vec<Point>, AllocError>
     ensures points { IfOk result (λ points. points.items ≡ (opening_state config.now).points) }
     ensures within { IfOk result (λ points. AreWithin 4290000000 points.items) }

@@ -17,7 +17,7 @@ use site_core::Config;
 use std::alloc::{AllocError, Global};
 use till_request::{Act, Request};
 
-/// The most steps into which the axis of a picture is divided.
+/// The greatest number of steps into which the axis of a picture is divided.
 const STEPS: usize = 2000;
 
 /// If a history lasts at least this many seconds, the axis of its picture can be time. Otherwise the axis is its
@@ -106,7 +106,7 @@ fn step_at(axis: Axis, place: usize, entry: &Entry, steps: usize) -> Option<usiz
     }
 }
 
-/// Appends `place` to the cuts until there is a cut for each step before `step`. If `step` is `None`, nothing is
+/// Appends `place` to `cuts` until `cuts` has an item for each step before `step`. If `step` is `None`, nothing is
 /// appended. The error is that memory ran out, which it can't if nothing is appended.
 fn cut_at(cuts: &mut Vec<usize>, step: Option<usize>, place: usize) -> Result<(), AllocError>
     ensures cut { OnOk result (cuts.new.items ≡ with_cut cuts.old.items step place) }
@@ -164,8 +164,8 @@ fn point_of(entry: &Entry) -> Option<u32>
     }
 }
 
-/// Sets the stored state of point `n` to this state, if this one has the greater number. If there is no point `n`,
-/// nothing changes.
+/// Sets the stored state of point `n` to `state`, if `state` has the greater number of the two. If there is no point
+/// `n`, nothing changes.
 fn raise(states: &mut [State], n: u32, state: State)
     ensures { states.new ≡ raised states.old n state }
 {
@@ -174,8 +174,8 @@ fn raise(states: &mut [State], n: u32, state: State)
     }
 }
 
-/// Sets the stored state of point `n` to its state in `points`, if that one has the greater number. If `n` is `None` or
-/// there is no such point, nothing changes.
+/// Sets the stored state of point `n` to its state in `points`, if the one in `points` has the greater number. If `n`
+/// is `None` or there is no such point, nothing changes.
 fn show_point(states: &mut [State], points: &[Point], n: Option<u32>)
     ensures { states.new ≡ with_point states.old points.now n }
 {
@@ -212,8 +212,8 @@ fn states_of(alloc: Global, points: &[Point]) -> Result<Vec<State>, AllocError>
     Ok(states)
 }
 
-/// Applies the entries of a step to the points, and returns for each point the state with the greatest number of those
-/// that it has before the entries and after each of them. The error is that memory ran out.
+/// Applies the entries of a step to the points, and returns a state for each point: of the states that it has before
+/// the entries and after each of them, the one with the greatest number. The error is that memory ran out.
 fn step_states(
     alloc: Global,
     points: &mut [Point],
@@ -230,9 +230,9 @@ fn step_states(
     Ok(states)
 }
 
-/// Returns for each step of the axis and each point the state with the greatest number of those that the point has
-/// before the entries of the step and after each of them. The entries are the history of a site of this configuration.
-/// The error is that memory ran out.
+/// Returns a state for each step of the axis and each point: of the states that the point has before the entries of the
+/// step and after each of them, the one with the greatest number. The entries are the history of a site of this
+/// configuration. The error is that memory ran out.
 pub fn follow_states(
     alloc: Global,
     config: &Config,

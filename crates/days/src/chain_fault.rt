@@ -27,7 +27,7 @@ pub enum Unfollowed {
 pub enum Unbegun {
     /// The day has no opening, and isn't day 1.
     NoOpening,
-    /// The day is day 1, and an opening is given for it, or its configuration has an opening.
+    /// The day is day 1, and yet it has an opening: one is given for it, or its configuration has one.
     HasOpening,
     /// The bytes that are given as the opening, and why they couldn't be read: they aren't the text of an opening, or
     /// memory ran out.
@@ -45,8 +45,8 @@ pub enum Unclosed<J> {
     Text(J, JournalFault),
     /// The configuration that the day's site begins with, and why this site can't have the entries of the journal.
     History(Config, AuditFault),
-    /// Memory ran out before anything of the journal was read. The value is the device of the journal, if the day has
-    /// one.
+    /// Memory ran out before anything of the journal was read. The value is the device of the journal, if the day has a
+    /// journal.
     OutOfMemory(Option<J>),
 }
 

@@ -26,13 +26,13 @@ pub trait DaysIn {
     ghost use Rattle.days.specs.Chain.{DayText};
     ghost use Rattle.days.specs.Given.{GivesDay};
 
-    /// All days that will be given, if they are known.
+    /// For proofs: all days that will still be given, if they are known.
     ghost remaining: { Self → Option (List DayText) };
 
-    /// States that a day couldn't be read.
+    /// For proofs: a day couldn't be read.
     ghost failed: { Self → Type 0 };
 
-    /// States that a day was given whose journal is read from this device.
+    /// For proofs: a day was given whose journal is read from this device.
     ghost gave: { Self.Journal → Type 0 } = { λ _. Unit {0} };
 
     /// Returns the next day, or `None` if there are no more. The error is that the day couldn't be read.

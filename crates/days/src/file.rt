@@ -10,9 +10,9 @@ pub struct OpeningFile {
     /// The number of the day that begins with the opening: 2 or more.
     pub day: u32,
     pub opening: Opening,
-    /// How many entries the journal of the day before has.
+    /// How many entries the journal of the day before `day` has.
     pub entries: u32,
-    /// The SHA-256 of that journal's bytes.
+    /// The SHA-256 of the bytes of the journal of the day before `day`.
     pub digest: [u8; 32],
 }
 

@@ -152,8 +152,8 @@ fn held(place: Option<Transaction>, tills: u32) -> Option<Transaction>
 }
 
 /// Returns the counters with their values, but with new bounds: the second number of each pair in `bounds`. The first
-/// numbers there aren't used. The error is the first counter whose value is over its new bound: its number, its value
-/// and its new bound.
+/// numbers of the pairs aren't used. The error is the first counter whose value is over its new bound: its number, its
+/// value and its new bound.
 fn rebounded(counters: &Counters, bounds: &[(u64, u64); 32]) -> Result<Counters, (u32, u64, u64)>
     ensures bounds { IfOk result (AreBounded counters.now bounds.now) }
     ensures within { OnOk result (AreWithin counters.now bounds.now) }

@@ -30,6 +30,6 @@ pub enum Line {
     Point(u64, Snapshot),
     /// A point's number, counted from 1, and one of the point's unpaid transactions.
     Unpaid(u64, Transaction),
-    /// The number of entries of the day before, and the SHA-256 of its journal's bytes.
+    /// The day that leaves the opening: how many entries it has, and the SHA-256 of its journal's bytes.
     Journal(u32, [u8; 32]),
 }

@@ -73,8 +73,9 @@ fn take_line(
     }
 }
 
-/// Takes all lines of a text into an empty reading. Returns the number of the line that would be next, counted from 1.
-/// The error is the first flaw in the text, or that memory ran out. A text that ends too early is no error here.
+/// Takes all lines of a text into `reading`, which must be empty. Returns the number of the line that would be next,
+/// counted from 1. The error is the first flaw in the text, or that memory ran out. A text that ends too early is no
+/// error here.
 fn read_lines(alloc: Global, reading: &mut Reading, text: &[u8]) -> Result<u32, OpeningFlaw>
     requires { reading.old ≡ nothing_read }
     ensures read { IfOk result (λ number. HasRead text.now [] number reading.new) }

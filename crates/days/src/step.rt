@@ -20,10 +20,10 @@ use std::alloc::{AllocError, Global};
 use std::marker::Model;
 use std::sync::Arc;
 
-/// The greatest number that a point's newest transaction may have, and the greatest number of versions.
+/// The greatest number that a point's newest transaction is allowed to have, and the greatest count of versions.
 const MOST: u32 = 4_290_000_000;
 
-/// The greatest total of cleared amounts in cents, and the greatest number of cleared transactions.
+/// The greatest total of cleared amounts in cents, and the greatest count of cleared transactions.
 const MOST_CLEARED: u64 = 1_000_000_000_000_000_000;
 
 /// The place of the line of slot 0. A line's place is a number that says where in an opening the line can come. The
@@ -42,10 +42,11 @@ const POINTS_AT: u32 = 59;
 /// The place of the last line.
 const END_AT: u32 = 60;
 
-/// Why a line isn't taken.
+/// Why a line isn't added to a `Reading`.
 #[derive(Clone, Copy)]
 pub(crate) enum StepFault {
-    /// The bytes that were read spell no line, the line can't come next, or one of its values isn't allowed there.
+    /// The bytes that were read spell no line, the line can't come next, or one of its values isn't allowed after the
+    /// lines before it.
     Misplaced,
     /// The verifier refuses the line's program.
     Refused(Refusal),
@@ -57,7 +58,8 @@ pub(crate) enum StepFault {
 #[derive(Drop)]
 pub(crate) struct Reading {
     alloc: Global,
-    /// The least place that the next line can have. After the last line it is 61, which is the place of no line.
+    /// The least place (see `SLOTS_AT`) that the next line can have. After the last line it is 61, which is the place
+    /// of no line.
     next: u32,
     day: u32,
     points: Vec<Point>,
@@ -110,7 +112,7 @@ fn empty_slots(alloc: Global) -> Result<Vec<Option<Version>>, AllocError>
 }
 
 impl Reading {
-    /// Makes the reading before the first line. The error is that memory ran out.
+    /// Makes an empty reading, which has taken no line yet. The error is that memory ran out.
     pub(crate) fn new(alloc: Global) -> Result<Reading, AllocError>
         ensures { IfOk result (λ reading. reading ≡ nothing_read) }
     {
@@ -298,10 +300,11 @@ impl Reading {
         Ok(())
     }
 
-    /// Takes a line, if it can come next with these values. After an error the reading is as before.
+    /// Takes a line, if it can come next with these values. After an error the reading is unchanged.
     ///
-    /// The error is `Misplaced` if the line can't come next, or if one of its values isn't allowed there. Otherwise it
-    /// is `Refused` if the verifier refuses the line's program. It can also be that memory ran out.
+    /// The error is `Misplaced` if the line can't come next, or if one of its values isn't allowed after the lines
+    /// before it. Otherwise the error is `Refused` if the verifier refuses the line's program. It can also be that
+    /// memory ran out.
     pub(crate) fn take(&mut self, line: &Line) -> Result<(), StepFault>
         ensures { Steps self.old line.now result self.new }
     {
@@ -356,8 +359,8 @@ fn verified(
     }
 }
 
-/// Returns the point with this transaction added after its other unpaid ones, or `None` if no point can have all these
-/// values.
+/// Returns the point with this transaction added after its other unpaid ones, or `None` if the result would have values
+/// that no point can have.
 fn owing(point: &Point, unpaid: Transaction) -> Option<Point>
     ensures state { IfSome result (λ new. new ≡ with_unpaid point.now unpaid) }
     ensures when { IsTrue (is_some result) ↔ IsPointState (with_unpaid point.now unpaid) }

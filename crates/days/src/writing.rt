@@ -44,7 +44,7 @@ fn put_rule(
     }
 }
 
-/// Appends the lines of all slots that have a version. The first one in `rules` is slot 0.
+/// Appends the lines of all slots that have a version. The first item of `rules` is that of slot 0.
 fn put_rules(alloc: Global, text: &mut String, rules: &[Option<Version>]) -> Result<(), AllocError>
     ensures { OnOk result (AddsLines (string_bytes text.old) (string_bytes text.new)
         (numbered_lines version_lines 0 rules.now)) }
@@ -66,7 +66,7 @@ fn put_price(alloc: Global, text: &mut String, product: u32, price: u32) -> Resu
     put_line(alloc, text, &Line::Price(product, price))
 }
 
-/// Appends the lines of all products that have a price. The first one in `prices` is the price of product 1.
+/// Appends the lines of all products that have a price. The first item of `prices` is the price of product 1.
 fn put_prices(alloc: Global, text: &mut String, prices: &[u32]) -> Result<(), AllocError>
     requires { length prices.now ≤ 8 }
     ensures { OnOk result (AddsLines (string_bytes text.old) (string_bytes text.new)

@@ -32,7 +32,8 @@ pub struct Snapshot {
 impl Snapshot {
     /// Returns whether a point can have these values: `nozzle` is at most 8; `amount` and `volume`, also those of the
     /// unpaid transactions, are at most 999,999,999; the unpaid transactions have numbers from 1 to `last`, the older
-    /// one the smaller number; there is no newer one without an older one; in states 5 to 9 at most one is unpaid.
+    /// one the smaller number; there is no newer one without an older one; while a delivery is authorised or under way,
+    /// at most one is unpaid.
     pub fn is_of_point(&self) -> bool
         ensures { IsTrue result ↔ IsSnapshot self.now }
     {
@@ -46,8 +47,9 @@ impl Snapshot {
     }
 }
 
-/// Returns whether these two places can hold the unpaid transactions of a point in this state: the second place is
-/// free, or the first one has a transaction with a smaller number and the state isn't one of states 5 to 9.
+/// Returns whether these two places can hold the unpaid transactions of a point in this state. They can if the second
+/// place is free. They also can if the first place has a transaction with a smaller number than the second place's, and
+/// no delivery is authorised or under way in this state.
 fn are_places(first: Option<Transaction>, second: Option<Transaction>, state: State) -> bool
     ensures { IsTrue result ↔ (Room first second (is_busy state) × IsOlder first second) }
 {

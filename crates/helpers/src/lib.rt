@@ -135,9 +135,9 @@ fn answer(
     }
 }
 
-/// Calls helper `id` (1 to 6), with the values of R1 and R2 as `a` and `b`, and returns its answer. Changes the
-/// counters and the stack's bytes as the helper does. A counter's number is 0 to 31. A place in the stack is 0 to 496,
-/// counted in bytes from the stack's lowest byte.
+/// Calls helper `id`, which must be 1 to 6, with the values of R1 and R2 as `a` and `b`, and returns its answer.
+/// Changes the counters and the stack's bytes as the helper does. An argument that is a counter's number must be 0 to
+/// 31. An argument that is a place in the stack must be 0 to 496, counted in bytes from the stack's lowest byte.
 pub fn call(
     id: i32,
     a: u64,

@@ -10,7 +10,7 @@ pub struct Frame {
     pub words: [u64; 11],
 }
 
-/// What a run may read and doesn't change: the context's bytes, and what the helpers see of the site.
+/// What a run can read and doesn't change: the context's bytes, and what the helpers see of the site.
 #[derive(Clone, Copy)]
 pub struct Input<'a> {
     pub context: &'a [u8],

@@ -92,8 +92,9 @@ fn answered_after(
     }
 }
 
-/// Returns how an entry that an audit refuses differs from the entry that the site makes after the entries `before`, or
-/// `NoEntry` if the site's history is full. The error is that memory ran out.
+/// Returns how an entry differs from the entry that the site makes after the entries `before`, or `NoEntry` if the
+/// site's history is full. An audit must refuse the given entry after the entries `before`, with the fault `NotLegal`
+/// and this number. The error is that memory ran out.
 fn entry_flaw(
     alloc: Global,
     config: Config,
@@ -127,7 +128,8 @@ fn last_difference(site: &Site, entry: &Entry) -> Difference
     difference
 }
 
-/// Returns what is wrong with a load whose program the verifier refuses. The error is that memory ran out.
+/// Returns what is wrong with a load. `act` must be a load whose program the verifier refuses with `refusal`. The error
+/// is that memory ran out.
 fn load_flaw(alloc: Global, act: &Act, refusal: Refusal) -> Result<JournalFlaw, AllocError>
     requires { load_refusal act.now ≡ Some refusal }
     ensures { IfOk result (IsLoadFlaw act.now) }
@@ -141,8 +143,8 @@ fn load_flaw(alloc: Global, act: &Act, refusal: Refusal) -> Result<JournalFlaw, 
     }
 }
 
-/// Returns what is wrong with an entry that an audit refuses after the entries `before`. The error is that memory ran
-/// out, which it can't for `BadNumber`.
+/// Returns what is wrong with an entry. An audit must refuse the entry after the entries `before`, with this fault. The
+/// error is that memory ran out, which it can't for `BadNumber`.
 fn fault_flaw(
     alloc: Global,
     config: Config,
@@ -234,7 +236,8 @@ fn text_flaw(fault: JournalFault) -> Result<(Option<u32>, JournalFlaw), JournalF
 /// at fault, counted from 1, and the flaw. The number is `None` if the flaw is that the last line has no LF. The result
 /// is `None` if the text is such a journal.
 ///
-/// The error is `Device` if a read failed or more reads were needed than are allowed, or `OutOfMemory`.
+/// The error is `Device` if a read failed or if more reads were needed than are allowed. It is `OutOfMemory` if memory
+/// ran out.
 pub fn journal_flaw<I: LineIn>(
     alloc: Global,
     config: Config,

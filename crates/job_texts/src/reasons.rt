@@ -37,7 +37,8 @@ impl fmt::Display for RefusedProgram {
     ghost output = { λ told. Some (refused_text told) };
 
     /// Writes the number of the unit at fault, its instruction, and what is wrong with it. Writes only what is wrong if
-    /// the refusal names no unit. If the bytes don't decode, their hexadecimal digits stand for the instruction.
+    /// the refusal names no unit. If the bytes don't decode, the unit's hexadecimal digits are written in place of the
+    /// instruction.
     fn fmt<W: fmt::Write>(&self, f: &mut fmt::Formatter<W>) -> fmt::Result {
         let unit = UnitAtFault(unit_of(self.refusal));
         let line = LineAtFault(&self.line);
@@ -82,8 +83,8 @@ impl fmt::Display for LineAtFault<'_> {
     }
 }
 
-/// What is wrong with an instruction, to be written in words. If the argument of a helper is at fault, the kind is what
-/// it must be.
+/// What is wrong with an instruction, to be written in words. If the argument of a helper is at fault, the kind is that
+/// which this argument must have.
 #[derive(Clone, Copy)]
 struct Wrong(Refusal, Option<Kind>);
 
@@ -145,8 +146,8 @@ fn digits_of(alloc: Global, bytes: &[u8], unit: u32) -> Result<Option<String>, A
     }
 }
 
-/// If the refusal names an argument of a helper, returns the kind that the helper takes there. Returns `None` for any
-/// other refusal, and if there is no such helper or argument.
+/// If the refusal names an argument of a helper, returns the kind that the helper takes as this argument. Returns
+/// `None` for any other refusal, and if there is no such helper or argument.
 fn wanted_by(code: &Code, refusal: Refusal) -> Option<Kind>
     ensures { result ≡ kind_wanted code.now refusal }
 {
@@ -196,9 +197,10 @@ fn units_of(alloc: Global, bytes: &[u8]) -> Result<Option<Code>, AllocError>
     }
 }
 
-/// Explains a refusal of these bytes. Returns it with the line of the unit that it names: the instruction there, or the
-/// unit's digits if the bytes don't decode; and with the kind that a helper takes, if its argument is at fault. If the
-/// refusal names no unit, the line is `None`, and there is no error. Otherwise the error is that memory ran out.
+/// Explains a refusal of these bytes. Returns the refusal with the line of the unit that it names, which is the unit's
+/// instruction, or the unit's digits if the bytes don't decode. If the argument of a helper is at fault, also returns
+/// the kind that the helper takes as this argument. If the refusal names no unit, the line is `None`, and there is no
+/// error. Otherwise the error is that memory ran out.
 pub fn explain_refusal(
     alloc: Global,
     bytes: &[u8],

@@ -15,8 +15,7 @@ pub struct Told {
     pub status: u8,
 }
 
-/// Returns the line of a refusal, with status 1. `line` has no LF, and the text ends with one. The error is that memory
-/// ran out.
+/// Returns the line of a refusal, with status 1: `line`, with an LF added at its end. The error is that memory ran out.
 pub fn refused(alloc: Global, line: &str) -> Result<Told, AllocError>
     ensures { IfOk result (λ told. IsSaid told (line.now ++ 10 ∷ []) 1) }
 {

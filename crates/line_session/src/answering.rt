@@ -15,7 +15,7 @@ use till_request::line::find_line;
 use till_request::write::write_answer;
 use till_request::{Answer, Found, InputFault, LineFault, LineIn, LineOut, WriteFault};
 
-/// The most reads that one session makes. Each read is of one byte.
+/// One session makes at most this many reads. Each read is of one byte.
 pub const READS: u32 = 67_108_864;
 
 /// How a session ended: the number of its answers, and the fault of the last line if that was too long (L1) or had no
@@ -33,7 +33,7 @@ pub enum SessionFault {
     Read,
     /// N2: a write failed.
     Write,
-    /// N3: the session would need more reads than it may make.
+    /// N3: the session would need more reads than it is allowed to make.
     ReadsSpent,
     OutOfMemory,
     /// The journal failed, so the line has no answer: the site takes no further event.
@@ -86,7 +86,7 @@ impl From<HandlerError> for SessionFault {
 }
 
 /// Returns the fault that ends a session: the line is too long, or it is the last line and has no LF. Returns `None` if
-/// a whole line was read, or if no byte came before the end of the input.
+/// a whole line was read, or if the input ended and no line was begun.
 pub(crate) fn cut_of(found: Found) -> Option<LineFault>
     ensures { result ≡ cut_by found }
 {
@@ -97,8 +97,9 @@ pub(crate) fn cut_of(found: Found) -> Option<LineFault>
     }
 }
 
-/// Returns the `Ended` of a session that has given `lines` answers. If its last line has the fault `cut`, first writes
-/// the fault as one more answer. The error is that this write failed.
+/// Returns how many answers a session gave in all, and the fault `cut` of its last line. The session has given `lines`
+/// answers so far. If `cut` isn't `None`, first writes the fault as one more answer, which is counted too. The error is
+/// that this write failed.
 fn end<O: LineOut>(
     alloc: Global,
     output: &mut O,

@@ -6,9 +6,9 @@ ghost use Rattle.line_session.specs.Session.{desk_says};
 use crate::desk::{Clock, Desk};
 use crate::line_handler::LineHandler;
 
-/// States that the sizes of an input's reads change no answer. If in each state of the clock and the desk a handler has
-/// only one answer to a line, and only one state follows, it gives the same answers to the same bytes from the same
-/// state, unless memory runs out or a session fails.
+/// Does nothing. Its contract is a law: the sizes of an input's reads change no answer. The law is for a handler that
+/// in each state of the clock and the desk can give only one answer to a line, after which only one state follows. Such
+/// a handler gives the same answers to the same bytes from the same state, unless memory runs out or a session fails.
 ///
 /// The contract of `answer_lines` describes what it read and wrote by the bytes of the input alone, whatever the device
 /// is. So two calls with the same bytes end alike if both return `Ok`. A reader that lost bytes after a line's LF, or
@@ -17,9 +17,9 @@ pub fn law_of_the_cut<C, D, S: LineHandler<C, D>>()
     ensures { (handler : S) → IsDetermined (S.says handler) → CutsAlike (S.says handler) }
 {}
 
-/// States the same as `law_of_the_cut` for the sessions of a role, under two conditions. In each state the clock can
-/// give only one moment, and only one state of the clock follows. In each state the desk has only one answer to an act
-/// at a moment, and only one state of the desk follows, unless memory runs out.
+/// Does nothing. Its contract is the law of `law_of_the_cut` for the sessions of a role, under two conditions. In each
+/// state the clock can give only one moment, and only one state of the clock follows. In each state the desk has only
+/// one answer to an act at a moment, and only one state of the desk follows, unless memory runs out.
 pub fn law_of_the_cut_at_desks<C: Clock, D: Desk>()
     ensures { (role : Role) → TellsOne C.tick → AnswersOne D.step → CutsAlike (desk_says D.step C.tick role) }
 {}

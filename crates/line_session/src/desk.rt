@@ -7,7 +7,7 @@ pub trait Desk {
     ghost use Rattle.till_request.specs.declared.act.Act.{Act};
     ghost use Rattle.till_request.specs.declared.act.Answer.{Answer};
 
-    /// States what the desk may answer to an act at a moment, and the state of the desk after that.
+    /// For proofs: which answers the desk can give to an act at a moment, and its state after that.
     ghost step: { Self → Act → ℕ → Answer → Self → Type 0 };
 
     /// Returns the answer to an act that is asked at a moment.
@@ -19,7 +19,7 @@ pub trait Desk {
 pub trait Clock {
     ghost use Rattle.std.specs.Prelude.{ℕ};
 
-    /// States which moment the clock may give, and the state of the clock after that.
+    /// For proofs: which moments the clock can give, and its state after that.
     ghost tick: { Self → ℕ → Self → Type 0 };
 
     /// Returns the current moment.

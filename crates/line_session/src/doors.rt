@@ -13,13 +13,15 @@ pub trait Doors {
     ghost use Rattle.line_session.specs.declared.answering.Ended.{Ended};
     ghost use Rattle.line_session.specs.declared.answering.SessionFault.{SessionFault};
 
-    /// States which connection may be opened, and the state of the doors after that.
+    /// For proofs: `next`, called on doors in the first state, can return this input and this output, and leave the
+    /// doors in the second state.
     ghost opens: { Self → Self.In → Self.Out → Self → Type 0 };
 
-    /// States which state the doors may have after a connection couldn't be opened.
+    /// For proofs: `next`, called on doors in the first state, can fail to open a connection, and leave the doors in
+    /// the second state.
     ghost fails: { Self → Self → Type 0 };
 
-    /// States that these doors reported that a session ended with this outcome.
+    /// For proofs: `ended` was called on these doors with this outcome of a session.
     ghost told: { Self → Result Ended SessionFault → Type 0 };
 
     /// Waits for the next connection, and returns its input and its output. The error is that it couldn't be opened.
@@ -27,7 +29,7 @@ pub trait Doors {
         ensures ok { IfOk result (λ door. opens self.old door.0 door.1 self.new) }
         ensures err { OnErr result (fails self.old self.new) };
 
-    /// Returns whether the input has the whole next line in its buffer, so that the answers to several lines may be
+    /// Returns whether the input has the whole next line in its buffer, so that the answers to several lines can be
     /// written together. The default returns false.
     fn has_buffered_line(&self, _input: &Self::In) -> bool {
         false

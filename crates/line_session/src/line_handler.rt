@@ -20,14 +20,15 @@ pub trait LineHandler<C, D> {
     ghost use Rattle.line_session.specs.Answering.{FallsShort, Said, is_write_fault};
     ghost use Rattle.line_session.specs.declared.line_handler.HandlerError.{HandlerError};
 
-    /// States what the answer to a line may be, and the states of the clock and the desk after it.
+    /// For proofs: which answers the handler can give to a line, and the states of the clock and the desk before and
+    /// after it.
     ghost says: { Self → (C × D) → List ℕ → List ℕ → (C × D) → Type 0 };
 
-    /// States which states the clock and the desk may have after a line without an answer, and for which error: memory
-    /// ran out, or the journal failed.
+    /// For proofs: with which error a line can be left without an answer (memory ran out, or the journal failed), and
+    /// the states of the clock and the desk before and after that.
     ghost drops: { Self → HandlerError → (C × D) → List ℕ → (C × D) → Type 0 };
 
-    /// States for which lines the handler may run out of memory before anything has changed.
+    /// For proofs: for which lines the handler can run out of memory before anything has changed.
     ghost takes: { Self → List ℕ → Type 0 };
 
     /// Writes the answer to a line, which is given without its LF. An error ends the session.

@@ -93,9 +93,10 @@ impl Progress {
         self.waiting.put(alloc, output, &answer)
     }
 
-    /// Returns the `Ended` of a session that has given `lines` answers. If its last line has the fault `cut`, first
-    /// answers that line with the fault. The answer is buffered, or written at once if there is no memory to buffer it.
-    /// The error is that a write failed.
+    /// Returns how many answers a session gave in all, and the fault `cut` of its last line. The session has given
+    /// `lines` answers so far. If `cut` isn't `None`, first answers the last line with the fault, and counts this
+    /// answer too. The answer is buffered, or written at once if there is no memory to buffer it. The error is that a
+    /// write failed.
     fn end<O: LineOut>(
         &mut self,
         output: &mut O,

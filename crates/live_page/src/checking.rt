@@ -8,7 +8,7 @@ use till_request::Role;
 /// From this number of entries on a journal is nearly full.
 const NEARLY_FULL: u32 = 1_000_000;
 
-/// Returns the first role that no worker serves, if there is one.
+/// Returns the first role in `peers` that no worker serves, if there is one.
 fn without_worker(peers: &[Peers]) -> Option<Role>
     ensures { result ≡ without_worker peers.now }
 {

@@ -17,13 +17,15 @@ pub struct Station<'a> {
     pub has_failed: bool,
     /// The file in which the journal is kept, if it is kept in one.
     pub journal: Option<JournalFile>,
-    /// How often looks waited for the site's lock, and how long in all.
+    /// How often something of the site was read under the site's lock to be shown, and how long these reads waited for
+    /// the lock in all.
     pub waits: Times,
     /// How often each refusal was the reply, and what each version of a rule decided, in all entries of the history.
     pub tally: &'a Tally,
     /// The last entries, at most 20 of them, the oldest first.
     pub last: &'a [Entry],
-    /// Connections and workers, for each kind of role that the site has.
+    /// The workers and their connections: for tills, for dispensers and for the owner, each only if the site has
+    /// workers for them or had some.
     pub peers: &'a [Peers],
     /// The moment, in seconds since the start of 1970.
     pub moment: u64,
@@ -47,7 +49,7 @@ pub struct JournalFile {
     pub syncs: Option<Times>,
 }
 
-/// Connections and workers of one kind of role: tills, dispensers or the owner.
+/// The workers for tills, those for dispensers or those for the owner, and their connections.
 #[derive(Clone, Copy)]
 pub struct Peers {
     /// `Role::Till`, `Role::Dispenser` or `Role::Owner`.

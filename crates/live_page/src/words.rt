@@ -37,7 +37,7 @@ fn add_phrase(sheet: &mut Sheet, phrase: Phrase) {
     sheet.fill(form, &[first, second]);
 }
 
-/// Returns the words for the kind of a role, in the singular.
+/// Returns the name of those who have this role, in the singular: `till`, `dispenser` or `owner`.
 pub(crate) fn role_name(role: Role) -> &'static str {
     match role {
         Role::Till | Role::OneTill(_) => "till",

@@ -176,8 +176,8 @@ fn closed<L: SiteLedger, R: Wait>(
     }
 }
 
-/// Reopens a forecourt that couldn't be closed, closes it with this pass too, and returns how many entries its site
-/// has.
+/// Reopens a forecourt that couldn't be closed, closes it with the passes that the refused close gave back and with
+/// `last`, and returns how many entries its site has.
 fn closed_again<L: SiteLedger, R: Wait>(
     rt: &R,
     kept: CloseFault<L>,

@@ -1,4 +1,4 @@
-//! The connection of somebody who looks.
+//! The connection of somebody who looks at a served site.
 use http_server::{Config, Connection, Service, State};
 use http1::Limits;
 use std::alloc::Global;
@@ -7,7 +7,8 @@ use std::io::{self, ErrorKind, Read};
 use std::net::{Shutdown, TcpStream};
 use std::time::{Clock, Instant};
 
-/// The most seconds from the opening of a connection until its answer is made, and from then until the connection ends.
+/// How many seconds a connection has at most from its opening until its answer is made, and as many again from then
+/// until it ends.
 const MOST_SECONDS: u64 = 5;
 
 /// A request's head has at most 8,192 bytes, and a request has no body.
@@ -33,7 +34,8 @@ pub enum Turn {
     Over,
 }
 
-/// The connection of somebody who looks. It waits for nothing: each turn moves what can be moved at once.
+/// The connection of somebody who looks at a served site. It waits for nothing: each turn moves what can be moved at
+/// once.
 #[derive(Drop)]
 pub struct Client {
     stream: TcpStream,
@@ -92,8 +94,9 @@ impl Client {
         }
     }
 
-    /// Takes what the peer still sends after its answer: if the connection were closed before that, the system might
-    /// throw the answer away. Returns how many bytes came, at most 4,096, or 0 once the peer has closed its side.
+    /// Takes what the peer still sends after its answer was sent: if the connection were closed before the peer's bytes
+    /// are taken, the system might throw the answer away. Returns how many bytes came, at most 4,096, or 0 once the
+    /// peer has closed its side.
     fn take_rest(&mut self) -> io::Result<usize> {
         if !self.is_answered {
             self.is_answered = true;
@@ -103,7 +106,7 @@ impl Client {
         self.stream.read(&mut bytes)
     }
 
-    /// Does what `turn` does, but returns a failure as an error. After it the connection is to be closed.
+    /// Does what `turn` does, but returns a failure as an error. After an error the connection is to be closed.
     fn go_on<S: Service, R: Clock>(&mut self, rt: &R, service: &mut S) -> io::Result<Turn> {
         self.answer(rt, service)?;
         if self.since.elapsed(rt)?.as_secs() >= MOST_SECONDS {

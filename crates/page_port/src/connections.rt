@@ -1,10 +1,10 @@
-//! How many peers a site has: its workers and their connections, by kind of role.
+//! Counts of a site's workers and of their connections: for tills, for dispensers and for the owner.
 use live_page::Peers;
 use std::alloc::{AllocError, Global};
 use std::sync::atomic::{AtomicU32, AtomicU64, Ordering};
 use till_request::Role;
 
-/// The workers of one kind of role, and their connections.
+/// The workers for tills, those for dispensers or those for the owner, and their connections.
 #[derive(Drop)]
 struct Counted {
     workers: u32,
@@ -24,7 +24,8 @@ impl Counted {
         }
     }
 
-    /// Returns the counts as they are shown. A connection that ends meanwhile may count as open still.
+    /// Returns the counts as they are shown. A connection that ends while this reads the counts can still count as
+    /// open.
     fn peers(&self, role: Role) -> Peers {
         let closed = self.closed.load(Ordering::SeqCst);
         let total = self.opened.load(Ordering::SeqCst);
@@ -39,8 +40,8 @@ impl Counted {
     }
 }
 
-/// Counts the workers of a site, and their connections, by kind of role: tills, dispensers and the owner. Workers that
-/// take all lines count as the owner's.
+/// Counts the workers of a site, and their connections, separately for tills, for dispensers and for the owner. Workers
+/// that take the lines of all roles count as the owner's.
 #[derive(Drop)]
 pub struct Connections {
     tills: Counted,
@@ -91,8 +92,8 @@ impl Connections {
         self.counted(role).left.fetch_add(1, Ordering::SeqCst);
     }
 
-    /// Returns the counts of each kind of role that has workers, or had some: tills, then dispensers, then the owner.
-    /// The error is that memory ran out.
+    /// Returns the counts for tills, those for dispensers and those for the owner, in this order. Leaves out those for
+    /// whom the site has no workers and had none. The error is that memory ran out.
     pub(crate) fn peers(&self, alloc: Global) -> Result<Vec<Peers>, AllocError> {
         let mut peers = Vec::new(alloc);
         for role in [Role::Till, Role::Dispenser, Role::Owner] {

@@ -17,7 +17,7 @@ use std::sync::atomic::{AtomicBool, Ordering};
 use std::time::{Clock, Duration};
 use std::{fs, thread};
 
-/// The most clients at once. Further connections wait in the system's queue.
+/// How many clients there are at most at once. Further connections wait in the system's queue.
 const MOST_CLIENTS: usize = 32;
 
 /// How many milliseconds to wait when no client can go on.
@@ -39,12 +39,13 @@ pub struct PagePort<'a> {
     rt: &'a HostRuntime,
     pub(crate) tills: u32,
     listener: TcpListener,
-    /// A second handle of the same socket, by which it can be shut down.
+    /// A second handle of the listener's socket, by which the socket can be shut down.
     handle: TcpStream,
     keys: RandomState,
     pub(crate) connections: Connections,
     pub(crate) journal: Option<&'a JournalCounts>,
-    /// The waits for the site's lock.
+    /// How often something of the site was read under the site's lock to be shown, and how long these reads waited for
+    /// the lock in all.
     pub(crate) waits: Timings,
     is_leaving: AtomicBool,
 }
@@ -65,8 +66,9 @@ fn listen<H: Net<Listener = TcpListener, Stream = TcpStream>>(
     }
 }
 
-/// Gives each client a turn, except for one that takes the place of a client that is over. Closes the connections of
-/// the clients that are over. Returns whether the result of at least one turn was `Moved` or `Over`.
+/// Gives each client a turn. If the result of a client's turn is `Over`, closes its connection and removes it from the
+/// list; the last client of the list takes its place, and has no turn in this call. Returns whether the result of at
+/// least one turn was `Moved` or `Over`.
 fn take_turns<S: Service, R: Clock>(rt: &R, clients: &mut Vec<Client>, service: &mut S) -> bool {
     let mut went_on = false;
     for place in 0..clients.len() {
@@ -163,7 +165,7 @@ impl<'a> PagePort<'a> {
     }
 
     /// Waits after a connection couldn't be accepted. First prints the error for an operator, unless `has_failed` says
-    /// that the connection before couldn't be accepted either.
+    /// that the previous connection couldn't be accepted either.
     fn pause(&self, has_failed: bool, error: &io::Error) {
         if !has_failed {
             let _ = eprintln!(self.rt; "fc: no connection for the page: {error}");
@@ -202,7 +204,7 @@ impl<'a> PagePort<'a> {
         self.is_leaving.load(Ordering::SeqCst)
     }
 
-    /// Answers requests with what the site is at that moment, until `leave` is called.
+    /// Answers requests, each with what the site is when it is answered, until `leave` is called.
     pub fn watch<L: SiteLedger, J: Journal, R: Wait + Clock>(
         &self,
         rt: &R,

@@ -53,8 +53,8 @@ impl Shown {
         }
     }
 
-    /// Puts the answer into a blank response. Each connection ends after one answer, so that it keeps nobody else
-    /// waiting.
+    /// Puts the answer into `response`, which must be blank. Each connection ends after one answer, so that it keeps
+    /// nobody else waiting.
     pub fn put(self, response: &mut Response) -> Result<(), AllocError>
         requires { IsBlank response.old }
         ensures { OnOk result (Puts self response.new) }
@@ -66,7 +66,7 @@ impl Shown {
     }
 }
 
-/// Adds the header fields that every answer has to a response that has none yet.
+/// Adds the header fields of every answer to `response`, which must have no header field yet.
 fn add_fields(kind: Kind, response: &mut Response) -> Result<(), AllocError>
     requires { fields_of response.old ≡ [] }
     ensures fields { OnOk result (fields_of response.new ≡ fields kind) }
@@ -102,7 +102,7 @@ fn add_allowed(refusal: Refusal, response: &mut Response) -> Result<(), AllocErr
     }
 }
 
-/// Puts the answer to a request that is refused for this reason into a blank response.
+/// Puts the answer to a request that is refused for this reason into `response`, which must be blank.
 pub fn refuse(refusal: Refusal, response: &mut Response) -> Result<(), AllocError>
     requires { IsBlank response.old }
     ensures { OnOk result (Refuses refusal response.new) }

@@ -19,7 +19,7 @@ impl Timings {
         }
     }
 
-    /// Counts that it was done once more, and adds the time `taken`.
+    /// Counts one time more, and adds `taken`, which is how long it took this time.
     pub fn add(&self, taken: Duration) {
         let nanoseconds = u64::try_from(taken.as_nanos()).unwrap_or(u64::MAX);
         self.nanoseconds.fetch_add(nanoseconds, Ordering::SeqCst);

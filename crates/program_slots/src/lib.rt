@@ -68,9 +68,9 @@ impl Slots {
         Self::opened(alloc, 0, Vec::new(alloc))
     }
 
-    /// Makes 16 slots. Slot k begins with the version `opened[k]`, or empty if `opened` has no version there. `before`,
-    /// at most 4,290,000,000, is how many versions were made before these slots began. The versions in `opened` have
-    /// numbers from 1 to `before`. Allocates no memory.
+    /// Makes 16 slots. Slot k begins with the version `opened[k]`, or empty if `opened` has no version there. `before`
+    /// is how many versions were made before these slots began, and must be at most 4,290,000,000. The versions in
+    /// `opened` must have numbers from 1 to `before`. Allocates no memory.
     pub fn opened(alloc: Global, before: u32, opened: Vec<Option<Version>>) -> Self
         requires few { before ≤ 4290000000 }
         requires rules { All (IsRule before) opened.items }

@@ -1,12 +1,14 @@
-//! Allocates all memory of the process, except one small block that stays free.
+//! Allocates all memory of the process, except one block that stays free.
 use std::alloc::Global;
 
-/// To leave a free block, a block that is larger by this many bytes is freed, and this many bytes of it are allocated
-/// again. The free block must be a part of a larger one, since a freed block of up to 1,032 bytes would be reused for
-/// its own size only.
+/// How many bytes of a freed block `take_but` allocates again. It first allocates a block of `size + HELD` bytes, and
+/// then all other memory. Then it frees the block and allocates `HELD` bytes of it again, so `size` bytes of it stay
+/// free. A block of only `size` bytes wouldn't do: once freed, a block of up to 1,032 bytes would be reused only for
+/// blocks of its own size.
 const HELD: usize = 1080;
 
-/// The most sizes of the free block that are tried for a line.
+/// For one of its lines, a script is played at most this often, each time with more bytes of memory left free during
+/// the line (`room_of`).
 pub const TURNS: usize = 120;
 
 /// Allocates blocks of `size` bytes until that fails, but at most 100,000, and adds them to `blocks`.
@@ -33,7 +35,8 @@ fn hoard(alloc: Global, blocks: &mut Vec<Vec<u8>>) {
     }
 }
 
-/// All memory of the process except one free block. This memory is freed when this is dropped.
+/// All memory of the process, allocated, except one block that stays free. Dropping a `Taken` frees the memory that it
+/// has allocated.
 #[derive(Drop)]
 pub struct Taken {
     blocks: Vec<Vec<u8>>,
@@ -51,8 +54,8 @@ pub fn take_but(alloc: Global, size: usize) -> Option<Taken> {
     Some(Taken { blocks, held })
 }
 
-/// Allocates all memory except 64 MiB, which are enough for what a test makes. With only that left, the later calls of
-/// `take_but` take a hundredth of the time. Returns `None` if there is too little memory for that.
+/// Allocates all memory except 64 MiB, which are enough for what a test makes. With only 64 MiB left, the later calls
+/// of `take_but` take a hundredth of the time. Returns `None` if there is too little memory to leave 64 MiB free.
 pub fn leave_few(alloc: Global) -> Option<Taken> {
     take_but(alloc, 1 << 26)
 }

@@ -6,8 +6,9 @@ use std::alloc::Global;
 use till_request::devices::MemoryIn;
 use till_request::{DeviceFault, LineIn};
 
-/// An input that gives a script from memory. From the first read of one line until the first read after that line, so
-/// also while the line is answered, all memory except one free block is allocated.
+/// An input that gives a script from memory. From the first read of line number `line`, counted from 0, until the first
+/// read after that line, so also while the line is answered, it keeps all memory of the process allocated except one
+/// block of `size` bytes, which stays free.
 #[derive(Drop)]
 pub struct Narrow {
     input: MemoryIn,
@@ -31,8 +32,8 @@ impl Narrow {
         }
     }
 
-    /// While line number `line`, counted from 0, is read, makes sure that all memory except one free block is
-    /// allocated. After that line, frees the memory. Before it, does nothing.
+    /// While line number `line`, counted from 0, is read, makes sure that all memory is allocated except one block of
+    /// `size` bytes, which stays free. After that line, frees the memory. Before that line, does nothing.
     fn turn(&mut self)
         ensures { self.new.input ≡ self.old.input }
     {

@@ -78,8 +78,8 @@ fn played(alloc: Global, site: &str, script: &[u8], line: usize, size: usize) ->
     Some(outcome_of(alloc, config, input, output))
 }
 
-/// The two texts that a play may write: `whole` if no memory is refused, and `told` if the line for which there was
-/// little memory is answered `S31` and changes nothing.
+/// The two texts that a play is allowed to write: `whole` if no memory is refused, and `told` if the line for which
+/// there was little memory is answered `S31` and changes nothing.
 #[derive(Drop)]
 struct Wanted {
     whole: Vec<u8>,
@@ -92,7 +92,7 @@ struct Wanted {
 enum Became {
     Answered,
     Refused,
-    /// The play ended with `OutOfMemory`, after the answers to the lines before.
+    /// The play ended with `OutOfMemory`, after the answers to the lines before this one.
     Ended,
 }
 
@@ -153,10 +153,10 @@ fn wanted_of(alloc: Global, site: &str, script: &str, line: usize) -> Option<Wan
     })
 }
 
-/// Plays a script again and again, with a larger free block each time, until line number `line`, counted from 0, has
-/// enough memory. Returns how often this line was answered `S31`, and how often the play ended with `OutOfMemory`.
-/// Returns `None` if a play wrote something wrong or ended with another fault, if no free block was large enough, or if
-/// memory ran out before a play.
+/// Plays a script again and again, each time with more bytes of memory left free during line number `line`, counted
+/// from 0, until that line has enough memory. Returns how often this line was answered `S31`, and how often the play
+/// ended with `OutOfMemory`. Returns `None` if a play wrote something wrong or ended with another fault, if the line
+/// never had enough memory, or if memory ran out before a play.
 fn count_refusals(
     alloc: Global,
     site: &str,

@@ -67,7 +67,8 @@ pub struct StackWrite {
     pub kept: RegType,
 }
 
-/// What is wrong with an instruction, given the fact before it: a `TypeFault` without its unit.
+/// What is wrong with an instruction, given the fact before it: a `TypeFault` without its unit. The number of
+/// `NotANumber` is the register at fault (0 to 10), and that of `BadArgument` is the argument (1 or 2).
 #[derive(Clone, Copy)]
 pub enum Flaw {
     FallsOff,

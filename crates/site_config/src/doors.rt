@@ -20,10 +20,10 @@ use crate::settings::{Address, Door, Serve};
 use std::alloc::Global;
 use till_request::Role;
 
-/// The most workers that tills may have in all.
+/// How many workers tills may have in all at most.
 const MOST_OF_TILLS: u32 = 64;
 
-/// The most workers that dispensers may have in all.
+/// How many workers dispensers may have in all at most.
 const MOST_OF_DISPENSERS: u32 = 31;
 
 /// Returns the place of `key` in the table that has the key at `place`. If `place` isn't a key's, returns `place`
@@ -140,8 +140,9 @@ fn make_bits(list: Place, points: u32, values: &[i64]) -> Result<u32, ConfigFlaw
     add_points(list, points, values)
 }
 
-/// States that a door's role in the configuration and the role of its sessions agree: the door takes a line of a till,
-/// or a line that names a point, exactly if the role of its sessions may send that line. Does nothing.
+/// Does nothing. Its contract is a law: a door's role in the configuration and the role of its sessions agree. The door
+/// takes a till's line, or a dispenser's line for one of the points 1 to 32, exactly if the role of its sessions is
+/// allowed to send that line.
 pub fn law_of_own_lines()
     ensures { DoorsTakeOwnLines }
 {}
@@ -259,7 +260,8 @@ fn check_apart(doors: &[RawDoor]) -> Result<(), ConfigFlaw>
     Ok(())
 }
 
-/// Returns the flaw of the first door whose port is the page's, or `None` if no door has it.
+/// Returns the flaw of the first door whose port is `port`, that of the page on which the site is shown, or `None` if
+/// no door has this port.
 fn page_clash(port: i64, doors: &[RawDoor]) -> Option<ConfigFlaw>
     ensures found { result ≡ page_clash port doors.now }
     ensures memory { IfSome result (λ flaw. flaw ≢ ConfigFlaw.OutOfMemory) }
@@ -276,8 +278,8 @@ fn page_clash(port: i64, doors: &[RawDoor]) -> Option<ConfigFlaw>
     None
 }
 
-/// Checks the port of the page, and returns it, or `None` if there is no page. The error is `OutOfRange`, or `SamePort`
-/// if a door has the same port.
+/// Checks and returns the port of the page on which the site is shown. Returns `None` if there is no page. The error is
+/// `OutOfRange`, or `SamePort` if a door has the same port.
 #[tactic(auto, unfolding(crate::specs::Doors::page_of))]
 fn page_of(doors: &[RawDoor], port: Option<i64>) -> Result<Option<u32>, ConfigFlaw>
     ensures read { Finds (λ x. x) result (page_of doors.now port) }
@@ -329,8 +331,8 @@ fn count_of(side: Side, doors: &[RawDoor]) -> usize
     count
 }
 
-/// Returns whether a door of this role takes the lines of till `number`, if the side is tills, or those that name point
-/// `number`, if the side is dispensers.
+/// Returns whether a door of this role takes the lines of till `number`, if the side is tills, or the dispensers' lines
+/// that name point `number`, if the side is dispensers.
 fn takes_lines(side: Side, number: u32, role: &RawRole) -> bool
     ensures { result ≡ takes side number role.now }
 {
@@ -356,8 +358,9 @@ fn is_taken(side: Side, number: u32, doors: &[RawDoor]) -> bool
     false
 }
 
-/// Returns the flaw of the lowest number, from 1 to `most`, of a till or a point whose lines no door takes, or `None`
-/// if each has a door.
+/// Returns the flaw of the first till, if the side is tills, or of the first point, if the side is dispensers, whose
+/// lines no door takes. Tills and points have the numbers 1 to `most`. Returns `None` if a door takes the lines of
+/// each.
 fn first_left(side: Side, doors: &[RawDoor], most: u32) -> Option<ConfigFlaw>
     ensures found { result ≡ first_left side doors.now most }
     ensures memory { IfSome result (λ flaw. flaw ≢ ConfigFlaw.OutOfMemory) }
@@ -459,8 +462,8 @@ fn number_of(key: Key, value: i64, low: u32, high: u32) -> Result<u32, ConfigFla
     in_range(Place::At(Section::Serve, key), value, low, high)
 }
 
-/// Makes the settings of `[serve]` for a site that has `tills` tills and `points` points, at most 32. The error is the
-/// first flaw that is a K3, or that memory ran out.
+/// Makes the settings of `[serve]` for a site that has `tills` tills and `points` points. `points` must be at most 32.
+/// The error is the first flaw that is a K3, or that memory ran out.
 #[tactic(auto, unfolding(crate::specs::Doors::serve_of))]
 pub(crate) fn make_serve(
     alloc: Global,

@@ -98,7 +98,8 @@ fn counted(place: usize) -> usize
 }
 
 /// A table of a configuration. `Top` is the whole document, and `Serve` is `[serve]`. The others are one table of
-/// `[[point]]`, `[[counter]]`, `[[serve.till]]` or `[[serve.dispenser]]`, with its place there, counted from 0.
+/// `[[point]]`, `[[counter]]`, `[[serve.till]]` or `[[serve.dispenser]]`, with its place in this list of tables,
+/// counted from 0.
 #[derive(Clone, Copy)]
 pub enum Section {
     Top,
@@ -129,8 +130,9 @@ impl fmt::Display for Section {
     }
 }
 
-/// The place of a value in a configuration. `At` is the value of a key. `Item` is an item of a key's list, and
-/// `Counter` is a table of `[[counter]]`, each with its place there, counted from 0.
+/// The place of a value in a configuration. `At` is the value of a key. `Item` is an item of a key's list, with its
+/// place in the list. `Counter` is a table of `[[counter]]`, with its place in this list of tables. Both places are
+/// counted from 0.
 #[derive(Clone, Copy)]
 pub enum Place {
     At(Section, Key),

@@ -20,13 +20,13 @@ fn is_head_end(bytes: &[u8]) -> bool
     bytes == b"---\n".as_slice() || &bytes[from..] == b"\n---\n".as_slice()
 }
 
-/// Reads the bytes up to the first line that is `---` and its LF, and returns them with that line, or all bytes if
-/// there is no such line. What follows the line stays unread. Reading also stops after 65,541 bytes, which are too many
-/// for a configuration and its line `---`, and returns these bytes.
+/// Reads and returns the bytes up to the end of the first line that is `---` and its LF. What follows the line stays
+/// unread. If there is no such line, reads and returns all bytes. Reading also stops after 65,541 bytes, which are too
+/// many for a configuration and its line `---`, and returns these bytes.
 ///
-/// Each read is of one byte, or finds the end of the input, and subtracts 1 from `left`, the number of reads that may
-/// still be made. The error is that no read is left, that the input failed, or that there was no memory for a byte that
-/// was read.
+/// Each read asks for one byte, and subtracts 1 from `left`, the number of reads that are still allowed. So does the
+/// read that finds the end of the input. The error is that no read is left, that the input failed, or that there was no
+/// memory for a byte that was read.
 pub fn read_head<I: LineIn>(
     alloc: Global,
     input: &mut I,

@@ -45,7 +45,7 @@ fn not_negative(place: Place, value: i64) -> Result<u64, ConfigFlaw>
     }
 }
 
-/// Returns the flaw for the list at the key `key` of the document, which has `count` items and not `low` to `high`.
+/// Returns the flaw that the list at the key `key` of the document has `count` items, and not `low` to `high`.
 fn wrong_count(key: Key, count: usize, low: usize, high: usize) -> ConfigFlaw
     ensures { result ≡ ConfigFlaw.WrongCount (Place.At Section.Top key) count low high }
 {
@@ -111,7 +111,7 @@ fn each_price(alloc: Global, values: &[i64]) -> Result<Vec<u32>, ConfigFlaw>
     Ok(prices)
 }
 
-/// Copies a list of 8 numbers into an array.
+/// Copies a list, which must have exactly 8 numbers, into an array.
 fn eight_of(list: &[u32]) -> [u32; 8]
     requires { length list.now ≡ 8 }
     ensures { result ≡ list.now }
@@ -174,7 +174,8 @@ fn each_counter(alloc: Global, pairs: &[(i64, i64)]) -> Result<Vec<(u64, u64)>, 
     Ok(counters)
 }
 
-/// Copies a list of at most 32 counters into an array. The counters after them have value 0 and bound 0.
+/// Copies a list, which must have at most 32 counters, into an array. The array's counters after those of the list have
+/// value 0 and bound 0.
 fn table_of(list: &[(u64, u64)]) -> [(u64, u64); 32]
     requires room { length list.now ≤ COUNTERS }
     requires range { All IsCounter list.now }

@@ -268,7 +268,8 @@ fn read_idle(table: &Table) -> Result<i64, ConfigFlaw>
     }
 }
 
-/// Reads the port of the page, or `None` if the key is left out. The error is `WrongType`.
+/// Reads the port of the page on which the site is shown. Returns `None` if its key isn't given. The error is
+/// `WrongType`.
 fn read_page(table: &Table) -> Result<Option<i64>, ConfigFlaw>
     ensures read { Finds (λ x. x) result (page_from (get_member (name_of Key.PagePort) (table_view table.now))) }
     ensures memory { result ≢ Err ConfigFlaw.OutOfMemory }

@@ -23,9 +23,9 @@ pub struct Door {
 }
 
 /// Where and how to serve the site. Each worker serves `connections` connections, 1 to 1,000,000, one after another. A
-/// connection ends after `idle_seconds` seconds without a byte, or never for that reason if `idle_seconds` is 0. It is
-/// at most 86,400. `page_port`, 1 to 65,535, is the port of the page on which the site is shown while it is served, or
-/// `None` if there is no page.
+/// connection ends after `idle_seconds` seconds without a byte, or never for that reason if `idle_seconds` is 0.
+/// `idle_seconds` is at most 86,400. `page_port`, 1 to 65,535, is the port of the page on which the site is shown while
+/// it is served, or `None` if there is no page.
 ///
 /// The doors are in the order in which workers get their passes: the tills' shared one, those of one till each, the
 /// dispensers' shared one, those of some points each, the owner's. All doors have different addresses, and none has the

@@ -16,8 +16,8 @@ use crate::values::{
 use std::alloc::Global;
 use toml::{Table, Value};
 
-/// Reads the numbers of two keys from `value`, a table at `place` that may have only keys of `section`. The error is
-/// `WrongType`, `UnknownKey` or `Missing`, or that memory ran out.
+/// Reads the numbers of two keys from `value`, which must be a table with no keys but those of `section`. `place` is
+/// where the document has `value`. The error is `WrongType`, `UnknownKey` or `Missing`, or that memory ran out.
 #[tactic(auto, unfolding(crate::specs::Typed::pair_in, crate::specs::Memory::TakesPair))]
 fn read_pair(
     alloc: Global,

@@ -30,7 +30,7 @@ pub fn has_key(table: &Table, key: Key) -> bool
     find_value(table, key.name()).is_some()
 }
 
-/// Returns whether a table of this section may have a key of this name.
+/// Returns whether a table of this section is allowed to have a key of this name.
 fn is_known(section: Section, key: &str) -> bool
     ensures { result ≡ is_key_of section key.now }
 {
@@ -50,8 +50,8 @@ fn find_unknown(table: &Table, section: Section) -> Option<&String>
     table.keys().find(|key| !is_known(section, key.as_str()))
 }
 
-/// Returns the first key of `table`, in the order of the keys' bytes, that a table of this section may not have, or
-/// `None` if there is no such key.
+/// Returns the first key of `table`, in the order of the keys' bytes, that a table of this section isn't allowed to
+/// have, or `None` if there is no such key.
 fn unknown_key(table: &Table, section: Section) -> Option<&str>
     ensures { option_map (λ key. key.now) result ≡ other_key (is_key_of section) (table_view table.now) }
 {
@@ -184,8 +184,8 @@ fn is_dispenser(key: &str) -> bool
     key == "points" || key == "port" || key == "socket"
 }
 
-/// Checks that a table of this section may have each key of `table`. The error is `UnknownKey` with the first key, in
-/// the order of the keys' bytes, that such a table may not have, or that memory ran out.
+/// Checks that a table of this section is allowed to have each key of `table`. The error is `UnknownKey` with the first
+/// key, in the order of the keys' bytes, that such a table isn't allowed to have, or that memory ran out.
 pub fn check_keys(alloc: Global, table: &Table, section: Section) -> Result<(), ConfigFlaw>
     ensures read { Finds (λ x. x) result (known_in section (table_view table.now)) }
     ensures memory { result ≡ Err ConfigFlaw.OutOfMemory → CopiesKey section (table_view table.now) }

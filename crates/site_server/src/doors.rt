@@ -15,7 +15,7 @@ use till_request::{DeviceFault, Role};
 
 type Connection<'a, N> = (Ahead<StreamIn<Hearing<'a, N>>>, StreamOut<Stream>);
 
-/// The connections of a listener, for one worker. Other workers may use the same listener.
+/// The connections of a listener, for one worker. Other workers can use the same listener.
 ///
 /// Input is read ahead, in blocks of 4,096 bytes. What is written is sent at once: connections at a port have
 /// `TCP_NODELAY`.
@@ -24,9 +24,9 @@ type Connection<'a, N> = (Ahead<StreamIn<Hearing<'a, N>>>, StreamOut<Stream>);
 /// again. It waits 10 milliseconds at first, then twice as long each time, and at most 1 second. Only the first failure
 /// since a connection was opened is reported to an operator.
 ///
-/// If `idle_seconds` isn't 0, it limits how long a peer may send nothing, and how long it may take no bytes of an
-/// answer. A peer that sends nothing for longer is reported to an operator, and its connection ends. If a peer takes no
-/// bytes for longer, the write fails.
+/// If `idle_seconds` isn't 0, it limits how long a peer is allowed to send nothing, and how long it is allowed to take
+/// no bytes of an answer. A peer that sends nothing for longer is reported to an operator, and its connection ends. If
+/// a peer takes no bytes for longer, the write fails.
 #[derive(Drop)]
 pub struct SocketDoors<'a, R: Clock, N: Notices> {
     rt: &'a R,
@@ -67,8 +67,8 @@ fn failure_of(outcome: &Result<Ended, SessionFault>) -> Option<SessionFailure>
 
 impl<'a, R: Clock, N: Notices> SocketDoors<'a, R, N> {
     /// Makes the doors of a listener, for the worker that has this pass and takes the lines of this role. No connection
-    /// has been asked for yet. A peer may send nothing, or take no bytes of an answer, for `idle_seconds`; 0 is no
-    /// limit.
+    /// has been asked for yet. A peer is allowed to send nothing, or to take no bytes of an answer, for at most
+    /// `idle_seconds`; 0 is no limit.
     pub fn new(
         rt: &'a R,
         listener: &'a Listener,
@@ -180,7 +180,7 @@ impl<'a, R: Clock, N: Notices> Doors for SocketDoors<'a, R, N> {
         }
     }
 
-    // The block that was read last may hold the next line too: then that line is in memory already.
+    // The block that was read last can hold the next line too: then that line is in memory already.
     fn has_buffered_line(&self, input: &Self::In) -> bool {
         input.holds_line()
     }

@@ -30,17 +30,17 @@ impl fmt::Display for SessionFailure {
     }
 }
 
-/// Receives reports from the workers of a site: on what went wrong, for an operator to read, and on connections, which
-/// may be counted. All workers share one receiver, and a report has no answer.
+/// Receives reports from the workers of a site: on what went wrong, for an operator to read, and on connections, so
+/// that they can be counted. All workers share one receiver, and a report has no answer.
 pub trait Notices {
     ghost use Rattle.std.specs.Prelude.{ℕ};
     ghost use Rattle.till_request.specs.declared.act.Role.{Role};
     ghost use Rattle.site_server.specs.declared.notices.SessionFailure.{SessionFailure};
 
-    /// States that a session of the worker with this role and this pass was reported to have ended with this failure.
+    /// For proofs: a session of the worker with this role and this pass was reported to have ended with this failure.
     ghost failure_told: { Role → ℕ → SessionFailure → Type 0 };
 
-    /// States that a session of the worker with this role and this pass was reported to have ended, with or without a
+    /// For proofs: a session of the worker with this role and this pass was reported to have ended, with or without a
     /// fault.
     ghost end_told: { Role → ℕ → Type 0 };
 

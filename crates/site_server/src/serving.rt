@@ -29,12 +29,12 @@ pub struct Serving<J: Journal = NoJournal> {
     pub crew: Crew,
     /// The number of connections that each worker serves, one after another. One that can't be opened counts too.
     pub connections: u32,
-    /// The most seconds that a peer may send nothing, or take no bytes of an answer; 0 is no limit.
+    /// For how many seconds at most a peer is allowed to send nothing, or to take no bytes of an answer; 0 is no limit.
     pub idle_seconds: u32,
 }
 
-/// What serving a site needs besides the site: the receiver of the workers' reports, what decides when an answer may be
-/// sent, and who looks at the site meanwhile.
+/// What serving a site needs besides the site: the receiver of the workers' reports, what decides when an answer is
+/// allowed to be sent, and what looks at the site while it is served.
 #[derive(Clone, Copy)]
 pub struct Outside<'a, N: Notices, A: Release, W: Watcher> {
     pub notices: &'a N,
@@ -157,7 +157,7 @@ fn close<L: SiteLedger, J: Journal, R: Wait>(
     }
 }
 
-/// Proves that a number of connections is below 2^32.
+/// Does nothing. Its contract is a law: the number `connections` is below 2^32.
 fn prove_few(connections: u32)
     ensures { connections < 2 ^ 32 }
 {}
@@ -170,8 +170,8 @@ struct Returned<L: SiteLedger> {
     clean: u64,
 }
 
-/// Runs the tasks of all workers at once, and moves their passes into `passes`, which has room for them. Then asks the
-/// watcher to stop looking at the site.
+/// Runs the tasks of all workers at once, and moves their passes into `passes`, which must be empty and have room for
+/// all of them. Then asks the watcher to stop looking at the site.
 fn work_all<
     L: SiteLedger + Send + Sync,
     J: Journal + Send,

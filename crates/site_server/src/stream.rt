@@ -22,8 +22,8 @@ impl Stream {
         }
     }
 
-    /// Limits how long a read or a write may wait, through any handle of the connection. One that waits longer fails
-    /// with `WouldBlock`. `limit` isn't 0.
+    /// Limits how long a read or a write is allowed to wait, through any handle of the connection. A read or a write
+    /// that waits longer fails with `WouldBlock`. `limit` must not be 0.
     pub(crate) fn limit_waits(&self, limit: Duration) -> io::Result<()> {
         match self {
             Stream::Port(stream) => {

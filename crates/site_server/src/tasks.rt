@@ -36,8 +36,9 @@ pub(crate) fn tasks_of<L: SiteLedger>(
     Ok(tasks)
 }
 
-/// Moves the pass of a finished task into `passes`, which has room for it. Returns the number of the task's connections
-/// whose sessions ended without a `SessionFault`. For a task that isn't finished, moves nothing and returns 0.
+/// Moves the pass of a finished task into `passes`, which must have room for one more. Returns the number of the task's
+/// connections whose sessions ended without a `SessionFault`. For a task that isn't finished, moves nothing and returns
+/// 0.
 fn collect_pass<L: SiteLedger>(task: &mut WorkerTask<L>, passes: &mut Vec<Pass<L>>) -> u64
     requires { vec_len passes.old + 1 ≤ vec_capacity passes.old }
     ensures items { passes.new.items ≡ passes.old.items ++ collected (task.old.done ∷ []) }
@@ -54,8 +55,9 @@ fn collect_pass<L: SiteLedger>(task: &mut WorkerTask<L>, passes: &mut Vec<Pass<L
     }
 }
 
-/// Moves the passes of those tasks that are finished into `passes`, which has room for them. Returns the number of all
-/// their connections whose sessions ended without a `SessionFault`.
+/// Moves the passes of those tasks that are finished into `passes`, which must have room for as many passes as there
+/// are tasks. Returns the number of all connections of the finished tasks whose sessions ended without a
+/// `SessionFault`.
 pub fn collect_passes<L: SiteLedger>(tasks: &mut [WorkerTask<L>], passes: &mut Vec<Pass<L>>) -> u64
     requires room { vec_len passes.old + length tasks.old ≤ vec_capacity passes.old }
     requires few { clean_in (map (λ p. p.done) tasks.old) < 2 ^ 64 }

@@ -23,11 +23,11 @@ pub struct Workers<'a, L: SiteLedger, J: Journal, N: Notices, A: Release, R: Wai
     pub alloc: Global,
     pub forecourt: Forecourt<L, J>,
     pub notices: &'a N,
-    /// Decides when an answer may be sent.
+    /// Decides when an answer is allowed to be sent.
     pub release: &'a A,
     /// The number of connections that each worker serves.
     pub connections: u32,
-    /// The most seconds that a peer may send nothing, or take no bytes of an answer; 0 is no limit.
+    /// For how many seconds at most a peer is allowed to send nothing, or to take no bytes of an answer; 0 is no limit.
     pub idle_seconds: u32,
 }
 

@@ -1,4 +1,4 @@
-//! What lines ask for or report (acts), who sends the lines (roles), and the answers to them.
+//! What lines ask for or report (acts), who sends the lines (roles), and the answers to lines.
 
 ghost use Rattle.std.specs.Prelude.{◌≡◌, ◌==◌, ◌↔◌, ◌<◌, IsTrue, IfOk, OnErr, length};
 ghost use Rattle.std.proofs.Common.{rules};
@@ -79,26 +79,26 @@ impl PartialEq for Bytes {
     }
 }
 
-/// A till's request. The first number names a point, or for `Price` a product. The second number of `Lock`, `Unlock`
-/// and `Clear` names one of the point's transactions. Points, products and transactions are counted from 1.
+/// A till's request. If a case has only one number, it names a point. Points, products and a point's transactions are
+/// counted from 1.
 #[derive(Clone, Copy, PartialEq)]
 pub enum Request {
-    /// Allow a delivery of at most this amount, in cents.
+    /// `Release(point, amount)`: allow a delivery of at most this amount, in cents.
     Release(u32, u64),
-    /// Limit the point's next release to this amount, in cents.
+    /// `Preset(point, amount)`: limit the point's next release to this amount, in cents.
     Preset(u32, u64),
-    /// Set the product's price, in thousandths of the currency per litre.
+    /// `Price(product, price)`: set the product's price, in thousandths of the currency per litre.
     Price(u32, u64),
     OpenPoint(u32),
     ClosePoint(u32),
     Suspend(u32),
     Resume(u32),
     Stop(u32),
-    /// Reserve the transaction for this till.
+    /// `Lock(point, transaction)`: reserve the transaction for the till whose request this is.
     Lock(u32, u32),
-    /// Give the transaction back, so that any till can lock it.
+    /// `Unlock(point, transaction)`: give the transaction back, so that any till can lock it.
     Unlock(u32, u32),
-    /// Remove the transaction: it was paid.
+    /// `Clear(point, transaction)`: remove the transaction, which was paid.
     Clear(u32, u32),
     /// Return the point as it is.
     Show(u32),
@@ -116,8 +116,8 @@ pub enum Act {
         point: u32,
         event: DispenserEvent,
     },
-    /// The program in `bytes` is put into a slot, counted from 0. Bit c of `mask`, 0 to 31, is set if the program
-    /// declares counter c, and `layout` is that of the program's context.
+    /// The program in `bytes` is put into a slot, counted from 0. Bit c of `mask`, for c from 0 to 31, is set if the
+    /// program declares counter c, and `layout` is the layout of the program's context.
     Load {
         slot: u32,
         mask: u32,
@@ -130,8 +130,8 @@ pub enum Act {
 #[derive(Clone, Copy, PartialEq)]
 pub enum Reply {
     Done,
-    /// A rule granted the request: the amount in cents, or the price in thousandths of the currency per litre, and the
-    /// rule's version.
+    /// `Granted(value, version)`: this version of a rule granted the request. The value is an amount in cents, or for
+    /// `Price` a price in thousandths of the currency per litre.
     Granted(u64, u32),
     /// A program was loaded: the number of its version, counted from 1.
     Version(u32),
@@ -139,7 +139,8 @@ pub enum Reply {
     Order(Order),
     /// A point as it is: its state 1 to 9, the lifted nozzle or 0, and how many transactions are unpaid. `amount` in
     /// cents and `volume` in centilitres are those of the delivery so far. `limit` is the amount that was granted to
-    /// the delivery, and `preset` bounds the next release, both in cents. Each is 0 if there is none.
+    /// the delivery, and `preset` bounds the next release, both in cents. When a delivery ends, `amount`, `volume` and
+    /// `limit` become 0. `preset` is 0 if there is no preset.
     Point {
         state: u32,
         nozzle: u32,
@@ -177,7 +178,7 @@ pub enum Role {
 pub enum LineFault {
     /// `L1`: the line has more than 8,400 bytes before its LF, or before the end of the input.
     TooLong,
-    /// `L2`: the words don't have the form of a line, or the sender may not send this line.
+    /// `L2`: the words don't have the form of a line, or the sender isn't allowed to send this line.
     BadLine,
     /// `L3`: a number isn't in decimal digits without leading zeros, or is too large for its type; or hexadecimal is
     /// malformed.
@@ -199,9 +200,9 @@ pub enum Answer {
     OutOfMemory,
     /// The line can't be read as an act.
     Line(LineFault),
-    /// A program was refused. The first number is the refusal's, such as 11 for `V11`. The others are the number of the
-    /// unit, counted from 0, and that of the register, 0 to 10, or of the argument, 1 or 2. Each of these two is `None`
-    /// if the refusal doesn't name it.
+    /// `Program(number, unit, part)`: a program was refused. `number` is the refusal's, such as 11 for `V11`. `unit` is
+    /// the number of the unit that the refusal names, counted from 0. `part` is the number of the register (0 to 10) or
+    /// of the argument (1 or 2) that the refusal names. `unit` or `part` is `None` if the refusal names none.
     Program(u32, Option<u32>, Option<u32>),
     /// The journal failed, and the site accepts no further act. Sessions end without writing this answer.
     JournalFailed,

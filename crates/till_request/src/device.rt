@@ -13,16 +13,17 @@ pub struct DeviceFault;
 
 /// A source of bytes that lines are read from: a file, a socket, a list in memory.
 pub trait LineIn {
-    /// All bytes that later reads will return, if they are known.
+    /// For proofs: all bytes that later reads will return, or `None` if proofs don't know them.
     ghost remaining: { Self → Option (List ℕ) };
 
-    /// The number of reads that were made, modulo 2^64.
+    /// For proofs: the number of reads that were made, modulo 2^64.
     ghost reads: { Self → ℕ };
 
-    /// The number of reads that failed, modulo 2^64.
+    /// For proofs: the number of reads that failed, modulo 2^64.
     ghost failures: { Self → ℕ };
 
-    /// The number of bytes that the reads asked for, modulo 2^64. A read asks for as many as its buffer is long.
+    /// For proofs: the number of bytes that the reads asked for, modulo 2^64. A read asks for as many as its buffer is
+    /// long.
     ghost asked: { Self → ℕ };
 
     /// Reads bytes into the beginning of `buffer` and returns how many: 0 only at the end of the source, or if `buffer`
@@ -34,10 +35,10 @@ pub trait LineIn {
         ensures failed { RoseBy (one_if (is_err result)) (failures self.old) (failures self.new) }
         ensures asked_for { RoseBy (length buffer.new) (asked self.old) (asked self.new) };
 
-    /// Moves at most `left` bytes that the source has buffered to the end of `line`: only bytes before the next LF, and
-    /// only until `line` has 8,400 bytes. Each byte counts as a read of one byte and subtracts 1 from `left`. A source
-    /// without a buffer moves nothing. The error is that memory ran out: the room of `line` is too small and can't
-    /// grow. Nothing was moved then.
+    /// Moves bytes out of the source's own buffer to the end of `line`: at most `left` bytes, only bytes before the
+    /// next LF, and only until `line` has 8,400 bytes. Each byte counts as a read of one byte and subtracts 1 from
+    /// `left`. A source without a buffer moves nothing. The error is that memory ran out: the room of `line` is too
+    /// small and can't grow. Nothing was moved then.
     fn read_held(&mut self, line: &mut Vec<u8>, left: &mut u32) -> Result<(), AllocError>
         requires { IsLine line.old.items }
         ensures taken { OnOk result
@@ -59,10 +60,10 @@ pub trait LineIn {
 
 /// A sink of bytes that answers are written to: a file, a socket, a list in memory.
 pub trait LineOut {
-    /// All bytes that were written so far, if they are known.
+    /// For proofs: all bytes that were written so far, or `None` if proofs don't know them.
     ghost written: { Self → Option (List ℕ) };
 
-    /// The number of writes that failed, modulo 2^64.
+    /// For proofs: the number of writes that failed, modulo 2^64.
     ghost failures: { Self → ℕ };
 
     /// Writes bytes from the beginning of `piece` and returns how many: at least one if `piece` isn't empty. The error

@@ -55,8 +55,8 @@ impl MemoryIn {
     }
 }
 
-/// Returns the most bytes that call number `call`, counted from 0, may move: `sizes[call]`, or `each` if there is no
-/// such index; at least 1.
+/// Returns the greatest number of bytes that call number `call`, counted from 0, can move: `sizes[call]`, or `each` if
+/// `sizes` has no such index; but 1 if this is 0.
 fn size_at(sizes: &[usize], each: usize, call: u64) -> usize
     ensures { result ≡ piece_size sizes.now each call }
 {
@@ -68,8 +68,8 @@ fn size_at(sizes: &[usize], each: usize, call: u64) -> usize
     }
 }
 
-/// Returns how many calls will still succeed after one more call, where `good` is how many will before it: one less,
-/// but 0 stays 0. `None` stays `None`: no call is made to fail.
+/// Returns how many calls will still succeed after the next call. `good` is how many will succeed if the next call is
+/// counted too. The result is one less, but 0 stays 0. `None` stays `None`: no call is made to fail.
 fn after_one(good: Option<u64>) -> Option<u64>
     ensures { result ≡ one_less good }
 {

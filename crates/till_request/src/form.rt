@@ -148,9 +148,9 @@ pub fn text_of(keyword: Keyword) -> &'static str
     }
 }
 
-/// Returns whether a sender of this role may send lines of `by`, which is `Till`, `Dispenser` or `Owner`. The result is
-/// true for `OneTill` and `Till`, and for `SomePoints` and `Dispenser`, whatever till or point a line names. The till
-/// or the point is checked later, when the line is parsed.
+/// Returns whether a sender of this role is allowed to send lines of `by`, which is `Till`, `Dispenser` or `Owner`.
+/// `OneTill` is allowed to send lines of `Till`, and `SomePoints` lines of `Dispenser`, whatever till or point a line
+/// names. The till or the point is checked later, when the line is parsed.
 #[inline(always)]
 pub fn may_send(role: Role, by: Role) -> bool
     ensures { result ≡ allows role by }
@@ -259,8 +259,8 @@ fn has_form(form: Form, words: &[&[u8]]) -> bool
     }
 }
 
-/// Returns whether the role may send lines of this form, whichever till or point they name, and the words have this
-/// form.
+/// Returns whether the words have this form and a sender of this role is allowed to send lines of this form, whichever
+/// till or point they name.
 #[inline(always)]
 fn is_suited(role: Role, words: &[&[u8]], form: Form) -> bool
     ensures { result ≡ suits role (map (λ w. w.now) words.now) form }
@@ -268,7 +268,8 @@ fn is_suited(role: Role, words: &[&[u8]], form: Form) -> bool
     may_send(role, sender_of(form)) && has_form(form, words)
 }
 
-/// Returns the first of `forms` that the role may send and the words have; `None` if there is none.
+/// Returns the first of `forms` that the words have and whose lines a sender of this role is allowed to send; `None` if
+/// there is none.
 #[inline(always)]
 fn first_suited(role: Role, words: &[&[u8]], forms: &[Form]) -> Option<Form>
     ensures found { result ≡ find (suits role (map (λ w. w.now) words.now)) forms.now }
@@ -282,8 +283,8 @@ fn first_suited(role: Role, words: &[&[u8]], forms: &[Form]) -> Option<Form>
     None
 }
 
-/// Returns the form that the words have, if the role may send lines of it, whichever till or point they name; `None` if
-/// the words have no form, or one that the role may not send.
+/// Returns the form that the words have, if a sender of this role is allowed to send lines of this form, whichever till
+/// or point they name. Returns `None` if the words have no form, or one whose lines the sender isn't allowed to send.
 pub fn form_of(role: Role, words: &[&[u8]]) -> Option<Form>
     ensures found { result ≡ find (suits role (map (λ w. w.now) words.now)) all_forms }
     ensures suited { IfSome result (λ form. suits role (map (λ w. w.now) words.now) form ≡ true) }

@@ -9,7 +9,7 @@ use arrayvec::ArrayString;
 use fuelling_point::Order;
 use itoa::Buffer;
 
-/// The most bytes that a `ShortText` can have.
+/// The greatest number of bytes that a `ShortText` can have.
 const SHORT: usize = 192;
 
 /// A text of at most 192 bytes. An answer's line has at most 174.
@@ -145,8 +145,9 @@ fn put_part(text: &mut ShortText, part: Option<u32>)
     }
 }
 
-/// Writes the answer to a refused program, without an LF, into an empty text: the refusal's number with a V before it,
-/// and then, with a space before each, the unit and the register or argument (`part`) that it names.
+/// Writes the answer to a refused program, without an LF, into an empty text: the refusal's number with a V before it;
+/// then `unit`, the unit that the refusal names; then `part`, the register or the argument that it names. `unit` and
+/// `part` have a space before them, and each is left out if it is `None`.
 fn put_program(text: &mut ShortText, number: u32, unit: Option<u32>, part: Option<u32>)
     requires { text.old.bytes ≡ [] }
     ensures text { text.new.bytes ≡ answer_text (Answer.Program number unit part) }

@@ -18,8 +18,9 @@ use fuelling_point::DispenserEvent;
 use std::alloc::{AllocError, Global};
 use std::fmt;
 
-/// States that the line of each act is read as that same act for the role `All`, except that of a load without bytes.
-/// How long the line is isn't checked for this, but `parse_line` refuses more than 8,400 bytes. Does nothing.
+/// Does nothing. Its contract is a law: for the role `All`, the line of each act is read as the same act, except the
+/// line of a load without bytes. The law doesn't depend on how long the line is, but `parse_line` refuses a line of
+/// more than 8,400 bytes.
 pub fn spelling_is_read()
     ensures { ReadsBack }
 {}

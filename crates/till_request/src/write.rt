@@ -19,7 +19,7 @@ pub enum WriteFault {
     OutOfMemory,
 }
 
-/// Writes all of `bytes`. The error is that the device failed; some of the first bytes may have been written before.
+/// Writes all of `bytes`. The error is that the device failed, perhaps after some of the first bytes were written.
 pub fn write_all<O: LineOut>(output: &mut O, bytes: &[u8]) -> Result<(), DeviceFault>
     ensures ok { OnOk result (Appends (O.written output.old) (O.written output.new) bytes.now) }
     ensures err { IfErr result
@@ -33,8 +33,8 @@ pub fn write_all<O: LineOut>(output: &mut O, bytes: &[u8]) -> Result<(), DeviceF
     Ok(())
 }
 
-/// Writes an answer with its LF, without allocating memory. The error is `Write`: the device failed, and some of the
-/// first bytes may have been written before.
+/// Writes an answer with its LF, without allocating memory. The error is `Write`: the device failed, perhaps after some
+/// of the first bytes were written.
 pub fn write_answer<O: LineOut>(
     alloc: Global,
     output: &mut O,
