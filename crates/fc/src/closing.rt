@@ -1,6 +1,6 @@
 //! Messages about a served site that couldn't be closed.
-use file_jobs::faults::{complain, once_printed, out_of_memory, refuse};
-use file_jobs::{FAILED, Place, REFUSED};
+use site_files::faults::{complain, once_printed, out_of_memory, refuse};
+use site_files::{FAILED, Place, REFUSED};
 use site_server::{CloseRefusal, ServeFault};
 
 /// Prints why a site can't be closed, and returns the exit status. `word` names the configuration's file.

@@ -1,7 +1,7 @@
 //! The doors of a served site: where its tills, its dispensers and the owner connect.
 use crate::sockets::{Beside, Listening, SocketFile, listen_at};
-use file_jobs::{FAILED, Place, Stop};
 use site_config::{Address, Door};
+use site_files::{FAILED, Place, Stop};
 use site_server::{Listener, OpenDoor};
 use std::alloc::AllocError;
 use std::fmt::{self, Display};
@@ -54,8 +54,8 @@ fn are_ports(doors: &[Door]) -> bool {
     true
 }
 
-/// Writes the address of a door: a port or a socket's path. A port has `127.0.0.1:` before it, unless all doors are
-/// ports: then the list says this once, at its start.
+/// Writes the address of a door: a port or a socket's path. A port has `127.0.0.1:` before it, unless `are_ports`,
+/// which says that all doors are ports: then the printed list of the doors has `127.0.0.1:` once, at its start.
 fn write_address<W: fmt::Write>(
     f: &mut fmt::Formatter<W>,
     address: &Address,
@@ -68,7 +68,8 @@ fn write_address<W: fmt::Write>(
     }
 }
 
-/// The list of the open doors that is printed for an operator. The port of the page comes last, if there is one.
+/// The list of the open doors, as it is printed for an operator. The port on which a browser can look at the site comes
+/// last, if there is one.
 #[derive(Clone, Copy)]
 pub struct OpenDoors<'a> {
     pub doors: &'a [Door],

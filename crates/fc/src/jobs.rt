@@ -2,15 +2,16 @@
 use crate::kept::{After, serve_days, serve_kept};
 use crate::printed::serve_printed;
 use command_line::{Job, ServeJob};
+use file_jobs::Tell;
 use file_jobs::audits::audit_files;
 use file_jobs::carry::carry_files;
 use file_jobs::chained::audit_folder;
 use file_jobs::export::export_files;
-use file_jobs::faults::say;
 use file_jobs::plays::{play_files, play_input};
 use file_jobs::programs::tell_file;
 use file_jobs::report::report_files;
-use file_jobs::{DONE, Folder, SiteFiles, Stop, Tell};
+use site_files::faults::say;
+use site_files::{DONE, Folder, SiteFiles, Stop};
 use std::fs::Files;
 use std::net::{Net, TcpListener, TcpStream};
 use std::sync::Wait;

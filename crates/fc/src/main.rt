@@ -14,9 +14,9 @@ mod sockets;
 
 use command_line::words::command;
 use command_line::{CommandFault, Job};
-use file_jobs::faults::{out_of_memory, tell};
-use file_jobs::{FAILED, Stop, USAGE};
 use jobs::do_job;
+use site_files::faults::{out_of_memory, tell};
+use site_files::{FAILED, Stop, USAGE};
 use std::io::{self, ErrorKind};
 use std::process::ExitCode;
 

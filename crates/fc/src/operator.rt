@@ -7,8 +7,8 @@ use std::sync::{Mutex, Wait};
 use std::time::{Clock, SystemTime, UNIX_EPOCH};
 use till_request::{LineFault, Role};
 
-/// Prints reports for an operator on standard error: at most ten a second, and a line that says how many were held back
-/// before. If nobody reads them, the site is served all the same.
+/// Prints reports for an operator on standard error: at most ten a second. If reports were held back, a line before the
+/// next printed report says how many. If nobody reads the reports, the site is served all the same.
 #[derive(Drop)]
 pub struct Operator<'a, H: Wait + Clock> {
     rt: &'a HostRuntime,
@@ -50,7 +50,7 @@ fn code_of(failure: SessionFailure) -> &'static str {
 }
 
 impl<'a, H: Wait + Clock> Operator<'a, H> {
-    /// Makes the printer of an operator's reports, with none printed yet. If `connections` is there, workers and
+    /// Makes the printer of an operator's reports, with none printed yet. If `connections` is given, workers and
     /// connections are counted in it. `host` is the same runtime as `rt`.
     pub fn new(
         rt: &'a HostRuntime,
@@ -77,7 +77,8 @@ impl<'a, H: Wait + Clock> Operator<'a, H> {
         }
     }
 
-    /// Returns whether one more line may be printed now. If so, and if lines were held back before it, prints how many.
+    /// Returns whether one more line is allowed to be printed now. If so, and if lines were held back before it, prints
+    /// how many.
     fn is_admitted(&self) -> bool {
         let admitted = self.limiter.lock(self.host).admit(self.second());
         match admitted {

@@ -6,8 +6,8 @@ use std::net::Net;
 use std::os::unix::fs::{FileTypeExt, MetadataExt, PermissionsExt};
 use std::os::unix::net::{UnixListener, UnixStream};
 
-/// The most bytes of a socket's path. The system takes 107, and the path at which the socket is bound has three bytes
-/// more.
+/// How many bytes a socket's path can have at most. The system takes at most 107, and the path at which the socket is
+/// bound first has three bytes more.
 const MOST_BYTES: usize = 104;
 
 /// The folder in which the socket of a path is bound, before its file is moved to the path. The folder is beside the
@@ -24,7 +24,7 @@ impl Display for Beside<'_> {
     }
 }
 
-/// The kind of a file that was found at a path, and which file it is: its device, and its inode there.
+/// The kind of a file that was found at a path, and which file it is: its device, and its inode on that device.
 #[derive(Clone, Copy)]
 struct Found {
     kind: FileType,
@@ -155,8 +155,8 @@ fn make_folder<H: Net>(rt: &HostRuntime, host: &H, folder: &str, socket: &str) -
     }
 }
 
-/// Gives a socket's file, which has the name `socket`, the second name `path`. If a socket at which nobody listens has
-/// that name already, it is removed first. Anything else there is an error.
+/// Gives a socket's file, which has the name `socket`, the second name `path`. If `path` already is the name of a
+/// socket at which nobody listens, this socket is removed first. Anything else at `path` is an error.
 fn put_at<H: Net>(rt: &HostRuntime, host: &H, socket: &str, path: &str) -> io::Result<()> {
     match fs::hard_link(rt, socket, path) {
         Err(error) if error.kind() == ErrorKind::AlreadyExists => {
@@ -179,7 +179,7 @@ fn move_to<'a, H: Net>(
     fs::set_permissions(rt, socket, Permissions::from_mode(mode))?;
     let there = find(rt, socket)?;
     put_at(rt, host, socket, path)?;
-    // If the first name can't be removed, `file` is dropped, and so the name at the path is removed too.
+    // If the name `socket` can't be removed, `file` is dropped, and so the name `path` is removed too.
     let file = SocketFile {
         rt,
         path,
@@ -213,7 +213,7 @@ fn bind_and_move<'a, H: Files + Net>(
 }
 
 /// Makes the folder beside a path, binds a socket in it, moves the socket's file to the path, and removes the folder.
-/// Returns `None` if something that a killed process can't have left already has the folder's name.
+/// Returns `None` if the folder's name is already that of something that no killed process can have left.
 fn bind_beside<'a, H: Files + Net>(
     rt: &'a HostRuntime,
     host: &H,
@@ -233,11 +233,11 @@ fn bind_beside<'a, H: Files + Net>(
 }
 
 /// Listens at a path. The socket is bound in a folder that nobody else may enter, and its file is then moved to the
-/// path. So the file has this mode from the moment at which others can see it. A socket at the path at which nobody
-/// listens is replaced. Anything else there is an error, and stays as it is. A path of more than 104 bytes is an error
-/// too.
+/// path. So the file has the mode `mode` from the moment at which others can see it. If a socket at which nobody
+/// listens is already at the path, it is replaced. Anything else at the path is an error, and stays as it is. A path of
+/// more than 104 bytes is an error too.
 ///
-/// Returns `None` if something that a killed process can't have left already has the name of that folder.
+/// Returns `None` if the name of that folder is already that of something that no killed process can have left.
 pub fn listen_at<'a, H: Files + Net>(
     rt: &'a HostRuntime,
     host: &H,

@@ -1,5 +1,5 @@
 -- Definitions: what the words of a job name, and what is done for them (this profile).
-use Rattle.std.specs.Prelude.{ℕ, List, codes, Bool, false, ◌&&◌, ◌||◌, Option, Some, None, bytes_eq, if◌then◌else◌}
+use Rattle.std.specs.Prelude.{ℕ, List}
 use Rattle.command_line.specs.declared.job.Rows.{Rows}
 use Rattle.command_line.specs.declared.job.Rows.TheVariants as asked
 use Rattle.command_line.specs.declared.job.Format.{Format}
@@ -13,25 +13,6 @@ use Rattle.job_texts.specs.Told.{VerifyTells}
 use Rattle.job_texts.specs.Assembler.{AsmTells, DisTells, DisUnitsTells}
 use Rattle.file_jobs.specs.declared.programs.Tell.{Tell}
 use Rattle.file_jobs.specs.declared.programs.Tell.TheVariants as tell
-
--- whether an argument names standard input
-abbrev pub is_input : List ℕ → Bool
-is_input word = bytes_eq word (codes "-")
-
--- the same of an argument that may not be given
-abbrev pub may_be_input : Option (List ℕ) → Bool
-may_be_input None = false
-may_be_input (Some word) = is_input word
-
--- the name that messages give to the file that an argument names
-abbrev pub name_of : List ℕ → List ℕ
-name_of word = if is_input word then codes "standard input" else word
-
--- whether two of the three files of a job are standard input: the configuration, the opening, if there is one, and the
--- file that the job is about
-abbrev pub reads_twice : List ℕ → Option (List ℕ) → List ℕ → Bool
-reads_twice config opening other =
-    (is_input other && (is_input config || may_be_input opening)) || (is_input config && may_be_input opening)
 
 abbrev pub rows_of : Rows → DayRows
 rows_of asked.Sales = rows.Sales

@@ -1,28 +1,14 @@
--- Definitions: the number that is told of a fault, as in `K1`, and the words that are told with it (this profile). None
--- for want of memory, which has no number.
-use Rattle.std.specs.Prelude.{ℕ, ◌==◌, List, [], codes, count_by, nat_le, Option, Some, None, if◌then◌else◌}
-use Rattle.site_config.specs.declared.fault.ConfigFault.{ConfigFault}
-use Rattle.site_config.specs.declared.fault.ConfigFault.TheVariants as config
+-- Definitions: the number that is told of a fault of a program or a script, as in `A1`, and the words that are told with
+-- it (this profile). None for want of memory, which has no number.
+use Rattle.std.specs.Prelude.{ℕ, List, codes, Option, Some, None}
 use Rattle.bpf_asm.specs.declared.program_file.ProgramFileFault.{ProgramFileFault}
 use Rattle.bpf_asm.specs.declared.program_file.ProgramFileFault.TheVariants as file
 use Rattle.line_session.specs.declared.answering.SessionFault.{SessionFault}
 use Rattle.line_session.specs.declared.answering.SessionFault.TheVariants as session
-use Rattle.days.specs.declared.file.OpeningFlaw.{OpeningFlaw}
-use Rattle.days.specs.declared.file.OpeningFlaw.TheVariants as opening
 use Rattle.bpf_asm.specs.declared.AsmFault.{AsmFault}
 use Rattle.bpf_asm.specs.declared.AsmFault.TheVariants as asm
 use Rattle.till_request.specs.declared.act.LineFault.{LineFault}
 use Rattle.till_request.specs.declared.act.LineFault.TheVariants as line
-use Rattle.decision_journal.specs.declared.fault.JournalFault.{JournalFault}
-use Rattle.decision_journal.specs.declared.fault.JournalFault.TheVariants as journal
-use Rattle.job_texts.specs.declared.journal_reasons.JournalFlaw.{JournalFlaw}
-use Rattle.job_texts.specs.declared.journal_reasons.JournalFlaw.TheVariants as flaw
-
-abbrev pub config_code : ConfigFault → Option (List ℕ)
-config_code config.K1 = Some (codes "K1")
-config_code config.K2 = Some (codes "K2")
-config_code config.K3 = Some (codes "K3")
-config_code config.OutOfMemory = None
 
 abbrev pub file_code : ProgramFileFault → Option (List ℕ)
 file_code file.TooLong = Some (codes "L1")
@@ -36,19 +22,6 @@ asm_code (asm.BadLabel line) = Some (Some line, codes "A2")
 asm_code (asm.OutOfRange line) = Some (Some line, codes "A3")
 asm_code asm.Length = Some (None, codes "A4")
 asm_code asm.OutOfMemory = None
-
-abbrev pub text_code : JournalFault → Option (List ℕ)
-text_code (journal.BadEntry line) = Some (codes "J1")
-text_code journal.Cut = Some (codes "J2")
-text_code journal.Device = Some (codes "J3")
-text_code journal.OutOfMemory = None
-
-abbrev pub journal_code : JournalFlaw → Option (List ℕ)
-journal_code (flaw.Text fault) = text_code fault
-journal_code (flaw.Number number place) = Some (codes "F1")
-journal_code (flaw.Program slot refused) = Some (codes "F2")
-journal_code (flaw.Entry difference) = Some (codes "F3")
-journal_code flaw.NoEntry = Some (codes "F3")
 
 -- The words and the number for the line at which a script stops. None for a fault behind which the next line is read.
 abbrev pub cut_words : LineFault → Option (List ℕ × List ℕ)
@@ -73,25 +46,3 @@ read_error session.ReadsSpent failure = None
 read_error session.Write failure = None
 read_error session.Journal failure = None
 read_error session.OutOfMemory failure = None
-
--- the same of a journal that is read
-abbrev pub device_error : {T : Type 0} → JournalFault → Option T → Option T
-device_error (journal.BadEntry line) failure = None
-device_error journal.Cut failure = None
-device_error journal.Device failure = failure
-device_error journal.OutOfMemory failure = None
-
--- What is wrong with the line of this number, counted from 1, of a text that is no opening: the line itself, or that
--- the text has fewer lines that end with LF.
-abbrev pub bad_line : List ℕ → ℕ → List ℕ
-bad_line text number =
-    if nat_le number (count_by (λ byte. byte == 10) text) then codes "no line of an opening"
-    else codes "the opening ends before its line 'journal'"
-
--- The words and the number for the line for which a text is no opening. A refused program has words of its own, and for
--- want of memory there are neither.
-abbrev pub opening_words : List ℕ → OpeningFlaw → List ℕ × List ℕ
-opening_words text (opening.BadLine line) = (bad_line text line, codes "J1")
-opening_words text (opening.CutLine line) = (codes "the last line has no LF", codes "J2")
-opening_words text (opening.BadProgram line refusal) = ([], codes "F2")
-opening_words text opening.OutOfMemory = ([], [])

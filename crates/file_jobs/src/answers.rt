@@ -1,10 +1,10 @@
 //! The answers of a play, in a buffer. All of them are written before more of the script is read.
 ghost use Rattle.std.specs.Prelude.{◌≡◌, ◌⊎◌, ◌≤◌, Ok, Err, IfOk, MatchResult, length};
 
-use crate::faults::tell_write;
-use crate::files::{Outlet, Source};
 use crate::progress::Progress;
 use line_session::{Ended, SessionFault};
+use site_files::faults::tell_write;
+use site_files::{Outlet, Source};
 use std::cell::RefCell;
 use std::io::{self, BufWriter, Error, ErrorKind, Printer, Read, Write};
 

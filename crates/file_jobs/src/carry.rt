@@ -1,25 +1,22 @@
 //! What `fc carry` does: closes a day, and prints the opening of the next one.
 ghost use Rattle.std.specs.Prelude.{◌≡◌, Err, IfOk, IfErr, IsTrue, option_map};
-ghost use Rattle.file_jobs.specs.Asked.{reads_twice};
-ghost use Rattle.file_jobs.specs.Statuses.{EndsWith, SaysOrFails};
+ghost use Rattle.site_files.specs.Asked.{reads_twice};
+ghost use Rattle.site_files.specs.Statuses.{EndsWith, SaysOrFails};
 
-use crate::audited::refused;
-use crate::audits::{explain_journal, tell_journal_fault};
-use crate::faults::say;
-use crate::files::Source;
-use crate::newest::refuse_uncarried;
 use crate::progress::watch;
-use crate::settings::{SiteFiles, day_and};
-use crate::statuses::DONE;
-use crate::stop::Stop;
 use days::Closed;
 use days::closing::close;
 use days::writing::opening_text;
 use site_core::Config;
+use site_files::faults::say;
+use site_files::newest::refuse_uncarried;
+use site_files::refused_journals::{explain_journal, refused, tell_journal_fault};
+use site_files::settings::day_and;
+use site_files::{DONE, SiteFiles, Source, Stop};
 
 /// Audits the journal in a file as this site's journal, prints the opening of the next day, and returns the exit
 /// status. The argument `journal` names the file. If a file is refused or can't be read, or if two files are standard
-/// input, prints what the audit prints, and no opening. If the day can't be closed, prints why. The error has the exit
+/// input, prints what `fc audit` prints, and no opening. If the day can't be closed, prints why. The error has the exit
 /// status.
 pub fn carry_files(rt: &HostRuntime, site: SiteFiles<'_>, journal: &str) -> Result<u8, Stop>
     ensures done { IfOk result (EndsWith 0) }
@@ -34,8 +31,8 @@ pub fn carry_files(rt: &HostRuntime, site: SiteFiles<'_>, journal: &str) -> Resu
     }
 }
 
-/// Audits a journal, and returns the close of its day. If the journal is refused or can't be read, prints what its
-/// audit prints; the error has the exit status.
+/// Audits a journal, and returns the close of its day. If the journal is refused or can't be read, prints what
+/// `fc audit` prints of it; the error has the exit status.
 fn closed(rt: &HostRuntime, config: Config, journal: &str, source: Source) -> Result<Closed, Stop>
     ensures { IfErr result (SaysOrFails 1) }
 {

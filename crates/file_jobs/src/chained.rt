@@ -1,26 +1,23 @@
 //! The audit of all days of a station.
 ghost use Rattle.std.specs.Prelude.{◌≡◌, ◌-◌, true, [], None, Some, IfSome, IfNone, Ok, Err, IfOk, IfErr};
 ghost use Rattle.std.specs.Str.{IsUtf8};
-ghost use Rattle.file_jobs.specs.Asked.{is_input};
-ghost use Rattle.file_jobs.specs.Statuses.{EndsWith, Fails, SaysOrFails, RefusesBeginning, RefusesJournal, RefusesDays};
-ghost use Rattle.file_jobs.specs.Days.{turn};
-ghost use Rattle.file_jobs.specs.Lines.{AgreeFor, IsOtherLine};
+ghost use Rattle.site_files.specs.Asked.{is_input};
+ghost use Rattle.site_files.specs.Statuses.{EndsWith, Fails, SaysOrFails};
+ghost use Rattle.file_jobs.specs.Statuses.{RefusesBeginning, RefusesJournal, RefusesDays};
+ghost use Rattle.file_jobs.specs.Chained.{turn, AgreeFor, IsOtherLine};
 
-use crate::audited::refused;
-use crate::audits::{explain_journal, tell_journal_fault};
-use crate::faults::{Place, cannot_use, once_printed, out_of_memory};
-use crate::files::{Source, lines_in, text_of};
-use crate::folder::{Folder, Part, Span, day_after};
-use crate::kept::to_last_lf;
-use crate::newest::{OfDay, UNOPENED, kept_config, refuse_link, refuse_uncarried};
-use crate::opening::{opening_bytes, refuse_opening, refuse_unfit, refuse_words};
 use crate::progress::{Watched, watch};
-use crate::settings::settings_in;
-use crate::statuses::{DONE, FAILED};
-use crate::stop::Stop;
 use days::chain::audit_days;
 use days::{Cause, DayIn, DaysFault, DaysIn, NoDay, Unbegun, Unclosed, Unfollowed, Unleft};
 use site_core::Config;
+use site_files::faults::{cannot_use, once_printed, out_of_memory};
+use site_files::files::{lines_in, text_of};
+use site_files::kept::to_last_lf;
+use site_files::newest::{OfDay, UNOPENED, kept_config, refuse_link, refuse_uncarried};
+use site_files::opening::{opening_bytes, refuse_opening, refuse_unfit, refuse_words};
+use site_files::refused_journals::{explain_journal, refused, tell_journal_fault};
+use site_files::settings::settings_in;
+use site_files::{DONE, FAILED, Folder, Part, Place, Source, Span, Stop, day_after};
 use std::alloc::AllocError;
 use std::fmt::{self, Display};
 use std::io::ErrorKind;
@@ -41,7 +38,7 @@ struct FolderIn<'a> {
     /// The next day, or `None` after the newest.
     next: Option<u32>,
     newest: u32,
-    /// Why a day couldn't be read, or `None` while each day could be.
+    /// Why a day couldn't be read, or `None` if each day so far could be read.
     stop: Option<Stop>,
 }
 

@@ -1,22 +1,21 @@
 //! The rows of an audited journal, for other programs.
 ghost use Rattle.std.specs.Prelude.{◌≡◌, Err, IfOk, IfErr, IsTrue, option_map};
-ghost use Rattle.file_jobs.specs.Asked.{reads_twice, rows_of, format_of};
-ghost use Rattle.file_jobs.specs.Statuses.{EndsWith, IsFailed};
+ghost use Rattle.site_files.specs.Asked.{reads_twice};
+ghost use Rattle.file_jobs.specs.Asked.{rows_of, format_of};
+ghost use Rattle.site_files.specs.Statuses.{EndsWith, IsFailed};
 
 use crate::audited::audited_site;
-use crate::faults::{once_printed, out_of_memory};
-use crate::settings::SiteFiles;
-use crate::statuses::DONE;
-use crate::stop::Stop;
 use command_line::{Format, Rows};
 use day_export::RowsFault;
 use day_export::writing::write_rows;
 use site_core::Site;
+use site_files::faults::{once_printed, out_of_memory};
+use site_files::{DONE, SiteFiles, Stop};
 use std::io::{self, BufWriter, Write};
 
 /// Audits the journal in a file as this site's journal, prints the rows that are asked for, and returns the exit
 /// status. The argument `journal` names the file. If a file is refused or can't be read, or if two files are standard
-/// input, prints what the audit prints, and no rows; the error has the exit status.
+/// input, prints what `fc audit` prints, and no rows; the error has the exit status.
 pub fn export_files(
     rt: &HostRuntime,
     rows: Rows,

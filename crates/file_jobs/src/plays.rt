@@ -1,23 +1,24 @@
 //! Plays of a script against a new site.
 ghost use Rattle.std.specs.Prelude.{◌≡◌, ◌≤◌, Err, IfOk, IfErr, IsTrue, MatchResult, option_map};
-ghost use Rattle.file_jobs.specs.Asked.{reads_twice};
-ghost use Rattle.file_jobs.specs.Statuses.{SaysOrFails, Says, cut_status, IsEnded};
-ghost use Rattle.file_jobs.specs.Codes.{read_error};
+ghost use Rattle.site_files.specs.Asked.{reads_twice};
+ghost use Rattle.site_files.specs.Statuses.{SaysOrFails, Says};
+ghost use Rattle.file_jobs.specs.Statuses.{cut_status, IsEnded};
+ghost use Rattle.file_jobs.specs.Codes.{read_error, session_code, cut_words};
 
 use crate::answers::{Answers, Incoming, Outgoing};
-use crate::faults::{Place, complain, out_of_memory, refuse_length, session_code, tell, tell_cut};
-use crate::files::{Source, lines_in, name_of, stream};
 use crate::progress::Progress;
 use crate::refused_loads::RefusedLoads;
-use crate::settings::{SiteFiles, day_and, settings_in};
-use crate::statuses::{DONE, FAILED, REFUSED};
-use crate::stop::Stop;
 use console::playing::play_within;
 use line_session::{Ended, READS, SessionFault};
 use site_config::Settings;
 use site_config::head::{config_part, read_head};
 use site_core::Config;
+use site_files::faults::{complain, out_of_memory, refuse_length, tell};
+use site_files::files::{lines_in, name_of, stream};
+use site_files::settings::{day_and, settings_in};
+use site_files::{DONE, FAILED, Place, REFUSED, SiteFiles, Source, Stop};
 use std::io::{self, IsTerminal};
+use till_request::LineFault;
 use till_request::devices::{Ahead, StreamIn, StreamOut};
 
 /// The message to a user at a terminal who gave no argument: input is awaited.
@@ -56,7 +57,7 @@ fn status_of(
     }
 }
 
-/// Prints on standard error why a play was broken off: a read or a write failed, or no more reads may be made. `read`
+/// Prints on standard error why a play was broken off: a read or a write failed, or no more reads are allowed. `read`
 /// is the error of a failed read.
 fn tell_broken(
     rt: &HostRuntime,
@@ -120,8 +121,9 @@ fn play_both<'a>(rt: &'a HostRuntime, input: &mut Script<'a, '_, '_>) -> Result<
     }
 }
 
-/// Returns the settings in `head`, which is the input up to and with the line that ends the configuration, or all of it
-/// if there is no such line. If the settings are refused, prints why; the error has the exit status.
+/// Returns the settings in `head`, which is the input up to and with the line that ends the configuration. If the first
+/// 65,541 bytes of the input have no such line, `head` is these bytes, or all of the input if it is shorter. If the
+/// settings are refused, prints why; the error has the exit status.
 fn settings_before(rt: &HostRuntime, head: &[u8]) -> Result<Settings, Stop>
     ensures { IfErr result (Says 1) }
 {
@@ -143,7 +145,8 @@ fn script_of<'a, 'b, 'c>(
     }))
 }
 
-/// Makes the device that a play writes its answers to. It buffers them until the next read.
+/// Makes the device that a play writes its answers to. It buffers them at most until the next read of the script, or
+/// until the play ends.
 fn outlet<'a, 'b>(answers: &'b Answers<'a>) -> StreamOut<Outgoing<'a, 'b>> {
     StreamOut {
         writer: Outgoing { answers },
@@ -197,4 +200,36 @@ fn play_script<'a>(
         input.input.reader.source.failure(),
         answers,
     )
+}
+
+/// Returns the number of a fault that breaks a play off, as it is printed: N1 for a failed read, N3 if no more reads
+/// are allowed. Returns `None` for the other faults, which other functions print.
+fn session_code(fault: SessionFault) -> Option<&'static str>
+    ensures { option_map (λ code. code.now) result ≡ session_code fault }
+{
+    match fault {
+        SessionFault::Read => Some("N1"),
+        SessionFault::ReadsSpent => Some("N3"),
+        SessionFault::Write | SessionFault::Journal | SessionFault::OutOfMemory => None,
+    }
+}
+
+/// Returns the words and the number for the line at which a script stops: the line has over 8,400 bytes (L1), or the
+/// line is the last one and has no LF (L4). Returns `None` for other faults.
+fn cut_words(fault: LineFault) -> Option<(&'static str, &'static str)>
+    ensures { option_map (λ told. (told.0.now, told.1.now)) result ≡ cut_words fault }
+{
+    match fault {
+        LineFault::TooLong => Some(("over 8,400 bytes", "L1")),
+        LineFault::CutLine => Some(("the last line has no LF", "L4")),
+        // These faults don't stop a script: the next line is read.
+        LineFault::BadLine | LineFault::BadNumber | LineFault::OutOfMemory => None,
+    }
+}
+
+/// Prints on standard error why a script stopped at a line. Prints nothing for faults that don't stop one.
+fn tell_cut(rt: &HostRuntime, word: &str, line: u64, fault: LineFault) {
+    if let Some((words, code)) = cut_words(fault) {
+        complain(rt, Place::of(word).line(line), &words, code);
+    }
 }

@@ -1,18 +1,18 @@
 //! What `fc asm`, `fc dis` and `fc verify` print of a file.
 ghost use Rattle.std.specs.Prelude.{IfOk};
 ghost use Rattle.job_texts.specs.declared.told.Told.{Told};
-ghost use Rattle.file_jobs.specs.Statuses.{EndsWith};
+ghost use Rattle.site_files.specs.Statuses.{EndsWith};
 ghost use Rattle.file_jobs.specs.Asked.{TellsFile};
 
-use crate::faults::{say, tell_program, tell_text};
-use crate::files::text_of;
-use crate::statuses::REFUSED;
-use crate::stop::Stop;
+use crate::program_faults::{tell_program, tell_text};
 use bpf_model::context::Layout;
 use job_texts::Told;
 use job_texts::assembler::{asm_file, dis_file, dis_units_file};
 use job_texts::file_flaws::{dis_flaw, verify_flaw};
 use job_texts::program::verify_file;
+use site_files::faults::say;
+use site_files::files::text_of;
+use site_files::{REFUSED, Stop};
 use std::alloc::{AllocError, Global};
 
 /// What to print of a file: its units, its text in assembler, that text with the numbers of units, or the verifier's

@@ -1,6 +1,7 @@
 //! The progress line of a long job: how many lines are read. It is shown on standard error, if that is a terminal.
-use crate::files::{Source, stream};
 use memchr::memchr_iter;
+use site_files::Source;
+use site_files::files::stream;
 use std::cell::Cell;
 use std::io::IsTerminal;
 use std::time::Instant;

@@ -1,5 +1,5 @@
-//! Messages about loads in a script whose program the verifier refuses. They are printed on standard error. The answer
-//! to the load, on standard output, has only the refusal's number.
+//! Messages about a script's loads of programs that the verifier refuses. They are printed on standard error. The
+//! answer to such a load, on standard output, has only the refusal's number.
 use crate::progress::Progress;
 use console::PlayNotices;
 use job_texts::reasons::explain_refusal;
@@ -8,7 +8,8 @@ use std::alloc::AllocError;
 use std::cell::Cell;
 use till_request::Act;
 
-/// A receiver that prints on standard error why a load is refused, with the number of the load's line.
+/// Receives what a play reports, and prints on standard error why a load is refused, with the number of the load's
+/// line.
 #[derive(Drop)]
 pub struct RefusedLoads<'a, 'b> {
     rt: &'a HostRuntime,

@@ -1,20 +1,18 @@
 //! The page of HTML that shows an audited journal.
 ghost use Rattle.std.specs.Prelude.{◌≡◌, Err, IfOk, IfErr, IsTrue, option_map};
-ghost use Rattle.file_jobs.specs.Asked.{reads_twice};
-ghost use Rattle.file_jobs.specs.Statuses.{EndsWith, IsFailed};
+ghost use Rattle.site_files.specs.Asked.{reads_twice};
+ghost use Rattle.site_files.specs.Statuses.{EndsWith, IsFailed};
 
 use crate::audited::audited_site;
-use crate::faults::once_printed;
-use crate::settings::SiteFiles;
-use crate::statuses::DONE;
-use crate::stop::Stop;
 use day_page::Page;
 use site_core::Site;
+use site_files::faults::once_printed;
+use site_files::{DONE, SiteFiles, Stop};
 use std::io::{self, BufWriter, Write};
 
 /// Audits the journal in a file as this site's journal, prints its page of HTML, and returns the exit status. The
 /// argument `journal` names the file. If a file is refused or can't be read, or if two files are standard input, prints
-/// what the audit prints, and no page; the error has the exit status.
+/// what `fc audit` prints, and no page; the error has the exit status.
 pub fn report_files(rt: &HostRuntime, site: SiteFiles<'_>, journal: &str) -> Result<u8, Stop>
     ensures done { IfOk result (EndsWith 0) }
     ensures twice { IsTrue (reads_twice site.entry.config.now (option_map (λ w. w.now) site.entry.opening) journal.now)

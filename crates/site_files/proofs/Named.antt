@@ -1,8 +1,8 @@
 -- The day in a file's name, by what stands before and behind its first `.`.
-use Rattle.std.proofs.Common.{◌≡◌, ℕ, ◌+◌, ◌≤◌, List, [], length, drop, Bool, true, false, Option, None, refl, ap, ◌∙◌, sym, arith, if◌then◌else◌}
+use Rattle.std.proofs.Common.{◌≡◌, ℕ, ◌+◌, List, [], length, true, false, None, ap, ◌∙◌, sym, arith, if◌then◌else◌}
 use Rattle.std.proofs.lemmas.List.{drop_all}
 use Rattle.std.specs.List.{before_first, after_first, position_or_len}
-use Rattle.file_jobs.specs.Days.{day_named, day_of, shows_day, is_dot}
+use Rattle.site_files.specs.Days.{day_named, day_of, shows_day, is_dot}
 
 -- a name without `.`
 pub named-without : (name : List ℕ) → position_or_len is_dot name ≡ length name → day_named name ≡ None

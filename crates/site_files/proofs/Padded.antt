@@ -1,7 +1,7 @@
 -- A number in six digits, as `{day:06}` writes it.
-use Rattle.std.proofs.Common.{◌≡◌, ℕ, ◌+◌, ◌-◌, ◌^◌, List, [], ◌++◌, length, false, decimal, replicate, refl, ap, ◌∙◌, arith, append-nil}
+use Rattle.std.proofs.Common.{◌≡◌, ℕ, ◌-◌, ◌^◌, [], ◌++◌, length, false, decimal, replicate, ap, ◌∙◌, arith, append-nil}
 use Rattle.std.specs.Fmt.{padded_integral, format_spec, char_count}
-use Rattle.file_jobs.specs.Days.{six_digits}
+use Rattle.site_files.specs.Days.{six_digits}
 
 pub padded-six : (day : ℕ) → padded_integral (format_spec 32 0 4 6 (2 ^ 64 - 1)) false [] (decimal day) ≡ six_digits day
 unfolding padded_integral char_count

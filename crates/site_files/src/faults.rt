@@ -1,22 +1,18 @@
 //! Messages about what is refused and what fails: one line on standard error, with the file and the place in it. A
 //! message that can't be written changes no exit status.
-ghost use Rattle.std.specs.Prelude.{◌≡◌, ◌≢◌, ◌↔◌, None, Some, IfSome, IfNone, IsErr, is_some, option_map, codes, if◌then◌else◌};
-ghost use Rattle.file_jobs.specs.Statuses.{once_printed, EndsWith};
-ghost use Rattle.file_jobs.specs.Asked.{name_of};
-ghost use Rattle.file_jobs.specs.Codes.{config_code, file_code, asm_code, journal_code, session_code, cut_words};
+ghost use Rattle.std.specs.Prelude.{◌≡◌, ◌≢◌, None, Some, IfSome, IfNone, option_map, codes};
+ghost use Rattle.site_files.specs.Statuses.{once_printed, EndsWith};
+ghost use Rattle.site_files.specs.Asked.{name_of};
+ghost use Rattle.site_files.specs.Codes.{config_code, journal_code};
 
 use crate::files::name_of;
 use crate::statuses::{FAILED, REFUSED};
-use bpf_asm::{AsmFault, AsmFlaw, ProgramFileFault};
+use bpf_asm::ProgramFileFault;
 use decision_journal::JournalFault;
-use job_texts::reasons::asm_flaw;
-use job_texts::{JournalFlaw, ProgramFlaw};
-use line_session::SessionFault;
+use job_texts::JournalFlaw;
 use site_config::{ConfigFault, ConfigFlaw};
-use std::alloc::AllocError;
 use std::fmt::{self, Display};
 use std::io::{self, ErrorKind};
-use till_request::LineFault;
 
 /// A place that a message names: a file, and perhaps a line and a column of it, both counted from 1.
 #[derive(Clone, Copy)]
@@ -104,8 +100,8 @@ pub fn complain<D: Display>(rt: &HostRuntime, place: Place<'_>, words: &D, code:
     let _ = eprintln!(rt; "fc: {place}: {words} ({code})");
 }
 
-/// Returns `status` if printing succeeded. If it failed, returns `FAILED`, and prints why on standard error, unless the
-/// reader of standard output closed the pipe.
+/// Returns `status` if printing succeeded, and `FAILED` if it failed. Prints on standard error why it failed, unless
+/// the reader of standard output closed the pipe.
 pub fn once_printed(rt: &HostRuntime, printed: io::Result<()>, status: u8) -> u8
     ensures exact { result ≡ once_printed printed status }
     ensures either { EndsWith status result }
@@ -135,17 +131,17 @@ pub fn refuse(rt: &HostRuntime, fault: &str) -> u8
     once_printed(rt, println!(rt; "{fault}"), REFUSED)
 }
 
-/// Prints on standard error why standard output can't be written. Prints nothing if its reader closed the pipe.
-/// `failure` is the error of the write, or `None` if it isn't known.
-pub(crate) fn tell_write(rt: &HostRuntime, failure: Option<&io::Error>) {
+/// Prints on standard error why standard output can't be written. Prints nothing if the reader of standard output
+/// closed the pipe. `failure` is the error of the write, or `None` if the error isn't known.
+pub fn tell_write(rt: &HostRuntime, failure: Option<&io::Error>) {
     match failure {
         Some(error) if error.kind() == ErrorKind::BrokenPipe => (),
         Some(_) | None => tell_loss(rt, failure),
     }
 }
 
-/// Prints on standard error why standard output can't be written. Unlike `tell_write`, also prints it if the reader
-/// closed the pipe. `failure` is the error of the write, or `None` if it isn't known.
+/// Prints on standard error why standard output can't be written. Unlike `tell_write`, also prints the reason if the
+/// reader of standard output closed the pipe. `failure` is the error of the write, or `None` if the error isn't known.
 pub fn tell_loss(rt: &HostRuntime, failure: Option<&io::Error>) {
     match failure {
         Some(error) => complain(rt, Place::output(), error, "N2"),
@@ -153,16 +149,16 @@ pub fn tell_loss(rt: &HostRuntime, failure: Option<&io::Error>) {
     }
 }
 
-/// Prints that a file has over 65,536 bytes: the words on standard error, the number (L1) on standard output too.
-/// Returns the exit status. `word` is the argument that names the file.
-pub(crate) fn refuse_length(rt: &HostRuntime, word: &str) -> u8
+/// Prints that a file has over 65,536 bytes: the words and the number (L1) on standard error, and the number on
+/// standard output too. Returns the exit status. `word` is the argument that names the file.
+pub fn refuse_length(rt: &HostRuntime, word: &str) -> u8
     ensures { EndsWith 1 result }
 {
     refuse_with(rt, Place::of(word), &ProgramFileFault::TooLong, "L1")
 }
 
-/// Prints why a file is refused: the place and the words on standard error, the number on standard output too. Returns
-/// the exit status.
+/// Prints why a file is refused: the place, the words and the fault's number on standard error, and the number on
+/// standard output too. Returns the exit status.
 pub(crate) fn refuse_with<D: Display>(
     rt: &HostRuntime,
     place: Place<'_>,
@@ -188,7 +184,7 @@ pub fn cannot_use(rt: &HostRuntime, word: &str, error: &io::Error) -> u8
 }
 
 /// Prints on standard error that memory ran out.
-fn tell_want(rt: &HostRuntime) {
+pub fn tell_out_of_memory(rt: &HostRuntime) {
     tell(rt, &"out of memory");
 }
 
@@ -196,7 +192,7 @@ fn tell_want(rt: &HostRuntime) {
 pub fn out_of_memory(rt: &HostRuntime) -> u8
     ensures { result ≡ 3 }
 {
-    tell_want(rt);
+    tell_out_of_memory(rt);
     FAILED
 }
 
@@ -214,9 +210,9 @@ fn config_code(fault: ConfigFault) -> Option<&'static str>
     }
 }
 
-/// Prints why a configuration is refused: the words on standard error, and the number (K1 to K3) on standard output
-/// too. If memory ran out, prints only that, on standard error. Returns the exit status. `word` is the argument that
-/// names the file.
+/// Prints why a configuration is refused: the words and the number (K1 to K3) on standard error, and the number on
+/// standard output too. If memory ran out, prints only that, on standard error. Returns the exit status. `word` is the
+/// argument that names the file.
 pub(crate) fn refuse_config(rt: &HostRuntime, word: &str, flaw: &ConfigFlaw) -> u8
     ensures { EndsWith 1 result }
 {
@@ -238,87 +234,6 @@ fn refuse_fault(rt: &HostRuntime, word: &str, flaw: &ConfigFlaw, fault: ConfigFa
         None => Place::of(word),
     };
     refuse_with(rt, place, flaw, code)
-}
-
-/// Returns the number of a program file's fault, as it is printed, or `None` if the fault is that memory ran out.
-fn file_code(fault: ProgramFileFault) -> Option<&'static str>
-    ensures { option_map (λ code. code.now) result ≡ file_code fault }
-{
-    match fault {
-        ProgramFileFault::TooLong => Some("L1"),
-        ProgramFileFault::BadDigits => Some("H1"),
-        ProgramFileFault::OutOfMemory => None,
-    }
-}
-
-/// Prints on standard error why a program file is refused.
-pub(crate) fn tell_program(rt: &HostRuntime, word: &str, flaw: &ProgramFlaw) {
-    let place = Place::of(word);
-    match flaw {
-        ProgramFlaw::File(fault) => match file_code(*fault) {
-            Some(code) => complain(rt, place, flaw, code),
-            None => tell_want(rt),
-        },
-        ProgramFlaw::Program(refused) => {
-            let number = refused.number();
-            let _ = eprintln!(rt; "fc: {place}: {refused} (V{number})");
-        }
-    }
-}
-
-/// Prints on standard error why an assembler text is refused. Prints nothing if it is accepted. The error is that
-/// memory ran out.
-pub(crate) fn tell_text(rt: &HostRuntime, word: &str, text: &[u8]) -> Result<(), AllocError> {
-    match asm_flaw(rt.alloc(), text)? {
-        Some((fault, flaw)) => tell_asm(rt, Place::of(word), fault, &flaw),
-        None => Ok(()),
-    }
-}
-
-/// Returns the number of the line that an assembler text's fault names, if it names one, and the fault's number, A1 to
-/// A4. Lines are counted from 1. Returns `None` if the fault is that memory ran out.
-fn asm_code(fault: AsmFault) -> Option<(Option<u64>, &'static str)>
-    ensures code { option_map (λ told. (told.0, told.1.now)) result ≡ asm_code fault }
-    ensures some { IfSome result (λ _. fault ≢ AsmFault.OutOfMemory) }
-    ensures none { IfNone result (fault ≡ AsmFault.OutOfMemory) }
-{
-    match fault {
-        AsmFault::BadLine(line) => Some((Some(line), "A1")),
-        AsmFault::BadLabel(line) => Some((Some(line), "A2")),
-        AsmFault::OutOfRange(line) => Some((Some(line), "A3")),
-        AsmFault::Length => Some((None, "A4")),
-        AsmFault::OutOfMemory => None,
-    }
-}
-
-/// Prints on standard error what is wrong with an assembler text, with its fault A1 to A4. If the fault is that memory
-/// ran out, prints nothing, and returns the error.
-fn tell_asm(
-    rt: &HostRuntime,
-    file: Place<'_>,
-    fault: AsmFault,
-    flaw: &AsmFlaw<'_>,
-) -> Result<(), AllocError>
-    ensures { IsErr result ↔ (fault ≡ AsmFault.OutOfMemory) }
-{
-    let Some(told) = asm_code(fault) else {
-        return Err(AllocError);
-    };
-    let (line, code) = told;
-    complain(rt, at_line(file, line), flaw, code);
-    Ok(())
-}
-
-/// Returns the place of this line of a file. Returns `file` as it is for `None`.
-fn at_line(file: Place<'_>, line: Option<u64>) -> Place<'_>
-    ensures name { result.name.now ≡ file.entry.name.now }
-    ensures line { result.line ≡ (if is_some line then line else file.entry.line) }
-    ensures column { result.column ≡ file.entry.column }
-{
-    match line {
-        Some(line) => file.line(line),
-        None => file,
-    }
 }
 
 /// Returns the number of a journal's flaw, as it is printed, or `None` if the flaw is that memory ran out.
@@ -356,38 +271,6 @@ pub(crate) fn complain_journal<D: Display>(
 ) {
     match journal_code(flaw) {
         Some(code) => complain(rt, place, words, code),
-        None => tell_want(rt),
-    }
-}
-
-/// Returns the number of a fault that breaks a play off, as it is printed: N1 for a failed read, N3 if no more reads
-/// may be made. Returns `None` for the other faults, which other functions print.
-pub(crate) fn session_code(fault: SessionFault) -> Option<&'static str>
-    ensures { option_map (λ code. code.now) result ≡ session_code fault }
-{
-    match fault {
-        SessionFault::Read => Some("N1"),
-        SessionFault::ReadsSpent => Some("N3"),
-        SessionFault::Write | SessionFault::Journal | SessionFault::OutOfMemory => None,
-    }
-}
-
-/// Returns the words and the number for the line at which a script stops: it has over 8,400 bytes (L1), or it is the
-/// last one and has no LF (L4). Returns `None` for other faults.
-fn cut_words(fault: LineFault) -> Option<(&'static str, &'static str)>
-    ensures { option_map (λ told. (told.0.now, told.1.now)) result ≡ cut_words fault }
-{
-    match fault {
-        LineFault::TooLong => Some(("over 8,400 bytes", "L1")),
-        LineFault::CutLine => Some(("the last line has no LF", "L4")),
-        // These faults don't stop a script: the next line is read.
-        LineFault::BadLine | LineFault::BadNumber | LineFault::OutOfMemory => None,
-    }
-}
-
-/// Prints on standard error why a script stopped at a line. Prints nothing for faults that don't stop one.
-pub(crate) fn tell_cut(rt: &HostRuntime, word: &str, line: u64, fault: LineFault) {
-    if let Some((words, code)) = cut_words(fault) {
-        complain(rt, Place::of(word).line(line), &words, code);
+        None => tell_out_of_memory(rt),
     }
 }

@@ -2,10 +2,10 @@
 //! opening that it begins with, and the configuration of its site. Their names have the day's number in six digits or
 //! more.
 ghost use Rattle.std.specs.Prelude.{◌≡◌, true, false, IfOk, IfErr, string_bytes};
-ghost use Rattle.file_jobs.specs.Asked.{is_input};
-ghost use Rattle.file_jobs.specs.Statuses.{Fails};
-ghost use Rattle.file_jobs.specs.Days.{ending_of, path_of, without_zeros, day_of, shows_day, day_named, with_day};
-ghost use Rattle.file_jobs.specs.Days.{with_found, day_after};
+ghost use Rattle.site_files.specs.Asked.{is_input};
+ghost use Rattle.site_files.specs.Statuses.{Fails};
+ghost use Rattle.site_files.specs.Days.{ending_of, path_of, without_zeros, day_of, shows_day, day_named, with_day};
+ghost use Rattle.site_files.specs.Days.{with_found, day_after};
 
 use crate::faults::{cannot_use, tell};
 use crate::files::is_input;

@@ -1,7 +1,7 @@
 //! The newest day of a station: closing it, and going on with it.
 ghost use Rattle.std.specs.Prelude.{◌≡◌, ◌≢◌, ◌⊎◌, ◌+◌, Ok, [], IfOk, IfErr, IfSome, string_bytes};
-ghost use Rattle.file_jobs.specs.Statuses.{EndsWith, IsFailed, Fails, SaysOrFails, uncarried_status};
-ghost use Rattle.file_jobs.specs.Days.{path_of, going_on, BeginsDay};
+ghost use Rattle.site_files.specs.Statuses.{EndsWith, IsFailed, Fails, SaysOrFails, uncarried_status};
+ghost use Rattle.site_files.specs.Days.{path_of, going_on, BeginsDay};
 
 use crate::faults::{Place, cannot_use, complain, once_printed};
 use crate::files::text_of;
@@ -167,11 +167,7 @@ fn number_of(
 
 /// Returns the configuration that a folder has for a day, or `None` if it has none. If the file can't be read or is
 /// refused, prints why; the error has the exit status.
-pub(crate) fn kept_config(
-    rt: &HostRuntime,
-    folder: Folder<'_>,
-    day: u32,
-) -> Result<Option<Config>, Stop>
+pub fn kept_config(rt: &HostRuntime, folder: Folder<'_>, day: u32) -> Result<Option<Config>, Stop>
     ensures { IfErr result (SaysOrFails 1) }
 {
     if !folder.has(rt, day, Part::Config)? {
@@ -198,8 +194,8 @@ fn settled_config(rt: &HostRuntime, folder: Folder<'_>, day: u32) -> Result<Opti
     }
 }
 
-/// Returns the configuration with the opening that the folder has for this day. Returns `config` as it is for day 1,
-/// which has no opening. If the opening is missing, is another day's or is refused, prints why; the error has the exit
+/// Returns `config` with the opening in it that the folder has for this day. Returns `config` as it is for day 1, which
+/// has no opening. If the opening is missing, is another day's or is refused, prints why; the error has the exit
 /// status.
 fn begin_day(
     rt: &HostRuntime,
@@ -227,11 +223,11 @@ fn begin_day(
 }
 
 /// The message for a day that has no opening.
-pub(crate) const UNOPENED: &str = "the day has no opening";
+pub const UNOPENED: &str = "the day has no opening";
 
 /// Prints that a day doesn't follow the one before (O1): why on standard error, and the day on standard output. Returns
 /// the exit status.
-pub(crate) fn refuse_link<D: Display>(rt: &HostRuntime, place: Place<'_>, day: u32, words: &D) -> u8
+pub fn refuse_link<D: Display>(rt: &HostRuntime, place: Place<'_>, day: u32, words: &D) -> u8
     ensures { EndsWith 1 result }
 {
     complain(rt, place, words, "O1");
@@ -240,7 +236,7 @@ pub(crate) fn refuse_link<D: Display>(rt: &HostRuntime, place: Place<'_>, day: u
 
 /// The message for an opening that belongs to another day, the one of this number.
 #[derive(Drop)]
-pub(crate) struct OfDay(pub u32);
+pub struct OfDay(pub u32);
 
 impl Display for OfDay {
     ghost use Rattle.std.specs.Prelude.{Some, ◌++◌, codes};
@@ -269,7 +265,7 @@ fn close_day(
 {
     let path = folder.file(rt, number, Part::Journal)?;
     let config = begin_day(rt, folder, number, config)?;
-    // The file is locked until the opening is there.
+    // The day's journal stays locked until the opening of the next day is written.
     let closing = close_journal(rt, &config, &path)?;
     put_close(rt, folder, number, &path, &closing, unkept)
 }
@@ -340,7 +336,7 @@ pub fn check_newest(rt: &HostRuntime, folder: Folder<'_>, number: u32) -> Result
 }
 
 /// Prints why a day can't be closed. `journal` names the file of its journal. The result has the exit status.
-pub(crate) fn refuse_uncarried(rt: &HostRuntime, journal: &str, why: Uncarried) -> Stop
+pub fn refuse_uncarried(rt: &HostRuntime, journal: &str, why: Uncarried) -> Stop
     ensures { result ≡ Stop.Said (uncarried_status why) }
 {
     match why {

@@ -2,10 +2,10 @@
 ghost use Rattle.std.specs.Prelude.{◌≡◌, ◌≤◌, IfOk, IfErr, vec_len};
 ghost use Rattle.days.specs.File.{IsOpeningFile};
 ghost use Rattle.days.specs.Fitting.{BeginsWith};
-ghost use Rattle.file_jobs.specs.Statuses.{Says, SaysOrFails, RefusesOpening, is_out_of_memory, opening_status, unfit_status};
-ghost use Rattle.file_jobs.specs.Codes.{bad_line, opening_words};
-ghost use Rattle.file_jobs.specs.Lines.{line_of};
-ghost use Rattle.file_jobs.specs.Days.{BeginsDay};
+ghost use Rattle.site_files.specs.Statuses.{Says, SaysOrFails, RefusesOpening, is_out_of_memory, opening_status, unfit_status};
+ghost use Rattle.site_files.specs.Codes.{bad_line, opening_words};
+ghost use Rattle.site_files.specs.Lines.{line_of};
+ghost use Rattle.site_files.specs.Days.{BeginsDay};
 
 use crate::faults::{
     Place, complain, once_printed, out_of_memory, refuse_with, say, tell_at, tell_journal,
@@ -29,8 +29,8 @@ use std::str;
 /// The most bytes that the file of an opening may have. An opening with the longest programs has some 150,000.
 const MOST_OPENING: usize = 262_144;
 
-/// What a day of a site begins with: its configuration, which has the opening if there is one, how it is served, and
-/// the day's number, which is 1 without an opening.
+/// What a day of a site begins with: the site's configuration, with the opening in it if there is one, how the site is
+/// served, and the day's number, which is 1 without an opening.
 #[derive(Drop)]
 pub struct Day {
     pub config: Config,
@@ -38,7 +38,7 @@ pub struct Day {
     pub number: u32,
 }
 
-/// The configuration of a site that begins a day with an opening, and the day's number.
+/// The configuration of a site that begins a day, with the day's opening in it if there is one, and the day's number.
 #[derive(Drop)]
 pub struct Begun {
     pub config: Config,
@@ -88,9 +88,9 @@ fn opening_in(rt: &HostRuntime, word: &str) -> Result<OpeningFile, Stop>
     }
 }
 
-/// Prints why the text of an opening is refused: the words on standard error, the number (J1, J2 or F2) and the line on
-/// standard output. If the flaw is that memory ran out, prints only that, on standard error. The result has the exit
-/// status.
+/// Prints why the text of an opening is refused: the words on standard error; the fault's number (J1, J2 or F2) and the
+/// line's number on standard output. If the flaw is that memory ran out, prints only that, on standard error. The
+/// result has the exit status.
 pub fn refuse_opening(rt: &HostRuntime, word: &str, text: &[u8], flaw: OpeningFlaw) -> Stop
     ensures { RefusesOpening flaw result }
 {
@@ -118,7 +118,7 @@ fn opening_words(text: &[u8], flaw: OpeningFlaw) -> (&'static str, &'static str)
 }
 
 /// Returns what is wrong with the line of this number, counted from 1: no opening has such a line at this place, or the
-/// text ends before it.
+/// text ends before this line.
 fn bad_line(text: &[u8], number: u32) -> &'static str
     ensures { result.now ≡ bad_line text.now number }
 {
@@ -158,7 +158,7 @@ fn explain_rule(
     line: &[u8],
     refusal: Refusal,
 ) -> Result<(), AllocError> {
-    // The same line was read before, so `None` can only mean that memory ran out.
+    // The line was already read as a line of an opening, so `None` can only mean that memory ran out.
     let Some((slot, program)) = rule_in(rt.alloc(), line) else {
         return Err(AllocError);
     };

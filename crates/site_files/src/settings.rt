@@ -1,9 +1,9 @@
 //! Reading of the files that say what a site begins with: its configuration, and its opening.
 ghost use Rattle.std.specs.Prelude.{◌≡◌, ◌&&◌, false, None, Some, Ok, Err, IfOk, IfErr, IsSome, IsTrue, option_map};
 ghost use Rattle.site_config.specs.Ranges.{config_of, told};
-ghost use Rattle.file_jobs.specs.Asked.{is_input, may_be_input, reads_twice};
-ghost use Rattle.file_jobs.specs.Statuses.{Says, SaysOrFails};
-ghost use Rattle.file_jobs.specs.Days.{BeginsDay};
+ghost use Rattle.site_files.specs.Asked.{is_input, may_be_input, reads_twice};
+ghost use Rattle.site_files.specs.Statuses.{Says, SaysOrFails};
+ghost use Rattle.site_files.specs.Days.{BeginsDay};
 
 use crate::faults::{refuse_config, tell};
 use crate::files::{Source, is_input, source_of, text_of};
@@ -71,7 +71,7 @@ pub fn day_of(rt: &HostRuntime, site: SiteFiles<'_>) -> Result<Day, Stop>
     }
 }
 
-/// Returns the configuration with the site's opening, if the site has one, and the day's number, which is 1 without an
+/// Returns `config`, with the site's opening in it if the site has one, and the day's number, which is 1 without an
 /// opening. If the opening can't be read or is refused, prints why; the error has the exit status.
 fn begun_by(rt: &HostRuntime, site: SiteFiles<'_>, config: Config) -> Result<Begun, Stop>
     ensures first { site.entry.opening ≡ None → result ≡ Ok (record { config = config; number = 1 }) }
@@ -96,7 +96,7 @@ fn refuse_twice(rt: &HostRuntime) -> Stop
 }
 
 /// Reads the settings in the text of a configuration. If it is refused, prints why; the error has the exit status.
-pub(crate) fn settings_in(rt: &HostRuntime, word: &str, text: &[u8]) -> Result<Settings, Stop>
+pub fn settings_in(rt: &HostRuntime, word: &str, text: &[u8]) -> Result<Settings, Stop>
     ensures read { IfOk result (λ settings. config_of text.now ≡ Ok (told settings)) }
     ensures refused { IfErr result (Says 1) }
 {
@@ -108,11 +108,7 @@ pub(crate) fn settings_in(rt: &HostRuntime, word: &str, text: &[u8]) -> Result<S
 
 /// Reads the configuration of a site, and its opening, if it has one, and opens the file that `other` names. If one of
 /// them can't be read or is refused, or if two are standard input, prints why; the error has the exit status.
-pub(crate) fn day_and(
-    rt: &HostRuntime,
-    site: SiteFiles<'_>,
-    other: &str,
-) -> Result<(Day, Source), Stop>
+pub fn day_and(rt: &HostRuntime, site: SiteFiles<'_>, other: &str) -> Result<(Day, Source), Stop>
     ensures twice { IsTrue (reads_twice site.entry.config.now (option_map (λ w. w.now) site.entry.opening) other.now)
         → result ≡ Err (Stop.Said 2) }
     ensures once { reads_twice site.entry.config.now (option_map (λ w. w.now) site.entry.opening) other.now ≡ false

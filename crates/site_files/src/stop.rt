@@ -13,7 +13,7 @@ pub enum Stop {
 
 impl From<io::Error> for Stop {
     ghost use Rattle.std.specs.Prelude.{◌≡◌};
-    ghost use Rattle.file_jobs.specs.declared.stop.Stop.TheVariants as stop;
+    ghost use Rattle.site_files.specs.declared.stop.Stop.TheVariants as stop;
 
     ghost from_gives = { λ error result. result ≡ stop.Failed error };
 
@@ -23,7 +23,7 @@ impl From<io::Error> for Stop {
 }
 
 impl From<AllocError> for Stop {
-    ghost use Rattle.file_jobs.specs.Statuses.{IsFailed};
+    ghost use Rattle.site_files.specs.Statuses.{IsFailed};
 
     ghost from_gives = { λ _ result. IsFailed result };
 

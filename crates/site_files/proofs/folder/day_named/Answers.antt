@@ -1,8 +1,8 @@
 use Rattle.std.proofs.Common.{◌≡◌, None, Some, ap, ◌∙◌, sym, lit<, rules}
 use Rattle.std.proofs.lemmas.Str.Pattern.{split_once_first}
-use Rattle.file_jobs.specs.Days.{day_of}
-use Rattle.file_jobs.proofs.Named.{named-without, named-other, named-by}
-use Rattle.file_jobs.proofs.folder.day_named.Goals as goal
+use Rattle.site_files.specs.Days.{day_of}
+use Rattle.site_files.proofs.Named.{named-without, named-other, named-by}
+use Rattle.site_files.proofs.folder.day_named.Goals as goal
 
 pub returns-in_err-digits : goal.returns-in_err-digits
 returns-in_err-digits c =

@@ -1,8 +1,8 @@
 use Rattle.std.proofs.Common.{◌≡◌, ℕ, ◌-◌, List, [], Option, eqb, rules, ap, sym, ◌∙◌, option_map, slice_get, unwrap_or}
 use Rattle.std.proofs.lemmas.Iterator.Consumers.{nth_from_yields_List}
 use Rattle.std.proofs.lemmas.Iterator.Splits.{YieldsList-from_slice_split}
-use Rattle.file_jobs.specs.Lines.{line_of, parts_of}
-use Rattle.file_jobs.proofs.opening.line_of.Goals as goal
+use Rattle.site_files.specs.Lines.{line_of, parts_of}
+use Rattle.site_files.proofs.opening.line_of.Goals as goal
 
 found_line : (text : List ℕ) (number before : ℕ) (found : Option (List ℕ)) → before ≡ number - 1 → found ≡ slice_get (parts_of text) before
     → unwrap_or found [] ≡ line_of text number

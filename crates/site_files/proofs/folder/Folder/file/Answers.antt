@@ -1,8 +1,8 @@
 use Rattle.std.proofs.Common.{◌≡◌, ◌∷◌, ◌++◌, IfOk, string_bytes, subst, ap, ◌∙◌}
 use Rattle.std.specs.Fmt.{styled_decimal}
-use Rattle.file_jobs.specs.Days.{six_digits}
-use Rattle.file_jobs.proofs.Padded.{padded-six}
-use Rattle.file_jobs.proofs.folder.Folder.file.Goals as goal
+use Rattle.site_files.specs.Days.{six_digits}
+use Rattle.site_files.proofs.Padded.{padded-six}
+use Rattle.site_files.proofs.folder.Folder.file.Goals as goal
 
 pub returns : goal.returns
 returns c =

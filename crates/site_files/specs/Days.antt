@@ -8,11 +8,11 @@ use Rattle.site_core.specs.Limits.{ConfigValue}
 use Rattle.days.specs.declared.file.OpeningFile.{OpeningFile}
 use Rattle.days.specs.File.{IsOpeningFile}
 use Rattle.days.specs.Fitting.{BeginsWith}
-use Rattle.file_jobs.specs.declared.folder.Part.{Part}
-use Rattle.file_jobs.specs.declared.folder.Part.TheVariants as part
-use Rattle.file_jobs.specs.declared.folder.Span.{Span}
-use Rattle.file_jobs.specs.declared.newest.Going.{Going}
-use Rattle.file_jobs.specs.declared.newest.Going.TheVariants as going
+use Rattle.site_files.specs.declared.folder.Part.{Part}
+use Rattle.site_files.specs.declared.folder.Part.TheVariants as part
+use Rattle.site_files.specs.declared.folder.Span.{Span}
+use Rattle.site_files.specs.declared.newest.Going.{Going}
+use Rattle.site_files.specs.declared.newest.Going.TheVariants as going
 
 abbrev pub ending_of : Part → List ℕ
 ending_of part.Config = codes "toml"
@@ -65,11 +65,6 @@ with_found span (Some day) = Some (with_day span day)
 -- the day after this one, up to the newest
 abbrev pub day_after : ℕ → ℕ → Option ℕ
 day_after day newest = if nat_lt day newest then Some (day + 1) else None
-
--- the day behind the next one, of days that are given up to the newest; None if there is no next one
-abbrev pub turn : Option ℕ → ℕ → Option ℕ
-turn None newest = None
-turn (Some day) newest = day_after day newest
 
 -- A site of this configuration begins this day with an opening of the day, and has the second configuration then.
 pub record BeginsDay (config : ConfigValue) (day : ℕ) (begun : ConfigValue) : Type 0 where

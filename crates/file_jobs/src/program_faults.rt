@@ -1,0 +1,91 @@
+//! Messages about programs that are refused.
+ghost use Rattle.std.specs.Prelude.{◌≡◌, ◌≢◌, ◌↔◌, None, Some, IfSome, IfNone, IsErr, is_some, option_map, if◌then◌else◌};
+ghost use Rattle.file_jobs.specs.Codes.{file_code, asm_code};
+
+use bpf_asm::{AsmFault, AsmFlaw, ProgramFileFault};
+use job_texts::ProgramFlaw;
+use job_texts::reasons::asm_flaw;
+use site_files::Place;
+use site_files::faults::{complain, tell_out_of_memory};
+use std::alloc::AllocError;
+
+/// Returns the number of a program file's fault, as it is printed, or `None` if the fault is that memory ran out.
+fn file_code(fault: ProgramFileFault) -> Option<&'static str>
+    ensures { option_map (λ code. code.now) result ≡ file_code fault }
+{
+    match fault {
+        ProgramFileFault::TooLong => Some("L1"),
+        ProgramFileFault::BadDigits => Some("H1"),
+        ProgramFileFault::OutOfMemory => None,
+    }
+}
+
+/// Prints on standard error why a program file is refused.
+pub(crate) fn tell_program(rt: &HostRuntime, word: &str, flaw: &ProgramFlaw) {
+    let place = Place::of(word);
+    match flaw {
+        ProgramFlaw::File(fault) => match file_code(*fault) {
+            Some(code) => complain(rt, place, flaw, code),
+            None => tell_out_of_memory(rt),
+        },
+        ProgramFlaw::Program(refused) => {
+            let number = refused.number();
+            let _ = eprintln!(rt; "fc: {place}: {refused} (V{number})");
+        }
+    }
+}
+
+/// Prints on standard error why an assembler text is refused. Prints nothing if it is accepted. The error is that
+/// memory ran out.
+pub(crate) fn tell_text(rt: &HostRuntime, word: &str, text: &[u8]) -> Result<(), AllocError> {
+    match asm_flaw(rt.alloc(), text)? {
+        Some((fault, flaw)) => tell_asm(rt, Place::of(word), fault, &flaw),
+        None => Ok(()),
+    }
+}
+
+/// Returns the number of the line that an assembler text's fault names, if it names one, and the fault's number, A1 to
+/// A4. Lines are counted from 1. Returns `None` if the fault is that memory ran out.
+fn asm_code(fault: AsmFault) -> Option<(Option<u64>, &'static str)>
+    ensures code { option_map (λ told. (told.0, told.1.now)) result ≡ asm_code fault }
+    ensures some { IfSome result (λ _. fault ≢ AsmFault.OutOfMemory) }
+    ensures none { IfNone result (fault ≡ AsmFault.OutOfMemory) }
+{
+    match fault {
+        AsmFault::BadLine(line) => Some((Some(line), "A1")),
+        AsmFault::BadLabel(line) => Some((Some(line), "A2")),
+        AsmFault::OutOfRange(line) => Some((Some(line), "A3")),
+        AsmFault::Length => Some((None, "A4")),
+        AsmFault::OutOfMemory => None,
+    }
+}
+
+/// Prints on standard error what is wrong with an assembler text, with its fault A1 to A4. If the fault is that memory
+/// ran out, prints nothing, and returns the error.
+fn tell_asm(
+    rt: &HostRuntime,
+    file: Place<'_>,
+    fault: AsmFault,
+    flaw: &AsmFlaw<'_>,
+) -> Result<(), AllocError>
+    ensures { IsErr result ↔ (fault ≡ AsmFault.OutOfMemory) }
+{
+    let Some(told) = asm_code(fault) else {
+        return Err(AllocError);
+    };
+    let (line, code) = told;
+    complain(rt, at_line(file, line), flaw, code);
+    Ok(())
+}
+
+/// Returns the place of this line of a file. Returns `file` as it is for `None`.
+fn at_line(file: Place<'_>, line: Option<u64>) -> Place<'_>
+    ensures name { result.name.now ≡ file.entry.name.now }
+    ensures line { result.line ≡ (if is_some line then line else file.entry.line) }
+    ensures column { result.column ≡ file.entry.column }
+{
+    match line {
+        Some(line) => file.line(line),
+        None => file,
+    }
+}

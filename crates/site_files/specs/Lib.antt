@@ -1,0 +1,5 @@
+pub mod Statuses
+pub mod Codes
+pub mod Asked
+pub mod Days
+pub mod Lines
