@@ -6,8 +6,8 @@ use std::net::Net;
 use std::os::unix::fs::{FileTypeExt, MetadataExt, PermissionsExt};
 use std::os::unix::net::{UnixListener, UnixStream};
 
-/// How many bytes a socket's path can have at most. The system takes at most 107, and the path at which the socket is
-/// bound first has three bytes more.
+/// How many bytes a socket's path can have at most. The system takes at most 107 bytes, and a socket is first bound at
+/// another path, which is three bytes longer.
 const MOST_BYTES: usize = 104;
 
 /// The folder in which the socket of a path is bound, before its file is moved to the path. The folder is beside the

@@ -7,8 +7,8 @@ use std::alloc::Global;
 /// blocks of its own size.
 const HELD: usize = 1080;
 
-/// For one of its lines, a script is played at most this often, each time with more bytes of memory left free during
-/// the line (`room_of`).
+/// How often at most a script is played to try one of its lines with little memory. Each time, more bytes are left free
+/// during that line: as many as `room_of` returns.
 pub const TURNS: usize = 120;
 
 /// Allocates blocks of `size` bytes until that fails, but at most 100,000, and adds them to `blocks`.
