@@ -110,7 +110,8 @@ fn part_at(by: By, place: usize) -> Part
     }
 }
 
-/// Returns the totals of the first `count` parts of the sales.
+/// Splits the sales by point, by till or by hour, as `by` says, and returns the total of each of the first `count`
+/// points, tills or hours.
 fn sums_by(alloc: Global, sales: &[Sale], by: By, count: usize) -> Result<Vec<Sum>, AllocError>
     requires { count ≤ MOST_PARTS }
     ensures { IfOk result (λ sums. SumsUp (part_by by) count sums.items sales.now) }

@@ -213,7 +213,7 @@ fn bind_and_move<'a, H: Files + Net>(
 }
 
 /// Makes the folder beside a path, binds a socket in it, moves the socket's file to the path, and removes the folder.
-/// Returns `None` if the folder's name is already that of something that no killed process can have left.
+/// Returns `None` if something else has the folder's name already, which no killed process can have left there.
 fn bind_beside<'a, H: Files + Net>(
     rt: &'a HostRuntime,
     host: &H,
@@ -237,7 +237,8 @@ fn bind_beside<'a, H: Files + Net>(
 /// listens is already at the path, it is replaced. Anything else at the path is an error, and stays as it is. A path of
 /// more than 104 bytes is an error too.
 ///
-/// Returns `None` if the name of that folder is already that of something that no killed process can have left.
+/// Returns `None` if something else has the name of that folder already. What a killed process has left there is
+/// removed first.
 pub fn listen_at<'a, H: Files + Net>(
     rt: &'a HostRuntime,
     host: &H,

@@ -130,7 +130,7 @@ fn show_type(fault: TypeFault) -> (u32, Option<u32>, Option<u32>)
 impl Refusal {
     /// Returns the number of the fault (1 for V1, to 20 for V20), then its unit, counted from 0, and then its register
     /// or argument. The unit is `None` for V1 only, and the register or argument is `None` except for V11 and V19.
-    /// Returns `None` if memory ran out.
+    /// Returns `None` if the refusal is that memory ran out while the program was verified.
     pub fn shown(self) -> Option<(u32, Option<u32>, Option<u32>)>
         ensures { result ≡ shown_by self }
     {

@@ -12,8 +12,8 @@ pub enum Address {
     Socket(String),
 }
 
-/// A door of a served site: where its connections come in, whose lines it takes, and how many connections are served at
-/// the same time. The place is that of the key that names the address.
+/// A door of a served site: the address at which its connections come in, whose lines it takes, and how many
+/// connections are served at the same time. `place` is where the configuration's text names the address, for messages.
 #[derive(Drop)]
 pub struct Door {
     pub place: Place,

@@ -23,7 +23,7 @@ pub fn first_byte(a: &[u8], b: &[u8]) -> Option<u32>
     requires small { length a.now < 2 ^ 32 }
     ensures { MatchOption result (a.now ≡ b.now) (FirstDiffers a.now b.now) }
 {
-    // `==` compares several bytes at a time.
+    // If they are the same, `==` finds that faster than the loop: it compares several bytes at once.
     if a == b {
         return None;
     }
@@ -63,7 +63,7 @@ pub fn first_price(a: &[u32; 8], b: &[u32; 8]) -> Option<u32>
     ensures within { IfSome result (λ place. place < 8) }
     ensures first { MatchOption result (a.now ≡ b.now) (FirstDiffers a.now b.now) }
 {
-    // `==` compares several prices at a time.
+    // If they are the same, `==` finds that faster than the loop: it compares several prices at once.
     if a == b {
         return None;
     }

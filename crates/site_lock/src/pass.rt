@@ -7,12 +7,12 @@ use std::marker::{Brand, Model};
 use std::sync::ledger::{Ledger, Share};
 use till_request::{Act, Reply};
 
-/// The ledger of a forecourt's answered calls: one part for each pass, the configuration of the site, the history that
-/// the forecourt starts from, and the bytes that its journal took before.
+/// The ledger of a forecourt's answered calls, for proofs alone. It has one part for each pass, and it says which
+/// configuration the site has, from which history the forecourt starts, and which bytes the journal has then.
 ///
-/// A forecourt is made, used and closed in one function that is generic over its ledger. The function is called with
-/// `Brand` as the ledger, and the proof of the call chooses name, parts and configuration. So code that uses a pass of
-/// another forecourt doesn't compile.
+/// A forecourt is made, used and closed in one function that is generic over its ledger. So the passes of one forecourt
+/// have another type than those of another, and code that mixes them doesn't compile. At run time the ledger is
+/// `Brand`, which holds nothing.
 pub trait SiteLedger: Ledger {
     ghost use Rattle.std.specs.Prelude.{List, Option, ℕ};
     ghost use Rattle.decision_journal.specs.declared.entries.Entry.{Entry};
