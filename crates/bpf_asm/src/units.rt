@@ -295,8 +295,8 @@ fn push_units(
     }
 }
 
-/// Returns the units of all rows, in order. `rows` must be as `line::rows_of` returns it, and `labels` as
-/// `label::labels_of` returns it for these rows. The error is that memory ran out.
+/// Returns the units of all rows, in order. `rows` must be as `line::rows_of` returns it, with at most 512 units in
+/// all, and `labels` as `label::labels_of` returns it for these rows. The error is that memory ran out.
 pub fn units_of(
     alloc: Global,
     labels: &[(&[u8], u64)],

@@ -10,9 +10,9 @@ pub fn law_of_sales()
     ensures { SalesTellTheSite }
 {}
 
-/// Does nothing. Its contract is a law: the grants and denials of all versions together, those that were carried in and
-/// those that were loaded, are as many as the decisions of the history. It holds if the configuration has no opening,
-/// or one that a site can begin with.
+/// Does nothing. Its contract is a law: in a legal history, the grants and denials of all versions together, those that
+/// were carried in and those that were loaded, are as many as the decisions of the history. It holds if the
+/// configuration has no opening, or one that a site can begin with.
 pub fn law_of_decisions()
     ensures { VersionsTellAllDecisions }
 {}

@@ -237,8 +237,8 @@ fn bind_beside<'a, H: Files + Net>(
 /// listens is already at the path, it is replaced. Anything else at the path is an error, and stays as it is. A path of
 /// more than 104 bytes is an error too.
 ///
-/// Returns `None` if something else has the name of that folder already. What a killed process has left there is
-/// removed first.
+/// Returns `None` if something that a killed process can't have left already has the name of that folder. What a killed
+/// process can have left there is removed first; if somebody listens at the socket in it, that is an error.
 pub fn listen_at<'a, H: Files + Net>(
     rt: &'a HostRuntime,
     host: &H,

@@ -67,8 +67,8 @@ fn listen<H: Net<Listener = TcpListener, Stream = TcpStream>>(
 }
 
 /// Gives each client a turn. If the result of a client's turn is `Over`, closes its connection and removes it from the
-/// list; the last client of the list takes its place, and has no turn in this call. Returns whether the result of at
-/// least one turn was `Moved` or `Over`.
+/// list; the last client of the list, if it is another one, takes its place, and has no turn in this call. Returns
+/// whether the result of at least one turn was `Moved` or `Over`.
 fn take_turns<S: Service, R: Clock>(rt: &R, clients: &mut Vec<Client>, service: &mut S) -> bool {
     let mut went_on = false;
     for place in 0..clients.len() {

@@ -69,8 +69,9 @@ impl Slots {
     }
 
     /// Makes 16 slots. Slot k begins with the version `opened[k]`, or empty if `opened` has no version there. `before`
-    /// is how many versions were made before these slots began, and must be at most 4,290,000,000. The versions in
-    /// `opened` must have numbers from 1 to `before`. Allocates no memory.
+    /// is how many versions were made before these slots began, and must be at most 4,290,000,000. `opened` must have
+    /// at most 16 places, and its versions must have numbers from 1 to `before` and programs that the verifier accepts.
+    /// Allocates no memory.
     pub fn opened(alloc: Global, before: u32, opened: Vec<Option<Version>>) -> Self
         requires few { before ≤ 4290000000 }
         requires rules { All (IsRule before) opened.items }

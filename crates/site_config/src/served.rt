@@ -306,8 +306,9 @@ fn read_served(alloc: Global, value: &Value) -> Result<Served, ConfigFlaw>
     })
 }
 
-/// Reads the table `[serve]`, or returns `None` if the document has no key `serve`. The error is the first wrong key or
-/// wrong type in it (K2), or that memory ran out. Whether its numbers are in range is checked later.
+/// Reads the table `[serve]`, or returns `None` if the document has no key `serve`. The error is the first wrong or
+/// missing key, or wrong type, in the value of `serve` (K2), or that memory ran out. Whether the table's numbers are in
+/// range is checked later.
 #[tactic(auto, unfolding(crate::specs::Typed::served_at))]
 pub fn find_served(alloc: Global, table: &Table) -> Result<Option<Served>, ConfigFlaw>
     ensures read { Finds (option_map seen_serve) result (served_at (table_view table.now)) }

@@ -83,7 +83,7 @@ impl Draft {
 
     /// Makes the draft for a request in the current state, or returns `Direct` if no program would be run for it. The
     /// draft uses the memory in `spent`, which is `None` then; if it was `None` before, memory is allocated. The error
-    /// is that memory ran out.
+    /// is that memory ran out, or that the program has too many owners.
     pub(crate) fn begin(
         config: &Config,
         station: &Station,
@@ -178,8 +178,8 @@ impl Draft {
 }
 
 /// The memory of a run that has ended, and the run's program, to be used for another draft. With it a draft is made
-/// without an allocation. If the program is the same, its count of owners stays the same too: all threads would change
-/// this count, and each would have to wait for the others.
+/// without an allocation. If that draft is of the same program, the program's count of owners doesn't change either.
+/// Otherwise all threads would change this count, and each would have to wait for the others.
 #[derive(Drop)]
 pub struct Spent {
     program: Arc<Program>,
@@ -190,7 +190,7 @@ pub struct Spent {
 impl Spent {
     /// Returns the memory for a draft of this program, with this context, and with the current view and counters. It is
     /// the memory in `spent`, which is `None` then, or new memory if `spent` was `None`. The error is that memory ran
-    /// out.
+    /// out, or that the program has too many owners.
     fn made(
         spent: &mut Option<Spent>,
         program: &Arc<Program>,
@@ -210,7 +210,7 @@ impl Spent {
     }
 
     /// Allocates memory for a draft of this program, with this context, and with the current view and counters. The
-    /// error is that memory ran out.
+    /// error is that memory ran out, or that the program has too many owners.
     fn new(program: &Arc<Program>, context: Context, station: &Station) -> Result<Spent, AllocError>
         ensures program { IfOk result (λ made. arc_value made.program ≡ arc_value program.now) }
         ensures context { IfOk result (λ made. made.input.value.context ≡ context) }

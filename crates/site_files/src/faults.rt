@@ -1,5 +1,6 @@
-//! Messages about what is refused and what fails: one line on standard error, with the file and the place in it. A
-//! message that can't be written changes no exit status.
+//! Messages on standard error about what is refused and what fails: one line each, mostly with the file and the place
+//! in it. If such a line can't be written, the exit status stays the same. Also what is printed on standard output with
+//! an exit status, which is `FAILED` if it can't be written.
 ghost use Rattle.std.specs.Prelude.{◌≡◌, ◌≢◌, None, Some, IfSome, IfNone, option_map, codes};
 ghost use Rattle.site_files.specs.Statuses.{once_printed, EndsWith};
 ghost use Rattle.site_files.specs.Asked.{name_of};

@@ -87,7 +87,7 @@ impl<'a> Folder<'a> {
 
     /// Returns whether the folder has the file `part` of this day, and the file isn't empty. If that can't be found
     /// out, prints why; the error has the exit status.
-    pub fn has_bytes(self, rt: &HostRuntime, day: u32, part: Part) -> Result<bool, Stop>
+    pub(crate) fn has_bytes(self, rt: &HostRuntime, day: u32, part: Part) -> Result<bool, Stop>
         ensures { IfErr result Fails }
     {
         let path = self.file(rt, day, part)?;

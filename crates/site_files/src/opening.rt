@@ -40,14 +40,14 @@ pub struct Day {
 
 /// The configuration of a site that begins a day, with the day's opening in it if there is one, and the day's number.
 #[derive(Drop)]
-pub struct Begun {
+pub(crate) struct Begun {
     pub config: Config,
     pub number: u32,
 }
 
 /// Returns the configuration of a site that begins with the opening in the file that an argument names. If the opening
 /// can't be read, is refused or doesn't fit the configuration, prints why; the error has the exit status.
-pub fn begin_with(rt: &HostRuntime, word: &str, config: Config) -> Result<Begun, Stop>
+pub(crate) fn begin_with(rt: &HostRuntime, word: &str, config: Config) -> Result<Begun, Stop>
     ensures begun { IfOk result (λ begun. BeginsDay config begun.number begun.config) }
     ensures refused { IfErr result (SaysOrFails 1) }
 {
@@ -88,9 +88,9 @@ fn opening_in(rt: &HostRuntime, word: &str) -> Result<OpeningFile, Stop>
     }
 }
 
-/// Prints why the text of an opening is refused: the words on standard error; the fault's number (J1, J2 or F2) and the
-/// line's number on standard output. If the flaw is that memory ran out, prints only that, on standard error. The
-/// result has the exit status.
+/// Prints why the text of an opening is refused: the line, the words and the fault's number (J1, J2 or F2) on standard
+/// error, and the fault's number and the line's number on standard output, for F2 with the program's V fault too. If
+/// memory ran out, prints only that, on standard error. The result has the exit status.
 pub fn refuse_opening(rt: &HostRuntime, word: &str, text: &[u8], flaw: OpeningFlaw) -> Stop
     ensures { RefusesOpening flaw result }
 {
@@ -212,7 +212,7 @@ pub fn refuse_unfit(rt: &HostRuntime, word: &str, unfit: Unfit) -> Stop
 
 /// Prints `words`, which say why no site can begin with an opening. If `fault` is that memory ran out, prints that
 /// instead. The result has the exit status.
-pub fn refuse_fault<D: Display>(
+pub(crate) fn refuse_fault<D: Display>(
     rt: &HostRuntime,
     word: &str,
     fault: OpeningFault,

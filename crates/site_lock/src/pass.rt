@@ -8,7 +8,8 @@ use std::sync::ledger::{Ledger, Share};
 use till_request::{Act, Reply};
 
 /// The ledger of a forecourt's answered calls, for proofs alone. It has one part for each pass, and it says which
-/// configuration the site has, from which history the forecourt starts, and which bytes the journal has then.
+/// configuration the site has, from which history the forecourt starts, and which bytes the journal has then, if they
+/// are known.
 ///
 /// A forecourt is made, used and closed in one function that is generic over its ledger. So the passes of one forecourt
 /// have another type than those of another, and code that mixes them doesn't compile. At run time the ledger is

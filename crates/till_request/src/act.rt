@@ -155,7 +155,7 @@ pub enum Reply {
     Refused(u32, Option<u32>),
 }
 
-/// Who sends the lines, and so which lines are accepted. Any other line is a `BadLine`, also if it is well formed.
+/// Who sends the lines, and so which lines are accepted. A well-formed line that isn't accepted is a `BadLine`.
 #[derive(Clone, Copy)]
 pub enum Role {
     /// Some tills: a till's line is accepted, whichever till it names.
