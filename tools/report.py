@@ -3,12 +3,14 @@
 
 usage: tools/report.py PROGRAM
 
-The journals are an empty one, that of a day with two tills, two rules, unpaid deliveries and refusals, and a long one
-of bench/script.awk. If tidy is installed, it must find no fault in a page. If Chromium is installed, it must open each
-page and show the headline. If one isn't installed, that is printed. The last line is 'N passed, M failed'.
+The journals are an empty one, that of a day with two tills, two rules, unpaid deliveries and refusals, one of price
+changes, of which one has no moment, and a long one of bench/script.awk. If tidy is installed, it must find no fault in
+a page. If Chromium is installed, it must open each page and show the headline. If one isn't installed, that is printed.
+The last line is 'N passed, M failed'.
 """
 import html.parser
 import os
+import re
 import shutil
 import subprocess
 import sys
@@ -46,6 +48,18 @@ load 2 0 {AS_ASKED}
 till 2 price 1 1899
 till 1 stop 1
 """
+PRICES = f"""load 2 0 {AS_ASKED}
+moment 1790000000
+till 1 price 1 1899
+moment 1790003600
+till 1 price 1 1799
+moment 0
+till 1 price 1 1850
+moment 1790007200
+till 1 price 1 1880
+"""
+# A line of a chart of prices: its path, which has H before the place to which it goes.
+PRICE_LINE = re.compile(r'<path class="price[^"]*" d="M(\d+)([^"]*)"')
 
 
 class Page(html.parser.HTMLParser):
@@ -131,6 +145,12 @@ def end(point, flow, last, unpaid):
         unpaid[(point, last[point])] = (amount, volume)
 
 
+def going_back(text):
+    """The lines of prices that go to the left at some place."""
+    places = [[int(start), *map(int, re.findall(r"H(\d+)", rest))] for start, rest in PRICE_LINE.findall(text)]
+    return [line for line in places if line != sorted(line)]
+
+
 def cells(sales):
     amounts = sum(sale[3] for sale in sales), sum(sale[4] for sale in sales)
     return [f"{len(sales):,}", money(amounts[0]), money(amounts[1])]
@@ -185,8 +205,10 @@ def main():
         day = journal_of(program, two, DAY)
         awk = ["awk", "-v", "lines=30000", "-f", os.path.join(HERE, "bench/script.awk")]
         long = journal_of(program, station, subprocess.run(awk, capture_output=True, text=True, check=True).stdout)
-        for name, site, lines in (("empty", two, []), ("day", two, day), ("long", station, long)):
+        prices = journal_of(program, two, PRICES)
+        for name, site, lines in (("empty", two, []), ("day", two, day), ("prices", two, prices)):
             show(checks, program, work, name, site, lines)
+        show(checks, program, work, "long", station, long)
         faulty(checks, program, two, work, day)
     checks.end()
 
@@ -200,6 +222,9 @@ def show(checks, program, work, name, site, lines):
     with open(path, "w") as file:
         file.write(done.stdout)
     checks.same(f"{name}: under 2 MB", len(done.stdout) < MOST_BYTES, True)
+    checks.same(f"{name}: lines of prices", going_back(done.stdout), [])
+    if name == "prices":
+        checks.same(f"{name}: as many lines as products", len(PRICE_LINE.findall(done.stdout)), 2)
     compare(checks, name, Page(done.stdout), lines)
     if shutil.which("tidy"):
         said = subprocess.run(["tidy", "-q", "-e", path], capture_output=True, text=True).stderr
